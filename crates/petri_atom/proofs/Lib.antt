@@ -1,0 +1,6 @@
+pub mod States
+pub mod Sets
+pub mod Markings
+pub mod Lists
+pub mod Numbers
+pub mod Fitting

@@ -1,0 +1,27 @@
+use Rattle.std.proofs.Common.{◌≡◌, ℕ, ◌-◌, ◌^◌, min, Bool, not, ◌&&◌, ◌||◌, leb, refl, ap, ◌∙◌, arith, List, [], ◌∷◌, map}
+use Rattle.std.specs.List.{list_all, list_any}
+use Rattle.std.proofs.lemmas.Bool.Decides.{nat_tests}
+use Rattle.petri_atom.specs.Definition.{is_each_once}
+
+-- a test of all that a function makes of a list is a test of the list
+pub list_all-map : {X Y : Type 0} (f : Y → Bool) (g : X → Y) (xs : List X) → list_all f (map g xs) ≡ list_all (λ x. f (g x)) xs
+list_all-map f g [] = refl
+list_all-map f g (x ∷ xs) = ap (λ b. f (g x) && b) (list_all-map f g xs)
+
+-- a count that stops at the largest word tells whether it is at most a small number
+pub leb-min : (n : ℕ) → leb (min n (2 ^ 64 - 1)) 64 ≡ leb n 64
+leb-min n = grind (arith, nat_tests)
+
+-- the parts of an `and`, each by an equation
+pub both : {a b c d : Bool} → a ≡ c → b ≡ d → (a && b) ≡ (c && d)
+both {b = b} {c = c} p q = ap (λ x. x && b) p ∙ ap (λ x. c && x) q
+
+pub list_any-map : {X Y : Type 0} (f : Y → Bool) (g : X → Y) (xs : List X) → list_any f (map g xs) ≡ list_any (λ x. f (g x)) xs
+list_any-map f g [] = refl
+list_any-map f g (x ∷ xs) = ap (λ b. f (g x) || b) (list_any-map f g xs)
+
+-- no two that a function makes of a list are the same, by a sameness of what it makes
+pub is_each_once-map : {X Y : Type 0} (same : Y → Y → Bool) (g : X → Y) (xs : List X) → is_each_once same (map g xs) ≡ is_each_once (λ a b. same (g a) (g b)) xs
+is_each_once-map same g [] = refl
+is_each_once-map same g (x ∷ xs) =
+    both (ap not (list_any-map (λ y. same y (g x)) g xs)) (is_each_once-map same g xs)

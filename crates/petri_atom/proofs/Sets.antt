@@ -1,0 +1,120 @@
+use Rattle.std.proofs.Common.{◌≡◌, ℕ, zero, suc, ◌+◌, ◌-◌, ◌*◌, ◌%◌, ◌^◌, ◌<◌, ◌≤◌, ◌≢◌, min, max, Bool, true, false, cond, not, ◌&&◌, ◌||◌, eqb, ltb, refl, sym, ◌∙◌, ap, arith, lit<, pow-suc, List, [], ◌∷◌, ◌++◌, ⊎_elim, inl, inr}
+use Rattle.std.specs.Prelude.{bit_and, bit_or, ◌⊎◌}
+use Rattle.std.specs.Int.{bit_at, bit_not, w64}
+use Rattle.std.specs.Int.Bits.{and_lt}
+use Rattle.std.specs.List.{list_all, list_any}
+use Rattle.std.proofs.lemmas.Bool.{cases_lt, cases_eq, or_left, or_right, eq-eqb, ne_eqb}
+use Rattle.std.proofs.Math.Bool.{or-false}
+use Rattle.std.proofs.lemmas.Bool.Decides.{nat_tests}
+use Rattle.std.proofs.lemmas.List.Folds.{list_any-append}
+use Rattle.std.proofs.lemmas.Nat.{or_lt, pow_pos}
+use Rattle.std.proofs.Math.Nat.{sub_self}
+use Rattle.std.proofs.lemmas.Nat.Bits.{bit_at-lt, bit_at_cat_low, bit_at_cat_high, bit_at_above, bit_at_and, bit_at_or, bit_at_not, bit_at_set_same, bit_at_set_other, same_from_bits_below}
+use Rattle.petri_atom.specs.Local.{has, is_in, set_below}
+
+-- the tests of two bits, of either and of a bit turned round
+both_bits : (x y : ℕ) → x < 2 → y < 2 → eqb (min x y) 1 ≡ (eqb x 1 && eqb y 1)
+both_bits x y p q = grind (arith, nat_tests)
+
+either_bit : (x y : ℕ) → x < 2 → y < 2 → eqb (max x y) 1 ≡ (eqb x 1 || eqb y 1)
+either_bit x y p q = grind (arith, nat_tests)
+
+other_bit : (x : ℕ) → x < 2 → eqb (1 - x) 1 ≡ not (eqb x 1)
+other_bit x p = grind (arith, nat_tests)
+
+same_bit : (x y : ℕ) → x < 2 → y < 2 → eqb x 1 ≡ eqb y 1 → x ≡ y
+same_bit x y p q e = grind (arith, nat_tests)
+
+-- a number is in both of two sets, in one of them, or not in a set
+pub has-and : (a b k : ℕ) → has (bit_and a b) k ≡ (has a k && has b k)
+has-and a b k = ap (λ x. eqb x 1) (bit_at_and a b k) ∙ both_bits _ _ (bit_at-lt a k) (bit_at-lt b k)
+
+pub has-or : (a b k : ℕ) → has (bit_or a b) k ≡ (has a k || has b k)
+has-or a b k = ap (λ x. eqb x 1) (bit_at_or a b k) ∙ either_bit _ _ (bit_at-lt a k) (bit_at-lt b k)
+
+pub has-not : (a k : ℕ) → a < 2 ^ 64 → k < 64 → has (bit_not w64 a) k ≡ not (has a k)
+has-not a k p q = ap (λ x. eqb x 1) (bit_at_not w64 a k p q) ∙ other_bit _ (bit_at-lt a k)
+
+-- a number of n bits has no number from n on
+pub has-above : (a n k : ℕ) → a < 2 ^ n → n ≤ k → has a k ≡ false
+has-above a n k p q = ap (λ x. eqb x 1) (bit_at_above a n k p q)
+
+-- two sets below n with the same numbers are the same
+pub same_set : (n a b : ℕ) → a < 2 ^ n → b < 2 ^ n → ((k : ℕ) → k < n → has a k ≡ has b k) → a ≡ b
+same_set n a b p q same =
+    same_from_bits_below n a b p q (λ k h. same_bit _ _ (bit_at-lt a k) (bit_at-lt b k) (same k h))
+
+-- a set of numbers below n is a number below 2 ^ n
+pub set_below-lt : (n : ℕ) (f : ℕ → Bool) → set_below n f < 2 ^ n
+unfolding set_below
+set_below-lt zero f = lit< tt
+set_below-lt (suc n) f =
+    let small = set_below-lt n f in
+    rw pow-suc
+    (elim (f n) as (λ b. set_below n f + cond b (2 ^ n) 0 < 2 ^ n * 2) [ true ↦ omega arith | false ↦ omega arith ])
+
+-- one more number on top of a set says whether the top one is there, and leaves the ones below
+top_number : (n x : ℕ) (b : Bool) → x < 2 ^ n → has (x + cond b (2 ^ n) 0) n ≡ b
+top_number n x true small =
+    let e : x + 2 ^ n ≡ 1 * 2 ^ n + x = omega arith in
+    ap (λ y. has y n) e ∙ ap (λ y. eqb y 1) (bit_at_cat_high 1 n x n small (omega arith)) ∙
+    ap (λ y. has 1 y) (sub_self n)
+top_number n x false small =
+    let e : x + 0 ≡ x = omega arith in
+    ap (λ y. has y n) e ∙ has-above x n n small (omega arith)
+
+lower_number : (n x k : ℕ) (b : Bool) → k < n → has (x + cond b (2 ^ n) 0) k ≡ has x k
+lower_number n x k true below =
+    let e : x + 2 ^ n ≡ 1 * 2 ^ n + x = omega arith in
+    ap (λ y. has y k) e ∙ ap (λ y. eqb y 1) (bit_at_cat_low 1 n x k below)
+lower_number n x k false below = let e : x + 0 ≡ x = omega arith in ap (λ y. has y k) e
+
+-- the set of the numbers below n that pass a test has just those
+pub has-set_below : (n : ℕ) (f : ℕ → Bool) (k : ℕ) → k < n → has (set_below n f) k ≡ f k
+unfolding set_below
+has-set_below zero f k below = absurd (omega arith)
+has-set_below (suc n) f k below =
+    let here : n ≡ k → has (set_below n f + cond (f n) (2 ^ n) 0) k ≡ f k =
+    λ e. ap (has (set_below n f + cond (f n) (2 ^ n) 0)) (sym e) ∙ top_number n (set_below n f) (f n) (set_below-lt n f) ∙ ap f e in
+    let lower : k < n → has (set_below n f + cond (f n) (2 ^ n) 0) k ≡ f k =
+    λ h. lower_number n (set_below n f) k (f n) h ∙ has-set_below n f k h in
+    ⊎_elim lower (λ h. let e : n ≡ k = omega arith in here e) (cases_lt k n)
+
+-- a set below n that has just the numbers that pass a test
+pub set_below-is : (n w : ℕ) (f : ℕ → Bool) → w < 2 ^ n → ((k : ℕ) → k < n → has w k ≡ f k) → w ≡ set_below n f
+set_below-is n w f small same =
+    same_set n w (set_below n f) small (set_below-lt n f) (λ k h. same k h ∙ sym (has-set_below n f k h))
+
+-- the empty set
+pub set_below-none : (n : ℕ) → 0 ≡ set_below n (is_in [])
+set_below-none n =
+    set_below-is n 0 (is_in []) (pow_pos n) (λ k h. has-above 0 0 k (pow_pos 0) (omega arith))
+
+-- the word 1 << p
+abbrev bit_word : ℕ → ℕ
+bit_word p = 1 * 2 ^ p % 2 ^ 64
+
+-- one more number in the set, by a shift and an or
+pub set_below-more : (w : ℕ) (ks : List ℕ) (p : ℕ) → w < 2 ^ 64 → p < 64 → w ≡ set_below 64 (is_in ks) → bit_or w (1 * 2 ^ p % 2 ^ 64) ≡ set_below 64 (is_in (ks ++ p ∷ []))
+set_below-more w ks p small below e =
+    let bit_small : bit_word p < 2 ^ 64 = omega arith in
+    set_below-is 64 (bit_or w (bit_word p)) (is_in (ks ++ p ∷ [])) (or_lt 64 w (bit_word p) small bit_small) each
+  where
+    before : (k : ℕ) → k < 64 → has w k ≡ is_in ks k
+    before k h = ap (λ x. has x k) e ∙ has-set_below 64 (is_in ks) k h
+
+    after : (k : ℕ) → is_in (ks ++ p ∷ []) k ≡ (is_in ks k || (eqb p k || false))
+    after k = list_any-append (λ j. eqb j k) ks (p ∷ [])
+
+    here : (k : ℕ) → k < 64 → k ≡ p → has (bit_or w (bit_word p)) k ≡ is_in (ks ++ p ∷ []) k
+    here k h same =
+        ap (has (bit_or w (bit_word p))) same ∙ ap (λ x. eqb x 1) (bit_at_set_same w64 w p below) ∙
+        sym (after k ∙ or_right (is_in ks k) (eqb p k || false) (or_left (eqb p k) false (eq-eqb p k (sym same))))
+
+    elsewhere : (k : ℕ) → k < 64 → k ≢ p → has (bit_or w (bit_word p)) k ≡ is_in (ks ++ p ∷ []) k
+    elsewhere k h other =
+        ap (λ x. eqb x 1) (bit_at_set_other w64 w p below k other) ∙ before k h ∙
+        sym (after k ∙ ap (λ b. is_in ks k || (b || false)) (ne_eqb p k (λ q. other (sym q))) ∙ or-false (is_in ks k))
+
+    each : (k : ℕ) → k < 64 → has (bit_or w (bit_word p)) k ≡ is_in (ks ++ p ∷ []) k
+    each k h = ⊎_elim (here k h) (elsewhere k h) (cases_eq k p)

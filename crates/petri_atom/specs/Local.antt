@@ -1,0 +1,52 @@
+use Rattle.std.specs.Prelude.{◌≡◌, ℕ, zero, suc, ◌+◌, ◌^◌, ◌<◌, ◌≤◌, ℤ, pos, Bool, cond, not, ◌&&◌, ◌||◌, List, slice_index_or, slice_get, ◌==◌, nat_lt, Option, None, if◌then◌else◌}
+use Rattle.petri_atom.specs.declared.state.Delivered.{Delivered}
+use Rattle.std.specs.Int.{bit_at}
+use Rattle.std.specs.List.{list_all, list_any}
+use Rattle.petri_atom.specs.declared.state.TheConstants.{MAX_PLACES}
+
+-- a local state: the set of marked places, as the number whose bit k says that place k is marked, and the variables' values
+pub record Local : Type 0 where
+  pub marking : ℕ
+  pub values : List ℤ
+
+-- the set has the number
+abbrev pub has : ℕ → ℕ → Bool
+has set k = bit_at set k == 1
+
+-- the number is in the list
+abbrev pub is_in : List ℕ → ℕ → Bool
+is_in ks k = list_any (λ j. j == k) ks
+
+-- the set of the numbers below a bound that pass a test
+unfoldable pub set_below : ℕ → (ℕ → Bool) → ℕ
+set_below zero test = 0
+set_below (suc n) test = set_below n test + cond (test n) (2 ^ n) 0
+
+-- the numbers are places that a marking has room for
+abbrev pub are_places : List ℕ → Bool
+are_places ks = list_all (λ k. nat_lt k MAX_PLACES) ks
+
+-- the places of a list are all marked
+abbrev pub all_marked : ℕ → List ℕ → Bool
+all_marked marking places = list_all (has marking) places
+
+-- some place of one list that is not in the other is marked
+abbrev pub is_blocked : ℕ → List ℕ → List ℕ → Bool
+is_blocked marking targets sources = list_any (λ p. has marking p && not (is_in sources p)) targets
+
+-- the marking minus the sources, plus the targets
+unfoldable pub moved : ℕ → List ℕ → List ℕ → ℕ
+moved marking sources targets =
+    set_below MAX_PLACES (λ p. (has marking p && not (is_in sources p)) || is_in targets p)
+
+-- the value of a variable, 0 of one that is not there
+abbrev pub value_in : List ℤ → ℕ → ℤ
+value_in values variable = slice_index_or values variable (pos 0)
+
+-- from an index on there are only zeros
+abbrev pub IsZeroFrom : ℕ → List ℤ → Type 0
+IsZeroFrom low values = (k : ℕ) → low ≤ k → value_in values k ≡ pos 0
+
+-- what is delivered to the exported variable number j of a port: its value where the mask has bit j
+abbrev pub delivered_value : Delivered → ℕ → Option ℤ
+delivered_value d j = if has d.mask j then slice_get d.values j else None

@@ -1,0 +1,210 @@
+//! Atoms: what they are made of, which transitions a state offers, and what firing one leaves.
+ghost use Rattle.std.specs.Prelude.{◌≡◌, ◌≤◌, IsTrue, IfOk, IfErr, ◌&&◌, nat_le, None, map, find, length};
+ghost use Rattle.petri_atom.specs.Definition.{is_well_formed, fault_of, numbers_of, IsFaultOf};
+ghost use Rattle.petri_atom.specs.Parts.{port_of, definition_by, index_below};
+ghost use Rattle.petri_atom.specs.Transition.{transition_of};
+ghost use Rattle.petri_atom.specs.declared.parts.TheConstants.{MAX_PORTS, MAX_TRANSITIONS};
+
+use crate::fault::AtomFault;
+use crate::name::Name;
+use crate::parts::{MAX_PORTS, MAX_TRANSITIONS, Place, Port, Variable};
+use crate::rules;
+use crate::state::{AtomState, Delivered};
+use crate::transition::Transition;
+use std::alloc::{AllocError, Global};
+
+/// An atom: a one-safe Petri net with variables and ports.
+///
+/// Its places, variables, ports and transitions are numbered from 0 in the order of their lists. It keeps each rule of
+/// an atom, so that what can be asked of it cannot fail. For each port it has a list of the port's transitions.
+#[derive(Debug, Drop)]
+pub struct Atom {
+    name: Name,
+    places: Vec<Place>,
+    variables: Vec<Variable>,
+    ports: Vec<Port>,
+    transitions: Vec<Transition>,
+    by_port: Vec<Vec<u16>>,
+    ghost well_formed: { IsTrue (is_well_formed (definition_by name places.items variables.items ports.items transitions.items)) },
+    ghost indexed: { map (λ numbers. numbers.items) by_port.items ≡ index_below (length ports.items) (map transition_of transitions.items) },
+}
+
+impl Atom {
+    ghost use Rattle.petri_atom.specs.Atom.{definition_of};
+    ghost use Rattle.petri_atom.specs.Definition.{Fits, enabled, offers_number, offers_port, first_from, fired, initial};
+
+    /// The atom that is made of these parts, or the rule that they break first.
+    pub fn new(
+        alloc: Global,
+        name: Name,
+        places: Vec<Place>,
+        variables: Vec<Variable>,
+        ports: Vec<Port>,
+        transitions: Vec<Transition>,
+    ) -> Result<Self, AtomFault>
+        ensures made { IfOk result (λ atom. definition_of atom ≡ definition_by name places.items variables.items ports.items transitions.items) }
+        ensures sound { IfOk result (λ _. fault_of (definition_by name places.items variables.items ports.items transitions.items) ≡ None) }
+        ensures fault { IfErr result (λ fault. IsFaultOf fault (fault_of (definition_by name places.items variables.items ports.items transitions.items))) }
+    {
+        if let Some(fault) = rules::fault_of(&places, &variables, &ports, &transitions) {
+            return Err(fault);
+        }
+        let by_port = transitions_by_port(alloc, ports.len(), &transitions)?;
+        Ok(Atom {
+            name,
+            places,
+            variables,
+            ports,
+            transitions,
+            by_port,
+        })
+    }
+
+    /// The name of the atom.
+    pub fn name(&self) -> &Name
+        ensures { result.now ≡ (definition_of self.now).name }
+    {
+        &self.name
+    }
+
+    /// The places, in the order of their numbers.
+    pub fn places(&self) -> &[Place]
+        ensures { result.now ≡ (definition_of self.now).places }
+    {
+        &self.places
+    }
+
+    /// The variables, in the order of their numbers.
+    pub fn variables(&self) -> &[Variable]
+        ensures { result.now ≡ (definition_of self.now).variables }
+    {
+        &self.variables
+    }
+
+    /// The ports, in the order of their numbers.
+    pub fn ports(&self) -> &[Port]
+        ensures { map port_of result.now ≡ (definition_of self.now).ports }
+    {
+        &self.ports
+    }
+
+    /// The transitions, in the order of their numbers.
+    pub fn transitions(&self) -> &[Transition]
+        ensures { map transition_of result.now ≡ (definition_of self.now).transitions }
+    {
+        &self.transitions
+    }
+
+    /// Whether the state offers the transition with this number.
+    pub fn is_offered(&self, state: &AtomState, transition: u16) -> bool
+        ensures { result ≡ offers_number (definition_of self.now) state.now transition }
+    {
+        match self.transitions.get(usize::from(transition)) {
+            Some(transition) => transition.is_offered(state),
+            None => false,
+        }
+    }
+
+    /// The least transition of the port, from the number `from` on, that the state offers.
+    pub fn first_enabled(&self, state: &AtomState, port: u16, from: u16) -> Option<u16>
+        ensures { result ≡ first_from from (enabled (definition_of self.now) state.now port) }
+    {
+        self.first_offered(state, self.transitions_of(port), from)
+    }
+
+    /// The numbers of the port's transitions, rising; none of a port that is not there.
+    pub fn transitions_of(&self, port: u16) -> &[u16]
+        ensures { result.now ≡ numbers_of port (definition_of self.now).transitions }
+    {
+        match self.by_port.get(usize::from(port)) {
+            Some(numbers) => numbers,
+            None => &[],
+        }
+    }
+
+    /// The first of some transitions, from the number `from` on, that the state offers.
+    fn first_offered(&self, state: &AtomState, numbers: &[u16], from: u16) -> Option<u16>
+        ensures { result ≡ find (λ n. nat_le from n && offers_number (definition_of self.now) state.now n) numbers.now }
+    {
+        for number in numbers {
+            if self.is_offered_from(state, from, *number) {
+                return Some(*number);
+            }
+        }
+        None
+    }
+
+    /// Whether the transition is not before `from`, and the state offers it.
+    fn is_offered_from(&self, state: &AtomState, from: u16, transition: u16) -> bool
+        ensures { result ≡ (nat_le from transition && offers_number (definition_of self.now) state.now transition) }
+    {
+        from <= transition && self.is_offered(state, transition)
+    }
+
+    /// Whether the state offers a transition of the port.
+    pub fn offers(&self, state: &AtomState, port: u16) -> bool
+        ensures { result ≡ offers_port (definition_of self.now) state.now port }
+    {
+        self.transitions_of(port)
+            .iter()
+            .any(|number| self.is_offered(state, *number))
+    }
+
+    /// Fires the transition: assigns what is delivered to the exported variables of its port, runs its updates in order,
+    /// and moves the marking.
+    pub fn apply(&self, state: &mut AtomState, transition: u16, delivered: &Delivered)
+        requires { IsTrue (offers_number (definition_of self.now) state.old transition) }
+        ensures fired { state.new ≡ fired (definition_of self.now) transition delivered.now state.old }
+        ensures fits { Fits (definition_of self.now) state.old → Fits (definition_of self.now) state.new }
+    {
+        self.fire(state, transition, delivered);
+    }
+
+    /// The same, of which `apply` also says that the state goes on to fit the atom.
+    fn fire(&self, state: &mut AtomState, transition: u16, delivered: &Delivered)
+        requires { IsTrue (offers_number (definition_of self.now) state.old transition) }
+        ensures { state.new ≡ fired (definition_of self.now) transition delivered.now state.old }
+    {
+        let transition = &self.transitions[usize::from(transition)];
+        if let Some(port) = self.ports.get(usize::from(transition.port())) {
+            state.deliver(&port.exports, delivered);
+        }
+        transition.update(state);
+        transition.shift(state);
+    }
+}
+
+/// For each port below the number, the numbers of its transitions.
+fn transitions_by_port(
+    alloc: Global,
+    ports: usize,
+    transitions: &[Transition],
+) -> Result<Vec<Vec<u16>>, AllocError>
+    requires ports { ports ≤ MAX_PORTS }
+    requires transitions { length transitions.now ≤ MAX_TRANSITIONS }
+    ensures { IfOk result (λ lists. map (λ numbers. numbers.items) lists.items ≡ index_below ports (map transition_of transitions.now)) }
+{
+    let mut lists = Vec::with_capacity(alloc, ports)?;
+    for port in 0..ports {
+        lists.push(transitions_of_port(alloc, port as u16, transitions)?)?;
+    }
+    Ok(lists)
+}
+
+/// The numbers of the port's transitions, rising.
+fn transitions_of_port(
+    alloc: Global,
+    port: u16,
+    transitions: &[Transition],
+) -> Result<Vec<u16>, AllocError>
+    requires { length transitions.now ≤ MAX_TRANSITIONS }
+    ensures { IfOk result (λ numbers. numbers.items ≡ numbers_of port (map transition_of transitions.now)) }
+{
+    let mut numbers = Vec::new(alloc);
+    for (number, transition) in transitions.iter().enumerate() {
+        if transition.port() == port {
+            numbers.push(number as u16)?;
+        }
+    }
+    Ok(numbers)
+}

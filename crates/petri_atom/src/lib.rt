@@ -1,0 +1,12 @@
+//! Atoms: one-safe Petri nets with variables and ports.
+#![tactic(auto)]
+
+pub mod atom;
+pub mod expression;
+pub mod fault;
+mod marking;
+pub mod name;
+pub mod parts;
+mod rules;
+pub mod state;
+pub mod transition;

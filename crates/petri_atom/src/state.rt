@@ -1,0 +1,172 @@
+//! Local states of atoms, and the values that a firing delivers to one.
+ghost use Rattle.std.specs.Prelude.{◌≡◌, ℕ, ℤ, ◌≤◌, ◌↔◌, take, IsTrue, length, slice_set};
+ghost use Rattle.petri_atom.specs.Local.{has, value_in, IsZeroFrom, delivered_value};
+ghost use Rattle.petri_atom.specs.Definition.{delivered_to};
+ghost use Rattle.std.specs.Option.{option_map_or};
+
+use crate::expression::Valuation;
+use std::marker::Model;
+
+/// How many places an atom may have: each is a bit of a marking.
+pub const MAX_PLACES: usize = 64;
+/// How many variables an atom may have.
+pub const MAX_VARIABLES: usize = 16;
+/// How many variables a port may export.
+pub const MAX_EXPORTS: usize = 4;
+
+/// The state of one atom: the marked places, bit k for place k, and the values of its variables.
+#[derive(Debug, Drop)]
+pub struct AtomState {
+    places: u64,
+    used: u8,
+    vars: [i64; MAX_VARIABLES],
+}
+
+impl Model for AtomState {
+    ghost use Rattle.std.specs.Prelude.{◌≤◌, take};
+    ghost use Rattle.petri_atom.specs.Local.{Local, IsZeroFrom};
+    ghost use Rattle.petri_atom.specs.declared.state.TheConstants.{MAX_VARIABLES};
+
+    ghost Value = { Local };
+
+    ghost view = { λ s. record { marking = s.places; values = take s.used s.vars } };
+
+    ghost invariant = { λ s. (s.used ≤ MAX_VARIABLES) × IsZeroFrom s.used s.vars };
+}
+
+/// What a firing delivers to an atom: for each exported variable of its port whose bit is set in the mask, a value.
+#[derive(Clone, Copy, Debug, PartialEq, Eq)]
+pub struct Delivered {
+    pub mask: u8,
+    pub values: [i64; MAX_EXPORTS],
+}
+
+impl AtomState {
+    /// The state with these marked places and the first `used` of `vars` as values.
+    pub fn of(places: u64, used: u8, vars: [i64; MAX_VARIABLES]) -> Self
+        requires at_most { used ≤ MAX_VARIABLES }
+        requires zeros { IsZeroFrom used vars }
+        ensures marking { result.marking ≡ places }
+        ensures values { result.values ≡ take used vars }
+    {
+        AtomState { places, used, vars }
+    }
+
+    /// A second state that is equal to this one.
+    pub fn copy(&self) -> Self
+        ensures { result ≡ self.now }
+    {
+        AtomState {
+            places: self.places,
+            used: self.used,
+            vars: self.vars,
+        }
+    }
+
+    /// The marked places, bit k for place k.
+    pub fn places(&self) -> u64
+        ensures { result ≡ self.now.marking }
+    {
+        self.places
+    }
+
+    /// How many variables there are.
+    pub fn used(&self) -> u8
+        ensures { result ≡ length self.now.values }
+    {
+        self.used
+    }
+
+    /// The values of the variables, in the variables' order.
+    pub fn values(&self) -> &[i64]
+        ensures { result.now ≡ self.now.values }
+    {
+        &self.vars[..usize::from(self.used)]
+    }
+
+    /// The value of one variable, 0 of one that is not there.
+    pub fn value(&self, variable: u8) -> i64
+        ensures { result ≡ value_in self.now.values variable }
+    {
+        if variable < self.used {
+            self.vars[usize::from(variable)]
+        } else {
+            0
+        }
+    }
+
+    /// Whether the two states are equal.
+    pub fn same(&self, other: &AtomState) -> bool
+        ensures { IsTrue result ↔ (self.now ≡ other.now) }
+    {
+        self.places == other.places && self.values() == other.values()
+    }
+
+    /// Gives a variable a value; one that is not there is passed over.
+    pub(crate) fn assign(&mut self, variable: u8, value: i64)
+        ensures marking { self.new.marking ≡ self.old.marking }
+        ensures values { self.new.values ≡ slice_set self.old.values variable value }
+    {
+        if variable < self.used {
+            self.vars[usize::from(variable)] = value;
+        }
+    }
+
+    /// Assigns what is delivered to the exported variables.
+    pub(crate) fn deliver(&mut self, exports: &[u8], delivered: &Delivered)
+        ensures marking { self.new.marking ≡ self.old.marking }
+        ensures values { self.new.values ≡ delivered_to delivered.now 0 exports.now self.old.values }
+    {
+        for (export, variable) in exports.iter().enumerate() {
+            self.assign_some(*variable, delivered.value(export));
+        }
+    }
+
+    /// Gives a variable a value, if there is one.
+    fn assign_some(&mut self, variable: u8, value: Option<i64>)
+        ensures marking { self.new.marking ≡ self.old.marking }
+        ensures values { self.new.values ≡ option_map_or (slice_set self.old.values variable) value self.old.values }
+    {
+        if let Some(value) = value {
+            self.assign(variable, value);
+        }
+    }
+
+    /// Puts another marking in the place of the present one.
+    pub(crate) fn mark(&mut self, places: u64)
+        ensures marking { self.new.marking ≡ places }
+        ensures values { self.new.values ≡ self.old.values }
+    {
+        self.places = places;
+    }
+}
+
+impl Delivered {
+    /// What is delivered to the exported variable with this number, if anything is.
+    pub fn value(&self, export: usize) -> Option<i64>
+        ensures { result ≡ delivered_value self.now export }
+    {
+        if has_bit(self.mask, export) {
+            self.values.get(export).copied()
+        } else {
+            None
+        }
+    }
+}
+
+/// Whether the bit of the mask is set.
+fn has_bit(mask: u8, bit: usize) -> bool
+    ensures { result ≡ has mask bit }
+{
+    bit < 8 && (mask >> bit) & 1 == 1
+}
+
+impl Valuation<u8> for AtomState {
+    ghost use Rattle.petri_atom.specs.Local.{value_in};
+
+    ghost value_at = { λ s v. value_in s.values v };
+
+    fn value_at(&self, variable: &u8) -> i64 {
+        self.value(*variable)
+    }
+}
