@@ -4,3 +4,5 @@ pub mod Markings
 pub mod Lists
 pub mod Numbers
 pub mod Fitting
+pub mod Sameness
+pub mod Rows

@@ -1,6 +1,6 @@
-use Rattle.std.proofs.Common.{◌≡◌, ℕ, zero, suc, ◌+◌, ◌-◌, ◌*◌, ◌%◌, ◌^◌, ◌<◌, ◌≤◌, ◌≢◌, min, max, Bool, true, false, cond, not, ◌&&◌, ◌||◌, eqb, ltb, refl, sym, ◌∙◌, ap, arith, lit<, pow-suc, List, [], ◌∷◌, ◌++◌, ⊎_elim, inl, inr}
+use Rattle.std.proofs.Common.{◌≡◌, ℕ, zero, suc, ◌+◌, ◌-◌, ◌*◌, ◌%◌, ◌^◌, ◌<◌, ◌≤◌, ◌≢◌, min, max, Bool, true, false, cond, not, ◌&&◌, ◌||◌, eqb, ltb, refl, sym, ◌∙◌, ap, arith, lit<, pow-suc, add-one, subst, List, [], ◌∷◌, ◌++◌, ⊎_elim, inl, inr}
 use Rattle.std.specs.Prelude.{bit_and, bit_or, ◌⊎◌}
-use Rattle.std.specs.Int.{bit_at, bit_not, w64}
+use Rattle.std.specs.Int.{bit_at, bit_not, w64, from_bool}
 use Rattle.std.specs.Int.Bits.{and_lt}
 use Rattle.std.specs.List.{list_all, list_any}
 use Rattle.std.proofs.lemmas.Bool.{cases_lt, cases_eq, or_left, or_right, eq-eqb, ne_eqb}
@@ -86,6 +86,10 @@ set_below-is n w f small same =
     same_set n w (set_below n f) small (set_below-lt n f) (λ k h. same k h ∙ sym (has-set_below n f k h))
 
 -- the empty set
+pub set_below-zero : (f : ℕ → Bool) → 0 ≡ set_below 0 f
+unfolding set_below
+set_below-zero f = refl
+
 pub set_below-none : (n : ℕ) → 0 ≡ set_below n (is_in [])
 set_below-none n =
     set_below-is n 0 (is_in []) (pow_pos n) (λ k h. has-above 0 0 k (pow_pos 0) (omega arith))
@@ -118,3 +122,45 @@ set_below-more w ks p small below e =
 
     each : (k : ℕ) → k < 64 → has (bit_or w (bit_word p)) k ≡ is_in (ks ++ p ∷ []) k
     each k h = ⊎_elim (here k h) (elsewhere k h) (cases_eq k p)
+
+-- the set of the numbers up to n that pass a test, from the set of those below n, by a shift and an or
+pub set_below-next : (n w : ℕ) (f : ℕ → Bool) (b : Bool) → n < 64 → w ≡ set_below n f → f n ≡ b → bit_or w (from_bool b * 2 ^ n % 2 ^ 64) ≡ set_below (n + 1) f
+set_below-next n w f b below e passes =
+    set_below-is (n + 1) (bit_or w (bit b)) f (or_lt (n + 1) w (bit b) word_small (bit_small b)) each
+  where
+    bit : Bool → ℕ
+    bit b = from_bool b * 2 ^ n % 2 ^ 64
+
+    power : 2 ^ (n + 1) ≡ 2 ^ n * 2
+    power = rw (add-one, pow-suc) refl
+
+    before : w < 2 ^ n
+    before = rw e (set_below-lt n f)
+
+    word_small : w < 2 ^ (n + 1)
+    word_small = omega (arith, power, before)
+
+    nothing : 0 * 2 ^ n % 2 ^ 64 ≡ 0
+    nothing = let none : 0 * 2 ^ n ≡ 0 = omega arith in ap (λ x. x % 2 ^ 64) none
+
+    bit_small : (b : Bool) → from_bool b * 2 ^ n % 2 ^ 64 < 2 ^ (n + 1)
+    bit_small true = omega (arith, pow_pos n, power)
+    bit_small false = omega (arith, pow_pos (n + 1))
+
+    here : (b : Bool) → f n ≡ b → has (bit_or w (from_bool b * 2 ^ n % 2 ^ 64)) n ≡ f n
+    here true passes = ap (λ x. eqb x 1) (bit_at_set_same w64 w n below) ∙ sym passes
+    here false fails = ap (λ x. has (bit_or w x) n) nothing ∙ has-or w 0 n ∙ ap (λ b. b || has 0 n) (has-above w n n before (omega arith)) ∙ has-above 0 0 n (pow_pos 0) (omega arith) ∙ sym fails
+
+    lower : (b : Bool) (k : ℕ) → k < n → has (bit_or w (from_bool b * 2 ^ n % 2 ^ 64)) k ≡ f k
+    lower true k h =
+        ap (λ x. eqb x 1) (bit_at_set_other w64 w n below k (λ same. absurd (omega arith))) ∙ ap (λ x. has x k) e ∙
+        has-set_below n f k h
+    lower false k h =
+        ap (λ x. has (bit_or w x) k) nothing ∙ has-or w 0 k ∙ ap (λ b. has w k || b) (has-above 0 0 k (pow_pos 0) (omega arith)) ∙ or-false (has w k) ∙
+        ap (λ x. has x k) e ∙ has-set_below n f k h
+
+    each : (k : ℕ) → k < n + 1 → has (bit_or w (bit b)) k ≡ f k
+    each k h =
+        ⊎_elim (lower b k)
+        (λ past. let same : n ≡ k = omega arith in subst (λ j. has (bit_or w (bit b)) j ≡ f j) same (here b passes))
+        (cases_lt k n)

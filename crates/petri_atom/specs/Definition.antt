@@ -42,11 +42,13 @@ pub record AtomDefinition : Type 0 where
 
 -- ---- offered
 
--- a local state offers a transition: all its sources are marked, no target that is no source is marked, and its guard is not 0
+-- a marking lets a transition move: all its sources are marked, and no target that is no source is
+abbrev pub can_move : ℕ → TransitionDefinition → Bool
+can_move marking t = all_marked marking t.sources && not (is_blocked marking t.targets t.sources)
+
+-- a local state offers a transition: its marking lets it move, and its guard is not 0
 abbrev pub offers : Local → TransitionDefinition → Bool
-offers state t =
-    all_marked state.marking t.sources && not (is_blocked state.marking t.targets t.sources) &&
-    is_true (value_of (value_in state.values) t.guard)
+offers state t = can_move state.marking t && is_true (value_of (value_in state.values) t.guard)
 
 -- the same of the transition with a number; one that is not there is not offered
 abbrev pub offers_number : AtomDefinition → Local → ℕ → Bool

@@ -5,4 +5,6 @@ pub mod Definition
 pub mod Update
 pub mod Transition
 pub mod Parts
+pub mod Same
+pub mod SameTransition
 pub mod Atom

@@ -1,5 +1,5 @@
 //! Atoms: what they are made of, which transitions a state offers, and what firing one leaves.
-ghost use Rattle.std.specs.Prelude.{◌≡◌, ◌≤◌, IsTrue, IfOk, IfErr, ◌&&◌, nat_le, None, map, find, length};
+ghost use Rattle.std.specs.Prelude.{◌≡◌, ◌≤◌, ◌↔◌, IsTrue, IfOk, IfErr, ◌&&◌, nat_le, None, map, find, length};
 ghost use Rattle.petri_atom.specs.Definition.{is_well_formed, fault_of, numbers_of, IsFaultOf};
 ghost use Rattle.petri_atom.specs.Parts.{port_of, definition_by, index_below};
 ghost use Rattle.petri_atom.specs.Transition.{transition_of};
@@ -9,6 +9,7 @@ use crate::fault::AtomFault;
 use crate::name::Name;
 use crate::parts::{MAX_PORTS, MAX_TRANSITIONS, Place, Port, Variable};
 use crate::rules;
+use crate::same::{Same, all_same};
 use crate::state::{AtomState, Delivered};
 use crate::transition::Transition;
 use std::alloc::{AllocError, Global};
@@ -58,6 +59,25 @@ impl Atom {
             transitions,
             by_port,
         })
+    }
+
+    /// The first state: the places that are marked at first, and the variables' first values.
+    pub fn initial(&self) -> AtomState
+        ensures initial { result ≡ initial (definition_of self.now) }
+        ensures fits { Fits (definition_of self.now) result }
+    {
+        AtomState::first(&self.places, &self.variables)
+    }
+
+    /// Whether the two atoms have the same definition: the same name, and the same parts in the same order.
+    pub fn same(&self, other: &Atom) -> bool
+        ensures { IsTrue result ↔ (definition_of self.now ≡ definition_of other.now) }
+    {
+        self.name.same(&other.name)
+            & all_same(&self.places, &other.places)
+            & all_same(&self.variables, &other.variables)
+            & all_same(&self.ports, &other.ports)
+            & all_same(&self.transitions, &other.transitions)
     }
 
     /// The name of the atom.

@@ -8,5 +8,8 @@ mod marking;
 pub mod name;
 pub mod parts;
 mod rules;
+mod same;
 pub mod state;
+#[cfg(test)]
+mod tests;
 pub mod transition;

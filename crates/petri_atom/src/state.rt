@@ -1,10 +1,11 @@
 //! Local states of atoms, and the values that a firing delivers to one.
-ghost use Rattle.std.specs.Prelude.{◌≡◌, ℕ, ℤ, ◌≤◌, ◌↔◌, take, IsTrue, length, slice_set};
-ghost use Rattle.petri_atom.specs.Local.{has, value_in, IsZeroFrom, delivered_value};
-ghost use Rattle.petri_atom.specs.Definition.{delivered_to};
+ghost use Rattle.std.specs.Prelude.{◌≡◌, ℕ, ℤ, ◌≤◌, ◌↔◌, take, map, IsTrue, length, slice_set};
+ghost use Rattle.petri_atom.specs.Local.{has, set_below, value_in, IsZeroFrom, delivered_value};
+ghost use Rattle.petri_atom.specs.Definition.{delivered_to, is_marked_first};
 ghost use Rattle.std.specs.Option.{option_map_or};
 
 use crate::expression::Valuation;
+use crate::parts::{Place, Variable};
 use std::marker::Model;
 
 /// How many places an atom may have: each is a bit of a marking.
@@ -41,7 +42,43 @@ pub struct Delivered {
     pub values: [i64; MAX_EXPORTS],
 }
 
+/// The word whose bits are the places that are marked at first.
+fn first_marking(places: &[Place]) -> u64
+    requires { length places.now ≤ MAX_PLACES }
+    ensures { result ≡ set_below (length places.now) (is_marked_first places.now) }
+{
+    let mut word = 0;
+    for (number, place) in places.iter().enumerate() {
+        word |= u64::from(place.marked) << number;
+    }
+    word
+}
+
+/// The variables' first values, and zeros after them.
+fn first_values(variables: &[Variable]) -> [i64; MAX_VARIABLES]
+    requires { length variables.now ≤ MAX_VARIABLES }
+    ensures values { take (length variables.now) result ≡ map (λ v. v.first) variables.now }
+    ensures zeros { IsZeroFrom (length variables.now) result }
+{
+    let mut values = [0; MAX_VARIABLES];
+    for (number, variable) in variables.iter().enumerate() {
+        values[number] = variable.first;
+    }
+    values
+}
+
 impl AtomState {
+    /// The first state of an atom with these places and variables.
+    pub(crate) fn first(places: &[Place], variables: &[Variable]) -> Self
+        requires places { length places.now ≤ MAX_PLACES }
+        requires variables { length variables.now ≤ MAX_VARIABLES }
+        ensures marking { result.marking ≡ set_below (length places.now) (is_marked_first places.now) }
+        ensures values { result.values ≡ map (λ v. v.first) variables.now }
+    {
+        let values = first_values(variables);
+        AtomState::of(first_marking(places), variables.len() as u8, values)
+    }
+
     /// The state with these marked places and the first `used` of `vars` as values.
     pub fn of(places: u64, used: u8, vars: [i64; MAX_VARIABLES]) -> Self
         requires at_most { used ≤ MAX_VARIABLES }

@@ -2,7 +2,8 @@
 ghost use Rattle.std.specs.Prelude.{◌≡◌, ◌&&◌, not, IsTrue, map};
 ghost use Rattle.std.specs.List.{list_all};
 ghost use Rattle.petri_atom.specs.Definition.{is_small_value, has_known_variables};
-ghost use Rattle.petri_atom.specs.Local.{is_in, set_below, are_places, all_marked, is_blocked, moved, value_in};
+ghost use Rattle.petri_atom.specs.Local.{is_in, set_below, are_places, moved};
+ghost use Rattle.petri_atom.specs.Expression.{tree_of};
 ghost use Rattle.petri_atom.specs.Update.{update_of};
 ghost use Rattle.petri_atom.specs.declared.state.TheConstants.{MAX_PLACES};
 
@@ -23,11 +24,11 @@ pub struct Update {
 /// Beside its lists of places it keeps each as a machine word, so that a test of a marking is two operations.
 #[derive(Debug, Drop)]
 pub struct Transition {
-    port: u16,
-    sources: Vec<u8>,
-    targets: Vec<u8>,
-    guard: Expression<u8>,
-    updates: Vec<Update>,
+    pub(crate) port: u16,
+    pub(crate) sources: Vec<u8>,
+    pub(crate) targets: Vec<u8>,
+    pub(crate) guard: Expression<u8>,
+    pub(crate) updates: Vec<Update>,
     source_word: u64,
     target_word: u64,
     blocking_word: u64,
@@ -39,6 +40,8 @@ pub struct Transition {
 }
 
 impl Transition {
+    ghost use Rattle.petri_atom.specs.Transition.{transition_of, transition_by};
+
     /// A transition of the port, with its places by number.
     pub fn new(
         port: u16,
@@ -49,11 +52,7 @@ impl Transition {
     ) -> Self
         requires sources { IsTrue (are_places sources.items) }
         requires targets { IsTrue (are_places targets.items) }
-        ensures port { result.port ≡ port }
-        ensures sources { result.sources ≡ sources }
-        ensures targets { result.targets ≡ targets }
-        ensures guard { result.guard ≡ guard }
-        ensures updates { result.updates ≡ updates }
+        ensures { transition_of result ≡ transition_by port sources.items targets.items guard updates.items }
     {
         let source_word = word_of(&sources);
         let target_word = word_of(&targets);
@@ -71,33 +70,61 @@ impl Transition {
 }
 
 impl Transition {
-    ghost use Rattle.petri_atom.specs.Definition.{offers, updated};
+    ghost use Rattle.petri_atom.specs.Definition.{can_move, offers, updated};
     ghost use Rattle.petri_atom.specs.Transition.{transition_of};
 
     /// The number of the transition's port.
     pub fn port(&self) -> u16
-        ensures { result ≡ self.now.port }
+        ensures { result ≡ (transition_of self.now).port }
     {
         self.port
     }
 
+    /// The numbers of the places that the transition takes its tokens from.
+    pub fn sources(&self) -> &[u8]
+        ensures { result.now ≡ (transition_of self.now).sources }
+    {
+        &self.sources
+    }
+
+    /// The numbers of the places that the transition puts its tokens to.
+    pub fn targets(&self) -> &[u8]
+        ensures { result.now ≡ (transition_of self.now).targets }
+    {
+        &self.targets
+    }
+
+    /// The guard: the transition is offered only where its value is not 0.
+    pub fn guard(&self) -> &Expression<u8>
+        ensures { tree_of result.now ≡ (transition_of self.now).guard }
+    {
+        &self.guard
+    }
+
+    /// The updates, in the order in which they run.
+    pub fn updates(&self) -> &[Update]
+        ensures { map update_of result.now ≡ (transition_of self.now).updates }
+    {
+        &self.updates
+    }
+
     /// Whether a marking lets the transition move: all its sources are marked, and no target that is no source.
     pub(crate) fn can_move(&self, marking: u64) -> bool
-        ensures { result ≡ (all_marked marking self.now.sources.items && not (is_blocked marking self.now.targets.items self.now.sources.items)) }
+        ensures { result ≡ can_move marking (transition_of self.now) }
     {
         (marking & self.source_word == self.source_word) & (marking & self.blocking_word == 0)
     }
 
     /// The marking after the transition moved.
     pub(crate) fn marking_after(&self, marking: u64) -> u64
-        ensures { result ≡ moved marking self.now.sources.items self.now.targets.items }
+        ensures { result ≡ moved marking (transition_of self.now).sources (transition_of self.now).targets }
     {
         marking & !self.source_word | self.target_word
     }
 
     /// Moves the marking of the state as the transition does.
     pub(crate) fn shift(&self, state: &mut AtomState)
-        ensures marking { state.new.marking ≡ moved state.old.marking self.now.sources.items self.now.targets.items }
+        ensures marking { state.new.marking ≡ moved state.old.marking (transition_of self.now).sources (transition_of self.now).targets }
         ensures values { state.new.values ≡ state.old.values }
     {
         state.mark(self.marking_after(state.places()));
@@ -106,7 +133,7 @@ impl Transition {
     /// Runs the updates of the transition, in order.
     pub(crate) fn update(&self, state: &mut AtomState)
         ensures marking { state.new.marking ≡ state.old.marking }
-        ensures values { state.new.values ≡ updated (map update_of self.now.updates.items) state.old.values }
+        ensures values { state.new.values ≡ updated (transition_of self.now).updates state.old.values }
     {
         for update in &self.updates {
             let value = update.value.value(state);
