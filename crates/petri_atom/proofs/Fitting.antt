@@ -1,11 +1,10 @@
-use Rattle.std.proofs.Common.{◌≡◌, ℕ, zero, suc, ◌^◌, ◌<◌, ◌≤◌, ℤ, Bool, true, false, not, ◌&&◌, ◌||◌, ltb, refl, sym, ◌∙◌, ap, arith, List, [], ◌∷◌, length, Option, Some, None, ⊎_elim}
+use Rattle.std.proofs.Common.{◌≡◌, ℕ, zero, suc, ◌≤◌, ℤ, Bool, true, false, not, ◌&&◌, ◌||◌, ltb, refl, sym, ◌∙◌, ap, List, [], ◌∷◌, length, Option, Some, None, ⊎_elim}
 use Rattle.std.specs.Prelude.{slice_get, slice_set}
 use Rattle.std.specs.List.{list_all}
 use Rattle.std.specs.Option.{option_map_or}
 use Rattle.std.proofs.lemmas.Bool.{and_parts, and_from, cases_lt, le-ltb, false≢true, false_from_ne_true}
 use Rattle.std.proofs.lemmas.List.{length-set}
-use Rattle.petri_atom.specs.Local.{Local, has, is_in, set_below, moved, value_in, delivered_value}
-use Rattle.petri_atom.specs.Expression.{value_of}
+use Rattle.petri_atom.specs.Local.{Local, has, is_in, set_below, moved, delivered_value}
 use Rattle.petri_atom.specs.Definition.{AtomDefinition, TransitionDefinition, UpdateDefinition, Fits, fired, fired_by, exports_of, updated, delivered_to, is_well_formed, is_within_limits, has_each_once, has_known_numbers, has_known_numbers_in, exports_known, has_sources_and_targets, are_below}
 use Rattle.petri_atom.specs.declared.state.Delivered.{Delivered}
 use Rattle.petri_atom.proofs.Sets.{has-above, set_below-lt, has-set_below}

@@ -1,10 +1,10 @@
 -- Worked examples of the definitions, as computed facts.
-use Rattle.std.proofs.Common.{◌≡◌, ℕ, ◌-◌, ◌^◌, ℤ, pos, negsuc, Bool, true, false, refl, List, [], ◌∷◌, Some, None}
+use Rattle.std.proofs.Common.{◌≡◌, ℕ, ◌-◌, ◌^◌, pos, negsuc, true, false, refl, [], ◌∷◌, Some, None}
 use Rattle.std.specs.Int.{int_wrap}
 use Rattle.petri_atom.specs.Expression.{Tree, number, variable, negation, operation, operated, value_of, word_count}
-use Rattle.petri_atom.specs.Local.{Local, set_below, moved, value_in}
-use Rattle.petri_atom.specs.Definition.{TransitionDefinition, can_move, offers, fired_by, numbers_of, first_from, updated}
-use Rattle.petri_atom.specs.declared.expression.Operator.TheVariants.{Add, Subtract, Multiply, Min, LessOrEqual, Less, Equal, And, Or}
+use Rattle.petri_atom.specs.Local.{set_below, moved, value_in}
+use Rattle.petri_atom.specs.Definition.{TransitionDefinition, can_move, offers, fired_by, numbers_of, first_from}
+use Rattle.petri_atom.specs.declared.expression.Operator.TheVariants.{Add, Subtract, Multiply, Less, Equal, And, Or}
 use Rattle.petri_atom.specs.declared.state.Delivered.{Delivered}
 
 -- the guard `&& < n 10 ! == n 3`: n is below 10 and not 3

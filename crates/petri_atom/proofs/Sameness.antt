@@ -1,14 +1,12 @@
-use Rattle.std.proofs.Common.{◌≡◌, ℕ, ℤ, Bool, true, false, not, ◌&&◌, eqb, refl, sym, ◌∙◌, ap, List, [], ◌∷◌, map, Some, Option}
+use Rattle.std.proofs.Common.{◌≡◌, ℕ, Bool, true, false, eqb, refl, sym, ◌∙◌, ap, List, [], ◌∷◌, map, Some}
 use Rattle.std.specs.Prelude.{slice_get, nat_eq}
 use Rattle.std.specs.Bool.{Decides}
-use Rattle.std.specs.Ordering.{int_eq}
 use Rattle.std.specs.Cmp.Lexicographic.{pointwise}
 use Rattle.std.proofs.lemmas.Bool.{false≢true}
 use Rattle.std.proofs.lemmas.Bool.Decides.{Decides-eqb, Decides-int_eq, Decides-and, Decides-like}
 use Rattle.std.proofs.lemmas.Slice.Eq.{slice_eq-Decides}
 use Rattle.petri_atom.specs.Expression.{Tree, number, variable, negation, operation, tree_of, operator_code, is_same_tree}
-use Rattle.petri_atom.specs.Name.{is_same_text}
-use Rattle.petri_atom.specs.Definition.{PortDefinition, UpdateDefinition, TransitionDefinition}
+use Rattle.petri_atom.specs.Definition.{UpdateDefinition, TransitionDefinition}
 use Rattle.petri_atom.specs.Update.{update_of}
 use Rattle.petri_atom.specs.Transition.{transition_of}
 use Rattle.petri_atom.specs.Parts.{port_of}

@@ -1,8 +1,6 @@
-use Rattle.std.proofs.Common.{◌≡◌, ℕ, zero, suc, ◌+◌, ◌-◌, ◌*◌, ◌%◌, ◌^◌, ◌<◌, ◌≤◌, ◌≢◌, min, max, Bool, true, false, cond, not, ◌&&◌, ◌||◌, eqb, ltb, refl, sym, ◌∙◌, ap, arith, lit<, pow-suc, add-one, subst, List, [], ◌∷◌, ◌++◌, ⊎_elim, inl, inr}
-use Rattle.std.specs.Prelude.{bit_and, bit_or, ◌⊎◌}
-use Rattle.std.specs.Int.{bit_at, bit_not, w64, from_bool}
-use Rattle.std.specs.Int.Bits.{and_lt}
-use Rattle.std.specs.List.{list_all, list_any}
+use Rattle.std.proofs.Common.{◌≡◌, ℕ, zero, suc, ◌+◌, ◌-◌, ◌*◌, ◌%◌, ◌^◌, ◌<◌, ◌≤◌, ◌≢◌, min, max, Bool, true, false, cond, not, ◌&&◌, ◌||◌, eqb, refl, sym, ◌∙◌, ap, arith, lit<, pow-suc, add-one, subst, List, [], ◌∷◌, ◌++◌, ⊎_elim}
+use Rattle.std.specs.Prelude.{bit_and, bit_or}
+use Rattle.std.specs.Int.{bit_not, w64, from_bool}
 use Rattle.std.proofs.lemmas.Bool.{cases_lt, cases_eq, or_left, or_right, eq-eqb, ne_eqb}
 use Rattle.std.proofs.Math.Bool.{or-false}
 use Rattle.std.proofs.lemmas.Bool.Decides.{nat_tests}

@@ -1,6 +1,6 @@
 use Rattle.std.specs.Prelude.{◌≡◌, ◌≤◌, ℕ, suc, ℤ, Bool, true, false, not, ◌&&◌, if◌then◌else◌, List, [], ◌∷◌, length, filter, find, map, slice_get, slice_set, Option, Some, None, ◌==◌, nat_lt, nat_le, nat_eq}
 use Rattle.std.specs.List.{list_all, list_any}
-use Rattle.std.specs.Option.{option_map_or, is_none}
+use Rattle.std.specs.Option.{option_map_or}
 use Rattle.petri_atom.specs.Expression.{Tree, value_of, is_true, word_count, has_variables_below}
 use Rattle.petri_atom.specs.Local.{Local, has, set_below, all_marked, is_blocked, moved, value_in, delivered_value}
 use Rattle.petri_atom.specs.Name.{is_same_text}

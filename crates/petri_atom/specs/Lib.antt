@@ -8,3 +8,4 @@ pub mod Parts
 pub mod Same
 pub mod SameTransition
 pub mod Atom
+pub mod Fault

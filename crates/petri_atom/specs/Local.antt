@@ -1,4 +1,4 @@
-use Rattle.std.specs.Prelude.{◌≡◌, ℕ, zero, suc, ◌+◌, ◌^◌, ◌<◌, ◌≤◌, ℤ, pos, Bool, cond, not, ◌&&◌, ◌||◌, List, slice_index_or, slice_get, ◌==◌, nat_lt, Option, None, if◌then◌else◌}
+use Rattle.std.specs.Prelude.{◌≡◌, ℕ, zero, suc, ◌+◌, ◌^◌, ◌≤◌, ℤ, pos, Bool, cond, not, ◌&&◌, ◌||◌, List, slice_index_or, slice_get, ◌==◌, nat_lt, Option, None, if◌then◌else◌}
 use Rattle.petri_atom.specs.declared.state.Delivered.{Delivered}
 use Rattle.std.specs.Int.{bit_at}
 use Rattle.std.specs.List.{list_all, list_any}

@@ -1,5 +1,5 @@
 //! Atoms: what they are made of, which transitions a state offers, and what firing one leaves.
-ghost use Rattle.std.specs.Prelude.{◌≡◌, ◌≤◌, ◌↔◌, IsTrue, IfOk, IfErr, ◌&&◌, nat_le, None, map, find, length};
+ghost use Rattle.std.specs.Prelude.{◌≡◌, ◌≤◌, ◌↔◌, IsTrue, IfOk, IfErr, ◌&&◌, nat_le, None, map, filter, find, length, slice_get};
 ghost use Rattle.petri_atom.specs.Definition.{is_well_formed, fault_of, numbers_of, IsFaultOf};
 ghost use Rattle.petri_atom.specs.Parts.{port_of, definition_by, index_below};
 ghost use Rattle.petri_atom.specs.Transition.{transition_of};
@@ -159,6 +159,32 @@ impl Atom {
         ensures { result ≡ (nat_le from transition && offers_number (definition_of self.now) state.now transition) }
     {
         from <= transition && self.is_offered(state, transition)
+    }
+
+    /// How many transitions of the port the state offers.
+    pub fn enabled_count(&self, state: &AtomState, port: u16) -> usize
+        ensures { result ≡ length (enabled (definition_of self.now) state.now port) }
+    {
+        self.transitions_of(port)
+            .iter()
+            .filter(|number| self.is_offered(state, **number))
+            .count()
+    }
+
+    /// The transition with this place, from 0, among those of the port that the state offers, by rising number.
+    pub fn nth_enabled(&self, state: &AtomState, port: u16, place: usize) -> Option<u16>
+        ensures { result ≡ slice_get (enabled (definition_of self.now) state.now port) place }
+    {
+        let mut left = place;
+        for number in self.transitions_of(port) {
+            if self.is_offered(state, *number) {
+                if left == 0 {
+                    return Some(*number);
+                }
+                left -= 1;
+            }
+        }
+        None
     }
 
     /// Whether the state offers a transition of the port.

@@ -21,14 +21,21 @@ pub enum AtomFault {
 }
 
 impl fmt::Display for AtomFault {
+    ghost use Rattle.std.specs.Prelude.{Some};
+    ghost use Rattle.petri_atom.specs.Fault.{message_of};
+
+    ghost output = { λ fault. Some (message_of fault) };
+
     fn fmt<W: fmt::Write>(&self, f: &mut fmt::Formatter<W>) -> fmt::Result {
-        f.write_str(match self {
-            AtomFault::Limit => "the atom passes a limit",
-            AtomFault::Twice => "a name, an exported variable or a place stands twice",
-            AtomFault::Unknown => "a port, place or variable is not there",
-            AtomFault::NoPlace => "a transition has no source or no target",
-            AtomFault::Memory => "memory ran out",
-        })
+        match self {
+            AtomFault::Limit => f.write_str("the atom passes a limit"),
+            AtomFault::Twice => {
+                f.write_str("a name, an exported variable or a place stands twice")
+            }
+            AtomFault::Unknown => f.write_str("a port, place or variable is not there"),
+            AtomFault::NoPlace => f.write_str("a transition has no source or no target"),
+            AtomFault::Memory => f.write_str("memory ran out"),
+        }
     }
 }
 

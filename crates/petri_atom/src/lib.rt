@@ -1,15 +1,42 @@
 //! Atoms: one-safe Petri nets with variables and ports.
+//!
+//! An [`Atom`] has places, variables, ports and transitions, each numbered from 0. It keeps each rule of an
+//! atom by its type: [`Atom::new`] refuses parts that break one. Its model is what was written
+//! (`specs/Definition.antt`), and contracts read it by `definition_of`.
+//!
+//! An [`AtomState`] is a local state: contracts see it as a set of marked places and a list of values
+//! (`specs/Local.antt`). A state offers a transition where its sources are marked, no target that is no
+//! source is, and its guard is not 0. Firing one assigns the values that are delivered to its port's
+//! exported variables, runs its updates in order, and moves the marking.
+//!
+//! - `atom`: what an atom answers of a state: [`Atom::offers`], [`Atom::first_enabled`], [`Atom::apply`].
+//! - `expression`: expressions over any kind of variable, and their values.
+//! - `name`, `parts`, `transition`: what an atom is made of. A transition keeps its places as machine words
+//!   too, so that a test of a marking is two operations; that they are those sets is kept by its type.
+//! - `rules`: the rules that the parts keep, as tests. `fault`: which kind of rule is broken.
+//! - `state`: local states, and what is delivered to one. `same`: whether two parts are the same.
+//!
+//! After an atom is made, nothing here takes memory, and nothing can fail.
 #![tactic(auto)]
 
-pub mod atom;
-pub mod expression;
-pub mod fault;
+mod atom;
+mod expression;
+mod fault;
 mod marking;
-pub mod name;
-pub mod parts;
+mod name;
+mod parts;
 mod rules;
 mod same;
-pub mod state;
+mod state;
+mod transition;
+
+pub use atom::Atom;
+pub use expression::{Expression, Operator, Valuation};
+pub use fault::AtomFault;
+pub use name::{MAX_NAME, Name, is_name};
+pub use parts::{MAX_PORTS, MAX_TRANSITIONS, MAX_UPDATES, MAX_WORDS, Place, Port, Variable};
+pub use state::{AtomState, Delivered, MAX_EXPORTS, MAX_PLACES, MAX_VARIABLES};
+pub use transition::{Transition, Update};
+
 #[cfg(test)]
 mod tests;
-pub mod transition;

@@ -1,4 +1,4 @@
-use Rattle.std.proofs.Common.{◌≡◌, ◌<◌, ◌^◌, ◌∙◌, sym, ap, arith, get_or}
+use Rattle.std.proofs.Common.{◌<◌, ◌^◌, ◌∙◌, sym, ap, arith, get_or}
 use Rattle.std.proofs.lemmas.List.{take_more}
 use Rattle.petri_atom.specs.Local.{is_in, set_below}
 use Rattle.petri_atom.proofs.Markings.{place_at}

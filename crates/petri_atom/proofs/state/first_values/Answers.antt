@@ -1,4 +1,4 @@
-use Rattle.std.proofs.Common.{◌≡◌, ◌+◌, ◌<◌, ◌≤◌, ◌≢◌, ◌++◌, ℕ, ℤ, pos, [], ◌∷◌, ◌∙◌, sym, ap, rules, arith, length, take, map, set, get_or, w64, SFits, to_z, of_z, get_or-set_other}
+use Rattle.std.proofs.Common.{◌+◌, ◌<◌, ◌≤◌, ◌≢◌, ◌++◌, pos, [], ◌∷◌, ◌∙◌, sym, ap, rules, arith, length, take, map, set, get_or, w64, SFits, get_or-set_other}
 use Rattle.std.proofs.lemmas.Int.{to_z-of_z}
 use Rattle.std.proofs.lemmas.List.{take_more, take_more_set, map-append, length-set}
 use Rattle.petri_atom.proofs.state.first_values.Goals as goal

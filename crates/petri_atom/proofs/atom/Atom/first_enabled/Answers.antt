@@ -1,4 +1,4 @@
-use Rattle.std.proofs.Common.{◌≡◌, ◌∙◌, sym, ap, ◌&&◌, find, leb}
+use Rattle.std.proofs.Common.{◌∙◌, sym, ap, ◌&&◌, find, leb}
 use Rattle.petri_atom.specs.Atom.{definition_of}
 use Rattle.petri_atom.specs.Definition.{offers_number}
 use Rattle.petri_atom.proofs.Numbers.{find-filter}

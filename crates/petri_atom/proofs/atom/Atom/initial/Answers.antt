@@ -1,4 +1,4 @@
-use Rattle.std.proofs.Common.{◌∙◌, sym, ap, length, subst, ◌≡◌, ◌≤◌, false}
+use Rattle.std.proofs.Common.{◌∙◌, ap, length}
 use Rattle.std.proofs.lemmas.List.{length-map}
 use Rattle.petri_atom.specs.Local.{has, set_below}
 use Rattle.petri_atom.specs.Definition.{is_marked_first}

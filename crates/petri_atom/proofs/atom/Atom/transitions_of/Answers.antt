@@ -1,8 +1,8 @@
-use Rattle.std.proofs.Common.{◌≡◌, ℕ, List, Bool, true, ◌∙◌, sym, ap, subst, map, length, ltb}
+use Rattle.std.proofs.Common.{◌≡◌, true, ◌∙◌, ap, subst, map, length, ltb}
 use Rattle.std.specs.List.{list_all}
 use Rattle.std.proofs.lemmas.List.{length-map}
 use Rattle.petri_atom.specs.Atom.{definition_of}
-use Rattle.petri_atom.specs.Parts.{port_of, index_below}
+use Rattle.petri_atom.specs.Parts.{port_of}
 use Rattle.petri_atom.specs.Transition.{transition_of}
 use Rattle.petri_atom.specs.declared.atom.Atom.{Atom}
 use Rattle.petri_atom.proofs.Numbers.{index-some, index-past}
