@@ -1,0 +1,133 @@
+-- Worked examples of the definitions: connector 0 is `tick`, connector 1 is `send`, connector 2 is `stop`.
+use Rattle.std.proofs.Common.{◌≡◌, ℕ, List, [], ◌∷◌, true, refl, ⊎_elim, subst, arith}
+use Rattle.std.specs.FinSet.{contains}
+use Rattle.std.proofs.lemmas.Bool.{cases_eq}
+use Rattle.priority_filter.specs.declared.rule.Side.TheVariants.{Whole, One}
+use Rattle.priority_filter.specs.declared.rule.Rule.{Rule}
+use Rattle.priority_filter.specs.declared.rule.Rule.TheVariants.{Under, Maximal}
+use Rattle.priority_filter.specs.declared.fault.OrderFault.TheVariants.{Cycle, UnknownName, Memory}
+use Rattle.priority_filter.specs.Fault.{number_of}
+use Rattle.priority_filter.specs.Members.{members_of}
+use Rattle.priority_filter.specs.Rule.{IsProperSubset, IsOn, Puts}
+use Rattle.priority_filter.specs.Order.{interaction_at, rule_at, IsRuleStep, IsBelow, IsFirstCyclic, IsKnown, IsFirstUnknown}
+use Rattle.priority_filter.proofs.MaskLaws.{proper_differs, proper_from_and, subset_and}
+use Rattle.priority_filter.proofs.MemberLaws.{contains-members_of}
+
+abbrev tick : ℕ × ℕ
+tick = (0, 1)
+
+abbrev send : ℕ × ℕ
+send = (1, 3)
+
+abbrev stop : ℕ × ℕ
+stop = (2, 1)
+
+abbrev plant : List (ℕ × ℕ)
+plant = tick ∷ send ∷ stop ∷ []
+
+-- tick < send, send < stop
+abbrev ladder : List Rule
+ladder = Under (Whole 0) (Whole 1) ∷ Under (Whole 1) (Whole 2) ∷ []
+
+-- tick < send, send < tick
+abbrev circle : List Rule
+circle = Under (Whole 0) (Whole 1) ∷ Under (Whole 1) (Whole 0) ∷ []
+
+-- ---- one rule
+
+left_under_right : Puts (Under (Whole 0) (Whole 1)) tick send
+left_under_right = (refl, refl)
+
+right_not_under_left : ¬ Puts (Under (Whole 0) (Whole 1)) send tick
+right_not_under_left puts = omega (arith, puts.0)
+
+one_names_its_mask : IsOn (One 1 3) send
+one_names_its_mask = (refl, refl)
+
+one_names_no_other_mask : ¬ IsOn (One 1 1) send
+one_names_no_other_mask on = omega (arith, on.1)
+
+leaf_0_is_less_than_leaves_0_and_1 : IsProperSubset 1 3
+leaf_0_is_less_than_leaves_0_and_1 = proper_from_and 1 3 refl (λ same. omega (arith, same))
+
+no_mask_is_less_than_itself : ¬ IsProperSubset 3 3
+no_mask_is_less_than_itself proper = proper_differs 3 3 proper refl
+
+leaves_0_and_1_are_not_among_0_and_2 : ¬ IsProperSubset 3 5
+leaves_0_and_1_are_not_among_0_and_2 proper =
+    let within : ◌≡◌ {A = ℕ} 1 3 = subset_and 3 5 proper.0 in
+    omega (arith, within)
+
+maximal_puts_fewer_leaves_below : Puts (Maximal 1) (1, 1) (1, 3)
+maximal_puts_fewer_leaves_below = (refl, refl, leaf_0_is_less_than_leaves_0_and_1)
+
+maximal_stays_in_its_connector : ¬ Puts (Maximal 1) (0, 1) (1, 3)
+maximal_stays_in_its_connector puts = omega (arith, puts.0)
+
+-- ---- chains
+
+tick_to_send : IsRuleStep ladder plant 0 1
+tick_to_send = record { from = omega arith; to = omega arith; rule = 0; written = omega arith; puts = (refl, refl) }
+
+send_to_stop : IsRuleStep ladder plant 1 2
+send_to_stop = record { from = omega arith; to = omega arith; rule = 1; written = omega arith; puts = (refl, refl) }
+
+-- no written rule speaks of tick and stop
+no_step_from_tick_to_stop : ¬ IsRuleStep ladder plant 0 2
+no_step_from_tick_to_stop step =
+    ⊎_elim
+    (λ first. let puts : Puts (rule_at ladder 0) tick stop = subst (λ k. Puts (rule_at ladder k) tick stop) first step.puts in omega (arith, puts.1))
+    (λ later. let second : step.rule ≡ 1 = omega (arith, step.written) in
+    let puts : Puts (rule_at ladder 1) tick stop = subst (λ k. Puts (rule_at ladder k) tick stop) second step.puts in omega (arith, puts.0))
+    (cases_eq step.rule 0)
+
+-- yet a chain leads from tick by send to stop
+tick_is_below_stop : IsBelow ladder plant 0 2
+tick_is_below_stop = record { stations = 1 ∷ []; chain = (tick_to_send, send_to_stop) }
+
+-- two rules against each other put the first interaction below itself
+tick_is_first_below_itself : IsFirstCyclic circle plant 0
+tick_is_first_below_itself = record {
+  cyclic = record {
+    stations = 1 ∷ [];
+    chain = (record { from = omega arith; to = omega arith; rule = 0; written = omega arith; puts = (refl, refl) }, record { from = omega arith; to = omega arith; rule = 1; written = omega arith; puts = (refl, refl) });
+  };
+  before = λ b earlier below. omega (arith, earlier);
+}
+
+-- a connector under itself: one step and no station
+stop_under_stop : IsBelow (Under (Whole 2) (Whole 2) ∷ []) plant 2 2
+stop_under_stop = record { stations = []; chain = record { from = omega arith; to = omega arith; rule = 0; written = omega arith; puts = (refl, refl) } }
+
+-- ---- names
+
+known_sides : IsKnown plant (Under (One 1 3) (Whole 2))
+known_sides = ((1, omega arith, (refl, refl)), (2, omega arith, refl))
+
+-- connector 3 has no interaction
+unknown_connector : ¬ IsKnown plant (Maximal 3)
+unknown_connector known =
+    ⊎_elim
+    (λ at_0. let on : ◌≡◌ {A = ℕ} 0 3 = subst (λ a. (interaction_at plant a).0 ≡ 3) at_0 known.2 in omega (arith, on))
+    (λ not_0. ⊎_elim
+    (λ at_1. let on : ◌≡◌ {A = ℕ} 1 3 = subst (λ a. (interaction_at plant a).0 ≡ 3) at_1 known.2 in omega (arith, on))
+    (λ not_1. let at_2 : known.0 ≡ 2 = omega (arith, known.1) in
+    let on : ◌≡◌ {A = ℕ} 2 3 = subst (λ a. (interaction_at plant a).0 ≡ 3) at_2 known.2 in omega (arith, on))
+    (cases_eq known.0 1))
+    (cases_eq known.0 0)
+
+second_rule_is_unknown : IsFirstUnknown (Maximal 1 ∷ Maximal 3 ∷ []) plant 1
+second_rule_is_unknown = record {
+  within = omega arith;
+  unknown = unknown_connector;
+  before = λ j earlier. let first : 0 ≡ j = omega arith in subst (λ k. IsKnown plant (rule_at (Maximal 1 ∷ Maximal 3 ∷ []) k)) first (1, omega arith, refl);
+}
+
+fault_numbers : (number_of (Cycle 5) ≡ 1) × (number_of (UnknownName 0) ≡ 2) × (number_of Memory ≡ 3)
+fault_numbers = (refl, refl, refl)
+
+-- ---- bits
+
+-- bit 1 of the second word stands for interaction 65
+bit_65 : contains (members_of (0 ∷ 2 ∷ [])) 65 ≡ true
+bit_65 = contains-members_of (0 ∷ 2 ∷ []) 65

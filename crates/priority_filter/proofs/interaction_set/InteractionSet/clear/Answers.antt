@@ -1,0 +1,5 @@
+use Rattle.priority_filter.proofs.MemberLaws.{members_of-zeros}
+use Rattle.priority_filter.proofs.interaction_set.InteractionSet.clear.Goals as goal
+
+pub returns : goal.returns
+returns c = members_of-zeros 16

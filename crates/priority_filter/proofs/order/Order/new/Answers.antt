@@ -1,0 +1,39 @@
+use Rattle.std.proofs.Common.{◌≡◌, ℕ, Result, Err, ◌∙◌, sym, ap, subst}
+use Rattle.priority_filter.specs.declared.fault.OrderFault.{OrderFault}
+use Rattle.priority_filter.specs.declared.fault.OrderFault.TheVariants.{Cycle}
+use Rattle.priority_filter.specs.Order.{Priorities, IsFirstCyclic}
+use Rattle.priority_filter.specs.Table.{IsOrderTable}
+use Rattle.priority_filter.proofs.TableLaws.{first_cyclic_from_rows, first_cyclic_is_one, strict_from_rows}
+use Rattle.priority_filter.proofs.order.Order.new.Goals as goal
+
+-- a fault tells its number
+same_cycle : (x a : ℕ) → ◌≡◌ {A = Result Priorities OrderFault} (Err (Cycle x)) (Err (Cycle a)) → x ≡ a
+same_cycle x a same = cc
+
+pub returns-in-Some-first_cyclic-clause-cycle : goal.returns-in-Some-first_cyclic-clause-cycle
+returns-in-Some-first_cyclic-clause-cycle c = λ a _.
+    let rules = c.args.rules.now in
+    let interactions = c.args.interactions.now in
+    let found : ℕ = c.in-Some-first_cyclic.interaction in
+    let first : IsFirstCyclic rules interactions found = first_cyclic_from_rows rules interactions c.in_ok-above.above.items c.deref.result.now found c.deref.ensures.value c.in_ok-above.ensures.below c.in-Some-first_cyclic.ensures.cyclic c.in-Some-first_cyclic.ensures.first in (
+      λ told. (c.in_default.ensures.known, subst (IsFirstCyclic rules interactions) (same_cycle found a told) first),
+      λ both. ap (λ x. Err (Cycle x)) (first_cyclic_is_one rules interactions found a first both.1),
+    )
+
+pub returns-clause-strict : goal.returns-clause-strict
+returns-clause-strict c =
+    strict_from_rows c.args.rules.now c.args.interactions.now c.in_ok-above.above.items c.deref.result.now c.deref.ensures.value c.in_ok-above.ensures.below c.in_default-first_cyclic.ensures.none
+
+pub invariant_of-result : goal.invariant_of-result
+invariant_of-result c =
+    let rows = c.in_ok-above.above.items in
+    let same_rules = sym c.in_ok-from_slice.ensures.items in
+    let same_interactions = sym c.in_ok-from_slice-2.ensures.items in
+    subst (λ rules. IsOrderTable rules c.in_ok-from_slice-2.field-0.items rows) same_rules
+    (subst (λ interactions. IsOrderTable c.args.rules.now interactions rows) same_interactions
+    (record {
+      limit = c.requires;
+      size = sym c.in_ok-above.above.ok.0 ∙ c.in_ok-above.ensures.size;
+      exact = c.in_ok-above.ensures.below;
+      strict = strict_from_rows c.args.rules.now c.args.interactions.now rows c.deref.result.now c.deref.ensures.value c.in_ok-above.ensures.below c.in_default-first_cyclic.ensures.none;
+    }))

@@ -1,0 +1,6 @@
+pub mod Members
+pub mod Rule
+pub mod Order
+pub mod Table
+pub mod Fault
+pub mod Laws

@@ -1,0 +1,47 @@
+-- A table of sets, one for each interaction: row a holds what stands above interaction a.
+use Rattle.std.specs.Prelude.{◌≡◌, ℕ, ◌<◌, ◌≤◌, ◌⊎◌, ◌↔◌, List, length, slice_index_or, IsTrue, if◌then◌else◌}
+use Rattle.std.specs.Ordering.{nat_cmp}
+use Rattle.std.specs.FinSet.{FinSet, contains, empty, union}
+use Rattle.priority_filter.specs.declared.rule.Side.{Side}
+use Rattle.priority_filter.specs.declared.rule.Rule.{Rule}
+use Rattle.priority_filter.specs.Rule.{IsOn, Puts, IsProperSubset}
+use Rattle.priority_filter.specs.Order.{interaction_at, IsBelow, IsStrict}
+use Rattle.priority_filter.specs.declared.interaction_set.TheConstants.{INTERACTION_LIMIT}
+
+-- row a, which is empty past the table
+abbrev pub row_at : List (FinSet nat_cmp) → ℕ → FinSet nat_cmp
+row_at rows a = slice_index_or rows a empty
+
+-- row a holds b
+abbrev pub Above : List (FinSet nat_cmp) → ℕ → ℕ → Type 0
+Above rows a b = IsTrue (contains (row_at rows a) b)
+
+-- the set holds exactly the interactions on the side
+abbrev pub IsSideSet : List (ℕ × ℕ) → Side → FinSet nat_cmp → Type 0
+IsSideSet interactions side set =
+    (b : ℕ) → IsTrue (contains set b) ↔ ((b < length interactions) × IsOn side (interaction_at interactions b))
+
+-- the set holds exactly the interactions of the connector that have the leaves of the mask and more
+abbrev pub IsLargerSet : List (ℕ × ℕ) → ℕ → ℕ → FinSet nat_cmp → Type 0
+IsLargerSet interactions connector mask set =
+    (b : ℕ) → IsTrue (contains set b) ↔ ((b < length interactions) × (((interaction_at interactions b).0 ≡ connector) × IsProperSubset mask (interaction_at interactions b).1))
+
+-- both are interactions of the list, and the rule puts the one below the other
+abbrev pub PutsIn : List (ℕ × ℕ) → Rule → ℕ → ℕ → Type 0
+PutsIn interactions rule a b =
+    (a < length interactions) × (b < length interactions) × Puts rule (interaction_at interactions a) (interaction_at interactions b)
+
+-- the rows gained exactly what the rule puts above
+abbrev pub Gains : List (ℕ × ℕ) → Rule → List (FinSet nat_cmp) → List (FinSet nat_cmp) → Type 0
+Gains interactions rule old new = (a b : ℕ) → Above new a b ↔ (Above old a b ⊎ PutsIn interactions rule a b)
+
+-- the row with all that stands above the station, where the station is in it
+abbrev pub row_through : ℕ → FinSet nat_cmp → FinSet nat_cmp → FinSet nat_cmp
+row_through station through row = if contains row station then union row through else row
+
+-- the table is the order that the rules put on the interactions, and no interaction is below itself
+pub record IsOrderTable (rules : List Rule) (interactions : List (ℕ × ℕ)) (rows : List (FinSet nat_cmp)) : Type 0 where
+  pub limit : length interactions ≤ INTERACTION_LIMIT
+  pub size : length rows ≡ length interactions
+  pub exact : (a b : ℕ) → Above rows a b ↔ IsBelow rules interactions a b
+  pub strict : IsStrict rules interactions

@@ -1,0 +1,88 @@
+//! Why there is no order.
+ghost use Rattle.std.specs.Prelude.{◌≡◌};
+
+use std::alloc::AllocError;
+use std::error::Error;
+use std::fmt;
+
+/// Why rules and interactions give no order.
+#[derive(Clone, Copy, Debug, PartialEq, Eq)]
+pub enum OrderFault {
+    /// The interaction with this number is below itself, and no lower number is.
+    Cycle(u16),
+    /// The rule with this index names something that is not in the list of interactions, and no
+    /// earlier rule does.
+    UnknownName(usize),
+    /// Memory ran out.
+    Memory,
+}
+
+impl OrderFault {
+    ghost use Rattle.priority_filter.specs.Fault.{number_of};
+
+    /// The number that stands for the fault in printed lines.
+    pub fn number(self) -> u8
+        ensures { result ≡ number_of self }
+    {
+        match self {
+            OrderFault::Cycle(_) => 1,
+            OrderFault::UnknownName(_) => 2,
+            OrderFault::Memory => 3,
+        }
+    }
+}
+
+impl fmt::Display for OrderFault {
+    fn fmt<W: fmt::Write>(&self, f: &mut fmt::Formatter<W>) -> fmt::Result {
+        match self {
+            OrderFault::Cycle(interaction) => {
+                write!(f, "the rules put interaction {interaction} below itself")
+            }
+            OrderFault::UnknownName(rule) => {
+                write!(f, "rule {rule} names no interaction of the plant")
+            }
+            OrderFault::Memory => write!(f, "out of memory"),
+        }
+    }
+}
+
+impl Error for OrderFault {}
+
+impl From<AllocError> for OrderFault {
+    ghost use Rattle.std.specs.Prelude.{◌≡◌};
+    ghost use Rattle.priority_filter.specs.declared.fault.OrderFault.TheVariants.{Memory};
+
+    ghost from_gives = { λ _ fault. fault ≡ Memory };
+
+    fn from(_error: AllocError) -> OrderFault {
+        OrderFault::Memory
+    }
+}
+
+#[cfg(test)]
+mod tests {
+    use super::*;
+    use std::test::Fail;
+
+    #[test]
+    fn faults_have_numbers_and_texts(rt: HostRuntime) -> Result<(), Fail> {
+        let cases = [
+            (
+                OrderFault::Cycle(5),
+                1,
+                "the rules put interaction 5 below itself",
+            ),
+            (
+                OrderFault::UnknownName(2),
+                2,
+                "rule 2 names no interaction of the plant",
+            ),
+            (OrderFault::Memory, 3, "out of memory"),
+        ];
+        for (fault, number, text) in cases {
+            assert_eq!(rt; fault.number(), number);
+            assert_eq!(rt; format!(in rt.alloc(); "{fault}")?.as_str(), text);
+        }
+        Ok(())
+    }
+}

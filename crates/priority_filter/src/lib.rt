@@ -1,0 +1,34 @@
+//! The order that priority rules put on the interactions of a plant.
+//!
+//! A rule puts each interaction of its left side below each of its right side; a side is a whole
+//! connector or one interaction. A maximal connector puts each of its interactions below those that
+//! have all its leaves and more. An interaction is *below* another where a chain of such steps, one
+//! at least, leads from it up to the other. A chain may lead through interactions that are not
+//! possible just now.
+//!
+//! Contracts see an [`Order`] as the rules and the interactions that it was made from, and an
+//! [`InteractionSet`] as a finite set of interaction numbers.
+//!
+//! - [`Order::new`] refuses the first rule that names something unknown, and then the first
+//!   interaction that is below itself. So an order that was made is strict.
+//! - [`Order::below`] is exactly that order, and costs the test of one bit.
+//! - [`Order::is_overruled`] says whether some possible interaction is above, in one pass over words.
+//! - [`laws`] has what follows from the definitions: below is transitive, and where something is
+//!   possible, some possible interaction has no possible one above it.
+//!
+//! The definitions: `specs/Rule.antt` says what one rule puts below what, and `specs/Order.antt` what
+//! a chain is. `table` builds the order as one row of bits for each interaction.
+#![tactic(auto)]
+
+pub mod fault;
+pub mod interaction_set;
+pub mod laws;
+mod mask;
+pub mod order;
+pub mod rule;
+mod table;
+
+pub use fault::OrderFault;
+pub use interaction_set::{INTERACTION_LIMIT, InteractionSet};
+pub use order::Order;
+pub use rule::{Rule, Side};

@@ -1,0 +1,113 @@
+//! The order that rules put on the interactions of a plant.
+ghost use Rattle.std.specs.Prelude.{◌≡◌, ◌≢◌, ℕ, ◌<◌, ◌≤◌, ◌↔◌, length, IfOk, OnOk, IsTrue, IfSome, IfNone};
+ghost use Rattle.std.specs.FinSet as set;
+ghost use Rattle.priority_filter.specs.Order.{IsBelow, IsStrict, IsFirstCyclic, AreKnown, IsFirstUnknown};
+
+use crate::fault::OrderFault;
+use crate::interaction_set::{INTERACTION_LIMIT, InteractionSet};
+use crate::rule::Rule;
+use crate::table;
+use std::alloc::Global;
+use std::marker::Model;
+
+/// Which interactions are below which. An interaction is named by its number, its place in the list
+/// that the order was made from.
+#[derive(Debug, Drop)]
+pub struct Order {
+    rules: Vec<Rule>,
+    interactions: Vec<(u16, u16)>,
+    above: Vec<InteractionSet>,
+}
+
+impl Model for Order {
+    ghost use Rattle.priority_filter.specs.Order.{Priorities};
+    ghost use Rattle.priority_filter.specs.Table.{IsOrderTable};
+
+    ghost Value = { Priorities };
+
+    ghost view = { λ o. record { rules = o.rules.items; interactions = o.interactions.items } };
+
+    ghost invariant = { λ o. IsOrderTable o.rules.items o.interactions.items o.above.items };
+}
+
+impl Order {
+    /// The order of the rules on the interactions, each a connector and a leaf mask.
+    ///
+    /// An unknown name is told before a cycle, and of each kind the first.
+    pub fn new(
+        alloc: Global,
+        rules: &[Rule],
+        interactions: &[(u16, u16)],
+    ) -> Result<Self, OrderFault>
+        requires { length interactions.now ≤ INTERACTION_LIMIT }
+        ensures rules { IfOk result (λ order. order.rules ≡ rules.now) }
+        ensures interactions { IfOk result (λ order. order.interactions ≡ interactions.now) }
+        ensures known { OnOk result (AreKnown rules.now interactions.now) }
+        ensures strict { OnOk result (IsStrict rules.now interactions.now) }
+        ensures unknown { (k : ℕ) → (result ≡ Err (OrderFault.UnknownName k))
+            ↔ IsFirstUnknown rules.now interactions.now k }
+        ensures cycle { (a : ℕ) → result ≢ Err OrderFault.Memory → (result ≡ Err (OrderFault.Cycle a))
+            ↔ (AreKnown rules.now interactions.now × IsFirstCyclic rules.now interactions.now a) }
+    {
+        if let Some(rule) = first_unknown(rules, interactions) {
+            return Err(OrderFault::UnknownName(rule));
+        }
+        let above = table::order_table(alloc, rules, interactions)?;
+        if let Some(interaction) = table::first_cyclic(&above) {
+            return Err(OrderFault::Cycle(interaction));
+        }
+        Ok(Order {
+            rules: Vec::from_slice(alloc, rules)?,
+            interactions: Vec::from_slice(alloc, interactions)?,
+            above,
+        })
+    }
+
+    pub fn rules(&self) -> &[Rule]
+        ensures { result.now ≡ self.now.rules }
+    {
+        self.rules.as_slice()
+    }
+
+    pub fn interactions(&self) -> &[(u16, u16)]
+        ensures { result.now ≡ self.now.interactions }
+    {
+        self.interactions.as_slice()
+    }
+
+    /// Whether a chain of rules leads from interaction a up to interaction b.
+    pub fn below(&self, a: u16, b: u16) -> bool
+        requires a_in { a < length self.now.interactions }
+        requires b_in { b < length self.now.interactions }
+        ensures below { IsTrue result ↔ IsBelow self.now.rules self.now.interactions a b }
+        ensures strict { IsStrict self.now.rules self.now.interactions }
+    {
+        self.above[usize::from(a)].contains(b)
+    }
+
+    /// Whether some possible interaction is above interaction a.
+    pub fn is_overruled(&self, a: u16, possible: &InteractionSet) -> bool
+        requires { a < length self.now.interactions }
+        ensures overruled { IsTrue result ↔ ((b : ℕ) × IsTrue (set.contains possible.now b)
+            × IsBelow self.now.rules self.now.interactions a b) }
+        ensures strict { IsStrict self.now.rules self.now.interactions }
+    {
+        self.above[usize::from(a)].intersects(possible)
+    }
+}
+
+/// The index of the first rule that names something which is not in the list.
+fn first_unknown(rules: &[Rule], interactions: &[(u16, u16)]) -> Option<usize>
+    ensures unknown { IfSome result (IsFirstUnknown rules.now interactions.now) }
+    ensures known { IfNone result (AreKnown rules.now interactions.now) }
+{
+    for k in 0..rules.len() {
+        if !rules[k].is_known(interactions) {
+            return Some(k);
+        }
+    }
+    None
+}
+
+#[cfg(test)]
+mod tests;

@@ -1,0 +1,213 @@
+use super::*;
+use crate::rule::Rule::{Maximal, Under};
+use crate::rule::Side::{One, Whole};
+use std::process::Abort;
+use std::test::Fail;
+
+/// The pairs (a, b) with a below b, as the order tells them.
+fn pairs(
+    rt: &impl Abort,
+    alloc: Global,
+    rules: &[Rule],
+    interactions: &[(u16, u16)],
+) -> Result<Vec<(u16, u16)>, Fail> {
+    assert!(rt; interactions.len() <= INTERACTION_LIMIT);
+    let order = Order::new(alloc, rules, interactions)?;
+    let mut found = Vec::new(alloc);
+    for a in 0..interactions.len() {
+        for b in 0..interactions.len() {
+            if order.below(a as u16, b as u16) {
+                found.push((a as u16, b as u16))?;
+            }
+        }
+    }
+    Ok(found)
+}
+
+#[test]
+fn rules_and_chains_put_below(rt: HostRuntime) -> Result<(), Fail> {
+    // One interaction each of connectors 0, 1 and 2.
+    let three = [(0, 1), (1, 3), (2, 1)];
+    // Connector 4 with five interactions, and connector 5 with two.
+    let five = [(4, 1), (4, 3), (4, 5), (4, 7), (4, 15), (5, 1), (5, 3)];
+    let cases: [(&[Rule], &[(u16, u16)], &[(u16, u16)]); 5] = [
+        (&[], &three, &[]),
+        // The chain from 0 to 2 goes through 1.
+        (
+            &[Under(Whole(0), Whole(1)), Under(Whole(1), Whole(2))],
+            &three,
+            &[(0, 1), (0, 2), (1, 2)],
+        ),
+        // The same, with the rules in the other order.
+        (
+            &[Under(Whole(1), Whole(2)), Under(Whole(0), Whole(1))],
+            &three,
+            &[(0, 1), (0, 2), (1, 2)],
+        ),
+        // Proper subsets alone, and those of the one connector.
+        (
+            &[Maximal(4)],
+            &five,
+            &[
+                (0, 1),
+                (0, 2),
+                (0, 3),
+                (0, 4),
+                (1, 3),
+                (1, 4),
+                (2, 3),
+                (2, 4),
+                (3, 4),
+            ],
+        ),
+        // One interaction below a whole connector.
+        (&[Under(One(4, 5), Whole(5))], &five, &[(2, 5), (2, 6)]),
+    ];
+    for (rules, interactions, expected) in cases {
+        let found = pairs(&rt, rt.alloc(), rules, interactions)?;
+        assert_eq!(rt; found.as_slice(), expected, "under {rules:?}");
+    }
+    Ok(())
+}
+
+#[test]
+fn faults_tell_the_first(rt: HostRuntime) {
+    let two = [(0, 1), (0, 3)];
+    let four = [(0, 1), (0, 3), (1, 1), (2, 1)];
+    let ten = [
+        (0, 1),
+        (1, 1),
+        (2, 1),
+        (3, 1),
+        (4, 1),
+        (5, 1),
+        (6, 1),
+        (7, 1),
+        (8, 1),
+        (9, 1),
+    ];
+    let cases: [(&[Rule], &[(u16, u16)], OrderFault); 10] = [
+        // A connector, or one of its interactions, under itself.
+        (&[Under(Whole(0), Whole(0))], &two, OrderFault::Cycle(0)),
+        (&[Under(One(0, 3), Whole(0))], &two, OrderFault::Cycle(1)),
+        // Two rules against each other.
+        (
+            &[Under(Whole(0), Whole(1)), Under(Whole(1), Whole(0))],
+            &four,
+            OrderFault::Cycle(0),
+        ),
+        // A cycle of the numbers 5 and 9 alone.
+        (
+            &[Under(Whole(9), Whole(5)), Under(Whole(5), Whole(9))],
+            &ten,
+            OrderFault::Cycle(5),
+        ),
+        // Through three rules and a maximal connector.
+        (
+            &[
+                Maximal(0),
+                Under(One(0, 3), Whole(1)),
+                Under(Whole(1), Whole(2)),
+                Under(Whole(2), One(0, 1)),
+            ],
+            &four,
+            OrderFault::Cycle(0),
+        ),
+        // An unknown name comes before a cycle.
+        (
+            &[Under(Whole(0), Whole(0)), Under(Whole(0), Whole(7))],
+            &two,
+            OrderFault::UnknownName(1),
+        ),
+        // A side that is no interaction, and a connector that has none.
+        (
+            &[Under(One(0, 2), Whole(0))],
+            &two,
+            OrderFault::UnknownName(0),
+        ),
+        (&[Maximal(0), Maximal(1)], &two, OrderFault::UnknownName(1)),
+        (&[Maximal(0)], &[], OrderFault::UnknownName(0)),
+        // The first of two.
+        (
+            &[Maximal(0), Maximal(8), Maximal(9)],
+            &two,
+            OrderFault::UnknownName(1),
+        ),
+    ];
+    for (rules, interactions, fault) in cases {
+        assert!(rt; interactions.len() <= INTERACTION_LIMIT);
+        let found = Order::new(rt.alloc(), rules, interactions).err();
+        assert_eq!(rt; found, Some(fault), "under {rules:?}");
+    }
+}
+
+/// As many interactions as there may be, each under the next.
+fn ladder(alloc: Global, rules: u16) -> Result<(Vec<Rule>, Vec<(u16, u16)>), Fail> {
+    let mut written = Vec::new(alloc);
+    let mut interactions = Vec::new(alloc);
+    for i in 0..1024u16 {
+        interactions.push((i, 1))?;
+        if i < rules {
+            written.push(Under(Whole(i), Whole((i + 1) % 1024)))?;
+        }
+    }
+    Ok((written, interactions))
+}
+
+#[test]
+fn the_limits_are_reached(rt: HostRuntime) -> Result<(), Fail> {
+    let (rules, interactions) = ladder(rt.alloc(), 1023)?;
+    assert_eq!(rt; interactions.len(), INTERACTION_LIMIT);
+    let order = Order::new(rt.alloc(), &rules, &interactions)?;
+    assert_eq!(rt;
+        (order.rules().len(), order.interactions().len()),
+        (1023, 1024)
+    );
+    assert_eq!(rt; order.interactions().len(), interactions.len());
+    for (a, b, expected) in [
+        (0, 1023, true),
+        (1023, 0, false),
+        (511, 512, true),
+        (700, 700, false),
+    ] {
+        assert_eq!(rt; order.below(a, b), expected, "{a} and {b}");
+    }
+    let (rules, interactions) = ladder(rt.alloc(), 1024)?;
+    assert_eq!(rt; interactions.len(), INTERACTION_LIMIT);
+    assert_eq!(rt;
+        Order::new(rt.alloc(), &rules, &interactions).err(),
+        Some(OrderFault::Cycle(0))
+    );
+    Ok(())
+}
+
+#[test]
+fn only_the_possible_overrule(rt: HostRuntime) -> Result<(), Fail> {
+    let (rules, interactions) = ladder(rt.alloc(), 1023)?;
+    assert_eq!(rt; interactions.len(), INTERACTION_LIMIT);
+    let order = Order::new(rt.alloc(), &rules, &interactions)?;
+    assert_eq!(rt; order.interactions().len(), interactions.len());
+    // What is possible, who asks, and whether it is overruled. Those in between are not possible.
+    let cases: [(&[u16], u16, bool); 6] = [
+        (&[], 0, false),
+        (&[0], 0, false),
+        (&[0, 2], 0, true),
+        (&[0, 2], 2, false),
+        (&[5, 1023], 5, true),
+        (&[5, 1023], 1023, false),
+    ];
+    for (numbers, a, expected) in cases {
+        let mut possible = InteractionSet::new();
+        for &number in numbers {
+            assert!(rt; usize::from(number) < INTERACTION_LIMIT);
+            possible.insert(number);
+        }
+        assert!(rt; usize::from(a) < INTERACTION_LIMIT);
+        assert_eq!(rt;
+            order.is_overruled(a, &possible),
+            expected,
+            "{a} among {numbers:?}"
+        );
+    }
+    Ok(())
+}

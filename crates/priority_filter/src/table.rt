@@ -1,0 +1,189 @@
+//! The table of an order: for each interaction the set of those that stand above it.
+//!
+//! It is filled with the rule steps, rule by rule, and then closed through one station after another.
+ghost use Rattle.std.specs.Prelude.{◌≡◌, ℕ, ◌<◌, ◌≤◌, ◌↔◌, length, vec_len, IfOk, IfSome, IfNone, IsTrue};
+ghost use Rattle.std.specs.FinSet as set;
+ghost use Rattle.priority_filter.specs.Rule.{IsOn, Puts, IsProperSubset};
+ghost use Rattle.priority_filter.specs.Order.{rule_at, IsRuleStep, Leads, IsBelow};
+ghost use Rattle.priority_filter.specs.Table.{row_at, Above, IsSideSet, IsLargerSet, Gains, row_through};
+
+use crate::interaction_set::{INTERACTION_LIMIT, InteractionSet};
+use crate::mask;
+use crate::rule::{Rule, Side};
+use std::alloc::{AllocError, Global};
+
+/// The interactions on a side.
+fn on_side(interactions: &[(u16, u16)], side: Side) -> InteractionSet
+    requires { length interactions.now ≤ INTERACTION_LIMIT }
+    ensures { IsSideSet interactions.now side result }
+{
+    let mut found = InteractionSet::new();
+    for b in 0..interactions.len() {
+        if side.names(interactions[b]) {
+            found.insert(b as u16);
+        }
+    }
+    found
+}
+
+/// Whether the interaction is one of the connector, with all leaves of the mask and more.
+fn is_larger(interaction: (u16, u16), connector: u16, leaves: u16) -> bool
+    ensures { IsTrue result ↔ ((interaction.0 ≡ connector) × IsProperSubset leaves interaction.1) }
+{
+    interaction.0 == connector && mask::is_proper_subset(leaves, interaction.1)
+}
+
+/// The interactions of the connector that have all leaves of the mask, and more.
+fn larger(interactions: &[(u16, u16)], connector: u16, leaves: u16) -> InteractionSet
+    requires { length interactions.now ≤ INTERACTION_LIMIT }
+    ensures { IsLargerSet interactions.now connector leaves result }
+{
+    let mut found = InteractionSet::new();
+    for upper in 0..interactions.len() {
+        if is_larger(interactions[upper], connector, leaves) {
+            found.insert(upper as u16);
+        }
+    }
+    found
+}
+
+/// Puts each interaction of the left side below each of the right.
+fn add_under(rows: &mut [InteractionSet], interactions: &[(u16, u16)], left: Side, right: Side)
+    requires size { length rows.old ≡ length interactions.now }
+    requires limit { length interactions.now ≤ INTERACTION_LIMIT }
+    ensures { Gains interactions.now (Rule.Under left right) rows.old rows.new }
+{
+    let above = on_side(interactions, right);
+    for a in 0..interactions.len() {
+        if left.names(interactions[a]) {
+            rows[a].union_with(&above);
+        }
+    }
+}
+
+/// Puts each interaction of the connector below those that have its leaves and more.
+fn add_maximal(rows: &mut [InteractionSet], interactions: &[(u16, u16)], connector: u16)
+    requires size { length rows.old ≡ length interactions.now }
+    requires limit { length interactions.now ≤ INTERACTION_LIMIT }
+    ensures { Gains interactions.now (Rule.Maximal connector) rows.old rows.new }
+{
+    for a in 0..interactions.len() {
+        let lower = interactions[a];
+        if lower.0 == connector {
+            let above = larger(interactions, connector, lower.1);
+            rows[a].union_with(&above);
+        }
+    }
+}
+
+/// Puts above each interaction what one rule puts there.
+fn add_rule(rows: &mut [InteractionSet], interactions: &[(u16, u16)], rule: Rule)
+    requires size { length rows.old ≡ length interactions.now }
+    requires limit { length interactions.now ≤ INTERACTION_LIMIT }
+    ensures { Gains interactions.now rule rows.old rows.new }
+{
+    match rule {
+        Rule::Under(left, right) => add_under(rows, interactions, left, right),
+        Rule::Maximal(connector) => add_maximal(rows, interactions, connector),
+    }
+}
+
+/// A table in which nothing stands above anything.
+fn empty_table(alloc: Global, size: usize) -> Result<Vec<InteractionSet>, AllocError>
+    ensures size { IfOk result (λ rows. vec_len rows ≡ size) }
+    ensures empty { IfOk result (λ rows. (a : ℕ) → row_at rows.items a ≡ set.empty) }
+{
+    let mut rows = Vec::with_capacity(alloc, size)?;
+    for _i in 0..size {
+        rows.push_reserved(InteractionSet::new());
+    }
+    Ok(rows)
+}
+
+/// Whether an earlier rule is the same one.
+fn is_repeated(rules: &[Rule], k: usize) -> bool
+    requires { k < length rules.now }
+    ensures { IsTrue result → (j : ℕ) × (j < k) × (rule_at rules.now j ≡ rule_at rules.now k) }
+{
+    for j in 0..k {
+        if rules[j] == rules[k] {
+            return true;
+        }
+    }
+    false
+}
+
+/// The table of the rule steps. A rule that stands twice is added once.
+fn rule_steps(
+    alloc: Global,
+    rules: &[Rule],
+    interactions: &[(u16, u16)],
+) -> Result<Vec<InteractionSet>, AllocError>
+    requires { length interactions.now ≤ INTERACTION_LIMIT }
+    ensures size { IfOk result (λ rows. vec_len rows ≡ length interactions.now) }
+    ensures steps { IfOk result (λ rows. (a b : ℕ) →
+        Above rows.items a b ↔ IsRuleStep rules.now interactions.now a b) }
+{
+    let mut rows = empty_table(alloc, interactions.len())?;
+    for k in 0..rules.len() {
+        if !is_repeated(rules, k) {
+            add_rule(&mut rows, interactions, rules[k]);
+        }
+    }
+    Ok(rows)
+}
+
+/// Whatever stands above the station comes to stand above all that the station stands above.
+fn close_through(rows: &mut [InteractionSet], station: usize)
+    requires station { station < length rows.old }
+    requires limit { length rows.old ≤ INTERACTION_LIMIT }
+    ensures { (a : ℕ) → a < length rows.old → row_at rows.new a ≡ row_through station (row_at rows.old station) (row_at rows.old a) }
+{
+    let above = rows[station].copy();
+    for a in 0..rows.len() {
+        if rows[a].contains(station as u16) {
+            rows[a].union_with(&above);
+        }
+    }
+}
+
+/// Makes the table of all chains out of the table of single steps.
+fn close(rows: &mut [InteractionSet])
+    requires { length rows.old ≤ INTERACTION_LIMIT }
+    ensures { (a b : ℕ) → Above rows.new a b ↔ Leads (Above rows.old) a b }
+{
+    for station in 0..rows.len() {
+        close_through(rows, station);
+    }
+}
+
+/// The table of the order: above each interaction stands all that a chain of rules leads to.
+pub fn order_table(
+    alloc: Global,
+    rules: &[Rule],
+    interactions: &[(u16, u16)],
+) -> Result<Vec<InteractionSet>, AllocError>
+    requires { length interactions.now ≤ INTERACTION_LIMIT }
+    ensures size { IfOk result (λ rows. vec_len rows ≡ length interactions.now) }
+    ensures below { IfOk result (λ rows. (a b : ℕ) →
+        Above rows.items a b ↔ IsBelow rules.now interactions.now a b) }
+{
+    let mut rows = rule_steps(alloc, rules, interactions)?;
+    close(&mut rows);
+    Ok(rows)
+}
+
+/// The first interaction that stands above itself.
+pub fn first_cyclic(rows: &[InteractionSet]) -> Option<u16>
+    requires { length rows.now ≤ INTERACTION_LIMIT }
+    ensures cyclic { IfSome result (λ a. Above rows.now a a) }
+    ensures first { IfSome result (λ a. (b : ℕ) → b < a → ¬ Above rows.now b b) }
+    ensures none { IfNone result ((a : ℕ) → ¬ Above rows.now a a) }
+{
+    for number in 0..rows.len() {
+        if rows[number].contains(number as u16) {
+            return Some(number as u16);
+        }
+    }
+    None
+}
