@@ -1,0 +1,135 @@
+-- Worked examples of the definitions, as computed facts. The bodies are short: a definition takes a body of
+-- any length.
+use Rattle.std.proofs.Common.{◌≡◌, ℕ, ◌^◌, pos, negsuc, ℤ, List, [], ◌∷◌, ◌++◌, Option, Some, None, refl, replicate}
+use Rattle.record_codec.specs.Bytes.{one_byte, two_bytes, four_bytes, eight_bytes, signed_bytes, one_byte_number, two_byte_number, four_byte_number, eight_byte_number, signed_number, zeros, padded}
+use Rattle.record_codec.specs.Base.{base_in}
+use Rattle.record_codec.specs.Identity.{IdentityFields, identity_bytes, identity_in, version_in}
+use Rattle.record_codec.specs.Saved.{SavedFields, saved_bytes, saved_in}
+use Rattle.record_codec.specs.Entry.{entry_bytes, entry_at, behind_entry}
+use Rattle.record_codec.specs.Fired.{FiredFields, fired_bytes, fired_in}
+
+-- ---- bases
+
+base_nine_is_read : base_in (0 ∷ 0 ∷ 0 ∷ 0 ∷ 0 ∷ 0 ∷ 0 ∷ 9 ∷ 0 ∷ 0 ∷ []) ≡ Some 9
+unfolding base_in eight_byte_number eight_bytes padded zeros
+base_nine_is_read = refl
+
+a_byte_behind_a_base_is_refused : base_in (0 ∷ 0 ∷ 0 ∷ 0 ∷ 0 ∷ 0 ∷ 0 ∷ 9 ∷ 0 ∷ 1 ∷ []) ≡ None
+unfolding base_in eight_byte_number eight_bytes padded zeros
+a_byte_behind_a_base_is_refused = refl
+
+base_zero_is_refused : base_in (0 ∷ 0 ∷ 0 ∷ 0 ∷ 0 ∷ 0 ∷ 0 ∷ 0 ∷ 0 ∷ []) ≡ None
+unfolding base_in eight_byte_number eight_bytes padded zeros
+base_zero_is_refused = refl
+
+the_last_base_is_read : base_in (128 ∷ 0 ∷ 0 ∷ 0 ∷ 0 ∷ 0 ∷ 0 ∷ 0 ∷ 0 ∷ []) ≡ Some (2 ^ 63)
+unfolding base_in eight_byte_number eight_bytes padded zeros
+the_last_base_is_read = refl
+
+a_base_past_the_last_is_refused : base_in (128 ∷ 0 ∷ 0 ∷ 0 ∷ 0 ∷ 0 ∷ 0 ∷ 1 ∷ 0 ∷ []) ≡ None
+unfolding base_in eight_byte_number eight_bytes padded zeros
+a_base_past_the_last_is_refused = refl
+
+-- ---- identities
+
+-- two atoms, a ring of 8, and a digest of 32 bytes 171
+abbrev sample_identity : IdentityFields
+sample_identity = record { atoms = 2; ring = 8; digest = replicate 32 171 }
+
+an_identity_is_spelled : identity_bytes sample_identity ≡ 66 ∷ 73 ∷ 80 ∷ 70 ∷ 0 ∷ 1 ∷ 0 ∷ 2 ∷ 0 ∷ 0 ∷ 0 ∷ 8 ∷ replicate 32 171
+unfolding two_bytes four_bytes
+an_identity_is_spelled = refl
+
+an_identity_is_read : identity_in (identity_bytes sample_identity ++ 0 ∷ 0 ∷ []) ≡ Some sample_identity
+unfolding identity_in two_byte_number four_byte_number two_bytes four_bytes padded zeros
+an_identity_is_read = refl
+
+a_ring_of_seven_is_refused : identity_in (66 ∷ 73 ∷ 80 ∷ 70 ∷ 0 ∷ 1 ∷ 0 ∷ 2 ∷ 0 ∷ 0 ∷ 0 ∷ 7 ∷ replicate 32 171) ≡ None
+unfolding identity_in two_byte_number four_byte_number two_bytes four_bytes padded zeros
+a_ring_of_seven_is_refused = refl
+
+another_version_is_refused : identity_in (66 ∷ 73 ∷ 80 ∷ 70 ∷ 0 ∷ 0 ∷ 0 ∷ 2 ∷ 0 ∷ 0 ∷ 0 ∷ 8 ∷ replicate 32 171) ≡ None
+unfolding identity_in two_byte_number four_byte_number two_bytes four_bytes padded zeros
+another_version_is_refused = refl
+
+another_version_is_told : version_in (66 ∷ 73 ∷ 80 ∷ 70 ∷ 0 ∷ 2 ∷ 0 ∷ []) ≡ Some 2
+unfolding version_in two_byte_number
+another_version_is_told = refl
+
+no_version_without_the_magic : version_in (66 ∷ 73 ∷ 80 ∷ 71 ∷ 0 ∷ 1 ∷ 0 ∷ []) ≡ None
+unfolding version_in two_byte_number
+no_version_without_the_magic = refl
+
+-- ---- saved states
+
+-- atom 0 at count 4, copied at number 4, place 0 marked, one variable with value 4
+abbrev sample_saved : SavedFields
+sample_saved = record { atom = 0; count = 4; at = 4; marking = 1; values = pos 4 ∷ [] }
+
+abbrev sample_saved_bytes : List ℕ
+sample_saved_bytes =
+    0 ∷ 0 ∷ 0 ∷ 0 ∷ 0 ∷ 0 ∷ 0 ∷ 0 ∷ 0 ∷ 4 ∷ 0 ∷ 0 ∷ 0 ∷ 0 ∷ 0 ∷ 0 ∷ 0 ∷ 4 ∷ 0 ∷ 0 ∷ 0 ∷ 0 ∷ 0 ∷ 0 ∷ 0 ∷ 1 ∷ 1 ∷ 0 ∷ 0 ∷ 0 ∷ 0 ∷ 0 ∷ 0 ∷ 0 ∷ 4 ∷ []
+
+a_saved_state_is_spelled : saved_bytes sample_saved ≡ sample_saved_bytes
+unfolding one_byte two_bytes eight_bytes signed_bytes
+a_saved_state_is_spelled = refl
+
+a_saved_state_is_read : saved_in (sample_saved_bytes ++ 0 ∷ 0 ∷ []) ≡ Some sample_saved
+unfolding saved_in one_byte two_bytes eight_bytes signed_bytes one_byte_number two_byte_number eight_byte_number signed_number padded zeros
+a_saved_state_is_read = refl
+
+a_count_above_at_is_refused : saved_in (0 ∷ 0 ∷ 0 ∷ 0 ∷ 0 ∷ 0 ∷ 0 ∷ 0 ∷ 0 ∷ 5 ∷ 0 ∷ 0 ∷ 0 ∷ 0 ∷ 0 ∷ 0 ∷ 0 ∷ 4 ∷ 0 ∷ 0 ∷ 0 ∷ 0 ∷ 0 ∷ 0 ∷ 0 ∷ 1 ∷ 0 ∷ []) ≡ None
+unfolding saved_in one_byte two_bytes eight_bytes signed_bytes one_byte_number two_byte_number eight_byte_number signed_number padded zeros
+a_count_above_at_is_refused = refl
+
+-- ---- records
+
+-- value 1 delivered to the first of four variables
+abbrev first_alone : List (Option ℤ)
+first_alone = Some (pos 1) ∷ None ∷ None ∷ None ∷ []
+
+abbrev nothing : List (Option ℤ)
+nothing = None ∷ None ∷ None ∷ None ∷ []
+
+-- record 2 of the sample plant: atoms 0 and 1 took part, and 1 was delivered to a variable of atom 1
+abbrev second_record : FiredFields
+second_record = record {
+  number = 2;
+  connector = 1;
+  entries = record { atom = 0; transition = 0; participation = 2; delivered = nothing } ∷ record { atom = 1; transition = 0; participation = 1; delivered = first_alone } ∷ [];
+}
+
+abbrev second_record_bytes : List ℕ
+second_record_bytes =
+    0 ∷ 0 ∷ 0 ∷ 0 ∷ 0 ∷ 0 ∷ 0 ∷ 2 ∷ 0 ∷ 1 ∷ 2
+    ∷ 0 ∷ 0 ∷ 0 ∷ 0 ∷ 0 ∷ 0 ∷ 0 ∷ 0 ∷ 0 ∷ 0 ∷ 0 ∷ 2 ∷ 0 ∷ 0
+    ∷ 0 ∷ 1 ∷ 0 ∷ 0 ∷ 0 ∷ 0 ∷ 0 ∷ 0 ∷ 0 ∷ 0 ∷ 0 ∷ 1 ∷ 1 ∷ 1 ∷ 0 ∷ 0 ∷ 0 ∷ 0 ∷ 0 ∷ 0 ∷ 0 ∷ 1 ∷ []
+
+a_record_is_spelled : fired_bytes second_record ≡ second_record_bytes
+unfolding entry_bytes one_byte two_bytes eight_bytes signed_bytes
+a_record_is_spelled = refl
+
+a_record_is_read : fired_in (second_record_bytes ++ 0 ∷ 0 ∷ []) ≡ Some second_record
+unfolding fired_in entry_bytes entry_at behind_entry one_byte two_bytes eight_bytes signed_bytes one_byte_number two_byte_number eight_byte_number signed_number padded zeros
+a_record_is_read = refl
+
+-- number 1 with participation number 2
+a_participation_past_the_number_is_refused : fired_in (0 ∷ 0 ∷ 0 ∷ 0 ∷ 0 ∷ 0 ∷ 0 ∷ 1 ∷ 0 ∷ 0 ∷ 1 ∷ 0 ∷ 0 ∷ 0 ∷ 0 ∷ 0 ∷ 0 ∷ 0 ∷ 0 ∷ 0 ∷ 0 ∷ 0 ∷ 2 ∷ 0 ∷ 0 ∷ 0 ∷ []) ≡ None
+unfolding fired_in entry_bytes entry_at behind_entry one_byte two_bytes eight_bytes signed_bytes one_byte_number two_byte_number eight_byte_number signed_number padded zeros
+a_participation_past_the_number_is_refused = refl
+
+-- atoms 1 and 0 in this order
+atoms_out_of_order_are_refused : fired_in (0 ∷ 0 ∷ 0 ∷ 0 ∷ 0 ∷ 0 ∷ 0 ∷ 1 ∷ 0 ∷ 0 ∷ 2 ∷ 0 ∷ 1 ∷ 0 ∷ 0 ∷ 0 ∷ 0 ∷ 0 ∷ 0 ∷ 0 ∷ 0 ∷ 0 ∷ 1 ∷ 0 ∷ 0 ∷ 0 ∷ 0 ∷ 0 ∷ 0 ∷ 0 ∷ 0 ∷ 0 ∷ 0 ∷ 0 ∷ 0 ∷ 0 ∷ 1 ∷ 0 ∷ 0 ∷ 0 ∷ []) ≡ None
+unfolding fired_in entry_bytes entry_at behind_entry one_byte two_bytes eight_bytes signed_bytes one_byte_number two_byte_number eight_byte_number signed_number padded zeros
+atoms_out_of_order_are_refused = refl
+
+-- mask 1 with 0 values counted
+a_count_of_values_that_is_not_the_ones_is_refused : fired_in (0 ∷ 0 ∷ 0 ∷ 0 ∷ 0 ∷ 0 ∷ 0 ∷ 1 ∷ 0 ∷ 0 ∷ 1 ∷ 0 ∷ 0 ∷ 0 ∷ 0 ∷ 0 ∷ 0 ∷ 0 ∷ 0 ∷ 0 ∷ 0 ∷ 0 ∷ 1 ∷ 0 ∷ 1 ∷ 0 ∷ 0 ∷ 0 ∷ 0 ∷ 0 ∷ 0 ∷ 0 ∷ 7 ∷ []) ≡ None
+unfolding fired_in entry_bytes entry_at behind_entry one_byte two_bytes eight_bytes signed_bytes one_byte_number two_byte_number eight_byte_number signed_number padded zeros
+a_count_of_values_that_is_not_the_ones_is_refused = refl
+
+-- values to variables 1 and 3 make mask 10, and stand from the lower variable up
+values_stand_from_the_lowest_bit_up : entry_bytes (record { atom = 3; transition = 5; participation = 7; delivered = None ∷ Some (pos 9) ∷ None ∷ Some (negsuc 0) ∷ [] })
+    ≡ 0 ∷ 3 ∷ 0 ∷ 5 ∷ 0 ∷ 0 ∷ 0 ∷ 0 ∷ 0 ∷ 0 ∷ 0 ∷ 7 ∷ 2 ∷ 10 ∷ 0 ∷ 0 ∷ 0 ∷ 0 ∷ 0 ∷ 0 ∷ 0 ∷ 9 ∷ 255 ∷ 255 ∷ 255 ∷ 255 ∷ 255 ∷ 255 ∷ 255 ∷ 255 ∷ []
+unfolding entry_bytes one_byte two_bytes eight_bytes signed_bytes
+values_stand_from_the_lowest_bit_up = refl

@@ -1,0 +1,9 @@
+use Rattle.std.proofs.Common.{arith}
+use Rattle.std.proofs.lemmas.Bool.Decides.{nat_tests}
+use Rattle.record_codec.specs.Saved.{saved_in}
+use Rattle.record_codec.proofs.Numbers.{length-signed_numbers}
+use Rattle.record_codec.proofs.saved.Saved.held.Goals as goal
+
+pub returns-then-variables-gt-MOST_VARIABLES : goal.returns-then-variables-gt-MOST_VARIABLES
+unfolding saved_in
+returns-then-variables-gt-MOST_VARIABLES c = grind (arith, nat_tests, length-signed_numbers)

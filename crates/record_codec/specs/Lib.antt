@@ -1,0 +1,6 @@
+pub mod Bytes
+pub mod Base
+pub mod Identity
+pub mod Saved
+pub mod Entry
+pub mod Fired

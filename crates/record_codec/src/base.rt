@@ -1,0 +1,78 @@
+ghost use Rattle.std.specs.Prelude.{◌≡◌, ℕ, IfSome, Some};
+ghost use Rattle.record_codec.specs.Bytes.{padded};
+ghost use Rattle.record_codec.specs.Base.{IsBase, IsBaseBody, base_bytes, base_in};
+
+use crate::layout::{BODY, LAST_NUMBER};
+use crate::reader::Reader;
+use crate::writer::Writer;
+use std::marker::Model;
+
+/// The number of the first record that is kept.
+#[derive(Clone, Copy, Debug, PartialEq, Eq)]
+pub struct Base {
+    number: u64,
+}
+
+// Clauses see the number.
+impl Model for Base {
+    ghost Value = { ℕ };
+
+    ghost view = { λ b. b.number };
+
+    ghost invariant = { λ b. IsBase b.number };
+
+    ghost inverse = { λ n. record { number = n } };
+}
+
+impl Base {
+    pub fn new(number: u64) -> Base
+        requires { IsBase number }
+        ensures { result ≡ number }
+    {
+        Base { number }
+    }
+
+    pub fn number(&self) -> u64
+        ensures value { result ≡ self.now }
+        ensures in_range { IsBase self.now }
+    {
+        self.number
+    }
+
+    /// The body of a cell that holds this base.
+    pub fn to_body(&self) -> [u8; BODY]
+        ensures spelled { result ≡ padded BODY (base_bytes self.now) }
+        ensures reads_back { base_in result ≡ Some self.now }
+    {
+        let mut writer = Writer::new();
+        writer.eight(self.number);
+        writer.body()
+    }
+
+    /// The base that the body holds, or `None` where it is no base's body.
+    pub fn from_body(body: &[u8; BODY]) -> Option<Base>
+        ensures exact { result ≡ base_in body.now }
+        ensures found { IfSome result (IsBaseBody body.now) }
+        ensures only { (number : ℕ) → IsBaseBody body.now number → result ≡ Some number }
+    {
+        Base::held(body)
+    }
+
+    // The body of what the fields say is compared with the whole body, so nothing else of it is judged here.
+    #[tactic(auto, unfolding(crate::specs::Base::base_in))]
+    fn held(body: &[u8; BODY]) -> Option<Base>
+        ensures { result ≡ base_in body.now }
+    {
+        let mut reader = Reader::new(body);
+        let number = reader.eight();
+        if number < 1 || number > LAST_NUMBER + 1 {
+            return None;
+        }
+        let base = Base::new(number);
+        if base.to_body() == *body {
+            Some(base)
+        } else {
+            None
+        }
+    }
+}

@@ -1,0 +1,155 @@
+ghost use Rattle.std.specs.Prelude.{◌≡◌, IfSome, Some};
+ghost use Rattle.std.specs.List.{list_all};
+ghost use Rattle.record_codec.specs.Bytes.{padded};
+ghost use Rattle.record_codec.specs.Entry.{is_entry};
+ghost use Rattle.record_codec.specs.Fired.{FiredFields, IsFired, IsFiredBody, atoms_of, is_rising, is_fired, fired_bytes, fired_in};
+
+use crate::entry::Entry;
+use crate::layout::{BODY, LAST_NUMBER, MOST_CONNECTORS, MOST_ENTRIES};
+use crate::reader::Reader;
+use crate::writer::Writer;
+use std::marker::Model;
+
+/// A fired interaction: the record of it.
+#[derive(Debug, Drop)]
+pub struct Fired {
+    number: u64,
+    connector: u16,
+    participants: usize,
+    entries: [Entry; MOST_ENTRIES],
+}
+
+// Clauses see the fields, and the entries as a list.
+impl Model for Fired {
+    ghost use Rattle.std.specs.Prelude.{◌≤◌, take};
+    ghost use Rattle.record_codec.specs.declared.layout.TheConstants.{MOST_ENTRIES};
+    ghost use Rattle.record_codec.specs.Fired.{FiredFields, IsFired};
+
+    ghost Value = { FiredFields };
+
+    ghost view = { λ f. record { number = f.number; connector = f.connector; entries = take f.participants f.entries } };
+
+    ghost invariant = { λ f. (f.participants ≤ MOST_ENTRIES) × IsFired (record { number = f.number; connector = f.connector; entries = take f.participants f.entries }) };
+}
+
+impl Fired {
+    pub fn new(number: u64, connector: u16, entries: &[Entry]) -> Fired
+        requires { IsFired (record { number = number; connector = connector; entries = entries.now }) }
+        ensures { result ≡ record { number = number; connector = connector; entries = entries.now } }
+    {
+        let participants = entries.len();
+        let mut stored = [Entry::NOTHING; MOST_ENTRIES];
+        stored[..participants].copy_from_slice(entries);
+        Fired {
+            number,
+            connector,
+            participants,
+            entries: stored,
+        }
+    }
+
+    pub fn number(&self) -> u64
+        ensures value { result ≡ self.now.number }
+        ensures in_range { IsFired self.now }
+    {
+        self.number
+    }
+
+    pub fn connector(&self) -> u16
+        ensures value { result ≡ self.now.connector }
+        ensures in_range { IsFired self.now }
+    {
+        self.connector
+    }
+
+    /// An entry for each participant, in rising atom number.
+    pub fn entries(&self) -> &[Entry]
+        ensures entries { result.now ≡ self.now.entries }
+        ensures in_range { IsFired self.now }
+    {
+        &self.entries[..self.participants]
+    }
+
+    /// The body of a cell that holds this record.
+    pub fn to_body(&self) -> [u8; BODY]
+        ensures spelled { result ≡ padded BODY (fired_bytes self.now) }
+        ensures reads_back { fired_in result ≡ Some self.now }
+    {
+        let entries = self.entries();
+        let mut writer = Writer::new();
+        writer.eight(self.number);
+        writer.two(self.connector);
+        writer.one(entries.len() as u8);
+        writer.entries(entries);
+        writer.body()
+    }
+
+    /// The record that the body holds, or `None` where it is no record's body.
+    pub fn from_body(body: &[u8; BODY]) -> Option<Fired>
+        ensures exact { result ≡ fired_in body.now }
+        ensures found { IfSome result (IsFiredBody body.now) }
+        ensures only { (fired : FiredFields) → IsFiredBody body.now fired → result ≡ Some fired }
+    {
+        Fired::held(body)
+    }
+
+    // The body of what the fields say is compared with the whole body, so nothing else of it is judged here.
+    #[tactic(auto, unfolding(crate::specs::Fired::fired_in))]
+    fn held(body: &[u8; BODY]) -> Option<Fired>
+        ensures { result ≡ fired_in body.now }
+    {
+        let mut reader = Reader::new(body);
+        let number = reader.eight();
+        let connector = reader.two();
+        let participants = reader.one() as usize;
+        if participants > MOST_ENTRIES {
+            return None;
+        }
+        let mut entries = [Entry::NOTHING; MOST_ENTRIES];
+        let entries = &mut entries[..participants];
+        reader.entries(entries);
+        if !is_in_range(number, connector, entries) {
+            return None;
+        }
+        let fired = Fired::new(number, connector, entries);
+        if fired.to_body() == *body {
+            Some(fired)
+        } else {
+            None
+        }
+    }
+}
+
+fn is_in_range(number: u64, connector: u16, entries: &[Entry]) -> bool
+    ensures { result ≡ is_fired (record { number = number; connector = connector; entries = entries.now }) }
+{
+    number >= 1
+        && number <= LAST_NUMBER
+        && connector < MOST_CONNECTORS
+        && !entries.is_empty()
+        && entries.len() <= MOST_ENTRIES
+        && all_within(number, entries)
+        && atoms_rise(entries)
+}
+
+fn all_within(number: u64, entries: &[Entry]) -> bool
+    ensures { result ≡ list_all (is_entry number) entries.now }
+{
+    for entry in entries {
+        if !entry.is_within(number) {
+            return false;
+        }
+    }
+    true
+}
+
+fn atoms_rise(entries: &[Entry]) -> bool
+    ensures { result ≡ is_rising (atoms_of entries.now) }
+{
+    for next in 1..entries.len() {
+        if entries[next - 1].atom >= entries[next].atom {
+            return false;
+        }
+    }
+    true
+}

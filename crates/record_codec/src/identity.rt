@@ -1,0 +1,124 @@
+ghost use Rattle.std.specs.Prelude.{◌≡◌, IfSome, Some};
+ghost use Rattle.record_codec.specs.Bytes.{padded};
+ghost use Rattle.record_codec.specs.Identity.{IdentityFields, IsIdentity, IsIdentityBody, identity_bytes, identity_in, version_in};
+
+use crate::layout::{BODY, DIGEST, LEAST_RING, MAGIC, MOST_ATOMS, MOST_RING, VERSION};
+use crate::reader::Reader;
+use crate::writer::Writer;
+use std::marker::Model;
+
+/// What a device was formatted for: how many atoms, how many records the ring holds, and the digest of
+/// the plant text.
+#[derive(Clone, Copy, Debug, PartialEq, Eq)]
+pub struct Identity {
+    atoms: u16,
+    ring: u32,
+    digest: [u8; DIGEST],
+}
+
+// Clauses see the three fields.
+impl Model for Identity {
+    ghost use Rattle.record_codec.specs.Identity.{IdentityFields, IsIdentity};
+
+    ghost Value = { IdentityFields };
+
+    ghost view = { λ i. record { atoms = i.atoms; ring = i.ring; digest = i.digest } };
+
+    ghost invariant = { λ i. IsIdentity (record { atoms = i.atoms; ring = i.ring; digest = i.digest }) };
+
+    ghost inverse = { λ i. record { atoms = i.atoms; ring = i.ring; digest = i.digest } };
+}
+
+impl Identity {
+    pub fn new(atoms: u16, ring: u32, digest: [u8; DIGEST]) -> Identity
+        requires { IsIdentity (record { atoms = atoms; ring = ring; digest = digest }) }
+        ensures { result ≡ record { atoms = atoms; ring = ring; digest = digest } }
+    {
+        Identity {
+            atoms,
+            ring,
+            digest,
+        }
+    }
+
+    pub fn atoms(&self) -> u16
+        ensures value { result ≡ self.now.atoms }
+        ensures in_range { IsIdentity self.now }
+    {
+        self.atoms
+    }
+
+    /// How many records the ring holds.
+    pub fn ring(&self) -> u32
+        ensures value { result ≡ self.now.ring }
+        ensures in_range { IsIdentity self.now }
+    {
+        self.ring
+    }
+
+    /// The digest of the plant text.
+    pub fn digest(&self) -> &[u8; DIGEST]
+        ensures { result.now ≡ self.now.digest }
+    {
+        &self.digest
+    }
+
+    /// The body of the cell that holds this identity.
+    pub fn to_body(&self) -> [u8; BODY]
+        ensures spelled { result ≡ padded BODY (identity_bytes self.now) }
+        ensures reads_back { identity_in result ≡ Some self.now }
+    {
+        let mut writer = Writer::new();
+        writer.bytes(&MAGIC);
+        writer.two(VERSION);
+        writer.two(self.atoms);
+        writer.four(self.ring);
+        writer.bytes(&self.digest);
+        writer.body()
+    }
+
+    /// The identity that the body holds, or `None` where it is no identity's body.
+    pub fn from_body(body: &[u8; BODY]) -> Option<Identity>
+        ensures exact { result ≡ identity_in body.now }
+        ensures found { IfSome result (IsIdentityBody body.now) }
+        ensures only { (identity : IdentityFields) → IsIdentityBody body.now identity → result ≡ Some identity }
+    {
+        Identity::held(body)
+    }
+
+    /// The version of the layout that the device is formatted with, or `None` where the body does not begin
+    /// as an identity of any version does. Of another version nothing else can be read.
+    #[tactic(auto, unfolding(crate::specs::Identity::version_in))]
+    pub fn version_in(body: &[u8; BODY]) -> Option<u16>
+        ensures { result ≡ version_in body.now }
+    {
+        if !body.starts_with(&MAGIC) {
+            return None;
+        }
+        let mut reader = Reader::new(body);
+        reader.skip(MAGIC.len());
+        Some(reader.two())
+    }
+
+    // The body of what the fields say is compared with the whole body, so nothing else of it is judged here.
+    #[tactic(auto, unfolding(crate::specs::Identity::identity_in))]
+    fn held(body: &[u8; BODY]) -> Option<Identity>
+        ensures { result ≡ identity_in body.now }
+    {
+        let mut reader = Reader::new(body);
+        reader.skip(MAGIC.len());
+        reader.skip(2);
+        let atoms = reader.two();
+        let ring = reader.four();
+        let digest = reader.digest();
+        if atoms < 1 || atoms > MOST_ATOMS || ring < LEAST_RING || ring > MOST_RING {
+            return None;
+        }
+        let identity = Identity::new(atoms, ring, digest);
+        if identity.to_body() == *body {
+            Some(identity)
+        } else {
+            None
+        }
+    }
+}
