@@ -1,0 +1,33 @@
+//! The algebra of connectors: which sets of ports may act together.
+//!
+//! A connector is a tree of ports (`tree`). Each child of the root or of a bracket is a trigger or a
+//! synchron. What it means is a set of sets of ports (`specs/PortSets.antt`), after S. Bliudze and J. Sifakis,
+//! "The Algebra of Connectors: Structuring Interaction in BIP", 2008:
+//!
+//! - a port p means `{{p}}`;
+//! - with no trigger among the children of a bracket the meaning is the product of theirs, which is all
+//!   unions of one set from each;
+//! - with triggers it is the sum, over each trigger, of its sets times the product over all other children
+//!   of the empty set or one of theirs.
+//!
+//! The leaves are numbered from 0, left to right, and a mask has bit j for leaf j (`specs/Masks.antt`).
+//! `interactions` (`walk`) lists exactly the masks whose ports are a port set, rising, each once. It looks at
+//! each mask once, by one walk down the tree: `specs/Walk.antt` is that walk, and no public clause cites it.
+//! What is no connector is told before, without memory, by its first fault (`shape`, `specs/Faults.antt`).
+//! `laws` has what follows for each connector.
+#![tactic(auto)]
+
+mod faults;
+pub mod laws;
+mod ports;
+mod shape;
+#[cfg(test)]
+mod tests;
+mod tree;
+mod walk;
+
+pub use faults::TreeFault;
+pub use ports::leaves;
+pub use shape::first_fault;
+pub use tree::{Child, Connector, MAX_DEPTH, MAX_LEAVES, Mask, Node, Port};
+pub use walk::interactions;

@@ -1,0 +1,38 @@
+ghost use Rattle.std.specs.Prelude.{◌≡◌, ◌++◌, IfOk, OnOk};
+ghost use Rattle.connector_tree.specs.Tree.{leaves, leaves_of, node_leaves};
+
+use crate::tree::{Child, Connector, Node, Port};
+use std::alloc::{AllocError, Global};
+
+/// The leaves of a connector, from left to right: leaf j is the entry at j.
+pub fn leaves(alloc: Global, connector: &Connector) -> Result<Vec<Port>, AllocError>
+    ensures { IfOk result (λ ports. ports.items ≡ leaves connector.now) }
+{
+    let mut ports = Vec::new(alloc);
+    push_leaves(&connector.root, &mut ports)?;
+    Ok(ports)
+}
+
+#[cycle(push_leaves)]
+fn push_leaves(children: &[Child], ports: &mut Vec<Port>) -> Result<(), AllocError>
+    ensures { OnOk result (ports.new.items ≡ ports.old.items ++ leaves_of children.now) }
+{
+    for child in children {
+        push_node(&child.node, ports)?;
+    }
+    Ok(())
+}
+
+#[cycle(push_leaves)]
+fn push_node(node: &Node, ports: &mut Vec<Port>) -> Result<(), AllocError>
+    ensures { OnOk result (ports.new.items ≡ ports.old.items ++ node_leaves node.now) }
+{
+    match node {
+        Node::Leaf { atom, port } => ports.push(Port {
+            atom: *atom,
+            port: *port,
+        })?,
+        Node::Fusion(children) => push_leaves(children, ports)?,
+    }
+    Ok(())
+}
