@@ -1,0 +1,10 @@
+pub mod Overwrites
+pub mod CellBytes
+pub mod Steps
+pub mod CallLemmas
+pub mod RunLemmas
+pub mod Replay
+pub mod MemoryLemmas
+pub mod TestLemmas
+pub mod LawLemmas
+mod Rows

@@ -1,0 +1,48 @@
+use Rattle.std.proofs.Common.{◌≡◌, ◌+◌, ◌-◌, ◌<◌, ◌≤◌, ◌++◌, ◌∷◌, [], Bool, ℕ, List, true, length, vec_len, take, drop, replicate, arith, refl, sym, ◌∙◌, ap, subst}
+use Rattle.std.proofs.lemmas.List.{length-replicate, length-take-le}
+use Rattle.std.proofs.lemmas.Slice.{pushed}
+use Rattle.std.proofs.lemmas.Grind.{common_steps}
+use Rattle.disk_model.specs.declared.change.Change.{Change}
+use Rattle.disk_model.specs.declared.change.Change.TheVariants.{Write}
+use Rattle.disk_model.specs.DiskState.{Moment, overwritten}
+use Rattle.disk_model.specs.Recording.{Recording, at_rest, moments_before}
+use Rattle.disk_model.proofs.Overwrites.{length-overwritten}
+use Rattle.disk_model.proofs.Replay.{replayed_more, before_more, lent_back, moment_same, kept_part}
+use Rattle.disk_model.proofs.recorded.Recorded.write.Goals as goal
+
+pub invariant_of-self : goal.invariant_of-self
+invariant_of-self c =
+    let inside = c.self.inside in
+    let whole : c.overwrite.new.whole ≡ overwritten c.args.at (take c.args.put c.args.from.now) inside.bytes.items = grind (arith, common_steps) in
+    let marks : c.mark.new.marks ≡ overwritten c.args.at (replicate (length c.args.from.now) true) inside.marks.items = grind (arith, common_steps) in
+    let piece : c.overwrite-2.new.whole ≡ overwritten 0 (take c.args.put c.args.from.now) (replicate 1024 0) = grind (arith, common_steps) in
+    let left : 0 < inside.room - vec_len inside.changes = subst (λ (s : Recording). 0 < s.room) (sym c.self.view_is) c.requires.room in
+    let fits : c.args.at + length c.args.from.now ≤ length inside.bytes.items = subst (λ (s : Recording). c.args.at + length c.args.from.now ≤ length s.present.seen) (sym c.self.view_is) c.requires.inside in
+    let part : length (take c.args.put c.args.from.now) ≡ c.args.put = length-take-le c.args.put c.args.from.now c.requires.part in
+    let marked : length (replicate (length c.args.from.now) true) ≡ length c.args.from.now = length-replicate (length c.args.from.now) true in
+    let held : inside.bytes.len ≡ length inside.bytes.items = inside.bytes.ok.0 in
+    let held_marks : inside.marks.len ≡ length inside.marks.items = inside.marks.ok.0 in
+    let many : length c.overwrite.new.whole ≡ length inside.bytes.items = ap (λ (l : List ℕ). length l) whole ∙ length-overwritten c.args.at (take c.args.put c.args.from.now) inside.bytes.items (omega (arith, part, fits, c.requires.part)) in
+    let many_marks : length c.mark.new.marks ≡ length inside.marks.items = ap (λ (l : List Bool). length l) marks ∙ length-overwritten c.args.at (replicate (length c.args.from.now) true) inside.marks.items (omega (arith, marked, fits, c.self.invariant.marks)) in
+    let back : take inside.bytes.len (c.overwrite.new.whole ++ drop (length c.overwrite.new.whole) inside.bytes.items) ≡ c.overwrite.new.whole = lent_back inside.bytes.len c.overwrite.new.whole inside.bytes.items (many ∙ sym held) (sym held) in
+    let back_marks : take inside.marks.len (c.mark.new.marks ++ drop (length c.mark.new.marks) inside.marks.items) ≡ c.mark.new.marks = lent_back inside.marks.len c.mark.new.marks inside.marks.items (many_marks ∙ sym held_marks) (sym held_marks) in
+    let present : Moment = record { seen = inside.bytes.items; pending = inside.marks.items } in
+    let change : Change = Write (record { at = c.args.at; count = length c.args.from.now; put = c.args.put; bytes = c.overwrite-2.new.whole }) in
+    let kept : take c.args.put c.overwrite-2.new.whole ≡ take c.args.put c.args.from.now = ap (λ (l : List ℕ). take c.args.put l) piece ∙ kept_part (take c.args.put c.args.from.now) (replicate 1024 0) c.args.put part in
+    let seen : overwritten c.args.at (take c.args.put c.overwrite-2.new.whole) inside.bytes.items ≡ take inside.bytes.len (c.overwrite.new.whole ++ drop (length c.overwrite.new.whole) inside.bytes.items) = ap (λ (l : List ℕ). overwritten c.args.at l inside.bytes.items) kept ∙ sym whole ∙ sym back in
+    record {
+      marks = ap (λ (l : List Bool). length l) back_marks ∙ many_marks ∙ c.self.invariant.marks ∙ sym many ∙ ap (λ (l : List ℕ). length l) (sym back);
+      synced = c.self.invariant.synced ∙ sym many ∙ ap (λ (l : List ℕ). length l) (sym back);
+      first = c.self.invariant.first ∙ sym many ∙ ap (λ (l : List ℕ). length l) (sym back);
+      replayed = replayed_more (at_rest inside.first.items) present _ inside.changes.items c.push.new.self.items change c.self.invariant.replayed (pushed (change ∷ []) refl c.unwrap.ensures c.push.ensures.items) (moment_same _ _ _ _ seen (sym marks ∙ sym back_marks));
+      within = omega (arith, left, c.push.ensures.upper_bound);
+      made = omega (arith, c.push.ensures.capacity, c.self.invariant.made);
+    }
+
+pub returns-clause-past : goal.returns-clause-past
+returns-clause-past c =
+    let inside = c.self.inside in
+    let present : Moment = record { seen = inside.bytes.items; pending = inside.marks.items } in
+    let change : Change = Write (record { at = c.args.at; count = length c.args.from.now; put = c.args.put; bytes = c.overwrite-2.new.whole }) in
+    subst (λ (s : Recording). moments_before (at_rest inside.first.items) c.push.new.self.items ≡ s.past ++ s.present ∷ []) c.self.view_is
+    (before_more (at_rest inside.first.items) present inside.changes.items c.push.new.self.items change c.self.invariant.replayed (pushed (change ∷ []) refl c.unwrap.ensures c.push.ensures.items))

@@ -1,0 +1,9 @@
+pub mod DiskState
+pub mod Cells
+pub mod Laws
+pub mod Moments
+pub mod Steps
+pub mod Recording
+pub mod Fuse
+pub mod Recorded
+pub mod MemDisk

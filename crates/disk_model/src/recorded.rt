@@ -1,0 +1,121 @@
+// A device in memory that keeps a record of its changes.
+ghost use Rattle.std.specs.Prelude.{◌≡◌, ℕ, ◌+◌, ◌<◌, ◌≤◌, ◌++◌, ◌∷◌, [], ◌↔◌, IsTrue, IfOk, false, true, length, take, replicate, slice_index, slice_index_or};
+ghost use Rattle.disk_model.specs.DiskState.{Moment, overwritten, is_pending};
+ghost use Rattle.disk_model.specs.Recording.{Recording, at_rest, byte_left};
+
+use crate::bytes::{mark, overwrite, tear_marked, unmark};
+use crate::change::{Change, LONGEST, Piece, Tear};
+use std::alloc::{AllocError, Global};
+use std::marker::Model;
+use std::vec;
+
+#[derive(Drop)]
+pub(crate) struct Recorded {
+    /// What stood there before the first change.
+    first: Vec<u8>,
+    bytes: Vec<u8>,
+    synced: Vec<u8>,
+    marks: Vec<bool>,
+    changes: Vec<Change>,
+    room: usize,
+}
+
+impl Model for Recorded {
+    ghost use Rattle.disk_model.specs.Recording.{Recording};
+
+    ghost Value = { Recording };
+
+    ghost use Rattle.disk_model.specs.Recorded.{recording_of, IsSound};
+
+    ghost view = { recording_of };
+
+    ghost invariant = { IsSound };
+}
+
+impl Recorded {
+    /// All zeros, nothing pending, with room for so many changes.
+    pub(crate) fn new(alloc: Global, size: usize, room: usize) -> Result<Self, AllocError>
+        ensures present { IfOk result (λ r. r.present ≡ at_rest (replicate size 0)) }
+        ensures past { IfOk result (λ r. r.past ≡ []) }
+        ensures synced { IfOk result (λ r. r.synced ≡ replicate size 0) }
+        ensures room { IfOk result (λ r. r.room ≡ room) }
+    {
+        Ok(Recorded {
+            first: vec![in alloc; 0; size]?,
+            bytes: vec![in alloc; 0; size]?,
+            synced: vec![in alloc; 0; size]?,
+            marks: vec![in alloc; false; size]?,
+            changes: Vec::with_capacity(alloc, room)?,
+            room,
+        })
+    }
+
+    pub(crate) fn bytes(&self) -> &[u8]
+        ensures { result.now ≡ self.now.present.seen }
+    {
+        &self.bytes
+    }
+
+    pub(crate) fn has_room(&self) -> bool
+        ensures { IsTrue result ↔ (0 < self.now.room) }
+    {
+        self.changes.len() < self.room
+    }
+
+    /// Writes the first `put` of these bytes and has the whole range pending.
+    pub(crate) fn write(&mut self, at: usize, from: &[u8], put: usize)
+        requires room { 0 < self.old.room }
+        requires short { length from.now ≤ LONGEST }
+        requires part { put ≤ length from.now }
+        requires inside { at + length from.now ≤ length self.old.present.seen }
+        ensures seen { self.new.present.seen ≡ overwritten at (take put from.now) self.old.present.seen }
+        ensures pending { self.new.present.pending ≡ overwritten at (replicate (length from.now) true) self.old.present.pending }
+        ensures past { self.new.past ≡ self.old.past ++ self.old.present ∷ [] }
+        ensures synced { self.new.synced ≡ self.old.synced }
+        ensures room { self.new.room + 1 ≡ self.old.room }
+        ensures marks { length self.old.present.pending ≡ length self.old.present.seen }
+    {
+        overwrite(&mut self.bytes, at, &from[..put]);
+        mark(&mut self.marks, at, from.len());
+        let mut bytes = [0; LONGEST];
+        overwrite(&mut bytes, 0, &from[..put]);
+        let piece = Piece {
+            at,
+            count: from.len(),
+            put,
+            bytes,
+        };
+        self.changes.push(Change::Write(piece)).unwrap();
+    }
+
+    /// Nothing is pending any more.
+    pub(crate) fn sync(&mut self)
+        requires { 0 < self.old.room }
+        ensures present { self.new.present ≡ at_rest self.old.present.seen }
+        ensures past { self.new.past ≡ self.old.past ++ self.old.present ∷ [] }
+        ensures synced { self.new.synced ≡ self.old.present.seen }
+        ensures room { self.new.room + 1 ≡ self.old.room }
+    {
+        self.synced.copy_from_slice(&self.bytes);
+        unmark(&mut self.marks);
+        self.changes.push(Change::Sync).unwrap();
+    }
+
+    /// Makes the bytes what a stop leaves of them, and forgets all that came before.
+    pub(crate) fn tear(&mut self, tear: Tear, cell: u64)
+        requires { 0 < cell }
+        ensures size { length self.new.present.seen ≡ length self.old.present.seen }
+        ensures each { (i : ℕ) → i < length self.old.present.seen → slice_index self.new.present.seen i ≡ byte_left tear cell
+            (is_pending self.old.present i) i (slice_index self.old.present.seen i) (slice_index self.old.synced i) }
+        ensures present { self.new.present ≡ at_rest self.new.present.seen }
+        ensures past { self.new.past ≡ [] }
+        ensures synced { self.new.synced ≡ self.new.present.seen }
+        ensures room { self.new.room ≡ self.old.room + length self.old.past }
+    {
+        tear_marked(&mut self.bytes, &self.synced, &self.marks, tear, cell);
+        unmark(&mut self.marks);
+        self.synced.copy_from_slice(&self.bytes);
+        self.first.copy_from_slice(&self.bytes);
+        self.changes.clear();
+    }
+}

@@ -1,0 +1,222 @@
+// What a stop leaves, call by call, on devices of five cells. The bodies of the cells are of one byte all through.
+ghost use Rattle.std.specs.Prelude.{◌≡◌, IfOk, OnOk, ◌^◌, ◌<◌};
+ghost use Rattle.disk_model.specs.DiskState.{size_of};
+ghost use Rattle.disk_model.specs.MemDisk.{state_of};
+
+use crate::{BODY, Cells, Disk, DiskFault, MemDisk, Tear};
+use std::alloc::Global;
+use std::process::Abort;
+use std::test::Fail;
+
+type Engine = Cells<MemDisk, BODY>;
+
+const TEARS: [Tear; 4] = [Tear::Old, Tear::New, Tear::Gates, Tear::Mixed];
+
+fn check_whole(rt: &impl Abort, body: &[u8; BODY]) {
+    for byte in body {
+        assert!(rt; *byte == body[0], "a body is torn");
+    }
+}
+
+/// The byte of each body, and 0 for an empty cell.
+fn seen(rt: &impl Abort, disk: MemDisk) -> Result<[u8; 5], DiskFault>
+    requires { size_of (state_of disk) ≡ 2560 }
+{
+    let mut cells = Engine::new(disk);
+    let mut all = [0; 5];
+    for k in 0..5 {
+        let mut body = [0; BODY];
+        if cells.read_cell(k as u64, &mut body)? {
+            check_whole(rt, &body);
+            all[k] = body[0];
+        }
+    }
+    Ok(all)
+}
+
+/// Cells 1 to 4 are full, with bodies of 1 to 4.
+fn filled(alloc: Global) -> Result<MemDisk, Fail>
+    ensures { IfOk result (λ d. size_of (state_of d) ≡ 2560) }
+{
+    let mut disk = MemDisk::new(alloc, 2560, 64)?;
+    for k in 1..5 {
+        disk.write_at(512 * k, &[0xA5])?;
+        disk.write_at(512 * k + 1, &[k as u8; BODY])?;
+    }
+    disk.sync()?;
+    Ok(disk)
+}
+
+/// Which call is stopped, and the number of its device calls.
+#[derive(Clone, Copy)]
+enum Call {
+    Erase,
+    EraseRun,
+    Set,
+    SetRun,
+}
+
+/// Makes the call on cells 1 to 3, or on cell 2 alone, with the device dead from its `k`-th device call on.
+fn stopped(disk: MemDisk, call: Call, k: u64) -> Result<(bool, MemDisk), DiskFault>
+    requires { size_of (state_of disk) ≡ 2560 }
+    ensures { IfOk result (λ r. size_of (state_of r.1) ≡ 2560) }
+{
+    match call {
+        Call::Erase => {
+            let mut disk = disk;
+            disk.fuse_dead(k);
+            let mut cells = Engine::new(disk);
+            let ok = cells.erase(2).is_ok();
+            Ok((ok, cells.into_disk()))
+        }
+        Call::EraseRun => {
+            let mut disk = disk;
+            disk.fuse_dead(k);
+            let mut cells = Engine::new(disk);
+            let ok = cells.erase_run(&[1, 2, 3]).is_ok();
+            Ok((ok, cells.into_disk()))
+        }
+        Call::Set => {
+            let mut cells = Engine::new(disk);
+            cells.erase(2)?;
+            let mut disk = cells.into_disk();
+            disk.fuse_dead(k);
+            let mut cells = Engine::new(disk);
+            let ok = cells.set(2, &[12; BODY]).is_ok();
+            Ok((ok, cells.into_disk()))
+        }
+        Call::SetRun => {
+            let mut cells = Engine::new(disk);
+            cells.erase_run(&[1, 2, 3])?;
+            let mut disk = cells.into_disk();
+            disk.fuse_dead(k);
+            let mut cells = Engine::new(disk);
+            let ok = cells
+                .set_run(&[1, 2, 3], &[[11; BODY], [12; BODY], [13; BODY]])
+                .is_ok();
+            Ok((ok, cells.into_disk()))
+        }
+    }
+}
+
+/// What the cells may be after a stop inside the call: of each cell two values. The last is that of a call that ended.
+fn allowed(call: Call) -> [(u8, u8); 5] {
+    match call {
+        Call::Erase => [(0, 0), (1, 1), (2, 0), (3, 3), (4, 4)],
+        Call::EraseRun => [(0, 0), (1, 0), (2, 0), (3, 0), (4, 4)],
+        Call::Set => [(0, 0), (1, 1), (0, 12), (3, 3), (4, 4)],
+        Call::SetRun => [(0, 0), (0, 11), (0, 12), (0, 13), (4, 4)],
+    }
+}
+
+/// Stops the call at its `k`-th device call under each tear, and says whether it ended before.
+fn ends_before(rt: &impl Abort, alloc: Global, call: Call, k: u64) -> Result<bool, Fail> {
+    let mut ended = false;
+    for tear in TEARS {
+        let (ok, disk) = stopped(filled(alloc)?, call, k)?;
+        let cells = seen(rt, disk.stop(tear))?;
+        for (cell, (before, after)) in cells.iter().zip(&allowed(call)) {
+            let right = cell == after || (!ok && cell == before);
+            assert!(rt; right, "device call {k}");
+        }
+        ended = ok;
+    }
+    Ok(ended)
+}
+
+/// How many device calls the call makes, each of which was stopped.
+fn device_calls(rt: &impl Abort, alloc: Global, call: Call) -> Result<u64, Fail> {
+    for k in 1..20 {
+        if ends_before(rt, alloc, call, k)? {
+            return Ok(k - 1);
+        }
+    }
+    Ok(0)
+}
+
+#[test]
+fn a_stop_leaves_each_cell_old_or_empty_or_new(rt: HostRuntime) -> Result<(), Fail> {
+    // erase: read, write, sync. set: write, sync, write, sync. The runs: 3 * 2 + 1 and 3 + 1 + 3 + 1. In all 4 * 22 stops.
+    for (call, calls) in [
+        (Call::Erase, 3),
+        (Call::EraseRun, 7),
+        (Call::Set, 4),
+        (Call::SetRun, 8),
+    ] {
+        assert_eq!(rt; device_calls(&rt, rt.alloc(), call)?, calls);
+    }
+    Ok(())
+}
+
+#[test]
+fn an_erase_of_an_empty_cell_only_syncs(rt: HostRuntime) -> Result<(), Fail> {
+    // Eight writes and a sync were asked for.
+    let mut cells = Engine::new(filled(rt.alloc())?);
+    cells.erase(0)?;
+    assert_eq!(rt; cells.into_disk().changes(), 10);
+    Ok(())
+}
+
+/// What a stop leaves of a written byte in cell 0 and one in cell 1, where 0x11 stood at the last sync and 0x22 was written.
+#[test]
+fn each_tear_makes_its_own_of_what_is_pending(rt: HostRuntime) -> Result<(), Fail> {
+    for (tear, even, odd) in [
+        (Tear::Old, 0x11, 0x11),
+        (Tear::New, 0x22, 0x22),
+        (Tear::Gates, 0xA5, 0xA5),
+        (Tear::Mixed, 0x11, 0x22),
+    ] {
+        let mut disk = MemDisk::with_cells(rt.alloc(), 16, 8, 4)?;
+        disk.write_at(0, &[0x11; 8])?;
+        disk.sync()?;
+        disk.write_at(2, &[0x22; 4])?;
+        let mut disk = disk.stop(tear);
+        let mut bytes = [0; 9];
+        disk.read_at(0, &mut bytes)?;
+        assert_eq!(rt; bytes, [0x11, 0x11, even, even, odd, odd, 0x11, 0x11, 0]);
+    }
+    Ok(())
+}
+
+/// A write that the fuse fails writes the first half of its bytes, and its whole range is pending.
+#[test]
+fn a_fuse_cuts_a_write_in_half(rt: HostRuntime) -> Result<(), Fail> {
+    let mut disk = MemDisk::new(rt.alloc(), 16, 8)?;
+    disk.fuse_once(2);
+    assert_eq!(rt; disk.size()?, 16);
+    assert!(rt; disk.write_at(1, &[7; 5]).is_err());
+    let mut bytes = [0; 7];
+    disk.read_at(0, &mut bytes)?;
+    assert_eq!(rt; bytes, [0, 7, 7, 0, 0, 0, 0]);
+    let mut disk = disk.stop(Tear::Gates);
+    disk.read_at(0, &mut bytes)?;
+    assert_eq!(rt; bytes, [0, 0xA5, 0xA5, 0xA5, 0xA5, 0xA5, 0]);
+    Ok(())
+}
+
+/// The second change fails and all calls after it, reads among them.
+#[test]
+fn a_fuse_counts_changes_alone(rt: HostRuntime) -> Result<(), Fail> {
+    let mut disk = MemDisk::new(rt.alloc(), 16, 8)?;
+    disk.fuse_change(2);
+    disk.write_at(0, &[1])?;
+    assert_eq!(rt; disk.size()?, 16);
+    assert!(rt; disk.sync().is_err());
+    assert!(rt; disk.size().is_err());
+    assert_eq!(rt; disk.changes(), 2);
+    Ok(())
+}
+
+/// Past its room, and longer than 1,024 bytes, a change fails and changes nothing.
+#[test]
+fn a_change_past_the_room_changes_nothing(rt: HostRuntime) -> Result<(), Fail> {
+    let mut disk = MemDisk::new(rt.alloc(), 2048, 1)?;
+    assert!(rt; disk.write_at(0, &[1; 1025]).is_err());
+    disk.write_at(0, &[1; 2])?;
+    assert!(rt; disk.write_at(0, &[2; 2]).is_err());
+    assert!(rt; disk.sync().is_err());
+    let mut bytes = [0; 2];
+    disk.read_at(0, &mut bytes)?;
+    assert_eq!(rt; bytes, [1, 1]);
+    Ok(())
+}
