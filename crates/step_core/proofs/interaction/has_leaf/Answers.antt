@@ -1,0 +1,10 @@
+use Rattle.std.proofs.Common.{◌<◌, ◌^◌, ◌∙◌, sym, ap, eqb, arith}
+use Rattle.std.proofs.lemmas.Bool.{le-ltb}
+use Rattle.std.proofs.lemmas.Nat.Bits.{bit_at_above}
+use Rattle.step_core.proofs.interaction.has_leaf.Goals as goal
+
+pub returns-else-leaf-lt16 : goal.returns-else-leaf-lt16
+returns-else-leaf-lt16 c =
+    let small : c.args.mask < 2 ^ 16 = omega arith in
+    le-ltb c.args.leaf 16 c.if-leaf-lt16.false ∙
+    sym (ap (λ b. eqb b 1) (bit_at_above c.args.mask 16 c.args.leaf small c.if-leaf-lt16.false))

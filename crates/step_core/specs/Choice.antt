@@ -1,0 +1,78 @@
+-- Which choices a state has.
+use Rattle.std.specs.Prelude.{ℕ, zero, suc, List, [], ◌∷◌, ◌++◌, map, filter, flat_map, length, slice_get, Bool, false, ◌==◌}
+use Rattle.std.specs.List.{list_all}
+use Rattle.std.specs.Option.{option_map_or}
+use Rattle.petri_atom.specs.Local.{Local}
+use Rattle.petri_atom.specs.Definition.{AtomDefinition, enabled, offers_port}
+use Rattle.connector_tree.specs.Masks.{interactions_of, chosen}
+use Rattle.connector_tree.specs.Tree.{leaves}
+use Rattle.connector_tree.specs.declared.tree.Port.{Port}
+use Rattle.connector_tree.specs.declared.tree.Connector.{Connector}
+use Rattle.step_core.specs.Plant.{WireDefinition, PlantDefinition}
+use Rattle.step_core.specs.declared.choice.Move.{Move}
+
+-- the atom and the local state with a number, and what is read of both; nothing where one is not there
+abbrev pub of_atom : {X : Type 0} → PlantDefinition → List Local → ℕ → (AtomDefinition → Local → X) → X → X
+of_atom plant states n read nothing =
+    option_map_or (λ a. option_map_or (λ s. read a s) (slice_get states n) nothing) (slice_get plant.atoms n) nothing
+
+-- an interaction: the number of its connector, its leaves as a mask, and its ports in rising order of their atoms
+pub record Interaction : Type 0 where
+  pub connector : ℕ
+  pub mask : ℕ
+  pub ports : List Port
+
+-- the ports of the atoms below a number, in rising order of their atoms
+abbrev pub by_atom : ℕ → List Port → List Port
+by_atom zero ports = []
+by_atom (suc n) ports = by_atom n ports ++ filter (λ p. p.atom == n) ports
+
+-- the interaction of a mask over leaves, of the connector with this number in a plant of so many atoms
+abbrev pub interaction_by : ℕ → ℕ → List Port → ℕ → Interaction
+interaction_by atoms k leaves mask = record { connector = k; mask = mask; ports = by_atom atoms (chosen mask 0 leaves) }
+
+-- the interactions of the connector with this number
+abbrev pub interactions_of_connector : ℕ → ℕ → Connector → List Interaction
+interactions_of_connector atoms k connector =
+    map (interaction_by atoms k (leaves connector)) (interactions_of connector)
+
+-- the interactions of wires that are numbered from k on
+abbrev pub interactions_from : ℕ → ℕ → List WireDefinition → List Interaction
+interactions_from atoms k [] = []
+interactions_from atoms k (w ∷ ws) = interactions_of_connector atoms k w.connector ++ interactions_from atoms (suc k) ws
+
+-- the interactions of a plant, ordered by connector and then by mask
+abbrev pub plant_interactions : PlantDefinition → List Interaction
+plant_interactions plant = interactions_from (length plant.atoms) 0 plant.wires
+
+-- an interaction is possible where each of its ports has an offered transition
+abbrev pub is_possible : PlantDefinition → List Local → Interaction → Bool
+is_possible plant states i =
+    list_all (λ p. of_atom plant states p.atom (λ a s. offers_port a s p.port) false) i.ports
+
+-- what the atom of a port can do: one move for each transition of the port that its state offers, by rising number
+abbrev pub moves_of : PlantDefinition → List Local → Port → List Move
+moves_of plant states p =
+    of_atom plant states p.atom (λ a s. map (λ t. record { atom = p.atom; transition = t }) (enabled a s p.port)) []
+
+-- all rows of one element from each list, the last varying fastest
+abbrev pub combinations : {X : Type 0} → List (List X) → List (List X)
+combinations [] = [] ∷ []
+combinations (xs ∷ rest) = flat_map (λ x. map (λ row. x ∷ row) (combinations rest)) xs
+
+-- a choice: an interaction, and one offered transition for each of its ports, in rising order of their atoms
+pub record ChoiceDefinition : Type 0 where
+  pub connector : ℕ
+  pub mask : ℕ
+  pub moves : List Move
+
+-- the choices of one interaction
+abbrev pub choices_of : PlantDefinition → List Local → Interaction → List ChoiceDefinition
+choices_of plant states i =
+    map (λ moves. record { connector = i.connector; mask = i.mask; moves = moves })
+    (combinations (map (moves_of plant states) i.ports))
+
+-- the choices of a state: those of each possible interaction, in the order of the interactions
+abbrev pub choices : PlantDefinition → List Local → List ChoiceDefinition
+choices plant states =
+    flat_map (choices_of plant states) (filter (is_possible plant states) (plant_interactions plant))

@@ -1,0 +1,4 @@
+pub mod Plant
+pub mod Wire
+pub mod Choice
+pub mod Interaction

@@ -1,0 +1,13 @@
+use Rattle.std.specs.Prelude.{map}
+use Rattle.petri_atom.specs.Expression.{tree_of}
+use Rattle.step_core.specs.Plant.{TransferDefinition, WireDefinition}
+use Rattle.step_core.specs.declared.wire.Transfer.{Transfer}
+use Rattle.step_core.specs.declared.wire.Wire.{Wire}
+
+-- a transfer as it was written
+abbrev pub transfer_of : Transfer → TransferDefinition
+transfer_of t = record { target = t.target; value = tree_of t.value }
+
+-- a wire as it was written
+abbrev pub wire_of : Wire → WireDefinition
+wire_of w = record { name = w.name; connector = w.connector; transfers = map transfer_of w.transfers.items }

@@ -1,0 +1,23 @@
+//! Choices and steps of a plant.
+//!
+//! What stands so far: what a plant is and which choices a state has, as definitions (`specs/Plant.antt`,
+//! `specs/Choice.antt`), and as code the list of a connector's interactions and the global state.
+//!
+//! - `wire`: a connector with its name and its transfers.
+//! - `interaction`: the interactions of a connector, each with its ports in rising order of their atoms.
+//! - `state`: a local state for each atom.
+//! - `choice`: what one participant of a choice does.
+#![tactic(auto)]
+
+mod choice;
+mod interaction;
+mod state;
+mod wire;
+
+pub use choice::Move;
+pub use interaction::{Interaction, push_interactions};
+pub use state::PlantState;
+pub use wire::{Export, Transfer, Wire};
+
+#[cfg(test)]
+mod tests;

@@ -1,0 +1,25 @@
+//! Wires: connectors with their names and with the transfers that they make.
+use connector_tree::Connector;
+use petri_atom::{Expression, Name};
+
+/// A variable as a connector names it: by a leaf, and by its place among the variables that the leaf's port exports.
+#[derive(Clone, Copy, Debug, PartialEq, Eq)]
+pub struct Export {
+    pub leaf: u8,
+    pub export: u8,
+}
+
+/// A transfer: the exported variable gets the value of the expression, on the values from before the firing.
+#[derive(Debug, Drop)]
+pub struct Transfer {
+    pub target: Export,
+    pub value: Expression<Export>,
+}
+
+/// A connector with its name and its transfers.
+#[derive(Debug, Drop)]
+pub struct Wire {
+    pub name: Name,
+    pub connector: Connector,
+    pub transfers: Vec<Transfer>,
+}
