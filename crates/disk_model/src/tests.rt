@@ -109,9 +109,10 @@ fn allowed(call: Call) -> [(u8, u8); 5] {
     }
 }
 
-/// Stops the call at its `k`-th device call under each tear, and says whether it ended before.
-fn ends_before(rt: &impl Abort, alloc: Global, call: Call, k: u64) -> Result<bool, Fail> {
+/// Stops the call at its `k`-th device call under each tear, and says whether it ended before, and how many stops fell inside.
+fn ends_before(rt: &impl Abort, alloc: Global, call: Call, k: u64) -> Result<(bool, u64), Fail> {
     let mut ended = false;
+    let mut stops = 0u64;
     for tear in TEARS {
         let (ok, disk) = stopped(filled(alloc)?, call, k)?;
         let cells = seen(rt, disk.stop(tear))?;
@@ -119,32 +120,49 @@ fn ends_before(rt: &impl Abort, alloc: Global, call: Call, k: u64) -> Result<boo
             let right = cell == after || (!ok && cell == before);
             assert!(rt; right, "device call {k}");
         }
+        if !ok {
+            stops = stops.saturating_add(1);
+        }
         ended = ok;
     }
-    Ok(ended)
+    Ok((ended, stops))
 }
 
-/// How many device calls the call makes, each of which was stopped.
-fn device_calls(rt: &impl Abort, alloc: Global, call: Call) -> Result<u64, Fail> {
+/// How many device calls the call makes, and how many stops were tried inside it.
+fn device_calls(rt: &impl Abort, alloc: Global, call: Call) -> Result<(u64, u64), Fail> {
+    let mut all = 0u64;
     for k in 1..20 {
-        if ends_before(rt, alloc, call, k)? {
-            return Ok(k - 1);
+        let (ended, stops) = ends_before(rt, alloc, call, k)?;
+        all = all.saturating_add(stops);
+        if ended {
+            return Ok((k - 1, all));
         }
     }
-    Ok(0)
+    Ok((0, all))
 }
 
 #[test]
 fn a_stop_leaves_each_cell_old_or_empty_or_new(rt: HostRuntime) -> Result<(), Fail> {
     // erase: read, write, sync. set: write, sync, write, sync. The runs: 3 * 2 + 1 and 3 + 1 + 3 + 1. In all 4 * 22 stops.
-    for (call, calls) in [
-        (Call::Erase, 3),
-        (Call::EraseRun, 7),
-        (Call::Set, 4),
-        (Call::SetRun, 8),
+    for (call, calls, stops) in [
+        (Call::Erase, 3, 12),
+        (Call::EraseRun, 7, 28),
+        (Call::Set, 4, 16),
+        (Call::SetRun, 8, 32),
     ] {
-        assert_eq!(rt; device_calls(&rt, rt.alloc(), call)?, calls);
+        assert_eq!(rt; device_calls(&rt, rt.alloc(), call)?, (calls, stops));
     }
+    Ok(())
+}
+
+#[test]
+fn the_gate_of_an_emptied_cell_is_zero(rt: HostRuntime) -> Result<(), Fail> {
+    let mut cells = Engine::new(filled(rt.alloc())?);
+    cells.erase(2)?;
+    let mut disk = cells.into_disk();
+    let mut gate = [7];
+    disk.read_at(1024, &mut gate)?;
+    assert_eq!(rt; gate, [0]);
     Ok(())
 }
 

@@ -138,13 +138,15 @@ abbrev pub is_small_transition : TransitionDefinition → Bool
 is_small_transition t =
     nat_le (length t.updates) MAX_UPDATES && nat_le (word_count t.guard) MAX_WORDS && list_all is_small_value t.updates
 
--- a port exports as many variables as one may, none of them twice, and variables that are there
+-- a port exports at most as many variables as one may
 abbrev pub exports_few : PortDefinition → Bool
 exports_few p = nat_le (length p.exports) MAX_EXPORTS
 
+-- a port exports no variable twice
 abbrev pub exports_once : PortDefinition → Bool
 exports_once p = is_each_once nat_eq p.exports
 
+-- a port exports variables that are there alone
 abbrev pub exports_known : ℕ → PortDefinition → Bool
 exports_known variables p = are_below variables p.exports
 

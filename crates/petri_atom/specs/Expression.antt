@@ -63,7 +63,7 @@ has_variables_below bound (variable v) = nat_lt v bound
 has_variables_below bound (negation e) = has_variables_below bound e
 has_variables_below bound (operation op e f) = has_variables_below bound e && has_variables_below bound f
 
--- two operators are the same
+-- a number for each operator, by which two of them are compared
 abbrev pub operator_code : Operator → ℕ
 operator_code Add = 0
 operator_code Subtract = 1

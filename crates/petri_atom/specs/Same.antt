@@ -13,15 +13,18 @@ abbrev pub is_same_truth : Bool → Bool → Bool
 is_same_truth true b = b
 is_same_truth false b = not b
 
--- two places, variables, ports or updates are the same, part by part
+-- two places are the same, part by part
 abbrev pub is_same_place : Place → Place → Bool
 is_same_place a b = is_same_text a.name b.name && is_same_truth a.marked b.marked
 
+-- two variables are
 abbrev pub is_same_variable : Variable → Variable → Bool
 is_same_variable a b = is_same_text a.name b.name && int_eq a.first b.first
 
+-- two ports are
 abbrev pub is_same_port : Port → Port → Bool
 is_same_port a b = is_same_text a.name b.name && pointwise nat_eq a.exports.items b.exports.items
 
+-- two updates are
 abbrev pub is_same_update : Update → Update → Bool
 is_same_update a b = a.variable == b.variable && is_same_tree (tree_of a.value) (tree_of b.value)

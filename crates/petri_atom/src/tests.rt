@@ -251,12 +251,99 @@ fn the_least_offered_transition_from_any_number(rt: HostRuntime) -> Result<(), F
     ] {
         assert_eq!(rt; net.first_enabled(&state, 0, from), first, "from {from}");
     }
+    assert_eq!(rt; net.enabled_count(&state, 0), 3);
+    for (place, number) in [(0, Some(0)), (1, Some(2)), (2, Some(3)), (3, None)] {
+        assert_eq!(rt; net.nth_enabled(&state, 0, place), number, "place {place}");
+    }
+    assert_eq!(rt; net.enabled_count(&state, 1), 0);
     assert_eq!(rt;
         net.first_enabled(&state, 1, 0),
         None,
         "a port that is not there"
     );
     assert!(rt; !net.offers(&state, 1));
+    Ok(())
+}
+
+#[test]
+fn transitions_of_two_ports_are_kept_apart(rt: HostRuntime) -> Result<(), Fail> {
+    let alloc = rt.alloc();
+    let mut ports = Vec::new(alloc);
+    for text in [b"t".as_slice(), b"u".as_slice()] {
+        ports.push(Port {
+            name: name(text)?,
+            exports: Vec::new(alloc),
+        })?;
+    }
+    let mut transitions = Vec::new(alloc);
+    for (port, guard) in [(0, 1), (1, 1), (0, 0), (1, 1), (0, 1)] {
+        let sources = vec![in alloc; 0u8]?;
+        let targets = vec![in alloc; 0u8]?;
+        let guard = Expression::Number(guard);
+        let transition = Transition::new(port, sources, targets, guard, Vec::new(alloc));
+        transitions.push(transition)?;
+    }
+    let places = vec![in alloc; place(b"p", true)?]?;
+    let variables = Vec::new(alloc);
+    let net = Atom::new(alloc, name(b"A")?, places, variables, ports, transitions)?;
+    let state = net.initial();
+    assert_eq!(rt; net.transitions_of(0), [0, 2, 4].as_slice());
+    assert_eq!(rt; net.transitions_of(1), [1, 3].as_slice());
+    for (port, from, first) in [
+        (0, 0, Some(0)),
+        (0, 1, Some(4)),
+        (1, 0, Some(1)),
+        (1, 2, Some(3)),
+        (1, 4, None),
+    ] {
+        assert_eq!(rt;
+            net.first_enabled(&state, port, from),
+            first,
+            "port {port} from {from}"
+        );
+    }
+    assert_eq!(rt; net.enabled_count(&state, 0), 2);
+    assert_eq!(rt; net.nth_enabled(&state, 0, 1), Some(4));
+    Ok(())
+}
+
+#[test]
+fn each_bit_of_a_mask_delivers_one_value(rt: HostRuntime) -> Result<(), Fail> {
+    let alloc = rt.alloc();
+    let mut variables = Vec::new(alloc);
+    for text in [
+        b"a".as_slice(),
+        b"b".as_slice(),
+        b"c".as_slice(),
+        b"d".as_slice(),
+    ] {
+        variables.push(variable(text, 7)?)?;
+    }
+    let exports = vec![in alloc; 3u8, 1, 0, 2]?;
+    let ports = vec![in alloc;
+        Port {
+            name: name(b"t")?,
+            exports
+        },
+    ]?;
+    let places = vec![in alloc; place(b"p", true)?]?;
+    let transitions = vec![in alloc; moving(alloc, 0, 0, Expression::Number(1))?]?;
+    let net = Atom::new(alloc, name(b"A")?, places, variables, ports, transitions)?;
+    for (mask, values) in [
+        (0, [7, 7, 7, 7]),
+        (1, [7, 7, 7, 10]),
+        (10, [7, 20, 40, 7]),
+        (15, [30, 20, 40, 10]),
+        (16, [7, 7, 7, 7]),
+    ] {
+        let mut state = net.initial();
+        let delivered = Delivered {
+            mask,
+            values: [10, 20, 30, 40],
+        };
+        assert!(rt; fire(&net, &mut state, 0, &delivered));
+        assert_eq!(rt; state.values(), values.as_slice(), "mask {mask}");
+    }
     Ok(())
 }
 

@@ -33,6 +33,11 @@ impl OrderFault {
 }
 
 impl fmt::Display for OrderFault {
+    ghost use Rattle.std.specs.Prelude.{Some};
+    ghost use Rattle.priority_filter.specs.Fault.{message_of};
+
+    ghost output = { λ fault. Some (message_of fault) };
+
     fn fmt<W: fmt::Write>(&self, f: &mut fmt::Formatter<W>) -> fmt::Result {
         match self {
             OrderFault::Cycle(interaction) => {
@@ -41,7 +46,7 @@ impl fmt::Display for OrderFault {
             OrderFault::UnknownName(rule) => {
                 write!(f, "rule {rule} names no interaction of the plant")
             }
-            OrderFault::Memory => write!(f, "out of memory"),
+            OrderFault::Memory => f.write_str("out of memory"),
         }
     }
 }

@@ -162,6 +162,9 @@ fn records(rt: HostRuntime) -> Result<(), Fail> {
     let mut past = body_of(&RECORD);
     past[22] = 3;
     assert!(rt; Fired::from_body(&past).is_none());
+    let mut first_record = body_of(&RECORD);
+    first_record[7] = 1;
+    assert!(rt; Fired::from_body(&first_record).is_none());
     let mut turned = body_of(&RECORD);
     turned[12] = 1;
     turned[26] = 0;

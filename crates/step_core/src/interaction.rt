@@ -16,19 +16,20 @@ pub struct Interaction {
     pub ports: Vec<Port>,
 }
 
-/// Adds the interactions of the connector, in a plant of so many atoms.
-pub fn push_interactions(
+/// The interactions of the connector with this number, in a plant of so many atoms. A port of an atom that is not one of
+/// them is left out.
+pub fn connector_interactions(
     alloc: Global,
     atoms: u16,
     number: u16,
     connector: &Connector,
-    into: &mut Vec<Interaction>,
-) -> Result<(), TreeFault>
-    ensures ok { OnOk result (map interaction_of into.new.items ≡ map interaction_of into.old.items ++ interactions_of_connector atoms number connector.now) }
+) -> Result<Vec<Interaction>, TreeFault>
+    ensures list { IfOk result (λ all. map interaction_of all.items ≡ interactions_of_connector atoms number connector.now) }
     ensures fault { fault_told result ≡ fault_of connector.now }
 {
     let masks = connector_tree::interactions(alloc, connector)?;
     let leaves = connector_tree::leaves(alloc, connector)?;
+    let mut all = Vec::with_capacity(alloc, masks.len())?;
     for mask in &masks {
         let ports = ports_by_atom(alloc, &leaves, *mask, atoms)?;
         let interaction = Interaction {
@@ -36,9 +37,9 @@ pub fn push_interactions(
             mask: *mask,
             ports,
         };
-        into.push(interaction).map_err(AllocError::from)?;
+        all.push(interaction).map_err(AllocError::from)?;
     }
-    Ok(())
+    Ok(all)
 }
 
 /// The ports of the mask's leaves, in rising order of their atoms.

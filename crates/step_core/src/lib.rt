@@ -15,7 +15,7 @@ mod state;
 mod wire;
 
 pub use choice::Move;
-pub use interaction::{Interaction, push_interactions};
+pub use interaction::{Interaction, connector_interactions};
 pub use state::PlantState;
 pub use wire::{Export, Transfer, Wire};
 

@@ -1,5 +1,5 @@
 //! What no clause says: that the clauses mean what they should, on values worked out by hand.
-use crate::interaction::{Interaction, push_interactions};
+use crate::interaction::connector_interactions;
 use crate::state::PlantState;
 use connector_tree::{Child, Connector, Node, Port, TreeFault};
 use petri_atom::{Atom, AtomState, Name, Variable};
@@ -29,26 +29,25 @@ fn port(atom: u16) -> Port {
 #[test]
 fn ports_rise_by_their_atoms(rt: HostRuntime) -> Result<(), Fail> {
     let alloc = rt.alloc();
-    let mut all: Vec<Interaction> = Vec::new(alloc);
-    push_interactions(alloc, 6, 0, &connector(alloc, &[5, 1, 3], false)?, &mut all)?;
-    push_interactions(alloc, 6, 1, &connector(alloc, &[4, 2], true)?, &mut all)?;
-    assert_eq!(rt; all.len(), 3);
-    assert_eq!(rt; (all[0].connector, all[0].mask), (0, 7));
+    let all = connector_interactions(alloc, 6, 2, &connector(alloc, &[5, 1, 3], false)?)?;
+    assert_eq!(rt; all.len(), 1);
+    assert_eq!(rt; (all[0].connector, all[0].mask), (2, 7));
     assert_eq!(rt;
         all[0].ports.as_slice(),
         [port(1), port(3), port(5)].as_slice()
     );
-    assert_eq!(rt; (all[1].connector, all[1].mask), (1, 1));
-    assert_eq!(rt; all[1].ports.as_slice(), [port(4)].as_slice());
-    assert_eq!(rt; (all[2].connector, all[2].mask), (1, 3));
-    assert_eq!(rt; all[2].ports.as_slice(), [port(2), port(4)].as_slice());
+    let all = connector_interactions(alloc, 6, 1, &connector(alloc, &[4, 2], true)?)?;
+    assert_eq!(rt; all.len(), 2);
+    assert_eq!(rt; (all[0].connector, all[0].mask), (1, 1));
+    assert_eq!(rt; all[0].ports.as_slice(), [port(4)].as_slice());
+    assert_eq!(rt; (all[1].connector, all[1].mask), (1, 3));
+    assert_eq!(rt; all[1].ports.as_slice(), [port(2), port(4)].as_slice());
     Ok(())
 }
 
 #[test]
 fn a_fault_of_the_tree_is_told(rt: HostRuntime) -> Result<(), Fail> {
     let alloc = rt.alloc();
-    let mut all: Vec<Interaction> = Vec::new(alloc);
     for (atoms, fault) in [
         ([].as_slice(), TreeFault::Empty),
         ([2, 2].as_slice(), TreeFault::SameAtom),
@@ -57,10 +56,9 @@ fn a_fault_of_the_tree_is_told(rt: HostRuntime) -> Result<(), Fail> {
             TreeFault::TooManyLeaves,
         ),
     ] {
-        let told = push_interactions(alloc, 9, 0, &connector(alloc, atoms, false)?, &mut all);
-        assert_eq!(rt; told, Err(fault));
+        let told = connector_interactions(alloc, 9, 0, &connector(alloc, atoms, false)?);
+        assert_eq!(rt; told.err(), Some(fault));
     }
-    assert!(rt; all.is_empty());
     Ok(())
 }
 
