@@ -6,3 +6,4 @@ pub mod Numbers
 pub mod Fitting
 pub mod Sameness
 pub mod Rows
+pub mod OfferedSets

@@ -1,11 +1,12 @@
-use Rattle.std.proofs.Common.{◌≡◌, ℕ, zero, suc, ◌+◌, ◌-◌, ◌*◌, ◌%◌, ◌^◌, ◌<◌, ◌≤◌, ◌≢◌, min, max, Bool, true, false, cond, not, ◌&&◌, ◌||◌, eqb, refl, sym, ◌∙◌, ap, arith, lit<, pow-suc, add-one, subst, List, [], ◌∷◌, ◌++◌, ⊎_elim}
+use Rattle.std.proofs.Common.{◌≡◌, ℕ, zero, suc, ◌+◌, ◌-◌, ◌*◌, ◌%◌, ◌^◌, ◌<◌, ◌≤◌, ◌≢◌, min, max, Bool, true, false, cond, not, ◌&&◌, ◌||◌, eqb, refl, sym, ◌∙◌, ap, arith, lit<, pow-suc, add-one, mod-eq_of_lt, subst, List, [], ◌∷◌, ◌++◌, ⊎_elim}
 use Rattle.std.specs.Prelude.{bit_and, bit_or}
-use Rattle.std.specs.Int.{bit_not, w64, from_bool}
+use mir.Val.{bits}
+use Rattle.std.specs.Int.{Width, bit_not, w64, from_bool}
 use Rattle.std.proofs.lemmas.Bool.{cases_lt, cases_eq, or_left, or_right, eq-eqb, ne_eqb}
 use Rattle.std.proofs.Math.Bool.{or-false}
 use Rattle.std.proofs.lemmas.Bool.Decides.{nat_tests}
 use Rattle.std.proofs.lemmas.List.Folds.{list_any-append}
-use Rattle.std.proofs.lemmas.Nat.{or_lt, pow_pos}
+use Rattle.std.proofs.lemmas.Nat.{or_lt, pow_pos, pow_below}
 use Rattle.std.proofs.Math.Nat.{sub_self}
 use Rattle.std.proofs.lemmas.Nat.Bits.{bit_at-lt, bit_at_cat_low, bit_at_cat_high, bit_at_above, bit_at_and, bit_at_or, bit_at_not, bit_at_set_same, bit_at_set_other, same_from_bits_below}
 use Rattle.petri_atom.specs.Local.{has, is_in, set_below}
@@ -121,44 +122,51 @@ set_below-more w ks p small below e =
     each : (k : ℕ) → k < 64 → has (bit_or w (bit_word p)) k ≡ is_in (ks ++ p ∷ []) k
     each k h = ⊎_elim (here k h) (elsewhere k h) (cases_eq k p)
 
--- the set of the numbers up to n that pass a test, from the set of those below n, by a shift and an or
-pub set_below-next : (n w : ℕ) (f : ℕ → Bool) (b : Bool) → n < 64 → w ≡ set_below n f → f n ≡ b → bit_or w (from_bool b * 2 ^ n % 2 ^ 64) ≡ set_below (n + 1) f
-set_below-next n w f b below e passes =
-    set_below-is (n + 1) (bit_or w (bit b)) f (or_lt (n + 1) w (bit b) word_small (bit_small b)) each
+-- the set of the numbers up to n that pass a test, from the set of those below n, by a shift and an or in a word of any width
+pub set_below-next : (w : Width) (n x : ℕ) (f : ℕ → Bool) (b : Bool) → n < bits w → x ≡ set_below n f → f n ≡ b → bit_or x (from_bool b * 2 ^ n % 2 ^ bits w) ≡ set_below (n + 1) f
+set_below-next w n x f b below e passes =
+    set_below-is (n + 1) (bit_or x (bit b)) f (or_lt (n + 1) x (bit b) word_small (bit_small b)) each
   where
     bit : Bool → ℕ
-    bit b = from_bool b * 2 ^ n % 2 ^ 64
+    bit b = from_bool b * 2 ^ n % 2 ^ bits w
 
     power : 2 ^ (n + 1) ≡ 2 ^ n * 2
     power = rw (add-one, pow-suc) refl
 
-    before : w < 2 ^ n
+    before : x < 2 ^ n
     before = rw e (set_below-lt n f)
 
-    word_small : w < 2 ^ (n + 1)
+    word_small : x < 2 ^ (n + 1)
     word_small = omega (arith, power, before)
 
-    nothing : 0 * 2 ^ n % 2 ^ 64 ≡ 0
-    nothing = let none : 0 * 2 ^ n ≡ 0 = omega arith in ap (λ x. x % 2 ^ 64) none
+    nothing : 0 * 2 ^ n % 2 ^ bits w ≡ 0
+    nothing =
+        let none : 0 * 2 ^ n ≡ 0 = omega arith in
+        ap (λ y. y % 2 ^ bits w) none ∙ mod-eq_of_lt (pow_pos (bits w))
 
-    bit_small : (b : Bool) → from_bool b * 2 ^ n % 2 ^ 64 < 2 ^ (n + 1)
-    bit_small true = omega (arith, pow_pos n, power)
-    bit_small false = omega (arith, pow_pos (n + 1))
+    one : 1 * 2 ^ n % 2 ^ bits w ≡ 2 ^ n
+    one =
+        let plain : 1 * 2 ^ n ≡ 2 ^ n = omega arith in
+        ap (λ y. y % 2 ^ bits w) plain ∙ mod-eq_of_lt (pow_below n (bits w) below)
 
-    here : (b : Bool) → f n ≡ b → has (bit_or w (from_bool b * 2 ^ n % 2 ^ 64)) n ≡ f n
-    here true passes = ap (λ x. eqb x 1) (bit_at_set_same w64 w n below) ∙ sym passes
-    here false fails = ap (λ x. has (bit_or w x) n) nothing ∙ has-or w 0 n ∙ ap (λ b. b || has 0 n) (has-above w n n before (omega arith)) ∙ has-above 0 0 n (pow_pos 0) (omega arith) ∙ sym fails
+    bit_small : (b : Bool) → from_bool b * 2 ^ n % 2 ^ bits w < 2 ^ (n + 1)
+    bit_small true = omega (arith, one, pow_pos n, power)
+    bit_small false = omega (arith, nothing, pow_pos (n + 1))
 
-    lower : (b : Bool) (k : ℕ) → k < n → has (bit_or w (from_bool b * 2 ^ n % 2 ^ 64)) k ≡ f k
+    here : (b : Bool) → f n ≡ b → has (bit_or x (from_bool b * 2 ^ n % 2 ^ bits w)) n ≡ f n
+    here true passes = ap (λ y. eqb y 1) (bit_at_set_same w x n below) ∙ sym passes
+    here false fails = ap (λ y. has (bit_or x y) n) nothing ∙ has-or x 0 n ∙ ap (λ b. b || has 0 n) (has-above x n n before (omega arith)) ∙ has-above 0 0 n (pow_pos 0) (omega arith) ∙ sym fails
+
+    lower : (b : Bool) (k : ℕ) → k < n → has (bit_or x (from_bool b * 2 ^ n % 2 ^ bits w)) k ≡ f k
     lower true k h =
-        ap (λ x. eqb x 1) (bit_at_set_other w64 w n below k (λ same. absurd (omega arith))) ∙ ap (λ x. has x k) e ∙
+        ap (λ y. eqb y 1) (bit_at_set_other w x n below k (λ same. absurd (omega arith))) ∙ ap (λ y. has y k) e ∙
         has-set_below n f k h
     lower false k h =
-        ap (λ x. has (bit_or w x) k) nothing ∙ has-or w 0 k ∙ ap (λ b. has w k || b) (has-above 0 0 k (pow_pos 0) (omega arith)) ∙ or-false (has w k) ∙
-        ap (λ x. has x k) e ∙ has-set_below n f k h
+        ap (λ y. has (bit_or x y) k) nothing ∙ has-or x 0 k ∙ ap (λ b. has x k || b) (has-above 0 0 k (pow_pos 0) (omega arith)) ∙ or-false (has x k) ∙
+        ap (λ y. has y k) e ∙ has-set_below n f k h
 
-    each : (k : ℕ) → k < n + 1 → has (bit_or w (bit b)) k ≡ f k
+    each : (k : ℕ) → k < n + 1 → has (bit_or x (bit b)) k ≡ f k
     each k h =
         ⊎_elim (lower b k)
-        (λ past. let same : n ≡ k = omega arith in subst (λ j. has (bit_or w (bit b)) j ≡ f j) same (here b passes))
+        (λ past. let same : n ≡ k = omega arith in subst (λ j. has (bit_or x (bit b)) j ≡ f j) same (here b passes))
         (cases_lt k n)

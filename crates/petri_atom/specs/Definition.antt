@@ -1,4 +1,4 @@
-use Rattle.std.specs.Prelude.{◌≡◌, ◌≤◌, ℕ, suc, ℤ, Bool, true, false, not, ◌&&◌, if◌then◌else◌, List, [], ◌∷◌, length, filter, find, map, slice_get, slice_set, Option, Some, None, ◌==◌, nat_lt, nat_le, nat_eq}
+use Rattle.std.specs.Prelude.{◌≡◌, ◌≤◌, ℕ, suc, ℤ, pos, Bool, true, false, not, ◌&&◌, if◌then◌else◌, List, [], ◌∷◌, length, filter, find, map, slice_get, slice_set, Option, Some, None, ◌==◌, nat_lt, nat_le, nat_eq}
 use Rattle.std.specs.List.{list_all, list_any}
 use Rattle.std.specs.Option.{option_map_or}
 use Rattle.petri_atom.specs.Expression.{Tree, value_of, is_true, word_count, has_variables_below}
@@ -54,6 +54,10 @@ offers state t = can_move state.marking t && is_true (value_of (value_in state.v
 abbrev pub offers_number : AtomDefinition → Local → ℕ → Bool
 offers_number a state n = option_map_or (offers state) (slice_get a.transitions n) false
 
+-- the set of the transitions that a local state offers
+abbrev pub offered_set : AtomDefinition → Local → ℕ
+offered_set a state = set_below (length a.transitions) (offers_number a state)
+
 -- the numbers, counted from n, of the transitions of a port
 abbrev pub numbers_from : ℕ → ℕ → List TransitionDefinition → List ℕ
 numbers_from n port [] = []
@@ -92,6 +96,11 @@ updated (u ∷ us) values = updated us (slice_set values u.variable (value_of (v
 -- the variables that a port exports
 abbrev pub exports_of : AtomDefinition → ℕ → List ℕ
 exports_of a port = option_map_or (λ p. p.exports) (slice_get a.ports port) []
+
+-- the value of a variable that a port exports; 0 where it exports no such one
+abbrev pub exported_value : AtomDefinition → Local → ℕ → ℕ → ℤ
+exported_value a state port export =
+    option_map_or (value_in state.values) (slice_get (exports_of a port) export) (pos 0)
 
 -- the local state after a transition: the delivered values are assigned, then the updates run in order, and the marking loses the sources and gains the targets
 abbrev pub fired_by : TransitionDefinition → List ℕ → Delivered → Local → Local

@@ -56,6 +56,13 @@ word_count (variable v) = 1
 word_count (negation e) = 1 + word_count e
 word_count (operation op e f) = 1 + word_count e + word_count f
 
+-- each variable of the expression passes a test
+abbrev pub all_variables : {V : Type 0} → (V → Bool) → Tree V → Bool
+all_variables test (number n) = true
+all_variables test (variable v) = test v
+all_variables test (negation e) = all_variables test e
+all_variables test (operation op e f) = all_variables test e && all_variables test f
+
 -- each variable of the expression has a number below a bound
 abbrev pub has_variables_below : ℕ → Tree ℕ → Bool
 has_variables_below bound (number n) = true

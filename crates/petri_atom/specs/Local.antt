@@ -1,4 +1,4 @@
-use Rattle.std.specs.Prelude.{◌≡◌, ℕ, zero, suc, ◌+◌, ◌^◌, ◌≤◌, ℤ, pos, Bool, cond, not, ◌&&◌, ◌||◌, List, slice_index_or, slice_get, ◌==◌, nat_lt, Option, None, if◌then◌else◌}
+use Rattle.std.specs.Prelude.{◌≡◌, ℕ, zero, suc, ◌+◌, ◌^◌, ◌≤◌, ℤ, pos, Bool, cond, not, ◌&&◌, ◌||◌, List, slice_index_or, slice_get, ◌==◌, nat_lt, Option, None, if◌then◌else◌, length, map, unwrap_or, is_some}
 use Rattle.petri_atom.specs.declared.state.Delivered.{Delivered}
 use Rattle.std.specs.Int.{bit_at}
 use Rattle.std.specs.List.{list_all, list_any}
@@ -46,6 +46,13 @@ value_in values variable = slice_index_or values variable (pos 0)
 -- from an index on there are only zeros
 abbrev pub IsZeroFrom : ℕ → List ℤ → Type 0
 IsZeroFrom low values = (k : ℕ) → low ≤ k → value_in values k ≡ pos 0
+
+-- what is delivered where each exported variable gets a value or none: the mask says which do, and the values of the others are 0
+abbrev pub delivered_of : List (Option ℤ) → Delivered
+delivered_of row = record {
+  mask = set_below (length row) (λ j. is_some (slice_index_or row j None));
+  values = map (λ value. unwrap_or value (pos 0)) row;
+}
 
 -- what is delivered to the exported variable number j of a port: its value where the mask has bit j
 abbrev pub delivered_value : Delivered → ℕ → Option ℤ

@@ -32,7 +32,7 @@ pub struct Atom {
 
 impl Atom {
     ghost use Rattle.petri_atom.specs.Atom.{definition_of};
-    ghost use Rattle.petri_atom.specs.Definition.{Fits, enabled, offers_number, offers_port, first_from, fired, initial};
+    ghost use Rattle.petri_atom.specs.Definition.{Fits, enabled, exported_value, exports_of, offers_number, offers_port, first_from, fired, initial};
 
     /// The atom that is made of these parts, or the rule that they break first.
     pub fn new(
@@ -194,6 +194,26 @@ impl Atom {
         self.transitions_of(port)
             .iter()
             .any(|number| self.is_offered(state, *number))
+    }
+
+    /// The value of a variable that the port exports, by its place among those; 0 where the port exports no such one.
+    pub fn exported(&self, state: &AtomState, port: u16, export: u8) -> i64
+        ensures { result ≡ exported_value (definition_of self.now) state.now port export }
+    {
+        match self.exports(port).get(usize::from(export)) {
+            Some(variable) => state.value(*variable),
+            None => 0,
+        }
+    }
+
+    /// The numbers of the variables that the port exports, in order; none of a port that is not there.
+    pub fn exports(&self, port: u16) -> &[u8]
+        ensures { result.now ≡ exports_of (definition_of self.now) port }
+    {
+        match self.ports.get(usize::from(port)) {
+            Some(port) => &port.exports,
+            None => &[],
+        }
     }
 
     /// Fires the transition: assigns what is delivered to the exported variables of its port, runs its updates in order,

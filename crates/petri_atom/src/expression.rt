@@ -1,6 +1,9 @@
 //! Expressions over whole numbers, and their values.
-ghost use Rattle.std.specs.Prelude.{◌≡◌, ℤ, ◌-◌, ◌^◌, min};
-ghost use Rattle.petri_atom.specs.Expression.{tree_of, operated, value_of, word_count, has_variables_below, is_same_tree};
+ghost use Rattle.std.specs.Prelude.{◌≡◌, ℤ, Bool, ◌-◌, ◌^◌, min, nat_le};
+ghost use Rattle.petri_atom.specs.declared.parts.TheConstants.{MAX_WORDS};
+ghost use Rattle.petri_atom.specs.Expression.{tree_of, operated, value_of, word_count, all_variables, has_variables_below, is_same_tree};
+
+use crate::parts::MAX_WORDS;
 
 /// An operator with two operands.
 #[derive(Clone, Copy, Debug, PartialEq, Eq)]
@@ -48,6 +51,15 @@ pub trait Valuation<V> {
         ensures { result ≡ value_at self.now variable.now };
 }
 
+/// A test of the variables of an expression.
+pub trait VariableTest<V> {
+    ghost passes: { Self → V → Bool };
+
+    /// Whether one variable passes the test.
+    fn passes(&self, variable: &V) -> bool
+        ensures { result ≡ passes self.now variable.now };
+}
+
 /// An expression: a number, a variable, or an operator over expressions.
 #[derive(Debug, Drop)]
 pub enum Expression<V> {
@@ -70,6 +82,26 @@ impl<V> Expression<V> {
                 operator.apply(left.value(variables), right.value(variables))
             }
         }
+    }
+
+    /// Whether each variable of the expression passes the test.
+    pub fn all_variables<T: VariableTest<V>>(&self, test: &T) -> bool
+        ensures { result ≡ all_variables (T.passes test.now) (tree_of self.now) }
+    {
+        match self {
+            Expression::Number(_) => true,
+            Expression::Variable(variable) => test.passes(variable),
+            Expression::Not(operand) => operand.all_variables(test),
+            Expression::Apply(_, left, right) => left.all_variables(test)
+                & right.all_variables(test),
+        }
+    }
+
+    /// Whether the expression is within the limit of words, [`MAX_WORDS`](crate::MAX_WORDS).
+    pub fn is_small(&self) -> bool
+        ensures { result ≡ nat_le (word_count (tree_of self.now)) MAX_WORDS }
+    {
+        self.word_count() <= MAX_WORDS
     }
 
     /// How many words the expression is written with, at most `usize::MAX`.

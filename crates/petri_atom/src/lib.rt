@@ -13,6 +13,7 @@
 //! - `expression`: expressions over any kind of variable, and their values.
 //! - `name`, `parts`, `transition`: what an atom is made of. A transition keeps its places as machine words
 //!   too, so that a test of a marking is two operations; that they are those sets is kept by its type.
+//! - `offered`: the offered transitions of a state as one set, which is then counted and picked from by port.
 //! - `marking`: lists of places as machine words.
 //! - `rules`: the rules that the parts keep, as tests. `fault`: which kind of rule is broken.
 //! - `state`: local states, and what is delivered to one. `same`: whether two parts are the same.
@@ -25,6 +26,7 @@ mod expression;
 mod fault;
 mod marking;
 mod name;
+mod offered;
 mod parts;
 mod rules;
 mod same;
@@ -32,9 +34,10 @@ mod state;
 mod transition;
 
 pub use atom::Atom;
-pub use expression::{Expression, Operator, Valuation};
+pub use expression::{Expression, Operator, Valuation, VariableTest};
 pub use fault::AtomFault;
 pub use name::{MAX_NAME, Name, is_name};
+pub use offered::TransitionSet;
 pub use parts::{MAX_PORTS, MAX_TRANSITIONS, MAX_UPDATES, MAX_WORDS, Place, Port, Variable};
 pub use state::{AtomState, Delivered, MAX_EXPORTS, MAX_PLACES, MAX_VARIABLES};
 pub use transition::{Transition, Update};

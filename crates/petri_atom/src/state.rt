@@ -1,6 +1,7 @@
 //! Local states of atoms, and the values that a firing delivers to one.
-ghost use Rattle.std.specs.Prelude.{◌≡◌, ℕ, ℤ, ◌≤◌, ◌↔◌, take, map, IsTrue, length, slice_set};
-ghost use Rattle.petri_atom.specs.Local.{has, set_below, value_in, IsZeroFrom, delivered_value};
+ghost use Rattle.std.specs.Prelude.{◌≡◌, ℕ, ℤ, ◌≤◌, ◌↔◌, take, map, pos, None, IsTrue, length, is_some, unwrap_or, slice_index_or, slice_set};
+ghost use Rattle.petri_atom.specs.Local.{has, set_below, value_in, IsZeroFrom, delivered_of, delivered_value};
+ghost use Rattle.petri_atom.specs.declared.state.TheConstants.{MAX_EXPORTS};
 ghost use Rattle.petri_atom.specs.Definition.{delivered_to, is_marked_first};
 ghost use Rattle.std.specs.Option.{option_map_or};
 
@@ -178,7 +179,39 @@ impl AtomState {
     }
 }
 
+/// The word whose bits are the variables that get a value.
+fn delivered_mask(values: &[Option<i64>; MAX_EXPORTS]) -> u8
+    ensures { result ≡ set_below MAX_EXPORTS (λ j. is_some (slice_index_or values.now j None)) }
+{
+    let mut mask = 0;
+    for number in 0..MAX_EXPORTS {
+        mask |= u8::from(values[number].is_some()) << number;
+    }
+    mask
+}
+
+/// The values, 0 where there is none.
+fn delivered_values(values: &[Option<i64>; MAX_EXPORTS]) -> [i64; MAX_EXPORTS]
+    ensures { result ≡ map (λ value. unwrap_or value (pos 0)) values.now }
+{
+    let mut all = [0; MAX_EXPORTS];
+    for number in 0..MAX_EXPORTS {
+        all[number] = values[number].unwrap_or(0);
+    }
+    all
+}
+
 impl Delivered {
+    /// What is delivered where each exported variable gets a value or none.
+    pub fn of(values: [Option<i64>; MAX_EXPORTS]) -> Self
+        ensures { result ≡ delivered_of values }
+    {
+        Delivered {
+            mask: delivered_mask(&values),
+            values: delivered_values(&values),
+        }
+    }
+
     /// What is delivered to the exported variable with this number, if anything is.
     pub fn value(&self, export: usize) -> Option<i64>
         ensures { result ≡ delivered_value self.now export }

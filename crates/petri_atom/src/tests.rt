@@ -5,6 +5,7 @@ use crate::atom::Atom;
 use crate::expression::{Expression, Operator};
 use crate::fault::AtomFault;
 use crate::name::Name;
+use crate::offered::TransitionSet;
 use crate::parts::{Place, Port, Variable};
 use crate::state::{AtomState, Delivered};
 use crate::transition::{Transition, Update};
@@ -254,6 +255,23 @@ fn the_least_offered_transition_from_any_number(rt: HostRuntime) -> Result<(), F
     assert_eq!(rt; net.enabled_count(&state, 0), 3);
     for (place, number) in [(0, Some(0)), (1, Some(2)), (2, Some(3)), (3, None)] {
         assert_eq!(rt; net.nth_enabled(&state, 0, place), number, "place {place}");
+    }
+    let offered = net.offered(&state);
+    for (number, there) in [
+        (0, true),
+        (1, false),
+        (2, true),
+        (3, true),
+        (4, false),
+        (128, false),
+    ] {
+        assert_eq!(rt; offered.contains(number), there, "transition {number}");
+    }
+    assert_eq!(rt; net.count_among(offered, 0), 3);
+    assert!(rt; net.offers_among(offered, 0));
+    assert!(rt; !net.offers_among(TransitionSet::empty(), 0));
+    for (place, number) in [(0, Some(0)), (1, Some(2)), (2, Some(3)), (3, None)] {
+        assert_eq!(rt; net.nth_among(offered, 0, place), number, "place {place}");
     }
     assert_eq!(rt; net.enabled_count(&state, 1), 0);
     assert_eq!(rt;

@@ -9,7 +9,7 @@ ghost use Rattle.petri_atom.specs.declared.state.TheConstants.{MAX_PLACES};
 
 use crate::expression::{Expression, Valuation};
 use crate::marking::word_of;
-use crate::parts::{MAX_UPDATES, MAX_WORDS, are_below, numbers_stand_once};
+use crate::parts::{MAX_UPDATES, are_below, numbers_stand_once};
 use crate::state::{AtomState, MAX_PLACES};
 
 /// An update: the variable with this number gets the value of the expression.
@@ -153,9 +153,7 @@ impl Transition {
 fn are_small(updates: &[Update]) -> bool
     ensures { result ≡ list_all (λ u. is_small_value (update_of u)) updates.now }
 {
-    updates
-        .iter()
-        .all(|update| update.value.word_count() <= MAX_WORDS)
+    updates.iter().all(|update| update.value.is_small())
 }
 
 /// Whether each update speaks of variables below the bound alone.
@@ -174,9 +172,7 @@ impl Transition {
     pub(crate) fn is_small(&self) -> bool
         ensures { result ≡ is_small_transition (transition_of self.now) }
     {
-        (self.updates.len() <= MAX_UPDATES)
-            & (self.guard.word_count() <= MAX_WORDS)
-            & are_small(&self.updates)
+        (self.updates.len() <= MAX_UPDATES) & self.guard.is_small() & are_small(&self.updates)
     }
 
     /// Whether no place stands twice among the sources, and none among the targets.

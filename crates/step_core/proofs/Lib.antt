@@ -1,2 +1,3 @@
 pub mod Ports
 pub mod Rows
+pub mod StepRows

@@ -5,7 +5,6 @@ use Rattle.petri_atom.specs.Local.{Local}
 use Rattle.petri_atom.specs.Definition.{AtomDefinition, TransitionDefinition}
 use Rattle.petri_atom.specs.declared.expression.Operator.TheVariants.{Less}
 use Rattle.connector_tree.specs.declared.tree.Port.{Port}
-use Rattle.step_core.specs.Plant.{PlantDefinition}
 use Rattle.step_core.specs.Choice.{Interaction, ChoiceDefinition, interaction_by, is_possible, combinations, choices_of}
 use Rattle.step_core.specs.declared.choice.Move.{Move}
 
@@ -52,11 +51,8 @@ atom_of transitions = record {
 }
 
 -- a plant of two atoms: the first has one transition, the second has three, of which the middle one is offered below 5 alone
-two : PlantDefinition
-two = record {
-  atoms = atom_of (loop_below (pos 9) ∷ []) ∷ atom_of (loop_below (pos 9) ∷ loop_below (pos 5) ∷ loop_below (pos 9) ∷ []) ∷ [];
-  wires = [];
-}
+two : List AtomDefinition
+two = atom_of (loop_below (pos 9) ∷ []) ∷ atom_of (loop_below (pos 9) ∷ loop_below (pos 5) ∷ loop_below (pos 9) ∷ []) ∷ []
 
 -- the state of both: place 0 is marked, and the variable has this value
 abbrev both_at : ℤ → List Local

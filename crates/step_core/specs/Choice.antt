@@ -1,5 +1,5 @@
 -- Which choices a state has.
-use Rattle.std.specs.Prelude.{ℕ, zero, suc, List, [], ◌∷◌, ◌++◌, map, filter, flat_map, length, slice_get, Bool, false, ◌==◌}
+use Rattle.std.specs.Prelude.{ℕ, zero, suc, List, [], ◌∷◌, ◌++◌, map, filter, flat_map, length, slice_get, Contains, Bool, false, ◌==◌}
 use Rattle.std.specs.List.{list_all}
 use Rattle.std.specs.Option.{option_map_or}
 use Rattle.petri_atom.specs.Local.{Local}
@@ -12,9 +12,9 @@ use Rattle.step_core.specs.Plant.{WireDefinition, PlantDefinition}
 use Rattle.step_core.specs.declared.choice.Move.{Move}
 
 -- the atom and the local state with a number, and what is read of both; nothing where one is not there
-abbrev pub of_atom : {X : Type 0} → PlantDefinition → List Local → ℕ → (AtomDefinition → Local → X) → X → X
-of_atom plant states n read nothing =
-    option_map_or (λ a. option_map_or (λ s. read a s) (slice_get states n) nothing) (slice_get plant.atoms n) nothing
+abbrev pub of_atom : {X : Type 0} → List AtomDefinition → List Local → ℕ → (AtomDefinition → Local → X) → X → X
+of_atom atoms states n read nothing =
+    option_map_or (λ a. option_map_or (λ s. read a s) (slice_get states n) nothing) (slice_get atoms n) nothing
 
 -- an interaction: the number of its connector, its leaves as a mask, and its ports in rising order of their atoms
 pub record Interaction : Type 0 where
@@ -45,15 +45,18 @@ interactions_from atoms k (w ∷ ws) = interactions_of_connector atoms k w.conne
 abbrev pub plant_interactions : PlantDefinition → List Interaction
 plant_interactions plant = interactions_from (length plant.atoms) 0 plant.wires
 
+-- whether the state of a port's atom offers one of the port's transitions
+abbrev pub is_offered_port : List AtomDefinition → List Local → Port → Bool
+is_offered_port atoms states p = of_atom atoms states p.atom (λ a s. offers_port a s p.port) false
+
 -- an interaction is possible where each of its ports has an offered transition
-abbrev pub is_possible : PlantDefinition → List Local → Interaction → Bool
-is_possible plant states i =
-    list_all (λ p. of_atom plant states p.atom (λ a s. offers_port a s p.port) false) i.ports
+abbrev pub is_possible : List AtomDefinition → List Local → Interaction → Bool
+is_possible atoms states i = list_all (is_offered_port atoms states) i.ports
 
 -- what the atom of a port can do: one move for each transition of the port that its state offers, by rising number
-abbrev pub moves_of : PlantDefinition → List Local → Port → List Move
-moves_of plant states p =
-    of_atom plant states p.atom (λ a s. map (λ t. record { atom = p.atom; transition = t }) (enabled a s p.port)) []
+abbrev pub moves_of : List AtomDefinition → List Local → Port → List Move
+moves_of atoms states p =
+    of_atom atoms states p.atom (λ a s. map (λ t. record { atom = p.atom; transition = t }) (enabled a s p.port)) []
 
 -- all rows of one element from each list, the last varying fastest
 abbrev pub combinations : {X : Type 0} → List (List X) → List (List X)
@@ -67,12 +70,16 @@ pub record ChoiceDefinition : Type 0 where
   pub moves : List Move
 
 -- the choices of one interaction
-abbrev pub choices_of : PlantDefinition → List Local → Interaction → List ChoiceDefinition
-choices_of plant states i =
+abbrev pub choices_of : List AtomDefinition → List Local → Interaction → List ChoiceDefinition
+choices_of atoms states i =
     map (λ moves. record { connector = i.connector; mask = i.mask; moves = moves })
-    (combinations (map (moves_of plant states) i.ports))
+    (combinations (map (moves_of atoms states) i.ports))
 
 -- the choices of a state: those of each possible interaction, in the order of the interactions
 abbrev pub choices : PlantDefinition → List Local → List ChoiceDefinition
 choices plant states =
-    flat_map (choices_of plant states) (filter (is_possible plant states) (plant_interactions plant))
+    flat_map (choices_of plant.atoms states) (filter (is_possible plant.atoms states) (plant_interactions plant))
+
+-- a choice is allowed in a state where it is one of the state's choices
+abbrev pub IsAllowed : PlantDefinition → List Local → ChoiceDefinition → Type 0
+IsAllowed plant states c = Contains (choices plant states) c

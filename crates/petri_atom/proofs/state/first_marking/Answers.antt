@@ -1,5 +1,6 @@
 use Rattle.std.proofs.Common.{◌*◌, ◌%◌, ◌^◌, ◌<◌, ◌∙◌, refl, ap, length, arith, false}
 use Rattle.std.specs.Prelude.{bit_or}
+use Rattle.std.specs.Int.{w64}
 use Rattle.std.specs.Option.{option_map_or}
 use Rattle.std.proofs.lemmas.Option.{slice_get_read}
 use Rattle.petri_atom.specs.Definition.{is_marked_first}
@@ -17,4 +18,4 @@ loop-number-preserved c =
     let within : n < 64 = omega arith in
     let marked = ap (λ o. option_map_or (λ p. p.marked) o false) (slice_get_read places (length places) n place refl c.loop-number-test.true c.index-places-number.is) in
     ap (λ x. bit_or c.loop-number.word (x * 2 ^ n % 2 ^ 64)) c.from.ensures ∙
-    set_below-next n c.loop-number.word (is_marked_first places) place.marked within c.loop-number.invariant marked
+    set_below-next w64 n c.loop-number.word (is_marked_first places) place.marked within c.loop-number.invariant marked

@@ -1,0 +1,111 @@
+//! The offered transitions of a state as one set, so that each transition is judged once in a step.
+ghost use Rattle.std.specs.Prelude.{◌≡◌, length, slice_get, filter};
+ghost use Rattle.std.specs.List.{list_any};
+ghost use Rattle.petri_atom.specs.Local.{Local, has};
+ghost use Rattle.petri_atom.specs.Definition.{enabled, offered_set, offers_port};
+
+use crate::atom::Atom;
+use crate::state::AtomState;
+use std::marker::Model;
+
+/// A set of transitions of one atom, by their numbers. In a contract it is the number whose bits they are.
+#[derive(Clone, Copy, Debug, PartialEq, Eq, Drop)]
+pub struct TransitionSet {
+    word: u128,
+}
+
+impl Model for TransitionSet {
+    ghost use Rattle.std.specs.Prelude.{ℕ};
+
+    ghost Value = { ℕ };
+
+    ghost view = { λ s. s.word };
+
+    ghost inverse = { λ word. record { word = word } };
+}
+
+impl TransitionSet {
+    /// No transition.
+    pub fn empty() -> Self
+        ensures { result ≡ 0 }
+    {
+        TransitionSet { word: 0 }
+    }
+
+    /// Whether the set has the transition.
+    pub fn contains(self, transition: u16) -> bool
+        ensures { result ≡ has self transition }
+    {
+        transition < 128 && (self.word >> transition) & 1 == 1
+    }
+}
+
+impl Atom {
+    ghost use Rattle.petri_atom.specs.Atom.{definition_of};
+
+    /// The transitions that the state offers.
+    pub fn offered(&self, state: &AtomState) -> TransitionSet
+        ensures { result ≡ offered_set (definition_of self.now) state.now }
+    {
+        let mut word = 0;
+        for number in 0..self.transitions().len() {
+            word |= u128::from(self.is_offered(state, number as u16)) << number;
+        }
+        TransitionSet { word }
+    }
+
+    /// How many of the port's transitions are in the set of those that a state offers.
+    pub fn count_among(&self, offered: TransitionSet, port: u16) -> usize
+        ensures { (state : Local) → offered ≡ offered_set (definition_of self.now) state → result ≡ length (enabled (definition_of self.now) state port) }
+    {
+        count_in(self.transitions_of(port), offered)
+    }
+
+    /// Whether one of the port's transitions is in the set of those that a state offers.
+    pub fn offers_among(&self, offered: TransitionSet, port: u16) -> bool
+        ensures { (state : Local) → offered ≡ offered_set (definition_of self.now) state → result ≡ offers_port (definition_of self.now) state port }
+    {
+        has_one_in(self.transitions_of(port), offered)
+    }
+
+    /// The transition with this place, from 0, among the port's transitions in the set of those that a state offers, by
+    /// rising number.
+    pub fn nth_among(&self, offered: TransitionSet, port: u16, place: usize) -> Option<u16>
+        ensures { (state : Local) → offered ≡ offered_set (definition_of self.now) state → result ≡ slice_get (enabled (definition_of self.now) state port) place }
+    {
+        nth_in(self.transitions_of(port), offered, place)
+    }
+}
+
+/// How many of the numbers are in the set.
+fn count_in(numbers: &[u16], set: TransitionSet) -> usize
+    ensures { result ≡ length (filter (has set) numbers.now) }
+{
+    numbers
+        .iter()
+        .filter(|number| set.contains(**number))
+        .count()
+}
+
+/// Whether one of the numbers is in the set.
+fn has_one_in(numbers: &[u16], set: TransitionSet) -> bool
+    ensures { result ≡ list_any (has set) numbers.now }
+{
+    numbers.iter().any(|number| set.contains(*number))
+}
+
+/// The number with this place, from 0, among those that are in the set.
+fn nth_in(numbers: &[u16], set: TransitionSet, place: usize) -> Option<u16>
+    ensures { result ≡ slice_get (filter (has set) numbers.now) place }
+{
+    let mut left = place;
+    for number in numbers {
+        if set.contains(*number) {
+            if left == 0 {
+                return Some(*number);
+            }
+            left -= 1;
+        }
+    }
+    None
+}

@@ -1,0 +1,76 @@
+-- What a choice leaves of a state.
+use Rattle.std.specs.Prelude.{ℕ, ℤ, pos, Bool, false, ◌&&◌, ◌==◌, List, [], ◌∷◌, map, find, slice_get, Option, None, option_map}
+use Rattle.std.specs.List.{enumerate_from, range_with_len}
+use Rattle.std.specs.Option.{option_map_or}
+use Rattle.petri_atom.specs.Expression.{all_variables, value_of}
+use Rattle.petri_atom.specs.Local.{Local, delivered_of}
+use Rattle.petri_atom.specs.Definition.{AtomDefinition, exported_value, fired, initial}
+use Rattle.petri_atom.specs.declared.state.Delivered.{Delivered}
+use Rattle.petri_atom.specs.declared.state.TheConstants.{MAX_EXPORTS}
+use Rattle.connector_tree.specs.Masks.{is_set}
+use Rattle.connector_tree.specs.Tree.{leaves}
+use Rattle.connector_tree.specs.declared.tree.Port.{Port}
+use Rattle.step_core.specs.Plant.{TransferDefinition, PlantDefinition}
+use Rattle.step_core.specs.Choice.{ChoiceDefinition, of_atom}
+use Rattle.step_core.specs.declared.choice.Move.{Move}
+use Rattle.step_core.specs.declared.wire.Export.{Export}
+
+-- the first state of a plant: each atom's first one
+abbrev pub initial_states : PlantDefinition → List Local
+initial_states plant = map initial plant.atoms
+
+-- the value of an exported variable of a leaf in a global state, among these leaves; 0 where there is none
+abbrev pub value_at : List AtomDefinition → List Local → List Port → Export → ℤ
+value_at atoms states ports e =
+    option_map_or (λ p. of_atom atoms states p.atom (λ a s. exported_value a s p.port e.export) (pos 0)) (slice_get ports e.leaf) (pos 0)
+
+-- the leaf of an exported variable takes part
+abbrev pub takes_part : ℕ → Export → Bool
+takes_part mask e = is_set mask e.leaf
+
+-- a transfer applies where each leaf that it names takes part, its target's among them
+abbrev pub applies : ℕ → TransferDefinition → Bool
+applies mask t = takes_part mask t.target && all_variables (takes_part mask) t.value
+
+-- the target is this exported variable of this atom
+abbrev pub is_to : List Port → ℕ → ℕ → Export → Bool
+is_to ports atom export target =
+    target.export == export && option_map_or (λ p. p.atom == atom) (slice_get ports target.leaf) false
+
+-- the transfer to an exported variable of an atom, if one applies
+abbrev pub transfer_to : List Port → List TransferDefinition → ℕ → ℕ → ℕ → Option TransferDefinition
+transfer_to ports transfers mask atom export = find (λ t. applies mask t && is_to ports atom export t.target) transfers
+
+-- the value that an exported variable of an atom gets, if one does: that of its transfer on the state from before the firing
+abbrev pub value_to : List AtomDefinition → List Local → List Port → List TransferDefinition → ℕ → ℕ → ℕ → Option ℤ
+value_to atoms states ports transfers mask atom export =
+    option_map (λ t. value_of (value_at atoms states ports) t.value) (transfer_to ports transfers mask atom export)
+
+-- what a firing delivers to an atom: to each exported variable its value, or none
+abbrev pub delivered_by : List AtomDefinition → List Local → List Port → List TransferDefinition → ℕ → ℕ → Delivered
+delivered_by atoms states ports transfers mask atom =
+    delivered_of (map (value_to atoms states ports transfers mask atom) (range_with_len 0 MAX_EXPORTS))
+
+-- nothing delivered
+abbrev pub nothing_delivered : Delivered
+nothing_delivered = delivered_of (map (λ export. None) (range_with_len 0 MAX_EXPORTS))
+
+-- what a choice delivers to an atom
+abbrev pub transfer : PlantDefinition → List Local → ChoiceDefinition → ℕ → Delivered
+transfer plant states c atom =
+    option_map_or (λ w. delivered_by plant.atoms states (leaves w.connector) w.transfers c.mask atom) (slice_get plant.wires c.connector) nothing_delivered
+
+-- what the moves of a choice leave of the state of the atom with a number: its move fires, if it makes one, with what is delivered to it
+abbrev pub stepped : List AtomDefinition → List Move → (ℕ → Delivered) → ℕ → Local → Local
+stepped atoms moves delivered n state =
+    option_map_or (λ m. option_map_or (λ a. fired a m.transition (delivered n) state) (slice_get atoms n) state)
+    (find (λ m. m.atom == n) moves) state
+
+-- the same of the states of all atoms, in their order
+abbrev pub all_stepped : List AtomDefinition → List Move → (ℕ → Delivered) → List Local → List Local
+all_stepped atoms moves delivered states =
+    map (λ (n, state). stepped atoms moves delivered n state) (enumerate_from 0 states)
+
+-- the state after a choice: each participant fires its transition with what is delivered to it from the state before, and every other atom stays
+abbrev pub next : PlantDefinition → List Local → ChoiceDefinition → List Local
+next plant states c = all_stepped plant.atoms c.moves (transfer plant states c) states
