@@ -1,8 +1,9 @@
 //! The offered transitions of a state as one set, so that each transition is judged once in a step.
-ghost use Rattle.std.specs.Prelude.{◌≡◌, length, slice_get, filter};
+ghost use Rattle.std.specs.Prelude.{◌≡◌, ◌≤◌, length, slice_get, filter};
 ghost use Rattle.std.specs.List.{list_any};
 ghost use Rattle.petri_atom.specs.Local.{Local, has};
 ghost use Rattle.petri_atom.specs.Definition.{enabled, offered_set, offers_port};
+ghost use Rattle.petri_atom.specs.declared.parts.TheConstants.{MAX_TRANSITIONS};
 
 use crate::atom::Atom;
 use crate::state::AtomState;
@@ -56,7 +57,8 @@ impl Atom {
 
     /// How many of the port's transitions are in the set of those that a state offers.
     pub fn count_among(&self, offered: TransitionSet, port: u16) -> usize
-        ensures { (state : Local) → offered ≡ offered_set (definition_of self.now) state → result ≡ length (enabled (definition_of self.now) state port) }
+        ensures few { result ≤ MAX_TRANSITIONS }
+        ensures count { (state : Local) → offered ≡ offered_set (definition_of self.now) state → result ≡ length (enabled (definition_of self.now) state port) }
     {
         count_in(self.transitions_of(port), offered)
     }

@@ -1,3 +1,6 @@
 pub mod Ports
+pub mod Judging
+pub mod Combinations
+pub mod Flattened
 pub mod Rows
 pub mod StepRows

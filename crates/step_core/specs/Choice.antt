@@ -1,5 +1,5 @@
 -- Which choices a state has.
-use Rattle.std.specs.Prelude.{ℕ, zero, suc, List, [], ◌∷◌, ◌++◌, map, filter, flat_map, length, slice_get, Contains, Bool, false, ◌==◌}
+use Rattle.std.specs.Prelude.{ℕ, zero, suc, List, [], ◌∷◌, ◌++◌, map, filter, flat_map, length, slice_get, Contains, Bool, false, if◌then◌else◌, ◌==◌}
 use Rattle.std.specs.List.{list_all}
 use Rattle.std.specs.Option.{option_map_or}
 use Rattle.petri_atom.specs.Local.{Local}
@@ -53,10 +53,14 @@ is_offered_port atoms states p = of_atom atoms states p.atom (λ a s. offers_por
 abbrev pub is_possible : List AtomDefinition → List Local → Interaction → Bool
 is_possible atoms states i = list_all (is_offered_port atoms states) i.ports
 
+-- the move of an atom by a transition
+abbrev pub move_of : ℕ → ℕ → Move
+move_of atom transition = record { atom = atom; transition = transition }
+
 -- what the atom of a port can do: one move for each transition of the port that its state offers, by rising number
 abbrev pub moves_of : List AtomDefinition → List Local → Port → List Move
 moves_of atoms states p =
-    of_atom atoms states p.atom (λ a s. map (λ t. record { atom = p.atom; transition = t }) (enabled a s p.port)) []
+    of_atom atoms states p.atom (λ a s. map (move_of p.atom) (enabled a s p.port)) []
 
 -- all rows of one element from each list, the last varying fastest
 abbrev pub combinations : {X : Type 0} → List (List X) → List (List X)
@@ -74,6 +78,10 @@ abbrev pub choices_of : List AtomDefinition → List Local → Interaction → L
 choices_of atoms states i =
     map (λ moves. record { connector = i.connector; mask = i.mask; moves = moves })
     (combinations (map (moves_of atoms states) i.ports))
+
+-- the choices of one interaction in a state: none where it is not possible
+abbrev pub choices_in : List AtomDefinition → List Local → Interaction → List ChoiceDefinition
+choices_in atoms states i = if is_possible atoms states i then choices_of atoms states i else []
 
 -- the choices of a state: those of each possible interaction, in the order of the interactions
 abbrev pub choices : PlantDefinition → List Local → List ChoiceDefinition

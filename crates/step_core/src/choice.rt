@@ -1,8 +1,73 @@
 //! Choices: an interaction, and one transition for each participant.
+use connector_tree::{MAX_LEAVES, Mask};
+use std::marker::Model;
 
 /// What one participant of a choice does: a transition of an atom, both by number.
 #[derive(Clone, Copy, Debug, PartialEq, Eq)]
 pub struct Move {
     pub atom: u16,
     pub transition: u16,
+}
+
+/// The moves of a choice, in rising order of their atoms; at most as many as a connector has leaves. It takes no memory. In a
+/// contract it is the list of the moves.
+#[derive(Debug, Drop)]
+pub struct Moves {
+    row: [Move; MAX_LEAVES],
+    count: usize,
+}
+
+impl Model for Moves {
+    ghost use Rattle.std.specs.Prelude.{◌≤◌, List, take};
+    ghost use Rattle.step_core.specs.declared.choice.Move.{Move};
+    ghost use Rattle.connector_tree.specs.declared.tree.TheConstants.{MAX_LEAVES};
+
+    ghost Value = { List Move };
+
+    ghost view = { λ m. take m.count m.row };
+
+    ghost invariant = { λ m. m.count ≤ MAX_LEAVES };
+}
+
+impl Moves {
+    ghost use Rattle.std.specs.Prelude.{◌≡◌, ◌≤◌, ◌<◌, ◌+◌, ◌++◌, [], ◌∷◌, take, length};
+    ghost use Rattle.connector_tree.specs.declared.tree.TheConstants.{MAX_LEAVES};
+
+    /// No move.
+    pub(crate) fn none() -> Self
+        ensures { result ≡ [] }
+    {
+        let none = Move {
+            atom: 0,
+            transition: 0,
+        };
+        Moves {
+            row: [none; MAX_LEAVES],
+            count: 0,
+        }
+    }
+
+    /// Adds a move at the end.
+    pub(crate) fn push(&mut self, added: Move)
+        requires { length self.old + 1 ≤ MAX_LEAVES }
+        ensures { self.new ≡ self.old ++ added ∷ [] }
+    {
+        self.row[self.count] = added;
+        self.count += 1;
+    }
+
+    /// The moves, in rising order of their atoms.
+    pub fn as_slice(&self) -> &[Move]
+        ensures { result.now ≡ self.now }
+    {
+        &self.row[..self.count]
+    }
+}
+
+/// A choice: an interaction by its connector's number and its mask, and one offered transition for each of its ports.
+#[derive(Debug, Drop)]
+pub struct Choice {
+    pub connector: u16,
+    pub mask: Mask,
+    pub moves: Moves,
 }

@@ -11,11 +11,16 @@
 
 mod choice;
 mod interaction;
+mod interactions;
+mod judged;
+mod limits;
 mod state;
 mod wire;
 
-pub use choice::Move;
-pub use interaction::{Interaction, connector_interactions};
+pub use choice::{Choice, Move, Moves};
+pub use interaction::Interaction;
+pub use interactions::connector_interactions;
+pub use limits::{MAX_ATOMS, MAX_INTERACTIONS, MAX_TRANSFERS, MAX_WIRES};
 pub use state::PlantState;
 pub use wire::{Export, Transfer, Wire};
 

@@ -1,5 +1,5 @@
 //! What no clause says: that the clauses mean what they should, on values worked out by hand.
-use crate::interaction::connector_interactions;
+use crate::interactions::connector_interactions;
 use crate::state::PlantState;
 use connector_tree::{Child, Connector, Node, Port, TreeFault};
 use petri_atom::{Atom, AtomState, Name, Variable};

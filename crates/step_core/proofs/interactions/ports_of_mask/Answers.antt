@@ -1,8 +1,8 @@
 use Rattle.std.proofs.Common.{◌+◌, ◌++◌, ◌∙◌, sym, ap, drop}
 use Rattle.connector_tree.specs.Masks.{chosen}
 use Rattle.step_core.proofs.Ports.{chosen-taken, chosen-passed}
-use Rattle.step_core.proofs.interaction.ports_of_mask.Goals as goal
-use Rattle.step_core.proofs.interaction.ports_of_mask.Goals.{then-has_leaf+in_ok-push, else-has_leaf}
+use Rattle.step_core.proofs.interactions.ports_of_mask.Goals as goal
+use Rattle.step_core.proofs.interactions.ports_of_mask.Goals.{then-has_leaf+in_ok-push, else-has_leaf}
 
 pub loop-leaf-preserved : goal.loop-leaf-preserved
 loop-leaf-preserved c =

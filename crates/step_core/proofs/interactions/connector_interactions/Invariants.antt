@@ -1,7 +1,7 @@
 use Rattle.std.proofs.Common.{◌≡◌, map, take}
 use Rattle.step_core.specs.Choice as choice
 use Rattle.step_core.specs.Interaction.{interaction_of}
-use Rattle.step_core.proofs.interaction.connector_interactions.Given as goal
+use Rattle.step_core.proofs.interactions.connector_interactions.Given as goal
 
 abbrev pub invariant-loop-mask : goal.invariant-loop-mask
 invariant-loop-mask l =

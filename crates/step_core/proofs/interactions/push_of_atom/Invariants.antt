@@ -1,5 +1,5 @@
 use Rattle.std.proofs.Common.{◌≡◌, ◌++◌, drop, filter, eqb}
-use Rattle.step_core.proofs.interaction.push_of_atom.Given as goal
+use Rattle.step_core.proofs.interactions.push_of_atom.Given as goal
 
 abbrev pub invariant-loop-port : goal.invariant-loop-port
 invariant-loop-port l =

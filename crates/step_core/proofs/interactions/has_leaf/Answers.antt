@@ -1,7 +1,7 @@
 use Rattle.std.proofs.Common.{◌<◌, ◌^◌, ◌∙◌, sym, ap, eqb, arith}
 use Rattle.std.proofs.lemmas.Bool.{le-ltb}
 use Rattle.std.proofs.lemmas.Nat.Bits.{bit_at_above}
-use Rattle.step_core.proofs.interaction.has_leaf.Goals as goal
+use Rattle.step_core.proofs.interactions.has_leaf.Goals as goal
 
 pub returns-else-leaf-lt16 : goal.returns-else-leaf-lt16
 returns-else-leaf-lt16 c =

@@ -1,0 +1,31 @@
+use Rattle.std.proofs.Common.{◌≡◌, ℕ, ◌+◌, ◌-◌, ◌<◌, ◌≤◌, refl, sym, ◌∙◌, ap, List, [], ◌∷◌, ◌++◌, length, map, take, drop, get_or, arith}
+use Rattle.std.specs.Prelude.{Some, slice_get, flat_map}
+use Rattle.std.proofs.lemmas.List.{take_more, drop_more, map-append, length-append, append-nil}
+use Rattle.std.proofs.lemmas.List.Concat.{flat_map-append}
+use Rattle.step_core.proofs.Combinations.{slice_get-left, slice_get-right}
+
+-- lists that are made of the elements of a list, each seen as something else, one after another
+module _ {X Y Z : Type 0} (g : Y → List Z) (v : X → Y) (xs : List X) (i : ℕ) (x : X) (within : i < length xs) (here : x ≡ get_or xs i x) where
+  -- one element more adds its list at the end
+  pub flat-more : length (flat_map g (map v (take (i + 1) xs))) ≡ length (flat_map g (map v (take i xs))) + length (g (v x))
+  flat-more =
+      let taken : take (i + 1) xs ≡ take i xs ++ x ∷ [] = take_more xs i x within ∙ ap (λ y. take i xs ++ y ∷ []) (sym here) in
+      ap (λ ys. length (flat_map g (map v ys))) taken ∙
+      ap (λ ys. length (flat_map g ys)) (map-append v (take i xs) (x ∷ [])) ∙
+      ap length (flat_map-append g (map v (take i xs)) (v x ∷ [])) ∙
+      length-append (flat_map g (map v (take i xs))) (g (v x) ++ []) ∙
+      ap (λ ys. length (flat_map g (map v (take i xs))) + length ys) (append-nil (g (v x)))
+
+  from-here : flat_map g (map v (drop i xs)) ≡ g (v x) ++ flat_map g (map v (drop (i + 1) xs))
+  from-here = ap (λ ys. flat_map g (map v ys)) (drop_more xs i x within ∙ ap (λ y. y ∷ drop (i + 1) xs) (sym here))
+
+  -- a place in its list
+  pub flat-here : (place : ℕ) → place < length (g (v x)) → slice_get (flat_map g (map v (drop i xs))) place ≡ slice_get (g (v x)) place
+  flat-here place inside = ap (λ ys. slice_get ys place) from-here ∙ slice_get-left (g (v x)) _ place inside
+
+  -- a place behind it
+  pub flat-behind : (place : ℕ) → length (g (v x)) ≤ place → slice_get (flat_map g (map v (drop i xs))) place ≡ slice_get (flat_map g (map v (drop (i + 1) xs))) (place - length (g (v x)))
+  flat-behind place past =
+      let at : place ≡ length (g (v x)) + (place - length (g (v x))) = omega arith in
+      ap (λ ys. slice_get ys place) from-here ∙ ap (slice_get (g (v x) ++ flat_map g (map v (drop (i + 1) xs)))) at ∙
+      slice_get-right (g (v x)) (flat_map g (map v (drop (i + 1) xs))) (place - length (g (v x)))

@@ -1,0 +1,65 @@
+use Rattle.std.proofs.Common.{◌≡◌, ◌<◌, ◌≤◌, ◌/◌, ◌%◌, ◌++◌, ◌∷◌, [], ◌∙◌, ap, sym, arith, map, get_or, length, take, drop, ◌-◌}
+use Rattle.std.proofs.lemmas.List.{append_assoc, length-append}
+use Rattle.petri_atom.specs.Atom.{definition_of}
+use Rattle.connector_tree.specs.declared.tree.Port.{Port}
+use Rattle.step_core.specs.Choice.{moves_of, combinations}
+use Rattle.step_core.proofs.Combinations.{count-positive, below-positive, first-within, later-within, below-is, row-by-first, length-later}
+use Rattle.step_core.proofs.judged.Judged.+push_row.Goals as goal
+
+pub nonzero_div-below : goal.nonzero_div-below
+nonzero_div-below t c =
+    let judged = c.args.self.now in
+    let moves = moves_of (map definition_of judged.atoms.now) judged.states.now in
+    let none : Port = record { atom = 0; port = 0 } in
+    count-positive moves c.args.ports.now none c.in-len1-up.len_at_least c.args.total c.move_count.result c.args.place c.requires.total c.move_count.ensures.count c.requires.place
+
+pub nonzero_div-place : goal.nonzero_div-place
+nonzero_div-place t c =
+    let judged = c.args.self.now in
+    let moves = moves_of (map definition_of judged.atoms.now) judged.states.now in
+    let none : Port = record { atom = 0; port = 0 } in
+    below-positive moves c.args.ports.now none c.in-len1-up.len_at_least c.args.total c.move_count.result c.args.place c.requires.total c.move_count.ensures.count c.requires.place
+
+pub overflow_cast-place : goal.overflow_cast-place
+overflow_cast-place t c =
+    let judged = c.args.self.now in
+    let moves = moves_of (map definition_of judged.atoms.now) judged.states.now in
+    let none : Port = record { atom = 0; port = 0 } in
+    let within = first-within moves c.args.ports.now none c.in-len1-up.len_at_least c.args.total c.move_count.result c.args.place c.requires.total c.move_count.ensures.count c.requires.place in
+    omega (arith, within, c.move_count.ensures.count, c.move_count.ensures.few)
+
+pub nth_move-requires : goal.nth_move-requires
+nth_move-requires t c =
+    let judged = c.args.self.now in
+    let moves = moves_of (map definition_of judged.atoms.now) judged.states.now in
+    let none : Port = record { atom = 0; port = 0 } in
+    first-within moves c.args.ports.now none c.in-len1-up.len_at_least c.args.total c.move_count.result c.args.place c.requires.total c.move_count.ensures.count c.requires.place
+
+pub nonzero_rem-place : goal.nonzero_rem-place
+nonzero_rem-place t c =
+    let judged = c.args.self.now in
+    let moves = moves_of (map definition_of judged.atoms.now) judged.states.now in
+    let none : Port = record { atom = 0; port = 0 } in
+    below-positive moves c.args.ports.now none c.in-len1-up.len_at_least c.args.total c.move_count.result c.args.place c.requires.total c.move_count.ensures.count c.requires.place
+
+pub push_row-requires : goal.push_row-requires
+push_row-requires t c =
+    let judged = c.args.self.now in
+    let moves = moves_of (map definition_of judged.atoms.now) judged.states.now in
+    let none : Port = record { atom = 0; port = 0 } in
+    let long = length-later c.args.ports.now c.in-len1-up.len_at_least in (
+      omega (arith, long, c.decreases),
+      (
+        omega (arith, long, c.requires.room, ap length c.push.ensures, length-append c.args.moves.now (c.nth_move.result ∷ [])),
+        (below-is moves c.args.ports.now none c.in-len1-up.len_at_least c.args.total c.move_count.result c.args.place c.requires.total c.move_count.ensures.count c.requires.place, later-within moves c.args.ports.now none c.in-len1-up.len_at_least c.args.total c.move_count.result c.args.place c.requires.total c.move_count.ensures.count c.requires.place),
+      ),
+    )
+
+pub returns-in-len1-up : goal.returns-in-len1-up
+returns-in-len1-up t c =
+    let judged = c.args.self.now in
+    let moves = moves_of (map definition_of judged.atoms.now) judged.states.now in
+    let none : Port = record { atom = 0; port = 0 } in
+    let row = row-by-first moves c.args.ports.now none c.in-len1-up.len_at_least c.args.total c.move_count.result c.args.place c.requires.total c.move_count.ensures.count c.requires.place c.nth_move.result c.nth_move.ensures in
+    let rest = get_or (combinations (map moves (take (length c.args.ports.now - 1) (drop 1 c.args.ports.now)))) (c.args.place % (c.args.total / c.move_count.result)) [] in
+    c.push_row.ensures ∙ ap (λ xs. xs ++ rest) c.push.ensures ∙ append_assoc c.args.moves.now (c.nth_move.result ∷ []) rest ∙ ap (λ xs. c.args.moves.now ++ xs) (sym row)

@@ -1,0 +1,24 @@
+use Rattle.std.proofs.Common.{ℕ, List, [], ◌<◌, ◌∙◌, ap, sym, arith, map, length, false, refl}
+use Rattle.std.specs.Prelude.{Option, None, option_map, slice_get}
+use Rattle.std.proofs.lemmas.List.{length-map}
+use Rattle.std.proofs.lemmas.Option.{slice_get-map}
+use Rattle.petri_atom.specs.Atom.{definition_of}
+use Rattle.petri_atom.specs.Definition.{enabled, offers_port}
+use Rattle.step_core.specs.Choice.{move_of}
+use Rattle.step_core.proofs.Judging.{of_atom-there, of_atom-past, atom-there, judged-set}
+use Rattle.step_core.proofs.judged.Judged.nth_transition.Goals as goal
+
+pub returns-in-Some : goal.returns-in-Some
+returns-in-Some c =
+    let judged = c.args.self.now in
+    let there = c.in-Some.ensures.lookup in
+    let port = c.args.port.now in
+    let n = c.from-number.result in
+    of_atom-there judged.atoms.now judged.states.now n port.atom c.from-number.ensures (λ a s. map (move_of port.atom) (enabled a s port.port)) [] (λ xs. slice_get xs c.args.place) (option_map (move_of port.atom) c.nth_among.result) c.in-Some.atom.now there.3.0 there.1 judged.as_many
+    (λ s known. ap (option_map (move_of port.atom)) (c.nth_among.ensures s (judged-set judged.atoms.now judged.states.now judged.offered.now n c.in-Some.atom.now c.index-self-number.result judged.exact judged.rows there.3.0 there.1 s known)) ∙ sym (slice_get-map (move_of port.atom) (enabled (definition_of c.in-Some.atom.now) s port.port) c.args.place))
+
+pub returns-in-None : goal.returns-in-None
+returns-in-None c =
+    let judged = c.args.self.now in
+    let port = c.args.port.now in
+    of_atom-past judged.atoms.now judged.states.now c.from-number.result port.atom c.from-number.ensures (λ a s. map (move_of port.atom) (enabled a s port.port)) [] (λ xs. slice_get xs c.args.place) None c.in-None.ensures.lookup.3 refl

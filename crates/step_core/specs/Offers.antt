@@ -1,0 +1,9 @@
+-- The offered transitions of all atoms of a plant, each judged once.
+use Rattle.std.specs.Prelude.{◌≡◌, ℕ, List, Some, slice_get, slice_index_or}
+use Rattle.petri_atom.specs.Local.{Local}
+use Rattle.petri_atom.specs.Definition.{AtomDefinition, offered_set}
+
+-- the sets hold the offered transitions of each atom, by the atoms' numbers
+abbrev pub AreOffered : List AtomDefinition → List Local → List ℕ → Type 0
+AreOffered atoms states sets =
+    (n : ℕ) (a : AtomDefinition) (s : Local) → slice_get atoms n ≡ Some a → slice_get states n ≡ Some s → slice_index_or sets n 0 ≡ offered_set a s

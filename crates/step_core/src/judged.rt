@@ -1,0 +1,170 @@
+//! A global state with the offered transitions of its atoms, each judged once: which interactions are possible in it,
+//! how many choices it has, and which they are.
+ghost use Rattle.std.specs.Prelude.{◌≡◌, [], ◌≤◌, ◌<◌, ◌+◌, ◌*◌, ◌^◌, ◌++◌, Some, None, List, map, length, get_or, slice_get, flat_map, option_map};
+ghost use Rattle.petri_atom.specs.Atom.{definition_of};
+ghost use Rattle.petri_atom.specs.declared.parts.TheConstants.{MAX_TRANSITIONS};
+ghost use Rattle.connector_tree.specs.declared.tree.TheConstants.{MAX_LEAVES};
+ghost use Rattle.step_core.specs.Choice.{is_offered_port, is_possible, move_of, moves_of, combinations, choices_in};
+ghost use Rattle.step_core.specs.Interaction.{interaction_of};
+ghost use Rattle.step_core.specs.Offers.{AreOffered};
+ghost use Rattle.step_core.specs.Chosen.{choice_of};
+ghost use Rattle.step_core.specs.declared.choice.Move.{Move};
+ghost use Rattle.step_core.specs.declared.limits.TheConstants.{MAX_INTERACTIONS};
+
+use crate::choice::{Choice, Move, Moves};
+use crate::interaction::Interaction;
+use crate::state::PlantState;
+use connector_tree::Port;
+use petri_atom::{Atom, TransitionSet};
+
+/// A global state with the offered transitions of its atoms.
+pub(crate) struct Judged<'a> {
+    pub(crate) atoms: &'a [Atom],
+    pub(crate) states: &'a PlantState,
+    pub(crate) offered: &'a [TransitionSet],
+    ghost as_many: { length states.now ≡ length atoms.now },
+    ghost rows: { length atoms.now ≤ length offered.now },
+    ghost exact: { AreOffered (map definition_of atoms.now) states.now offered.now },
+}
+
+impl Judged<'_> {
+    /// Whether the state of the port's atom offers one of the port's transitions.
+    fn offers(&self, port: &Port) -> bool
+        ensures { result ≡ is_offered_port (map definition_of self.now.atoms.now) self.now.states.now port.now }
+    {
+        let number = usize::from(port.atom);
+        match self.atoms.get(number) {
+            Some(atom) => atom.offers_among(self.offered[number], port.port),
+            None => false,
+        }
+    }
+
+    /// How many moves the atom of the port can make.
+    fn move_count(&self, port: &Port) -> usize
+        ensures few { result ≤ MAX_TRANSITIONS }
+        ensures count { result ≡ length (moves_of (map definition_of self.now.atoms.now) self.now.states.now port.now) }
+    {
+        let number = usize::from(port.atom);
+        match self.atoms.get(number) {
+            Some(atom) => atom.count_among(self.offered[number], port.port),
+            None => 0,
+        }
+    }
+
+    /// The number of the transition of the move with this place among those that the atom of the port can make, if there
+    /// is one.
+    fn nth_transition(&self, port: &Port, place: usize) -> Option<u16>
+        ensures { option_map (move_of port.now.atom) result ≡ slice_get (moves_of (map definition_of self.now.atoms.now) self.now.states.now port.now) place }
+    {
+        let number = usize::from(port.atom);
+        match self.atoms.get(number) {
+            Some(atom) => atom.nth_among(self.offered[number], port.port, place),
+            None => None,
+        }
+    }
+
+    /// Whether the interaction is possible.
+    fn is_possible(&self, interaction: &Interaction) -> bool
+        ensures { result ≡ is_possible (map definition_of self.now.atoms.now) self.now.states.now (interaction_of interaction.now) }
+    {
+        interaction.ports.iter().all(|port| self.offers(port))
+    }
+
+    /// How many rows of one move for each port there are.
+    fn row_count(&self, ports: &[Port]) -> u128
+        requires { length ports.now ≤ MAX_LEAVES }
+        ensures few { result ≤ 2 ^ (7 * length ports.now) }
+        ensures count { result ≡ length (combinations (map (moves_of (map definition_of self.now.atoms.now) self.now.states.now) ports.now)) }
+    {
+        match ports {
+            [] => 1,
+            [first, later @ ..] => self.move_count(first) as u128 * self.row_count(later),
+        }
+    }
+
+    /// Adds the row with this place, from 0, of one move for each port, of which the last varies fastest; `total` is how
+    /// many rows there are.
+    fn push_row(&self, ports: &[Port], total: u128, place: u128, moves: &mut Moves)
+        requires room { length moves.old + length ports.now ≤ MAX_LEAVES }
+        requires total { total ≡ length (combinations (map (moves_of (map definition_of self.now.atoms.now) self.now.states.now) ports.now)) }
+        requires place { place < total }
+        ensures { moves.new ≡ moves.old ++ get_or (combinations (map (moves_of (map definition_of self.now.atoms.now) self.now.states.now) ports.now)) place [] }
+    {
+        match ports {
+            [] => {}
+            [first, later @ ..] => {
+                let below = total / self.move_count(first) as u128;
+                moves.push(self.nth_move(first, (place / below) as usize));
+                self.push_row(later, below, place % below, moves);
+            }
+        }
+    }
+
+    /// The move with this place among those that the atom of the port can make.
+    fn nth_move(&self, port: &Port, place: usize) -> Move
+        requires { place < length (moves_of (map definition_of self.now.atoms.now) self.now.states.now port.now) }
+        ensures { slice_get (moves_of (map definition_of self.now.atoms.now) self.now.states.now port.now) place ≡ Some result }
+    {
+        match self.nth_transition(port, place) {
+            Some(transition) => Move {
+                atom: port.atom,
+                transition,
+            },
+            None => unreachable!(),
+        }
+    }
+
+    /// How many choices the interaction has.
+    fn choice_count(&self, interaction: &Interaction) -> u128
+        ensures few { result ≤ 2 ^ 56 }
+        ensures count { result ≡ length (choices_in (map definition_of self.now.atoms.now) self.now.states.now (interaction_of interaction.now)) }
+    {
+        if self.is_possible(interaction) {
+            self.row_count(&interaction.ports)
+        } else {
+            0
+        }
+    }
+
+    /// The choice with this place, from 0, among those of the interaction, of which there are `total`.
+    fn choice(&self, interaction: &Interaction, total: u128, place: u128) -> Choice
+        requires total { total ≡ length (choices_in (map definition_of self.now.atoms.now) self.now.states.now (interaction_of interaction.now)) }
+        requires place { place < total }
+        ensures { slice_get (choices_in (map definition_of self.now.atoms.now) self.now.states.now (interaction_of interaction.now)) place ≡ Some (choice_of result) }
+    {
+        let mut moves = Moves::none();
+        self.push_row(&interaction.ports, total, place, &mut moves);
+        Choice {
+            connector: interaction.connector,
+            mask: interaction.mask,
+            moves,
+        }
+    }
+
+    /// How many choices the interactions have.
+    pub(crate) fn count(&self, interactions: &[Interaction]) -> u128
+        requires { length interactions.now ≤ MAX_INTERACTIONS }
+        ensures { result ≡ length (flat_map (choices_in (map definition_of self.now.atoms.now) self.now.states.now) (map interaction_of interactions.now)) }
+    {
+        let mut count = 0;
+        for interaction in interactions {
+            count += self.choice_count(interaction);
+        }
+        count
+    }
+
+    /// The choice with this place, from 0, among those of the interactions, if there is one.
+    pub(crate) fn nth(&self, interactions: &[Interaction], place: u128) -> Option<Choice>
+        ensures { option_map choice_of result ≡ slice_get (flat_map (choices_in (map definition_of self.now.atoms.now) self.now.states.now) (map interaction_of interactions.now)) place }
+    {
+        let mut left = place;
+        for interaction in interactions {
+            let count = self.choice_count(interaction);
+            if left < count {
+                return Some(self.choice(interaction, count, left));
+            }
+            left -= count;
+        }
+        None
+    }
+}

@@ -1,0 +1,10 @@
+//! How large a plant may be.
+
+/// How many atoms a plant may have; it has one at least.
+pub const MAX_ATOMS: usize = 64;
+/// How many connectors a plant may have.
+pub const MAX_WIRES: usize = 64;
+/// How many transfers a connector may make.
+pub const MAX_TRANSFERS: usize = 32;
+/// How many interactions a plant may have.
+pub const MAX_INTERACTIONS: usize = 1024;
