@@ -1,7 +1,10 @@
 pub mod Plant
 pub mod Wire
+pub mod Made
 pub mod Choice
 pub mod Chosen
 pub mod Interaction
 pub mod Offers
 pub mod Step
+pub mod Rules
+pub mod System

@@ -18,6 +18,7 @@ use connector_tree::Port;
 use petri_atom::{Atom, TransitionSet};
 
 /// A global state with the offered transitions of its atoms.
+#[derive(Drop)]
 pub(crate) struct Judged<'a> {
     pub(crate) atoms: &'a [Atom],
     pub(crate) states: &'a PlantState,

@@ -10,18 +10,25 @@
 #![tactic(auto)]
 
 mod choice;
+mod fault;
 mod interaction;
 mod interactions;
 mod judged;
 mod limits;
+mod making;
+mod rules;
 mod state;
+mod system;
 mod wire;
+mod wire_rules;
 
 pub use choice::{Choice, Move, Moves};
+pub use fault::{SystemFault, WireFault};
 pub use interaction::Interaction;
 pub use interactions::connector_interactions;
 pub use limits::{MAX_ATOMS, MAX_INTERACTIONS, MAX_TRANSFERS, MAX_WIRES};
 pub use state::PlantState;
+pub use system::System;
 pub use wire::{Export, Transfer, Wire};
 
 #[cfg(test)]

@@ -1,0 +1,10 @@
+use Rattle.std.specs.Prelude.{List, map}
+use Rattle.petri_atom.specs.Atom.{definition_of}
+use Rattle.petri_atom.specs.declared.atom.Atom.{Atom}
+use Rattle.step_core.specs.Plant.{PlantDefinition}
+use Rattle.step_core.specs.Wire.{wire_of}
+use Rattle.step_core.specs.declared.wire.Wire.{Wire}
+
+-- the plant that is made of these atoms and wires
+abbrev pub plant_by : List Atom → List Wire → PlantDefinition
+plant_by atoms wires = record { atoms = map definition_of atoms; wires = map wire_of wires }

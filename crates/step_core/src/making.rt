@@ -1,0 +1,114 @@
+//! Systems are made of atoms and wires that keep the rules of a plant.
+ghost use Rattle.std.specs.Prelude.{◌≡◌, ◌≤◌, IfOk, IfErr, None, map, length};
+ghost use Rattle.connector_tree.specs.Tree.{leaves};
+ghost use Rattle.step_core.specs.Choice.{interactions_from, interactions_of_connector, plant_interactions};
+ghost use Rattle.step_core.specs.Interaction.{interaction_of};
+ghost use Rattle.step_core.specs.Made.{plant_by};
+ghost use Rattle.step_core.specs.Rules.{early_fault, late_fault, fault_of, fault_of_count, IsFaultOf};
+ghost use Rattle.step_core.specs.Wire.{wire_of};
+ghost use Rattle.step_core.specs.declared.limits.TheConstants.{MAX_ATOMS, MAX_WIRES};
+
+use crate::fault::SystemFault;
+use crate::interaction::Interaction;
+use crate::interactions::connector_interactions;
+use crate::limits::MAX_INTERACTIONS;
+use crate::rules;
+use crate::system::System;
+use crate::wire::Wire;
+use crate::wire_rules;
+use connector_tree::Port;
+use petri_atom::Atom;
+use std::alloc::{AllocError, Global};
+
+impl System {
+    ghost use Rattle.step_core.specs.System.{plant_of};
+
+    /// The plant of these atoms and wires, or the first rule that they break; `digest` is that of the text that they were
+    /// read from.
+    pub fn new(
+        alloc: Global,
+        atoms: Vec<Atom>,
+        wires: Vec<Wire>,
+        digest: [u8; 32],
+    ) -> Result<Self, SystemFault>
+        ensures made { IfOk result (λ system. plant_of system ≡ plant_by atoms.items wires.items) }
+        ensures digest { IfOk result (λ system. system.digest ≡ digest) }
+        ensures sound { IfOk result (λ _. fault_of (plant_by atoms.items wires.items) ≡ None) }
+        ensures fault { IfErr result (λ fault. IsFaultOf fault (plant_by atoms.items wires.items)) }
+    {
+        if let Some(fault) = rules::early_fault(&atoms, &wires) {
+            return Err(fault);
+        }
+        let ports = leaves_of_wires(alloc, &wires)?;
+        let interactions = interactions_of_wires(alloc, atoms.len() as u16, &wires)?;
+        if let Some(fault) = late_fault(&atoms, &wires, &ports, &interactions) {
+            return Err(fault);
+        }
+        Ok(System {
+            atoms,
+            wires,
+            digest,
+            ports,
+            interactions,
+        })
+    }
+}
+
+/// The first rule that is broken of those about wires, and about how many interactions there are.
+fn late_fault(
+    atoms: &[Atom],
+    wires: &[Wire],
+    ports: &[Vec<Port>],
+    interactions: &[Interaction],
+) -> Option<SystemFault>
+    requires few { length wires.now ≤ MAX_WIRES }
+    requires ports { map (λ list. list.items) ports.now ≡ map (λ w. leaves w.connector) wires.now }
+    requires listed { map interaction_of interactions.now ≡ plant_interactions (plant_by atoms.now wires.now) }
+    ensures { result ≡ late_fault (plant_by atoms.now wires.now) }
+{
+    match wire_rules::fault_of_wires(atoms, wires, ports) {
+        Some(fault) => Some(fault),
+        None => fault_of_count(interactions.len()),
+    }
+}
+
+/// The fault of a number of interactions.
+fn fault_of_count(interactions: usize) -> Option<SystemFault>
+    ensures { result ≡ fault_of_count interactions }
+{
+    if interactions > MAX_INTERACTIONS {
+        Some(SystemFault::Limit)
+    } else {
+        None
+    }
+}
+
+/// The leaves of each wire.
+fn leaves_of_wires(alloc: Global, wires: &[Wire]) -> Result<Vec<Vec<Port>>, AllocError>
+    ensures { IfOk result (λ lists. map (λ list. list.items) lists.items ≡ map (λ w. leaves w.connector) wires.now) }
+{
+    let mut lists = Vec::with_capacity(alloc, wires.len())?;
+    for wire in wires {
+        lists.push(connector_tree::leaves(alloc, &wire.connector)?)?;
+    }
+    Ok(lists)
+}
+
+/// The interactions of the wires, numbered from 0, in a plant of so many atoms. The trees of the wires break no rule.
+fn interactions_of_wires(
+    alloc: Global,
+    atoms: u16,
+    wires: &[Wire],
+) -> Result<Vec<Interaction>, AllocError>
+    requires { length wires.now ≤ MAX_WIRES }
+    ensures { IfOk result (λ all. map interaction_of all.items ≡ interactions_from atoms 0 (map wire_of wires.now)) }
+{
+    let mut all = Vec::new(alloc);
+    for (number, wire) in wires.iter().enumerate() {
+        match connector_interactions(alloc, atoms, number as u16, &wire.connector) {
+            Ok(mut added) => all.append(&mut added)?,
+            Err(_) => return Err(AllocError),
+        }
+    }
+    Ok(all)
+}

@@ -1,0 +1,113 @@
+//! The rules that atoms and wires have to keep to make a plant, as tests.
+ghost use Rattle.std.specs.Prelude.{◌≡◌, ◌<◌, ◌≤◌, map, length, nat_le};
+ghost use Rattle.std.specs.List.{list_all, list_any};
+ghost use Rattle.petri_atom.specs.Expression.{tree_of, word_count};
+ghost use Rattle.petri_atom.specs.declared.parts.TheConstants.{MAX_WORDS};
+ghost use Rattle.step_core.specs.declared.limits.TheConstants.{MAX_ATOMS, MAX_WIRES};
+ghost use Rattle.petri_atom.specs.Atom.{definition_of};
+ghost use Rattle.petri_atom.specs.Name.{is_same_text};
+ghost use Rattle.step_core.specs.Made.{plant_by};
+ghost use Rattle.step_core.specs.Rules.{are_small_transfers, is_small_wire, is_within_limits, first_told, atom_fault, tree_fault, early_fault};
+ghost use Rattle.step_core.specs.Wire.{wire_of, transfer_of};
+
+use crate::fault::SystemFault;
+use crate::limits::{MAX_ATOMS, MAX_TRANSFERS, MAX_WIRES};
+use crate::wire::{Transfer, Wire};
+use petri_atom::{Atom, Name};
+
+/// The first rule that is broken of those about limits, names of atoms and trees.
+pub(crate) fn early_fault(atoms: &[Atom], wires: &[Wire]) -> Option<SystemFault>
+    ensures { result ≡ early_fault (plant_by atoms.now wires.now) }
+{
+    if !is_within_limits(atoms, wires) {
+        return Some(SystemFault::Limit);
+    }
+    match fault_of_atoms(atoms) {
+        Some(fault) => Some(fault),
+        None => fault_of_trees(wires),
+    }
+}
+
+/// Whether there is an atom, and no limit of atoms and wires is passed.
+fn is_within_limits(atoms: &[Atom], wires: &[Wire]) -> bool
+    ensures { result ≡ is_within_limits (plant_by atoms.now wires.now) }
+{
+    (0 < atoms.len())
+        & (atoms.len() <= MAX_ATOMS)
+        & (wires.len() <= MAX_WIRES)
+        & are_small(wires)
+}
+
+/// Whether each wire is within its limits.
+fn are_small(wires: &[Wire]) -> bool
+    ensures { result ≡ list_all is_small_wire (map wire_of wires.now) }
+{
+    each_is_small(wires)
+}
+
+/// The same, of the wires as they stand in memory.
+fn each_is_small(wires: &[Wire]) -> bool
+    ensures { result ≡ list_all (λ w. is_small_wire (wire_of w)) wires.now }
+{
+    wires.iter().all(|wire| is_small(&wire.transfers))
+}
+
+/// Whether there are no more transfers than a wire may make, each with no more words than an expression may have.
+fn is_small(transfers: &[Transfer]) -> bool
+    ensures { result ≡ are_small_transfers (map transfer_of transfers.now) }
+{
+    (transfers.len() <= MAX_TRANSFERS) & have_small_values(transfers)
+}
+
+/// Whether each transfer's expression has no more words than one may have.
+fn have_small_values(transfers: &[Transfer]) -> bool
+    ensures { result ≡ list_all (λ t. nat_le (word_count (tree_of t.value)) MAX_WORDS) transfers.now }
+{
+    transfers.iter().all(|transfer| transfer.value.is_small())
+}
+
+/// The first atom that has the name of an earlier one.
+fn fault_of_atoms(atoms: &[Atom]) -> Option<SystemFault>
+    requires { length atoms.now ≤ MAX_ATOMS }
+    ensures { result ≡ first_told (atom_fault (map definition_of atoms.now)) 0 (map definition_of atoms.now) }
+{
+    for (number, atom) in atoms.iter().enumerate() {
+        if let Some(fault) = atom_fault(atoms, number, atom) {
+            return Some(fault);
+        }
+    }
+    None
+}
+
+/// The fault of the atom with the number, where an earlier one has its name.
+fn atom_fault(atoms: &[Atom], number: usize, atom: &Atom) -> Option<SystemFault>
+    requires limit { number < MAX_ATOMS }
+    requires there { number < length atoms.now }
+    ensures { result ≡ atom_fault (map definition_of atoms.now) number (definition_of atom.now) }
+{
+    if has_name(&atoms[..number], atom.name()) {
+        Some(SystemFault::BadAtom(number as u16))
+    } else {
+        None
+    }
+}
+
+/// Whether one of the atoms has the name.
+fn has_name(atoms: &[Atom], name: &Name) -> bool
+    ensures { result ≡ list_any (λ a. is_same_text (definition_of a).name name.now) atoms.now }
+{
+    atoms.iter().any(|atom| atom.name().same(name))
+}
+
+/// The first connector whose tree breaks a rule.
+fn fault_of_trees(wires: &[Wire]) -> Option<SystemFault>
+    requires { length wires.now ≤ MAX_WIRES }
+    ensures { result ≡ first_told tree_fault 0 (map wire_of wires.now) }
+{
+    for (number, wire) in wires.iter().enumerate() {
+        if let Some(fault) = connector_tree::first_fault(&wire.connector) {
+            return Some(SystemFault::BadConnector(number as u16, fault));
+        }
+    }
+    None
+}
