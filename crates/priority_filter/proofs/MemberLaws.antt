@@ -126,3 +126,18 @@ members_of-clear_bit words p within =
 -- the test of one bit
 pub bit_test : (words : List ℕ) (p : ℕ) → eqb (bit_and (get_or words (p / 64) 0 / 2 ^ (p % 64)) 1) 1 ≡ fin.contains (members_of words) p
 bit_test words p = ap (λ b. eqb b 1) (shr_and_one (get_or words (p / 64) 0) (p % 64)) ∙ sym (contains-members_of words p)
+
+-- ---- a number past the words
+
+-- it is in no set
+pub contains_past : (words : List ℕ) (q : ℕ) → 64 * length words ≤ q → fin.contains (members_of words) q ≡ false
+contains_past words q past = contains-members_of words q ∙ holds_past words q past
+
+-- taking it out changes nothing
+pub remove_past : (words : List ℕ) (p : ℕ) → 64 * length words ≤ p → members_of words ≡ fin.remove (members_of words) p
+remove_past words p past =
+    members_of-same words _ (λ q.
+    ⊎_elim
+    (λ same. ap (holds words) same ∙ holds_past words p past ∙ sym (contains-remove_same (members_of words) p q same))
+    (λ differ. sym (contains-members_of words q) ∙ sym (contains-remove_other (members_of words) p q differ))
+    (cases_eq q p))

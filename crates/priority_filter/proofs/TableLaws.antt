@@ -1,5 +1,5 @@
 -- A table of sets read as a relation, and how it grows by one row, one rule or one station.
-use Rattle.std.proofs.Common.{◌≡◌, ◌⊎◌, ◌↔◌, ℕ, ◌+◌, ◌<◌, Bool, cond, ◌||◌, List, length, get_or, set, sym, ap, ◌∙◌, subst, inl, inr, ⊎_elim, arith, IsTrue, eqb, get_or-set_same, get_or-set_other}
+use Rattle.std.proofs.Common.{◌≡◌, ◌⊎◌, ◌↔◌, ℕ, ◌+◌, ◌<◌, ◌≤◌, Bool, cond, ◌||◌, List, length, get_or, set, sym, ap, ◌∙◌, subst, inl, inr, ⊎_elim, arith, IsTrue, eqb, get_or-set_same, get_or-set_other}
 use Rattle.std.specs.Ordering.{nat_cmp}
 use Rattle.std.specs.Cmp.{nat_cmp_total, unsigned_tied}
 use Rattle.std.specs.FinSet.{FinSet, contains, empty, insert, union, contains-empty, contains-insert, contains-union}
@@ -213,6 +213,17 @@ chains_of_steps rules interactions steps given rows same each chains a b = (
 -- the order that a value tells, from the one that its fields tell
 pub below_at_value : (now inside : Priorities) (a b : ℕ) (t : Bool) → inside ≡ now → IsTrue t ↔ IsBelow inside.rules inside.interactions a b → IsTrue t ↔ IsBelow now.rules now.interactions a b
 below_at_value now inside a b t same tells = subst (λ p. IsTrue t ↔ IsBelow p.rules p.interactions a b) same tells
+
+-- a number past the table is below nothing
+pub nothing_past : (now inside : Priorities) (rows : List (FinSet nat_cmp)) (a : ℕ) → inside ≡ now
+    → ((x y : ℕ) → Above rows x y ↔ IsBelow inside.rules inside.interactions x y)
+    → length rows ≤ a → (b : ℕ) → ¬ IsBelow now.rules now.interactions a b
+nothing_past now inside rows a same exact past b below =
+    let within : a < length rows = above_within rows a b ((exact a b).1 (subst (λ p. IsBelow p.rules p.interactions a b) (sym same) below)) in omega arith
+
+-- the order that a value tells is strict where that of its fields is
+pub strict_at_value : (now inside : Priorities) → inside ≡ now → IsStrict inside.rules inside.interactions → IsStrict now.rules now.interactions
+strict_at_value now inside same strict = subst (λ p. IsStrict p.rules p.interactions) same strict
 
 -- the first row that holds its own number tells the first interaction below itself
 pub first_cyclic_from_rows : (rules : List Rule) (interactions : List (ℕ × ℕ)) (rows given : List (FinSet nat_cmp)) (a : ℕ) → given ≡ rows

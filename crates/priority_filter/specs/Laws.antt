@@ -1,9 +1,15 @@
 -- Laws of the order, over the definitions alone.
-use Rattle.std.specs.Prelude.{ℕ, List, IsTrue}
+use Rattle.std.specs.Prelude.{ℕ, ◌<◌, List, length, IsTrue}
 use Rattle.std.specs.Ordering.{nat_cmp}
 use Rattle.std.specs.FinSet.{FinSet, contains}
 use Rattle.priority_filter.specs.declared.rule.Rule.{Rule}
 use Rattle.priority_filter.specs.Order.{IsBelow, IsStrict}
+
+-- what is below something is an interaction of the list, and so is what it is below
+abbrev pub BelowIsWithin : Type 0
+BelowIsWithin =
+    (rules : List Rule) (interactions : List (ℕ × ℕ)) (a b : ℕ)
+    → IsBelow rules interactions a b → (a < length interactions) × (b < length interactions)
 
 -- what is below something that is below a third is below the third
 abbrev pub BelowIsTransitive : Type 0

@@ -1,5 +1,5 @@
 //! A set of interaction numbers, kept as a row of bits.
-ghost use Rattle.std.specs.Prelude.{◌≡◌, ℕ, ◌<◌, ◌↔◌, IsTrue, bit_or, slice_index};
+ghost use Rattle.std.specs.Prelude.{◌≡◌, ℕ, ◌<◌, ◌≤◌, ◌↔◌, false, IsTrue, bit_or, slice_index};
 ghost use Rattle.std.specs.Ordering.{nat_cmp};
 ghost use Rattle.std.specs.FinSet as set;
 ghost use Rattle.std.specs.Coded.{coded_ℕ};
@@ -37,27 +37,32 @@ impl InteractionSet {
     }
 
     pub fn contains(&self, interaction: u16) -> bool
-        requires { interaction < INTERACTION_LIMIT }
-        ensures { result ≡ set.contains self.now interaction }
+        ensures held { result ≡ set.contains self.now interaction }
+        ensures past { INTERACTION_LIMIT ≤ interaction → result ≡ false }
     {
         let place = usize::from(interaction);
-        (self.words[place / 64] >> (place % 64)) & 1 == 1
+        place < INTERACTION_LIMIT && (self.words[place / 64] >> (place % 64)) & 1 == 1
     }
 
+    /// A number that no interaction can have is not put in.
     pub fn insert(&mut self, interaction: u16)
-        requires { interaction < INTERACTION_LIMIT }
-        ensures { self.new ≡ set.insert self.old interaction }
+        ensures within { interaction < INTERACTION_LIMIT → self.new ≡ set.insert self.old interaction }
+        ensures past { INTERACTION_LIMIT ≤ interaction → self.new ≡ self.old }
     {
         let place = usize::from(interaction);
-        self.words[place / 64] |= 1 << (place % 64);
+        if place < INTERACTION_LIMIT {
+            self.words[place / 64] |= 1 << (place % 64);
+        }
     }
 
     pub fn remove(&mut self, interaction: u16)
-        requires { interaction < INTERACTION_LIMIT }
-        ensures { self.new ≡ set.remove self.old interaction }
+        ensures removed { self.new ≡ set.remove self.old interaction }
+        ensures past { INTERACTION_LIMIT ≤ interaction → self.new ≡ self.old }
     {
         let place = usize::from(interaction);
-        self.words[place / 64] &= !(1 << (place % 64));
+        if place < INTERACTION_LIMIT {
+            self.words[place / 64] &= !(1 << (place % 64));
+        }
     }
 
     pub fn clear(&mut self)
@@ -141,6 +146,25 @@ mod tests {
             assert!(rt; all.contains(512) && all.contains(number));
             all.clear();
             assert!(rt; !all.contains(512) && !all.contains(number));
+        }
+    }
+
+    #[test]
+    fn numbers_of_no_interaction_stay_out(rt: HostRuntime) {
+        // Their last ten bits are those of 0, 1 and 1023.
+        for outside in [1024, 1025, 2047, 65535] {
+            let mut set = InteractionSet::new();
+            set.insert(outside);
+            for number in [0, 1, 63, 64, 1023, outside] {
+                assert!(rt; !set.contains(number), "{number} after {outside}");
+            }
+            for number in [0, 1, 1023] {
+                set.insert(number);
+            }
+            set.remove(outside);
+            for number in [0, 1, 1023] {
+                assert!(rt; set.contains(number), "{number} after {outside}");
+            }
         }
     }
 }

@@ -75,24 +75,29 @@ impl Order {
         self.interactions.as_slice()
     }
 
-    /// Whether a chain of rules leads from interaction a up to interaction b.
+    /// Whether a chain of rules leads from interaction a up to interaction b. None does where either
+    /// number is of no interaction of the order.
     pub fn below(&self, a: u16, b: u16) -> bool
-        requires a_in { a < length self.now.interactions }
-        requires b_in { b < length self.now.interactions }
         ensures below { IsTrue result ↔ IsBelow self.now.rules self.now.interactions a b }
         ensures strict { IsStrict self.now.rules self.now.interactions }
     {
-        self.above[usize::from(a)].contains(b)
+        match self.above.get(usize::from(a)) {
+            Some(row) => row.contains(b),
+            None => false,
+        }
     }
 
-    /// Whether some possible interaction is above interaction a.
-    pub fn is_overruled(&self, a: u16, possible: &InteractionSet) -> bool
-        requires { a < length self.now.interactions }
+    /// Whether some possible interaction is above this one. None is above a number of no interaction
+    /// of the order.
+    pub fn is_overruled(&self, interaction: u16, possible: &InteractionSet) -> bool
         ensures overruled { IsTrue result ↔ ((b : ℕ) × IsTrue (set.contains possible.now b)
-            × IsBelow self.now.rules self.now.interactions a b) }
+            × IsBelow self.now.rules self.now.interactions interaction b) }
         ensures strict { IsStrict self.now.rules self.now.interactions }
     {
-        self.above[usize::from(a)].intersects(possible)
+        match self.above.get(usize::from(interaction)) {
+            Some(row) => row.intersects(possible),
+            None => false,
+        }
     }
 }
 

@@ -163,7 +163,6 @@ fn the_limits_are_reached(rt: HostRuntime) -> Result<(), Fail> {
         (order.rules().len(), order.interactions().len()),
         (1023, 1024)
     );
-    assert_eq!(rt; order.interactions().len(), interactions.len());
     for (a, b, expected) in [
         (0, 1023, true),
         (1023, 0, false),
@@ -186,7 +185,6 @@ fn only_the_possible_overrule(rt: HostRuntime) -> Result<(), Fail> {
     let (rules, interactions) = ladder(rt.alloc(), 1023)?;
     assert_eq!(rt; interactions.len(), INTERACTION_LIMIT);
     let order = Order::new(rt.alloc(), &rules, &interactions)?;
-    assert_eq!(rt; order.interactions().len(), interactions.len());
     // What is possible, who asks, and whether it is overruled. Those in between are not possible.
     let cases: [(&[u16], u16, bool); 6] = [
         (&[], 0, false),
@@ -199,15 +197,36 @@ fn only_the_possible_overrule(rt: HostRuntime) -> Result<(), Fail> {
     for (numbers, a, expected) in cases {
         let mut possible = InteractionSet::new();
         for &number in numbers {
-            assert!(rt; usize::from(number) < INTERACTION_LIMIT);
             possible.insert(number);
         }
-        assert!(rt; usize::from(a) < INTERACTION_LIMIT);
         assert_eq!(rt;
             order.is_overruled(a, &possible),
             expected,
             "{a} among {numbers:?}"
         );
     }
+    Ok(())
+}
+
+#[test]
+fn a_number_of_no_interaction_is_nowhere(rt: HostRuntime) -> Result<(), Fail> {
+    // Three interactions, each under the next.
+    let three = [(0, 1), (1, 1), (2, 1)];
+    let rules = [Under(Whole(0), Whole(1)), Under(Whole(1), Whole(2))];
+    let order = Order::new(rt.alloc(), &rules, &three)?;
+    let mut possible = InteractionSet::new();
+    for number in [0, 1, 2, 3, 1023] {
+        possible.insert(number);
+    }
+    for outside in [3, 1023, 1024, 65535] {
+        for inside in [0, 1, 2] {
+            assert!(rt; !order.below(outside, inside), "{outside} below {inside}");
+            assert!(rt; !order.below(inside, outside), "{inside} below {outside}");
+        }
+        assert!(rt; !order.below(outside, outside), "{outside}");
+        assert!(rt; !order.is_overruled(outside, &possible), "{outside}");
+    }
+    // Those that are possible beside the three overrule nothing.
+    assert!(rt; !order.is_overruled(2, &possible));
     Ok(())
 }

@@ -1,4 +1,4 @@
-use Rattle.std.proofs.Common.{◌≡◌, ℕ, ◌+◌, ◌∙◌, sym, subst}
+use Rattle.std.proofs.Common.{◌≡◌, ℕ, ◌+◌, ◌∙◌, sym, subst, arith}
 use Rattle.std.proofs.lemmas.Bool.{both_ways}
 use Rattle.priority_filter.specs.Rule.{IsProperSubset}
 use Rattle.priority_filter.specs.Order.{interaction_at}
@@ -17,6 +17,6 @@ loop-upper-preserved c =
     let here : ℕ = c.loop-upper.upper in
     let found = c.loop-upper.found in
     elim c.if-is_larger.branch [
-      | then-is_larger w ↦ subst (HoldsBelow P (here + 1)) (sym (w.found-is ∙ w.insert.ensures)) (holds_more P here found c.loop-upper.invariant (c.is_larger.ensures.0 w.if-is_larger.true))
+      | then-is_larger w ↦ subst (HoldsBelow P (here + 1)) (sym (w.found-is ∙ w.insert.ensures.within (omega arith))) (holds_more P here found c.loop-upper.invariant (c.is_larger.ensures.0 w.if-is_larger.true))
       | else-is_larger w ↦ subst (HoldsBelow P (here + 1)) (sym w.found-is) (holds_skip P here found c.loop-upper.invariant (λ more. both_ways c.is_larger.result w.if-is_larger.false (c.is_larger.ensures.1 more)))
     ]

@@ -1,4 +1,4 @@
-use Rattle.std.proofs.Common.{ℕ, ◌+◌, ◌∙◌, sym, subst}
+use Rattle.std.proofs.Common.{ℕ, ◌+◌, ◌∙◌, sym, subst, arith}
 use Rattle.std.proofs.lemmas.Bool.{both_ways}
 use Rattle.priority_filter.specs.Rule.{IsOn}
 use Rattle.priority_filter.specs.Order.{interaction_at}
@@ -17,6 +17,6 @@ loop-b-preserved c =
     let here : ℕ = c.loop-b.b in
     let found = c.loop-b.found in
     elim c.if-names.branch [
-      | then-names w ↦ subst (HoldsBelow P (here + 1)) (sym (w.found-is ∙ w.insert.ensures)) (holds_more P here found c.loop-b.invariant (c.names.ensures.0 w.if-names.true))
+      | then-names w ↦ subst (HoldsBelow P (here + 1)) (sym (w.found-is ∙ w.insert.ensures.within (omega arith))) (holds_more P here found c.loop-b.invariant (c.names.ensures.0 w.if-names.true))
       | else-names w ↦ subst (HoldsBelow P (here + 1)) (sym w.found-is) (holds_skip P here found c.loop-b.invariant (λ on. both_ways c.names.result w.if-names.false (c.names.ensures.1 on)))
     ]
