@@ -71,6 +71,23 @@ last_line text line behind n value front back none some =
     let cut : lines_of text ≡ text ∷ [] = lines_of-last text (sym value ∙ whole) some in
     cc
 
+-- one more byte makes at most one more line
+one_more_line : (byte : ℕ) (parts : List (List ℕ)) → length (lines_of_parts (onto_first byte parts)) ≤ 1 + length (lines_of_parts parts)
+one_more_line byte [] = omega arith
+one_more_line byte (part ∷ []) = grind arith
+one_more_line byte (part ∷ next ∷ more) = omega arith
+
+-- a text has no more lines than bytes
+pub lines_of_count : (text : List ℕ) → length (lines_of text) ≤ length text
+lines_of_count [] = omega arith
+lines_of_count (byte ∷ bytes) =
+    let parts = slice_split is_line_feed bytes in
+    let rest : length (lines_of_parts parts) ≤ length bytes = lines_of_count bytes in
+    elim (is_line_feed byte) as (λ b. length (lines_of_parts (cond b ([] ∷ parts) (onto_first byte parts))) ≤ length (byte ∷ bytes)) [
+      | true ↦ omega (arith, rest, ap length (before_line_feed [] parts (omega (arith, length-slice_split is_line_feed bytes))))
+      | false ↦ omega (arith, rest, one_more_line byte parts)
+    ]
+
 -- a blank in front changes no word
 blank-first : (byte : ℕ) (bytes : List ℕ) → is_blank byte ≡ true → words_of (byte ∷ bytes) ≡ words_of bytes
 blank-first byte bytes blank = ap (filter is_filled) (slice_split-cons_yes is_blank byte bytes blank)
@@ -137,3 +154,21 @@ first_word line behind_blanks word behind n m blanks back some value front rest 
 pub no_words : (line behind_blanks : List ℕ) (n : ℕ) → n ≡ prefix_len is_blank line → behind_blanks ≡ drop n line → length behind_blanks ≡ 0 → words_of line ≡ []
 no_words line [] n blanks back none = sym (words_of-behind_blanks line) ∙ sym (ap words_of (back ∙ ap (λ (k : ℕ). drop k line) blanks))
 no_words line (byte ∷ bytes) n blanks back none = absurd (omega (arith, none))
+
+-- one more byte makes at most one more word
+one_more_word : (byte : ℕ) (parts : List (List ℕ)) → length (filter is_filled (onto_first byte parts)) ≤ 1 + length (filter is_filled parts)
+one_more_word byte [] = omega arith
+one_more_word byte (part ∷ parts) =
+    elim (is_filled part) as (λ b.
+    suc (length (filter is_filled parts)) ≤ 1 + length (cond b (part ∷ filter is_filled parts) (filter is_filled parts))) [ true ↦ omega arith | false ↦ omega arith ]
+
+-- a line has no more words than bytes
+pub words_of_count : (line : List ℕ) → length (words_of line) ≤ length line
+words_of_count [] = omega arith
+words_of_count (byte ∷ bytes) =
+    let parts = slice_split is_blank bytes in
+    let rest : length (filter is_filled parts) ≤ length bytes = words_of_count bytes in
+    elim (is_blank byte) as (λ b. length (filter is_filled (cond b ([] ∷ parts) (onto_first byte parts))) ≤ length (byte ∷ bytes)) [
+      | true ↦ omega (arith, rest)
+      | false ↦ omega (arith, rest, one_more_word byte parts)
+    ]

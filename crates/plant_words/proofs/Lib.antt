@@ -1,2 +1,4 @@
 pub mod Cuts
+pub mod Decimals
+pub mod Sides
 pub mod Rows

@@ -1,7 +1,10 @@
 -- Worked examples of the definitions, as computed facts.
-use Rattle.std.proofs.Common.{◌≡◌, true, false, refl, [], ◌∷◌, codes, ◌++◌}
+use Rattle.std.proofs.Common.{◌≡◌, true, false, refl, [], ◌∷◌, codes, ◌++◌, Some, None, pos, negsuc}
 use Rattle.plant_words.specs.Lines.{lines_of, is_legal_line}
 use Rattle.plant_words.specs.Words.{words_of, is_passed_over}
+use Rattle.plant_words.specs.Numbers.{int_in, pick_in, mask_in}
+use Rattle.plant_words.specs.Names.{name_in}
+use Rattle.plant_words.specs.Splits.{port_in, export_in, named_mask_in}
 
 -- ---- lines
 
@@ -54,3 +57,103 @@ comments_are_passed_over = refl
 
 a_hash_in_a_later_word_makes_no_comment : is_passed_over (codes "a #b") ≡ false
 a_hash_in_a_later_word_makes_no_comment = refl
+
+-- ---- numbers
+
+a_number : int_in (codes "42") ≡ Some (pos 42)
+a_number = refl
+
+a_negative_number : int_in (codes "-7") ≡ Some (negsuc 6)
+a_negative_number = refl
+
+minus_zero_is_zero : int_in (codes "-0") ≡ Some (pos 0)
+minus_zero_is_zero = refl
+
+zeros_may_stand_first : int_in (codes "0000000000000000042") ≡ Some (pos 42)
+zeros_may_stand_first = refl
+
+twenty_digits_are_no_number : int_in (codes "00000000000000000042") ≡ None
+twenty_digits_are_no_number = refl
+
+the_least_number : int_in (codes "-9223372036854775808") ≡ Some (negsuc 9223372036854775807)
+the_least_number = refl
+
+below_the_least_number : int_in (codes "-9223372036854775809") ≡ None
+below_the_least_number = refl
+
+the_greatest_number : int_in (codes "9223372036854775807") ≡ Some (pos 9223372036854775807)
+the_greatest_number = refl
+
+past_the_greatest_number : int_in (codes "9223372036854775808") ≡ None
+past_the_greatest_number = refl
+
+a_sign_alone_is_no_number : int_in (codes "-") ≡ None
+a_sign_alone_is_no_number = refl
+
+a_plus_is_no_sign : int_in (codes "+1") ≡ None
+a_plus_is_no_sign = refl
+
+two_signs_are_no_number : int_in (codes "--1") ≡ None
+two_signs_are_no_number = refl
+
+a_pick_of_twenty_three_digits : pick_in (codes "00018446744073709551615") ≡ Some 18446744073709551615
+a_pick_of_twenty_three_digits = refl
+
+past_the_greatest_pick : pick_in (codes "18446744073709551616") ≡ None
+past_the_greatest_pick = refl
+
+no_pick_in_the_empty_word : pick_in [] ≡ None
+no_pick_in_the_empty_word = refl
+
+a_pick_has_no_sign : pick_in (codes "-1") ≡ None
+a_pick_has_no_sign = refl
+
+the_greatest_mask : mask_in (codes "065535") ≡ Some 65535
+the_greatest_mask = refl
+
+past_the_greatest_mask : mask_in (codes "65536") ≡ None
+past_the_greatest_mask = refl
+
+-- ---- names and words of several parts
+
+a_name : name_in (codes "place_2") ≡ Some (codes "place_2")
+a_name = refl
+
+no_name_begins_with_a_digit : name_in (codes "2a") ≡ None
+no_name_begins_with_a_digit = refl
+
+reserved_words_are_no_names : name_in (codes "when") ≡ None
+reserved_words_are_no_names = refl
+
+a_port : port_in (codes "A.p") ≡ Some (record { atom = codes "A"; port = codes "p"; quoted = false })
+a_port = refl
+
+a_quoted_port : port_in (codes "A.p'") ≡ Some (record { atom = codes "A"; port = codes "p"; quoted = true })
+a_quoted_port = refl
+
+one_quote_alone_is_taken : port_in (codes "A.p''") ≡ Some (record { atom = codes "A"; port = codes "p'"; quoted = true })
+one_quote_alone_is_taken = refl
+
+two_dots_make_no_port : port_in (codes "A.b.c") ≡ None
+two_dots_make_no_port = refl
+
+no_port_without_a_dot : port_in (codes "Ap'") ≡ None
+no_port_without_a_dot = refl
+
+no_port_without_a_name : port_in (codes "A.'") ≡ None
+no_port_without_a_name = refl
+
+no_port_without_an_atom : port_in (codes ".p") ≡ None
+no_port_without_an_atom = refl
+
+an_export : export_in (codes "A.n") ≡ Some (codes "A", codes "n")
+an_export = refl
+
+a_quote_is_part_of_an_export : export_in (codes "A.n'") ≡ Some (codes "A", codes "n'")
+a_quote_is_part_of_an_export = refl
+
+a_named_mask : named_mask_in (codes "link:3") ≡ Some (codes "link", codes "3")
+a_named_mask = refl
+
+two_colons_make_no_named_mask : named_mask_in (codes "link:3:") ≡ None
+two_colons_make_no_named_mask = refl

@@ -1,2 +1,6 @@
 pub mod Lines
 pub mod Words
+pub mod Numbers
+pub mod Names
+pub mod Splits
+pub mod Lent

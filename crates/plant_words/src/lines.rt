@@ -25,8 +25,10 @@ impl<'a> Model for Lines<'a> {
 
 impl<'a> Lines<'a> {
     /// The lines of the text, from its first on.
+    #[tactic(auto, using(crate::proofs::Cuts::lines_of_count))]
     pub fn new(text: &'a [u8]) -> Self
-        ensures { result ≡ lines_of text.now }
+        ensures lines { result ≡ lines_of text.now }
+        ensures count { length result ≤ length text.now }
     {
         Lines { rest: text }
     }

@@ -1,6 +1,10 @@
 //! What no clause says: that the clauses mean what they should, on values worked out by hand.
 use crate::lines::{Lines, is_legal};
+use crate::names::read_name;
+use crate::numbers::{read_decimal, read_int, read_mask};
+use crate::splits::{split_export, split_mask, split_port};
 use crate::words::{Words, is_passed_over};
+use std::test::Fail;
 
 #[test]
 fn lines_are_cut_at_line_feeds(rt: HostRuntime) {
@@ -51,4 +55,79 @@ fn empty_lines_and_comments_are_passed_over(rt: HostRuntime) {
     assert!(&rt; is_passed_over(b" \t "));
     assert!(&rt; is_passed_over(b"\t#a b"));
     assert!(&rt; !is_passed_over(b"a #b"));
+}
+
+#[test]
+fn numbers_have_up_to_nineteen_digits(rt: HostRuntime) {
+    assert_eq!(rt; read_int(b"42"), Some(42));
+    assert_eq!(rt; read_int(b"-7"), Some(-7));
+    assert_eq!(rt; read_int(b"-0"), Some(0));
+    assert_eq!(rt; read_int(b"0000000000000000042"), Some(42));
+    assert_eq!(rt; read_int(b"00000000000000000042"), None);
+    assert_eq!(rt; read_int(b"-9223372036854775808"), Some(i64::MIN));
+    assert_eq!(rt; read_int(b"-9223372036854775809"), None);
+    assert_eq!(rt; read_int(b"9223372036854775807"), Some(i64::MAX));
+    assert_eq!(rt; read_int(b"9223372036854775808"), None);
+    assert_eq!(rt; read_int(b""), None);
+    assert_eq!(rt; read_int(b"-"), None);
+    assert_eq!(rt; read_int(b"--1"), None);
+    assert_eq!(rt; read_int(b"+1"), None);
+    assert_eq!(rt; read_int(b"1a"), None);
+}
+
+#[test]
+fn picks_and_masks_are_digits_alone(rt: HostRuntime) {
+    assert_eq!(rt; read_decimal(b"0"), Some(0));
+    assert_eq!(rt; read_decimal(b"00018446744073709551615"), Some(u64::MAX));
+    assert_eq!(rt; read_decimal(b"18446744073709551616"), None);
+    assert_eq!(rt; read_decimal(b""), None);
+    assert_eq!(rt; read_decimal(b"+1"), None);
+    assert_eq!(rt; read_decimal(b"-1"), None);
+    assert_eq!(rt; read_decimal(b"1\xff"), None);
+    assert_eq!(rt; read_mask(b"065535"), Some(65535));
+    assert_eq!(rt; read_mask(b"65536"), None);
+    assert_eq!(rt; read_mask(b"0x1"), None);
+}
+
+#[test]
+fn names_are_words_that_are_not_reserved(rt: HostRuntime) -> Result<(), Fail> {
+    let name = read_name(b"place_2").ok_or("a name")?;
+    assert!(&rt; name.as_bytes() == b"place_2".as_slice());
+    assert!(&rt; read_name(b"when").is_none());
+    assert!(&rt; read_name(b"2a").is_none());
+    assert!(&rt; read_name(b"A.p").is_none());
+    Ok(())
+}
+
+#[test]
+fn ports_have_one_dot_and_may_be_quoted(rt: HostRuntime) -> Result<(), Fail> {
+    let plain = split_port(b"A.p").ok_or("a port")?;
+    assert!(&rt; plain.atom == b"A".as_slice() && plain.port == b"p".as_slice() && !plain.quoted);
+    let quoted = split_port(b"Atom.port'").ok_or("a quoted port")?;
+    assert!(&rt;
+        quoted.atom == b"Atom".as_slice() && quoted.port == b"port".as_slice() && quoted.quoted
+    );
+    let twice = split_port(b"A.p''").ok_or("a port with one more quote")?;
+    assert!(&rt; twice.port == b"p'".as_slice() && twice.quoted);
+    assert!(&rt; split_port(b"").is_none());
+    assert!(&rt; split_port(b"[").is_none());
+    assert!(&rt; split_port(b"]'").is_none());
+    assert!(&rt; split_port(b"A.b.c").is_none());
+    assert!(&rt; split_port(b"A.'").is_none());
+    assert!(&rt; split_port(b".p").is_none());
+    Ok(())
+}
+
+#[test]
+fn exports_and_named_masks_have_two_parts(rt: HostRuntime) -> Result<(), Fail> {
+    let (atom, name) = split_export(b"A.n").ok_or("an export")?;
+    assert!(&rt; atom == b"A".as_slice() && name == b"n".as_slice());
+    assert!(&rt; split_export(b"A.").is_none());
+    assert!(&rt; split_export(b"n").is_none());
+    let (connector, mask) = split_mask(b"link:3").ok_or("a named mask")?;
+    assert!(&rt; connector == b"link".as_slice() && mask == b"3".as_slice());
+    assert!(&rt; split_mask(b"link:3:").is_none());
+    assert!(&rt; split_mask(b":3").is_none());
+    assert!(&rt; split_mask(b"A.n").is_none());
+    Ok(())
 }

@@ -22,8 +22,10 @@ impl<'a> Model for Words<'a> {
 
 impl<'a> Words<'a> {
     /// The words of the line, from its first on.
+    #[tactic(auto, using(crate::proofs::Cuts::words_of_count))]
     pub fn new(line: &'a [u8]) -> Self
-        ensures { result ≡ words_of line.now }
+        ensures words { result ≡ words_of line.now }
+        ensures count { length result ≤ length line.now }
     {
         Words { rest: line }
     }
