@@ -1,7 +1,15 @@
 use Rattle.std.proofs.Common.{◌≡◌, ℕ, ◌+◌, ◌-◌, ◌<◌, ◌≤◌, refl, sym, ◌∙◌, ap, List, [], ◌∷◌, ◌++◌, length, map, take, drop, get_or, arith}
-use Rattle.std.specs.Prelude.{Some, slice_get, flat_map}
+use Rattle.std.specs.Prelude.{Some, slice_get, flat_map, filter, Bool, true, false, cond}
 use Rattle.std.proofs.lemmas.List.{take_more, drop_more, map-append, length-append, append-nil}
 use Rattle.std.proofs.lemmas.List.Concat.{flat_map-append}
+use Rattle.petri_atom.specs.Atom.{definition_of}
+use Rattle.petri_atom.specs.Local.{Local}
+use Rattle.petri_atom.specs.declared.atom.Atom.{Atom}
+use Rattle.step_core.specs.Choice.{choices, choices_in, choices_of, is_possible, plant_interactions}
+use Rattle.step_core.specs.Interaction.{interaction_of}
+use Rattle.step_core.specs.Made.{plant_by}
+use Rattle.step_core.specs.declared.interaction.Interaction as kept
+use Rattle.step_core.specs.declared.wire.Wire.{Wire}
 use Rattle.step_core.proofs.Combinations.{slice_get-left, slice_get-right}
 
 -- lists that are made of the elements of a list, each seen as something else, one after another
@@ -29,3 +37,20 @@ module _ {X Y Z : Type 0} (g : Y → List Z) (v : X → Y) (xs : List X) (i : �
       let at : place ≡ length (g (v x)) + (place - length (g (v x))) = omega arith in
       ap (λ ys. slice_get ys place) from-here ∙ ap (slice_get (g (v x) ++ flat_map g (map v (drop (i + 1) xs)))) at ∙
       slice_get-right (g (v x)) (flat_map g (map v (drop (i + 1) xs))) (place - length (g (v x)))
+
+-- lists made of the elements that pass a test, one after another
+pub flat-filter : {X Z : Type 0} (p : X → Bool) (f : X → List Z) (xs : List X) → flat_map f (filter p xs) ≡ flat_map (λ x. cond (p x) (f x) []) xs
+flat-filter p f [] = refl
+flat-filter p f (x ∷ xs) =
+    elim (p x) as (λ b. flat_map f (cond b (x ∷ filter p xs) (filter p xs)) ≡ cond b (f x) [] ++ flat_map (λ y. cond (p y) (f y) []) xs) [
+      | true ↦ ap (λ ys. f x ++ ys) (flat-filter p f xs)
+      | false ↦ flat-filter p f xs
+    ]
+
+-- the choices of a plant, from interactions and atoms that are lent
+pub choices-of-lent : (atoms lent_atoms : List Atom) (wires : List Wire) (interactions lent : List kept.Interaction) (states : List Local) → lent_atoms ≡ atoms → lent ≡ interactions → map interaction_of interactions ≡ plant_interactions (plant_by atoms wires) → flat_map (choices_in (map definition_of lent_atoms) states) (map interaction_of lent) ≡ choices (plant_by atoms wires) states
+choices-of-lent atoms lent_atoms wires interactions lent states same_atoms same listed =
+    ap (λ xs. flat_map (choices_in (map definition_of xs) states) (map interaction_of lent)) same_atoms ∙
+    ap (λ xs. flat_map (choices_in (map definition_of atoms) states) (map interaction_of xs)) same ∙
+    ap (flat_map (choices_in (map definition_of atoms) states)) listed ∙
+    sym (flat-filter (is_possible (map definition_of atoms) states) (choices_of (map definition_of atoms) states) (plant_interactions (plant_by atoms wires)))

@@ -4,5 +4,9 @@ pub mod Combinations
 pub mod Flattened
 pub mod Told
 pub mod RuleFaults
+pub mod Delivering
+pub mod Stepping
+pub mod FiringOfAll
+pub mod Initial
 pub mod Rows
 pub mod StepRows

@@ -8,7 +8,7 @@ use Rattle.petri_atom.specs.declared.expression.Operator.TheVariants.{Add}
 use Rattle.petri_atom.specs.declared.state.Delivered.{Delivered}
 use Rattle.connector_tree.specs.declared.tree.Port.{Port}
 use Rattle.step_core.specs.Plant.{TransferDefinition}
-use Rattle.step_core.specs.Step.{delivered_by, nothing_delivered, all_stepped}
+use Rattle.step_core.specs.Step.{delivered_by, nothing_delivered, stepped_from}
 use Rattle.step_core.specs.declared.choice.Move.{Move}
 
 abbrev move : ℕ → Move
@@ -52,20 +52,20 @@ abbrev sent : List Local → ℕ → Delivered
 sent states = delivered_by sample states send_leaves send_transfers 3
 
 -- tick, then send: B gets the value from before A counts on
-tick_from_the_start : all_stepped sample (move 0 ∷ []) (λ atom. nothing_delivered) (at (pos 0) (pos 0)) ≡ at (pos 1) (pos 0)
+tick_from_the_start : stepped_from sample (move 0 ∷ []) (λ atom. nothing_delivered) 0 (at (pos 0) (pos 0)) ≡ at (pos 1) (pos 0)
 unfolding sample counts holds moved set_below int_wrap
 tick_from_the_start = refl
 
-send_after_a_tick : all_stepped sample (move 0 ∷ move 1 ∷ []) (sent (at (pos 1) (pos 0))) (at (pos 1) (pos 0)) ≡ at (pos 2) (pos 1)
+send_after_a_tick : stepped_from sample (move 0 ∷ move 1 ∷ []) (sent (at (pos 1) (pos 0))) 0 (at (pos 1) (pos 0)) ≡ at (pos 2) (pos 1)
 unfolding sample counts holds moved set_below int_wrap
 send_after_a_tick = refl
 
-send_after_three : all_stepped sample (move 0 ∷ move 1 ∷ []) (sent (at (pos 3) (pos 1))) (at (pos 3) (pos 1)) ≡ at (pos 4) (pos 3)
+send_after_three : stepped_from sample (move 0 ∷ move 1 ∷ []) (sent (at (pos 3) (pos 1))) 0 (at (pos 3) (pos 1)) ≡ at (pos 4) (pos 3)
 unfolding sample counts holds moved set_below int_wrap
 send_after_three = refl
 
 -- the order of the moves says nothing, since each delivers from the state before
-send_the_other_way_round : all_stepped sample (move 1 ∷ move 0 ∷ []) (sent (at (pos 1) (pos 0))) (at (pos 1) (pos 0)) ≡ at (pos 2) (pos 1)
+send_the_other_way_round : stepped_from sample (move 1 ∷ move 0 ∷ []) (sent (at (pos 1) (pos 0))) 0 (at (pos 1) (pos 0)) ≡ at (pos 2) (pos 1)
 unfolding sample counts holds moved set_below int_wrap
 send_the_other_way_round = refl
 

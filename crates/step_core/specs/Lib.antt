@@ -6,5 +6,7 @@ pub mod Chosen
 pub mod Interaction
 pub mod Offers
 pub mod Step
+pub mod Fitting
 pub mod Rules
 pub mod System
+pub mod Delivery

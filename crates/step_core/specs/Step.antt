@@ -1,6 +1,6 @@
 -- What a choice leaves of a state.
-use Rattle.std.specs.Prelude.{ℕ, ℤ, pos, Bool, false, ◌&&◌, ◌==◌, List, [], ◌∷◌, map, find, slice_get, Option, None, option_map}
-use Rattle.std.specs.List.{enumerate_from, range_with_len}
+use Rattle.std.specs.Prelude.{ℕ, suc, ℤ, pos, Bool, false, ◌&&◌, ◌==◌, List, [], ◌∷◌, map, find, slice_get, Option, None, option_map}
+use Rattle.std.specs.List.{range_with_len}
 use Rattle.std.specs.Option.{option_map_or}
 use Rattle.petri_atom.specs.Expression.{all_variables, value_of}
 use Rattle.petri_atom.specs.Local.{Local, delivered_of}
@@ -19,10 +19,14 @@ use Rattle.step_core.specs.declared.wire.Export.{Export}
 abbrev pub initial_states : PlantDefinition → List Local
 initial_states plant = map initial plant.atoms
 
+-- the value of a variable that a port exports in a global state; 0 where there is none
+abbrev pub exported_at : List AtomDefinition → List Local → Port → ℕ → ℤ
+exported_at atoms states p export = of_atom atoms states p.atom (λ a s. exported_value a s p.port export) (pos 0)
+
 -- the value of an exported variable of a leaf in a global state, among these leaves; 0 where there is none
 abbrev pub value_at : List AtomDefinition → List Local → List Port → Export → ℤ
 value_at atoms states ports e =
-    option_map_or (λ p. of_atom atoms states p.atom (λ a s. exported_value a s p.port e.export) (pos 0)) (slice_get ports e.leaf) (pos 0)
+    option_map_or (λ p. exported_at atoms states p e.export) (slice_get ports e.leaf) (pos 0)
 
 -- the leaf of an exported variable takes part
 abbrev pub takes_part : ℕ → Export → Bool
@@ -32,10 +36,13 @@ takes_part mask e = is_set mask e.leaf
 abbrev pub applies : ℕ → TransferDefinition → Bool
 applies mask t = takes_part mask t.target && all_variables (takes_part mask) t.value
 
+-- the leaf is a port of this atom
+abbrev pub is_leaf_of : List Port → ℕ → ℕ → Bool
+is_leaf_of ports leaf atom = option_map_or (λ p. p.atom == atom) (slice_get ports leaf) false
+
 -- the target is this exported variable of this atom
 abbrev pub is_to : List Port → ℕ → ℕ → Export → Bool
-is_to ports atom export target =
-    target.export == export && option_map_or (λ p. p.atom == atom) (slice_get ports target.leaf) false
+is_to ports atom export target = target.export == export && is_leaf_of ports target.leaf atom
 
 -- the transfer to an exported variable of an atom, if one applies
 abbrev pub transfer_to : List Port → List TransferDefinition → ℕ → ℕ → ℕ → Option TransferDefinition
@@ -60,17 +67,21 @@ abbrev pub transfer : PlantDefinition → List Local → ChoiceDefinition → �
 transfer plant states c atom =
     option_map_or (λ w. delivered_by plant.atoms states (leaves w.connector) w.transfers c.mask atom) (slice_get plant.wires c.connector) nothing_delivered
 
--- what the moves of a choice leave of the state of the atom with a number: its move fires, if it makes one, with what is delivered to it
+-- what the moves of a choice leave of the state of the atom with a number: the first of them that is the atom's fires, with what is delivered to it
+abbrev pub moved_by : AtomDefinition → List Move → Delivered → ℕ → Local → Local
+moved_by a moves d n state = option_map_or (λ m. fired a m.transition d state) (find (λ m. m.atom == n) moves) state
+
+-- the same of the atom with a number in a plant; `delivered` tells what each atom gets
 abbrev pub stepped : List AtomDefinition → List Move → (ℕ → Delivered) → ℕ → Local → Local
 stepped atoms moves delivered n state =
-    option_map_or (λ m. option_map_or (λ a. fired a m.transition (delivered n) state) (slice_get atoms n) state)
-    (find (λ m. m.atom == n) moves) state
+    option_map_or (λ a. moved_by a moves (delivered n) n state) (slice_get atoms n) state
 
--- the same of the states of all atoms, in their order
-abbrev pub all_stepped : List AtomDefinition → List Move → (ℕ → Delivered) → List Local → List Local
-all_stepped atoms moves delivered states =
-    map (λ (n, state). stepped atoms moves delivered n state) (enumerate_from 0 states)
+-- the same of the states of all atoms from the number n on
+abbrev pub stepped_from : List AtomDefinition → List Move → (ℕ → Delivered) → ℕ → List Local → List Local
+stepped_from atoms moves delivered n [] = []
+stepped_from atoms moves delivered n (state ∷ states) =
+    stepped atoms moves delivered n state ∷ stepped_from atoms moves delivered (suc n) states
 
 -- the state after a choice: each participant fires its transition with what is delivered to it from the state before, and every other atom stays
 abbrev pub next : PlantDefinition → List Local → ChoiceDefinition → List Local
-next plant states c = all_stepped plant.atoms c.moves (transfer plant states c) states
+next plant states c = stepped_from plant.atoms c.moves (transfer plant states c) 0 states

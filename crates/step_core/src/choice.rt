@@ -58,7 +58,8 @@ impl Moves {
 
     /// The moves, in rising order of their atoms.
     pub fn as_slice(&self) -> &[Move]
-        ensures { result.now ≡ self.now }
+        ensures moves { result.now ≡ self.now }
+        ensures few { length result.now ≤ MAX_LEAVES }
     {
         &self.row[..self.count]
     }

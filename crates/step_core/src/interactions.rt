@@ -66,7 +66,7 @@ fn ports_of_mask(alloc: Global, leaves: &[Port], mask: Mask) -> Result<Vec<Port>
 }
 
 /// Whether the mask has the leaf.
-fn has_leaf(mask: Mask, leaf: usize) -> bool
+pub(crate) fn has_leaf(mask: Mask, leaf: usize) -> bool
     ensures { result ≡ is_set mask leaf }
 {
     leaf < 16 && (mask >> leaf) & 1 == 1

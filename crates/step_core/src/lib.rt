@@ -10,7 +10,9 @@
 #![tactic(auto)]
 
 mod choice;
+mod choices;
 mod fault;
+mod firing;
 mod interaction;
 mod interactions;
 mod judged;
@@ -19,6 +21,7 @@ mod making;
 mod rules;
 mod state;
 mod system;
+mod transfers;
 mod wire;
 mod wire_rules;
 

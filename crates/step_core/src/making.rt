@@ -1,5 +1,6 @@
 //! Systems are made of atoms and wires that keep the rules of a plant.
 ghost use Rattle.std.specs.Prelude.{◌≡◌, ◌≤◌, IfOk, IfErr, None, map, length};
+ghost use Rattle.petri_atom.specs.Atom.{definition_of};
 ghost use Rattle.connector_tree.specs.Tree.{leaves};
 ghost use Rattle.step_core.specs.Choice.{interactions_from, interactions_of_connector, plant_interactions};
 ghost use Rattle.step_core.specs.Interaction.{interaction_of};
@@ -51,6 +52,38 @@ impl System {
             ports,
             interactions,
         })
+    }
+}
+
+impl System {
+    ghost use Rattle.step_core.specs.System.{plant_of};
+
+    /// The atoms, in the order of their numbers.
+    pub fn atoms(&self) -> &[Atom]
+        ensures { map definition_of result.now ≡ (plant_of self.now).atoms }
+    {
+        &self.atoms
+    }
+
+    /// The wires, in the order of their numbers.
+    pub fn wires(&self) -> &[Wire]
+        ensures { map wire_of result.now ≡ (plant_of self.now).wires }
+    {
+        &self.wires
+    }
+
+    /// The digest of the text that the plant was read from.
+    pub fn digest(&self) -> &[u8; 32]
+        ensures { result.now ≡ self.now.digest }
+    {
+        &self.digest
+    }
+
+    /// How many interactions the plant has.
+    pub fn interaction_count(&self) -> usize
+        ensures { result ≡ length (plant_interactions (plant_of self.now)) }
+    {
+        self.interactions.len()
     }
 }
 

@@ -1,16 +1,18 @@
 //! The global state of a plant: a local state for each atom.
 ghost use Rattle.std.specs.Prelude.{◌≡◌, ◌<◌, ◌↔◌, [], IsTrue, map, length, IfOk, Some, slice_get, slice_set};
-ghost use Rattle.petri_atom.specs.Atom.{definition_of};
-ghost use Rattle.petri_atom.specs.Definition.{initial};
+ghost use Rattle.step_core.specs.Fitting.{IsOf, AllFit};
+ghost use Rattle.step_core.specs.Step.{initial_states};
+ghost use Rattle.step_core.specs.System.{plant_of};
 
-use petri_atom::{Atom, AtomState};
+use crate::system::System;
+use petri_atom::AtomState;
 use std::alloc::{AllocError, Global};
 use std::marker::Model;
 
 /// The states of a plant's atoms, by the atoms' numbers. In a contract it is the list of the local states.
 #[derive(Debug, Drop)]
 pub struct PlantState {
-    states: Vec<AtomState>,
+    pub(crate) states: Vec<AtomState>,
 }
 
 impl Model for PlantState {
@@ -23,10 +25,13 @@ impl Model for PlantState {
 }
 
 impl PlantState {
-    /// Each atom's first state.
-    pub fn first(alloc: Global, atoms: &[Atom]) -> Result<Self, AllocError>
-        ensures { IfOk result (λ states. states ≡ map (λ a. initial (definition_of a)) atoms.now) }
+    /// The first state of the system's plant: each atom's first one.
+    pub fn init(alloc: Global, system: &System) -> Result<Self, AllocError>
+        ensures first { IfOk result (λ states. states ≡ initial_states (plant_of system.now)) }
+        ensures of_plant { IfOk result (λ states. IsOf (plant_of system.now) states) }
+        ensures fits { IfOk result (λ states. AllFit (plant_of system.now) states) }
     {
+        let atoms = system.atoms();
         let mut states = Vec::with_capacity(alloc, atoms.len())?;
         for atom in atoms {
             states.push(atom.initial())?;

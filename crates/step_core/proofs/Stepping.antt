@@ -1,0 +1,158 @@
+use Rattle.std.proofs.Common.{◌≡◌, ℕ, zero, suc, ◌+◌, ◌<◌, ◌≤◌, refl, sym, ◌∙◌, ap, List, [], ◌∷◌, ◌++◌, length, map, take, drop, get_or, set, arith, Bool, true, false, cond, ◌&&◌}
+use Rattle.std.specs.Prelude.{Option, Some, None, slice_get, find, filter, flat_map}
+use Rattle.std.specs.List.{list_all}
+use Rattle.std.specs.Option.{option_map_or}
+use Rattle.std.proofs.lemmas.Bool.{and_parts, and_from, eqb-true}
+use Rattle.petri_atom.specs.Local.{Local}
+use Rattle.petri_atom.specs.Definition.{AtomDefinition, enabled, offers_number}
+use Rattle.petri_atom.specs.declared.state.Delivered.{Delivered}
+use Rattle.connector_tree.specs.declared.tree.Port.{Port}
+use Rattle.step_core.specs.Plant.{PlantDefinition}
+use Rattle.step_core.specs.Choice.{of_atom, move_of, moves_of, combinations, ChoiceDefinition, Interaction, choices_of, choices, is_possible, plant_interactions}
+use Rattle.step_core.specs.Step.{stepped, stepped_from}
+use Rattle.step_core.specs.declared.choice.Move.{Move}
+
+-- the states after the moves, by number
+pub length-stepped : (atoms : List AtomDefinition) (moves : List Move) (d : ℕ → Delivered) (n : ℕ) (states : List Local) → length (stepped_from atoms moves d n states) ≡ length states
+length-stepped atoms moves d n [] = refl
+length-stepped atoms moves d n (s ∷ states) = ap suc (length-stepped atoms moves d (suc n) states)
+
+pub stepped-at : (atoms : List AtomDefinition) (moves : List Move) (d : ℕ → Delivered) (n i : ℕ) (states : List Local) (x : Local) → i < length states → get_or (stepped_from atoms moves d n states) i x ≡ stepped atoms moves d (n + i) (get_or states i x)
+stepped-at atoms moves d n i [] x within = absurd (omega arith)
+stepped-at atoms moves d n zero (s ∷ states) x within = ap (λ k. stepped atoms moves d k s) (omega arith)
+stepped-at atoms moves d n (suc i) (s ∷ states) x within =
+    let e : suc n + i ≡ n + suc i = omega arith in
+    stepped-at atoms moves d (suc n) i states x (omega arith) ∙ ap (λ k. stepped atoms moves d k (get_or states i x)) e
+
+-- a list of which the first i elements are those of another
+module _ {X : Type 0} where
+  pub mixed-here : (xs bs : List X) (i : ℕ) (x : X) → i < length bs → length xs ≡ length bs → get_or (take i xs ++ drop i bs) i x ≡ get_or bs i x
+  mixed-here [] [] i x within long = absurd (omega arith)
+  mixed-here [] (b ∷ bs) i x within long = absurd (omega arith)
+  mixed-here (a ∷ xs) [] i x within long = absurd (omega arith)
+  mixed-here (a ∷ xs) (b ∷ bs) zero x within long = refl
+  mixed-here (a ∷ xs) (b ∷ bs) (suc i) x within long = mixed-here xs bs i x (omega arith) (omega arith)
+
+  -- one more of them
+  pub mixed-next : (xs bs : List X) (i : ℕ) (x y : X) → i < length bs → length xs ≡ length bs → y ≡ get_or xs i x → set (take i xs ++ drop i bs) i y ≡ take (i + 1) xs ++ drop (i + 1) bs
+  mixed-next xs bs i x y within long same = let e : suc i ≡ i + 1 = omega arith in
+      each xs bs i within long same ∙ ap (λ n. take n xs ++ drop n bs) e
+    where
+      each : (cs ds : List X) (j : ℕ) → j < length ds → length cs ≡ length ds → y ≡ get_or cs j x → set (take j cs ++ drop j ds) j y ≡ take (suc j) cs ++ drop (suc j) ds
+      each [] [] j within long same = absurd (omega arith)
+      each [] (d ∷ ds) j within long same = absurd (omega arith)
+      each (c ∷ cs) [] j within long same = absurd (omega arith)
+      each (c ∷ cs) (d ∷ ds) zero within long same = ap (λ z. z ∷ ds) same
+      each (c ∷ cs) (d ∷ ds) (suc j) within long same = ap (λ zs. c ∷ zs) (each cs ds j (omega arith) (omega arith) same)
+
+-- what is found is what was looked for
+pub found-is : {X : Type 0} (p : X → Bool) (xs : List X) (x : X) → find p xs ≡ Some x → p x ≡ true
+found-is p [] x found = absurd (cc)
+found-is p (y ∷ ys) x found = each (λ later. found-is p ys x later) (p y) refl found
+  where
+    each : (find p ys ≡ Some x → p x ≡ true) → (b : Bool) → p y ≡ b → cond b (Some y) (find p ys) ≡ Some x → p x ≡ true
+    each more true told here = let same : y ≡ x = cc in ap p (sym same) ∙ told
+    each more false told later = more later
+
+-- tests of lists that are made of others
+module _ {X : Type 0} (f : X → Bool) where
+  all-append : (xs ys : List X) → list_all f xs ≡ true → list_all f ys ≡ true → list_all f (xs ++ ys) ≡ true
+  all-append [] ys all more = more
+  all-append (x ∷ xs) ys all more =
+      let parts = and_parts (f x) (list_all f xs) all in
+      and_from (f x) (list_all f (xs ++ ys)) parts.0 (all-append xs ys parts.1 more)
+
+  all-flat_map : {Y : Type 0} (g : Y → List X) → ((y : Y) → list_all f (g y) ≡ true) → (ys : List Y) → list_all f (flat_map g ys) ≡ true
+  all-flat_map g each [] = refl
+  all-flat_map g each (y ∷ ys) = all-append (g y) (flat_map g ys) (each y) (all-flat_map g each ys)
+
+  all-map : {Y : Type 0} (h : Y → X) (ys : List Y) → list_all (λ y. f (h y)) ys ≡ true → list_all f (map h ys) ≡ true
+  all-map h [] all = refl
+  all-map h (y ∷ ys) all =
+      let parts = and_parts (f (h y)) (list_all (λ z. f (h z)) ys) all in
+      and_from (f (h y)) (list_all f (map h ys)) parts.0 (all-map h ys parts.1)
+
+  all-weaker : (g : X → Bool) → ((x : X) → f x ≡ true → g x ≡ true) → (xs : List X) → list_all f xs ≡ true → list_all g xs ≡ true
+  all-weaker g weaker [] all = refl
+  all-weaker g weaker (x ∷ xs) all =
+      let parts = and_parts (f x) (list_all f xs) all in
+      and_from (g x) (list_all g xs) (weaker x parts.0) (all-weaker g weaker xs parts.1)
+
+  all-filter : (xs : List X) → list_all f (filter f xs) ≡ true
+  all-filter [] = refl
+  all-filter (x ∷ xs) = each (all-filter xs) (f x) refl
+    where
+      each : list_all f (filter f xs) ≡ true → (b : Bool) → f x ≡ b → list_all f (cond b (x ∷ filter f xs) (filter f xs)) ≡ true
+      each later true told = and_from (f x) (list_all f (filter f xs)) told later
+      each later false told = later
+
+  pub all-at : (xs : List X) (k : ℕ) (d : X) → list_all f xs ≡ true → k < length xs → f (get_or xs k d) ≡ true
+  all-at [] k d all within = absurd (omega arith)
+  all-at (x ∷ xs) zero d all within = (and_parts (f x) (list_all f xs) all).0
+  all-at (x ∷ xs) (suc k) d all within = all-at xs k d (and_parts (f x) (list_all f xs) all).1 (omega arith)
+
+  -- what is found in a list whose elements all pass passes
+  pub found-passes : (p : X → Bool) (xs : List X) (x : X) → find p xs ≡ Some x → list_all f xs ≡ true → f x ≡ true
+  found-passes p [] x found all = absurd (cc)
+  found-passes p (y ∷ ys) x found all =
+      let parts = and_parts (f y) (list_all f ys) all in
+      each parts.0 (λ later. found-passes p ys x later parts.1) (p y) found
+    where
+      each : f y ≡ true → (find p ys ≡ Some x → f x ≡ true) → (b : Bool) → cond b (Some y) (find p ys) ≡ Some x → f x ≡ true
+      each passes more true here = let same : y ≡ x = cc in ap f (sym same) ∙ passes
+      each passes more false later = more later
+
+  -- each row of one element from each list has elements that pass, if all do
+  all-rows : (xs : List X) (rest : List (List X)) → list_all f xs ≡ true → list_all (list_all f) rest ≡ true → list_all (list_all f) (flat_map (λ x. map (λ row. x ∷ row) rest) xs) ≡ true
+  all-rows [] rest all passed = refl
+  all-rows (x ∷ xs) rest all passed =
+      let parts = and_parts (f x) (list_all f xs) all in
+      all-append-rows (map (λ row. x ∷ row) rest) (flat_map (λ y. map (λ row. y ∷ row) rest) xs) (each parts.0 rest passed) (all-rows xs rest parts.1 passed)
+    where
+      each : f x ≡ true → (rows : List (List X)) → list_all (list_all f) rows ≡ true → list_all (list_all f) (map (λ row. x ∷ row) rows) ≡ true
+      each here [] passed = refl
+      each here (row ∷ rows) passed =
+          let parts = and_parts (list_all f row) (list_all (list_all f) rows) passed in
+          and_from (f x && list_all f row) _ (and_from (f x) (list_all f row) here parts.0) (each here rows parts.1)
+
+      all-append-rows : (rs' bs' : List (List X)) → list_all (list_all f) rs' ≡ true → list_all (list_all f) bs' ≡ true → list_all (list_all f) (rs' ++ bs') ≡ true
+      all-append-rows [] ys all more = more
+      all-append-rows (r ∷ rs) ys all more =
+          let parts = and_parts (list_all f r) (list_all (list_all f) rs) all in
+          and_from (list_all f r) (list_all (list_all f) (rs ++ ys)) parts.0 (all-append-rows rs ys parts.1 more)
+
+  -- and so have the rows of several lists
+  all-combinations : (xss : List (List X)) → list_all (list_all f) xss ≡ true → list_all (list_all f) (combinations xss) ≡ true
+  all-combinations [] all = refl
+  all-combinations (xs ∷ rest) all =
+      let parts = and_parts (list_all f xs) (list_all (list_all f) rest) all in
+      all-rows xs (combinations rest) parts.0 (all-combinations rest parts.1)
+
+-- a move that its atom's state offers
+abbrev pub is_offered_move : List AtomDefinition → List Local → Move → Bool
+is_offered_move atoms states m = of_atom atoms states m.atom (λ a s. offers_number a s m.transition) false
+
+-- what an atom's state offers are moves that it offers
+offered-moves : (atoms : List AtomDefinition) (states : List Local) (p : Port) → list_all (is_offered_move atoms states) (moves_of atoms states p) ≡ true
+offered-moves atoms states p = by-atom (slice_get atoms p.atom) refl
+  where
+    by-state : (a : AtomDefinition) → slice_get atoms p.atom ≡ Some a → (o : Option Local) → slice_get states p.atom ≡ o → list_all (is_offered_move atoms states) (option_map_or (λ s. map (move_of p.atom) (enabled a s p.port)) o []) ≡ true
+    by-state a there None none = refl
+    by-state a there (Some s) known =
+        all-map (is_offered_move atoms states) (move_of p.atom) (enabled a s p.port)
+        (all-weaker (offers_number a s) (λ t. is_offered_move atoms states (move_of p.atom t)) (λ t here. ap (λ o. option_map_or (λ b. option_map_or (λ z. offers_number b z t) (slice_get states p.atom) false) o false) there ∙ ap (λ o. option_map_or (λ z. offers_number a z t) o false) known ∙ here) (enabled a s p.port) (all-filter (offers_number a s) _))
+
+    by-atom : (o : Option AtomDefinition) → slice_get atoms p.atom ≡ o → list_all (is_offered_move atoms states) (option_map_or (λ a. option_map_or (λ s. map (move_of p.atom) (enabled a s p.port)) (slice_get states p.atom) []) o []) ≡ true
+    by-atom None none = refl
+    by-atom (Some a) there = by-state a there (slice_get states p.atom) refl
+
+-- each choice of a state has moves that are offered
+pub offered-choices : (plant : PlantDefinition) (states : List Local) → list_all (λ c. list_all (is_offered_move plant.atoms states) c.moves) (choices plant states) ≡ true
+offered-choices plant states =
+    all-flat_map (λ c. list_all (is_offered_move plant.atoms states) c.moves) (choices_of plant.atoms states)
+    (λ i. all-map (λ c. list_all (is_offered_move plant.atoms states) c.moves) (λ moves. record { connector = i.connector; mask = i.mask; moves = moves }) (combinations (map (moves_of plant.atoms states) i.ports)) (all-combinations (is_offered_move plant.atoms states) (map (moves_of plant.atoms states) i.ports) (all-map (list_all (is_offered_move plant.atoms states)) (moves_of plant.atoms states) i.ports (each-true (λ p. offered-moves plant.atoms states p) i.ports))))
+    (filter (is_possible plant.atoms states) (plant_interactions plant))
+  where
+    each-true : {X : Type 0} {f : X → Bool} → ((x : X) → f x ≡ true) → (xs : List X) → list_all f xs ≡ true
+    each-true each [] = refl
+    each-true {f = f} each (x ∷ xs) = and_from (f x) (list_all f xs) (each x) (each-true each xs)
