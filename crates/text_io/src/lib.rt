@@ -1,0 +1,10 @@
+//! The two ends of a text: it is read from a reader, and lines are printed to a writer.
+//!
+//! - `reading`: [`read_text`] gives all bytes of a reader, or tells why not ([`TextFault`]).
+#![tactic(auto)]
+
+mod reading;
+#[cfg(test)]
+mod tests;
+
+pub use reading::{MAX_TEXT, TextFault, read_text};
