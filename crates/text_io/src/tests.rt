@@ -1,2 +1,3 @@
 mod digest;
+mod printing;
 mod reading;
