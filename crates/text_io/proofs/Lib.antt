@@ -1,1 +1,2 @@
 pub mod Fronts
+mod Rows

@@ -50,10 +50,10 @@ pub fn print_number<W: Write>(writer: &mut W, number: u64) -> Result<(), WriteFa
 }
 
 /// Prints a number in decimal, with a minus in front where it is below 0.
-pub fn print_signed<W: Write>(writer: &mut W, number: i64) -> Result<(), WriteFault>
-    ensures { OnOk result (Appends (W.contents writer.old) (W.contents writer.new) (signed_decimal number)) }
+pub fn print_signed<W: Write>(writer: &mut W, value: i64) -> Result<(), WriteFault>
+    ensures { OnOk result (Appends (W.contents writer.old) (W.contents writer.new) (signed_decimal value)) }
 {
-    print_text(writer, Buffer::new().format(number).as_bytes())
+    print_text(writer, Buffer::new().format(value).as_bytes())
 }
 
 /// Ends a line.

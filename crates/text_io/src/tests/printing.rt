@@ -118,6 +118,7 @@ fn a_failure_at_any_byte_is_told(rt: HostRuntime) {
             let answer = print_sample(&mut writer, 12, -3, &[1, 20]);
             assert!(rt; answer == Err(WriteFault), "{room} by {step}");
             assert!(rt; writer.count == room, "{room} by {step}");
+            assert!(rt; &writer.taken[..room] == &line[..room], "{room} by {step}");
         }
         let mut writer = Short::new(step, line.len());
         assert!(rt;

@@ -1,0 +1,51 @@
+-- Values of the definitions, computed.
+use Rattle.std.proofs.Common.{◌≡◌, ◌++◌, ◌∷◌, [], Some, codes, refl, negsuc, ◌^◌, ◌-◌, arith}
+use Rattle.std.specs.Fmt.{decimal, digits, signed_decimal}
+use Rattle.sha2.specs.Sha256.{sha256, digest_bytes, hash_after, compress, first_words, schedule, rounds}
+use Rattle.text_io.specs.declared.reading.TextFault.TheVariants.{TooLong, Read}
+use Rattle.text_io.specs.Reading.{IsReadBefore, GivesUp, message_of}
+
+-- numbers as text
+zero_is_one_digit : decimal 0 ≡ codes "0"
+unfolding digits
+zero_is_one_digit = refl
+
+greatest_number : decimal (2 ^ 64 - 1) ≡ codes "18446744073709551615"
+unfolding digits
+greatest_number = refl
+
+least_number : signed_decimal (negsuc (2 ^ 63 - 1)) ≡ codes "-9223372036854775808"
+unfolding digits
+least_number = refl
+
+minus_four : signed_decimal (negsuc 3) ≡ codes "-4"
+unfolding digits
+minus_four = refl
+
+-- a line of parts
+line_of_parts : decimal 12 ++ codes " state A n=" ++ signed_decimal (negsuc 2) ++ codes "\n" ≡ codes "12 state A n=-3\n"
+unfolding digits
+line_of_parts = refl
+
+-- a text of 1,048,577 bytes is too long, and no other fault comes after so many
+one_byte_more : IsReadBefore TooLong 1048577
+one_byte_more = refl
+
+-- the limit is told in decimal
+limit_is_told : message_of TooLong ≡ codes "the text has more than 1048576 bytes"
+unfolding digits
+limit_is_told = refl
+
+-- an error after two of three bytes leaves the third
+error_after_two : GivesUp Read (Some (97 ∷ 98 ∷ 99 ∷ [])) (Some (99 ∷ []))
+error_after_two = (97 ∷ 98 ∷ [], omega arith, refl)
+
+-- SHA-256 of "abc", an example of FIPS 180-4
+digest_of_abc : sha256 (codes "abc") ≡ 186 ∷ 120 ∷ 22 ∷ 191 ∷ 143 ∷ 1 ∷ 207 ∷ 234 ∷ 65 ∷ 65 ∷ 64 ∷ 222 ∷ 93 ∷ 174 ∷ 34 ∷ 35 ∷ 176 ∷ 3 ∷ 97 ∷ 163 ∷ 150 ∷ 23 ∷ 122 ∷ 156 ∷ 180 ∷ 16 ∷ 255 ∷ 97 ∷ 242 ∷ 0 ∷ 21 ∷ 173 ∷ []
+unfolding sha256 digest_bytes hash_after compress first_words schedule rounds
+digest_of_abc = refl
+
+-- and of the empty text
+digest_of_nothing : sha256 [] ≡ 227 ∷ 176 ∷ 196 ∷ 66 ∷ 152 ∷ 252 ∷ 28 ∷ 20 ∷ 154 ∷ 251 ∷ 244 ∷ 200 ∷ 153 ∷ 111 ∷ 185 ∷ 36 ∷ 39 ∷ 174 ∷ 65 ∷ 228 ∷ 100 ∷ 155 ∷ 147 ∷ 76 ∷ 164 ∷ 149 ∷ 153 ∷ 27 ∷ 120 ∷ 82 ∷ 184 ∷ 85 ∷ []
+unfolding sha256 digest_bytes hash_after compress first_words schedule rounds
+digest_of_nothing = refl
