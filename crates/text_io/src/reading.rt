@@ -23,7 +23,7 @@ pub enum TextFault {
     TooLong,
     /// There was no memory for the text.
     Memory,
-    /// The reader answered an error, one of being interrupted among them.
+    /// The reader answered an error; that it was interrupted is one.
     Read,
 }
 
@@ -56,7 +56,7 @@ impl From<AllocError> for TextFault {
 
 /// Reads to the reader's end.
 ///
-/// Nothing is read after an error or after more than `MAX_TEXT` bytes. Each read but the last gives at least
+/// Nothing is read after an error, nor more than one byte past `MAX_TEXT`. Each read but the last gives at least
 /// one byte of the text, so that at most `MAX_TEXT + 1` reads are made.
 pub fn read_text<R: Read>(alloc: Global, reader: &mut R) -> Result<Vec<u8>, TextFault>
     ensures all { IfOk result (λ text. IfSome (R.remaining reader.old) (λ bytes. text.items ≡ bytes)) }

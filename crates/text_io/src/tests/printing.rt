@@ -37,6 +37,20 @@ fn print_sample<W: Write>(
     Ok(())
 }
 
+// A line by one call of std.
+fn print_tick<W: Write>(
+    writer: &mut W,
+    tick: u64,
+    transition: &str,
+    number: u64,
+) -> Result<(), WriteFault>
+    ensures { OnOk result (Appends (W.contents writer.old) (W.contents writer.new)
+        (decimal tick ++ codes " tick " ++ transition.now ++ codes "/" ++ decimal number ++ codes "\n")) }
+{
+    writeln!(writer, "{tick} tick {transition}/{number}")?;
+    Ok(())
+}
+
 // Takes so many bytes at a write, and no more than so many in all: an error comes where it is asked for more.
 #[derive(Drop)]
 struct Short {
@@ -104,8 +118,9 @@ fn numbers_are_decimal(rt: HostRuntime) {
 fn parts_follow_one_another(rt: HostRuntime) {
     let mut printed = Vec::new(rt.alloc());
     print_sample(&mut printed, 12, -3, &[1, 20]).expect(&rt, "memory");
+    print_tick(&mut printed, 13, "A.t", 0).expect(&rt, "memory");
     print_sample(&mut printed, 13, 3, &[]).expect(&rt, "memory");
-    let lines = "12 state A n=-3 1 20\n13 state A n=3\n";
+    let lines = "12 state A n=-3 1 20\n13 tick A.t/0\n13 state A n=3\n";
     assert!(rt; printed.as_slice() == lines.as_bytes());
 }
 
