@@ -1,5 +1,5 @@
 use Rattle.std.proofs.Common.{◌≡◌, ℕ, zero, suc, ◌+◌, ◌*◌, ◌/◌, ◌%◌, ◌<◌, ◌≤◌, ◌-◌, ◌^◌, refl, sym, ◌∙◌, ap, subst, List, [], ◌∷◌, ◌++◌, length, map, get_or, take, drop, arith, mul_comm, mul-div_cancel, div-add-mod', div-lt_iff_lt-mul, mod-lt, mul-zero, mul-le-mul, pow-add}
-use Rattle.std.specs.Prelude.{Option, Some, None, slice_get, flat_map, filter, Bool, true, false, if◌then◌else◌, option_map}
+use Rattle.std.specs.Prelude.{Some, slice_get, flat_map, option_map}
 use Rattle.std.proofs.lemmas.List.{length-append, length-map, take_all}
 use Rattle.std.proofs.lemmas.Option.{slice_get-map, slice_get-get_or, slice_get_within, get_or_from_slice_get}
 use Rattle.step_core.specs.Choice.{combinations}

@@ -9,7 +9,7 @@ use Rattle.petri_atom.specs.declared.atom.Atom.{Atom}
 use Rattle.petri_atom.specs.declared.state.Delivered.{Delivered}
 use Rattle.connector_tree.specs.Tree.{leaves}
 use Rattle.connector_tree.specs.declared.tree.Port.{Port}
-use Rattle.step_core.specs.Plant.{WireDefinition, PlantDefinition, TransferDefinition}
+use Rattle.step_core.specs.Plant.{TransferDefinition}
 use Rattle.step_core.specs.Choice.{ChoiceDefinition}
 use Rattle.step_core.specs.Made.{plant_by}
 use Rattle.step_core.specs.Step.{transfer, delivered_by, nothing_delivered}
@@ -24,11 +24,11 @@ module _ (atoms : List Atom) (wires : List Wire) (states : List Local) (c : Choi
       told ∙ ap (λ ps. delivered_by (map definition_of atoms) states ps transfers c.mask atom) lent_ports ∙
       ap (λ ts. delivered_by (map definition_of atoms) states (leaves wire.connector) ts c.mask atom) lent_transfers ∙
       sym (ap (λ k. option_map_or (λ w. delivered_by (map definition_of atoms) states (leaves w.connector) w.transfers c.mask atom) (slice_get (map wire_of wires) k) nothing_delivered) (sym same) ∙
-           ap (λ o. option_map_or (λ w. delivered_by (map definition_of atoms) states (leaves w.connector) w.transfers c.mask atom) o nothing_delivered) there)
+      ap (λ o. option_map_or (λ w. delivered_by (map definition_of atoms) states (leaves w.connector) w.transfers c.mask atom) o nothing_delivered) there)
 
   pub delivered-past : (d : Delivered) → length wires ≤ n → d ≡ nothing_delivered → d ≡ transfer (plant_by atoms wires) states c atom
   delivered-past d past told =
       let none : slice_get (map wire_of wires) n ≡ None = slice_get_past (map wire_of wires) n (omega (arith, length-map wires wire_of)) in
       told ∙
       sym (ap (λ k. option_map_or (λ w. delivered_by (map definition_of atoms) states (leaves w.connector) w.transfers c.mask atom) (slice_get (map wire_of wires) k) nothing_delivered) (sym same) ∙
-           ap (λ o. option_map_or (λ w. delivered_by (map definition_of atoms) states (leaves w.connector) w.transfers c.mask atom) o nothing_delivered) none)
+      ap (λ o. option_map_or (λ w. delivered_by (map definition_of atoms) states (leaves w.connector) w.transfers c.mask atom) o nothing_delivered) none)

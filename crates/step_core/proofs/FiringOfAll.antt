@@ -1,13 +1,13 @@
-use Rattle.std.proofs.Common.{◌≡◌, ◌≢◌, ℕ, suc, ◌+◌, ◌==◌, ◌<◌, ◌≤◌, refl, sym, ◌∙◌, ap, subst, List, [], ◌++◌, length, map, take, drop, get_or, set, arith, true, false, ⊎_elim}
-use Rattle.std.specs.Prelude.{Some, slice_get, slice_set, find}
+use Rattle.std.proofs.Common.{◌≡◌, ◌≢◌, ℕ, ◌+◌, ◌==◌, ◌<◌, ◌≤◌, sym, ◌∙◌, ap, subst, List, [], ◌++◌, length, map, take, drop, get_or, set, arith, true, false, ⊎_elim}
+use Rattle.std.specs.Prelude.{Some, slice_get, find}
 use Rattle.std.specs.List.{list_all}
 use Rattle.std.specs.Option.{option_map_or}
 use Rattle.std.proofs.lemmas.Bool.{eqb-true, cases_eq}
-use Rattle.std.proofs.lemmas.List.{length-map, length-append, length-take, length-drop, take_all, drop_all, append-nil, length-set, get_or-set_same, get_or-set_other, get_or_default}
+use Rattle.std.proofs.lemmas.List.{length-map, length-append, length-take, length-drop, take_all, drop_all, append-nil, length-set, get_or-set_same, get_or-set_other}
 use Rattle.std.proofs.lemmas.Option.{slice_get-get_or, slice_get_within, get_or_from_slice_get, same_Some}
 use Rattle.petri_atom.specs.Atom.{definition_of}
 use Rattle.petri_atom.specs.Local.{Local}
-use Rattle.petri_atom.specs.Definition.{AtomDefinition, Fits, offers_number}
+use Rattle.petri_atom.specs.Definition.{Fits, offers_number}
 use Rattle.petri_atom.specs.declared.atom.Atom.{Atom}
 use Rattle.step_core.specs.Choice.{ChoiceDefinition, IsAllowed, choices, of_atom}
 use Rattle.step_core.specs.Fitting.{AllFit}
@@ -60,8 +60,8 @@ module _ (atoms : List Atom) (wires : List Wire) (old : List Local) (c : ChoiceD
         let passes = found-passes (is_offered_move (map definition_of atoms) old) (λ k. k.atom == n) c.moves m found moves in
         let same : m.atom ≡ n = eqb-true m.atom n (found-is (λ k. k.atom == n) c.moves m found) in
         sym (ap (λ k. of_atom (map definition_of atoms) old k (λ a s. offers_number a s m.transition) false) same ∙
-             ap (λ o. option_map_or (λ a. option_map_or (λ s. offers_number a s m.transition) (slice_get old n) false) o false) (atom-there atoms n atom within here) ∙
-             ap (λ o. option_map_or (λ s. offers_number (definition_of atom) s m.transition) o false) there) ∙
+        ap (λ o. option_map_or (λ a. option_map_or (λ s. offers_number a s m.transition) (slice_get old n) false) o false) (atom-there atoms n atom within here) ∙
+        ap (λ o. option_map_or (λ s. offers_number (definition_of atom) s m.transition) o false) there) ∙
         passes
 
     -- and with the state that it gets, one atom more has fired
@@ -71,8 +71,8 @@ module _ (atoms : List Atom) (wires : List Wire) (old : List Local) (c : ChoiceD
         let is : new ≡ get_or after n now =
         told ∙ ap (moved_by (definition_of atom) c.moves (d n) n) still ∙
         sym (stepped-at (map definition_of atoms) c.moves d 0 n old now inside ∙
-             ap (λ k. stepped (map definition_of atoms) c.moves d k (get_or old n now)) (omega arith) ∙
-             ap (λ o. option_map_or (λ a. moved_by a c.moves (d n) n (get_or old n now)) o (get_or old n now)) (atom-there atoms n atom within here)) in
+        ap (λ k. stepped (map definition_of atoms) c.moves d k (get_or old n now)) (omega arith) ∙
+        ap (λ o. option_map_or (λ a. moved_by a c.moves (d n) n (get_or old n now)) o (get_or old n now)) (atom-there atoms n atom within here)) in
         ap (λ xs. set xs n new) so_far ∙ mixed-next after old n now new inside as_long is
 
     -- and each state fits on

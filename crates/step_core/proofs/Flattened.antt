@@ -1,5 +1,5 @@
 use Rattle.std.proofs.Common.{◌≡◌, ℕ, ◌+◌, ◌-◌, ◌<◌, ◌≤◌, refl, sym, ◌∙◌, ap, List, [], ◌∷◌, ◌++◌, length, map, take, drop, get_or, arith}
-use Rattle.std.specs.Prelude.{Some, slice_get, flat_map, filter, Bool, true, false, cond}
+use Rattle.std.specs.Prelude.{slice_get, flat_map, filter, Bool, true, false, cond}
 use Rattle.std.proofs.lemmas.List.{take_more, drop_more, map-append, length-append, append-nil}
 use Rattle.std.proofs.lemmas.List.Concat.{flat_map-append}
 use Rattle.petri_atom.specs.Atom.{definition_of}

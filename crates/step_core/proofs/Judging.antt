@@ -1,5 +1,5 @@
-use Rattle.std.proofs.Common.{◌≡◌, ℕ, ◌<◌, ◌≤◌, refl, sym, ◌∙◌, ap, subst, List, [], length, map, get_or, arith}
-use Rattle.std.specs.Prelude.{Option, Some, None, slice_get, option_map}
+use Rattle.std.proofs.Common.{◌≡◌, ℕ, ◌<◌, ◌≤◌, refl, sym, ◌∙◌, ap, List, [], length, map, get_or, arith}
+use Rattle.std.specs.Prelude.{Some, None, slice_get, option_map}
 use Rattle.std.specs.Option.{option_map_or}
 use Rattle.std.proofs.lemmas.List.{length-map, get_or_default}
 use Rattle.std.proofs.lemmas.Option.{slice_get-map, slice_get_read, slice_get_past, slice_get-get_or}
@@ -27,7 +27,7 @@ module _ {X Y : Type 0} (atoms : List Atom) (states : List Local) (n k : ℕ) (s
       let there : slice_get states n ≡ Some (get_or states n some_state) = slice_get-get_or states n some_state inside in
       known (get_or states n some_state) there ∙
       sym (ap (λ o. f (option_map_or (λ a. option_map_or (λ s. read a s) (slice_get states n) nothing) o nothing)) (atom-there atoms n atom within here) ∙
-           ap (λ o. f (option_map_or (λ s. read (definition_of atom) s) o nothing)) there) ∙
+      ap (λ o. f (option_map_or (λ s. read (definition_of atom) s) o nothing)) there) ∙
       ap (λ m. f (of_atom (map definition_of atoms) states m read nothing)) same
 
   -- and of one that is not

@@ -1,14 +1,14 @@
-use Rattle.std.proofs.Common.{◌≡◌, ℕ, zero, suc, ◌+◌, ◌<◌, ◌≤◌, refl, sym, ◌∙◌, ap, List, [], ◌∷◌, ◌++◌, length, map, take, drop, get_or, set, arith, Bool, true, false, cond, ◌&&◌}
+use Rattle.std.proofs.Common.{◌≡◌, ℕ, zero, suc, ◌+◌, ◌<◌, refl, sym, ◌∙◌, ap, List, [], ◌∷◌, ◌++◌, length, map, take, drop, get_or, set, arith, Bool, true, false, cond, ◌&&◌}
 use Rattle.std.specs.Prelude.{Option, Some, None, slice_get, find, filter, flat_map}
 use Rattle.std.specs.List.{list_all}
 use Rattle.std.specs.Option.{option_map_or}
-use Rattle.std.proofs.lemmas.Bool.{and_parts, and_from, eqb-true}
+use Rattle.std.proofs.lemmas.Bool.{and_parts, and_from}
 use Rattle.petri_atom.specs.Local.{Local}
 use Rattle.petri_atom.specs.Definition.{AtomDefinition, enabled, offers_number}
 use Rattle.petri_atom.specs.declared.state.Delivered.{Delivered}
 use Rattle.connector_tree.specs.declared.tree.Port.{Port}
 use Rattle.step_core.specs.Plant.{PlantDefinition}
-use Rattle.step_core.specs.Choice.{of_atom, move_of, moves_of, combinations, ChoiceDefinition, Interaction, choices_of, choices, is_possible, plant_interactions}
+use Rattle.step_core.specs.Choice.{of_atom, move_of, moves_of, combinations, choices_of, choices, is_possible, plant_interactions}
 use Rattle.step_core.specs.Step.{stepped, stepped_from}
 use Rattle.step_core.specs.declared.choice.Move.{Move}
 

@@ -1,7 +1,7 @@
 //! The choices of a global state: how many there are, and which.
 ghost use Rattle.std.specs.Prelude.{◌≡◌, ◌<◌, ◌≤◌, Some, map, length, slice_get};
 ghost use Rattle.petri_atom.specs.Atom.{definition_of};
-ghost use Rattle.step_core.specs.Choice.{choices};
+ghost use Rattle.step_core.specs.Choice.{choices, IsAllowed};
 ghost use Rattle.step_core.specs.Chosen.{choice_of};
 ghost use Rattle.step_core.specs.Fitting.{IsOf};
 ghost use Rattle.step_core.specs.Offers.{AreOffered};
@@ -35,7 +35,8 @@ impl System {
     pub fn nth_allowed(&self, states: &PlantState, place: u128) -> Choice
         requires of_plant { IsOf (plant_of self.now) states.now }
         requires place { place < length (choices (plant_of self.now) states.now) }
-        ensures { slice_get (choices (plant_of self.now) states.now) place ≡ Some (choice_of result) }
+        ensures entry { slice_get (choices (plant_of self.now) states.now) place ≡ Some (choice_of result) }
+        ensures allowed { IsAllowed (plant_of self.now) states.now (choice_of result) }
     {
         let offered = offered_sets(&self.atoms, states);
         let judged = Judged {

@@ -25,6 +25,7 @@ impl System {
     pub fn next(&self, states: &mut PlantState, choice: &Choice)
         requires of_plant { IsOf (plant_of self.now) states.old }
         requires allowed { IsAllowed (plant_of self.now) states.old (choice_of choice.now) }
+        ensures of_plant { IsOf (plant_of self.now) states.new }
         ensures next { states.new ≡ next (plant_of self.now) states.old (choice_of choice.now) }
         ensures fits { AllFit (plant_of self.now) states.old → AllFit (plant_of self.now) states.new }
     {

@@ -32,10 +32,7 @@ pub(crate) fn early_fault(atoms: &[Atom], wires: &[Wire]) -> Option<SystemFault>
 fn is_within_limits(atoms: &[Atom], wires: &[Wire]) -> bool
     ensures { result ≡ is_within_limits (plant_by atoms.now wires.now) }
 {
-    (0 < atoms.len())
-        & (atoms.len() <= MAX_ATOMS)
-        & (wires.len() <= MAX_WIRES)
-        & are_small(wires)
+    (0 < atoms.len()) & (atoms.len() <= MAX_ATOMS) & (wires.len() <= MAX_WIRES) & are_small(wires)
 }
 
 /// Whether each wire is within its limits.

@@ -1,20 +1,27 @@
 //! What no clause says: that the clauses mean what they should, on values worked out by hand.
+mod faults;
+mod runs;
+
 use crate::interactions::connector_interactions;
-use crate::state::PlantState;
+use crate::wire::{Export, Transfer, Wire};
 use connector_tree::{Child, Connector, Node, Port, TreeFault};
-use petri_atom::{Atom, AtomState, Name, Variable};
+use petri_atom::{Atom, Expression, Name, Operator, Place, Transition, Update, Variable};
 use std::alloc::{AllocError, Global};
 use std::test::Fail;
 
-fn leaf(atom: u16, trigger: bool) -> Child {
+pub(crate) fn leaf(atom: u16, trigger: bool) -> Child {
     Child {
         trigger,
-        node: Node::Leaf { atom, port: 7 },
+        node: Node::Leaf { atom, port: 0 },
     }
 }
 
-/// A connector of one port of each atom, the first of which may be a trigger.
-fn connector(alloc: Global, atoms: &[u16], trigger: bool) -> Result<Connector, AllocError> {
+/// A connector of port 0 of each atom, the first of which may be a trigger.
+pub(crate) fn connector(
+    alloc: Global,
+    atoms: &[u16],
+    trigger: bool,
+) -> Result<Connector, AllocError> {
     let mut root = Vec::new(alloc);
     for (number, atom) in atoms.iter().enumerate() {
         root.push(leaf(*atom, trigger && number == 0))?;
@@ -22,8 +29,101 @@ fn connector(alloc: Global, atoms: &[u16], trigger: bool) -> Result<Connector, A
     Ok(Connector { root })
 }
 
+pub(crate) fn name(text: &[u8]) -> Result<Name, Fail> {
+    Ok(Name::new(text).ok_or("no name")?)
+}
+
+pub(crate) fn export(leaf: u8) -> Export {
+    Export { leaf, export: 0 }
+}
+
+/// A wire of this name over port 0 of each atom, without transfers.
+pub(crate) fn wire(alloc: Global, text: &[u8], atoms: &[u16]) -> Result<Wire, Fail> {
+    Ok(Wire {
+        name: name(text)?,
+        connector: connector(alloc, atoms, false)?,
+        transfers: Vec::new(alloc),
+    })
+}
+
+/// The same with the transfer `target := value`, each by its leaf.
+pub(crate) fn wire_with_transfer(
+    alloc: Global,
+    text: &[u8],
+    atoms: &[u16],
+    target: u8,
+    value: u8,
+) -> Result<Wire, Fail> {
+    let mut made = wire(alloc, text, atoms)?;
+    made.transfers.push(Transfer {
+        target: export(target),
+        value: Expression::Variable(export(value)),
+    })?;
+    Ok(made)
+}
+
+/// The guard `< variable bound`.
+fn below(alloc: Global, bound: i64) -> Result<Expression<u8>, Fail> {
+    Ok(Expression::Apply(
+        Operator::Less,
+        Box::new(alloc, Expression::Variable(0))?,
+        Box::new(alloc, Expression::Number(bound))?,
+    ))
+}
+
+/// The update `variable := + variable 1`.
+fn count_on(alloc: Global) -> Result<Update, Fail> {
+    Ok(Update {
+        variable: 0,
+        value: Expression::Apply(
+            Operator::Add,
+            Box::new(alloc, Expression::Variable(0))?,
+            Box::new(alloc, Expression::Number(1))?,
+        ),
+    })
+}
+
+/// An atom with one marked place, a variable that its one port exports, and for each bound a transition of that port,
+/// from the place to itself, that is offered where the variable is below the bound. With `counts`, each adds 1 to it.
+pub(crate) fn atom(
+    alloc: Global,
+    text: &[u8],
+    marked: bool,
+    counts: bool,
+    bounds: &[i64],
+) -> Result<Atom, Fail> {
+    let mut places = Vec::new(alloc);
+    places.push(Place {
+        name: name(b"s")?,
+        marked,
+    })?;
+    let mut variables = Vec::new(alloc);
+    variables.push(Variable {
+        name: name(b"n")?,
+        first: 0,
+    })?;
+    let mut exports = Vec::new(alloc);
+    exports.push(0)?;
+    let mut ports = Vec::new(alloc);
+    ports.push(petri_atom::Port {
+        name: name(b"t")?,
+        exports,
+    })?;
+    let mut transitions = Vec::new(alloc);
+    for bound in bounds {
+        let sources = vec![in alloc; 0u8]?;
+        let targets = vec![in alloc; 0u8]?;
+        let mut updates = Vec::new(alloc);
+        if counts {
+            updates.push(count_on(alloc)?)?;
+        }
+        transitions.push(Transition::new(0, sources, targets, below(alloc, *bound)?, updates))?;
+    }
+    Ok(Atom::new(alloc, name(text)?, places, variables, ports, transitions)?)
+}
+
 fn port(atom: u16) -> Port {
-    Port { atom, port: 7 }
+    Port { atom, port: 0 }
 }
 
 #[test]
@@ -58,46 +158,6 @@ fn a_fault_of_the_tree_is_told(rt: HostRuntime) -> Result<(), Fail> {
     ] {
         let told = connector_interactions(alloc, 9, 0, &connector(alloc, atoms, false)?);
         assert_eq!(rt; told.err(), Some(fault));
-    }
-    Ok(())
-}
-
-/// An atom with a variable of this first value.
-fn atom(alloc: Global, first: i64) -> Result<Atom, Fail> {
-    let name = Name::new(b"A").ok_or("no name")?;
-    let mut variables = Vec::new(alloc);
-    variables.push(Variable {
-        name: name.copy(),
-        first,
-    })?;
-    Ok(Atom::new(
-        alloc,
-        name,
-        Vec::new(alloc),
-        variables,
-        Vec::new(alloc),
-        Vec::new(alloc),
-    )?)
-}
-
-#[test]
-fn each_atom_has_its_own_state(rt: HostRuntime) -> Result<(), Fail> {
-    let alloc = rt.alloc();
-    let mut atoms = Vec::new(alloc);
-    for first in [3, 5, 8] {
-        atoms.push(atom(alloc, first)?)?;
-    }
-    let mut states = PlantState::first(alloc, &atoms)?;
-    assert_eq!(rt; states.len(), 3);
-    let mut values = [0; 16];
-    values[0] = 13;
-    states.set(1, AtomState::of(0, 1, values));
-    for (number, value) in [(0, 3), (1, 13), (2, 8)] {
-        assert_eq!(rt;
-            states.state(number).values(),
-            [value].as_slice(),
-            "{number}"
-        );
     }
     Ok(())
 }

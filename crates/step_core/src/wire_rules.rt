@@ -52,12 +52,7 @@ fn wire_fault(
 }
 
 /// The first rule that the wire breaks; `earlier` are the wires before it.
-fn fault_of_wire(
-    atoms: &[Atom],
-    earlier: &[Wire],
-    wire: &Wire,
-    ports: &[Port],
-) -> Option<WireFault>
+fn fault_of_wire(atoms: &[Atom], earlier: &[Wire], wire: &Wire, ports: &[Port]) -> Option<WireFault>
     requires { ports.now ≡ leaves wire.now.connector }
     ensures { result ≡ fault_of_wire (map definition_of atoms.now) (map wire_of earlier.now) (wire_of wire.now) }
 {
@@ -153,7 +148,9 @@ fn exports(atoms: &[Atom], leaf: &Port, export: u8) -> bool
 fn name_known_variables(known: &Exported, transfers: &[Transfer]) -> bool
     ensures { result ≡ list_all (λ t. names_known (map definition_of known.now.atoms.now) known.now.ports.now (transfer_of t)) transfers.now }
 {
-    transfers.iter().all(|transfer| names_known(known, transfer))
+    transfers
+        .iter()
+        .all(|transfer| names_known(known, transfer))
 }
 
 /// Whether each exported variable that the transfer names is there.

@@ -1,5 +1,5 @@
-use Rattle.std.proofs.Common.{◌≡◌, ◌==◌, ◌+◌, ◌∙◌, sym, ap, cond, drop, get_or, ◌∷◌}
-use Rattle.std.specs.Prelude.{Some, find, slice_get}
+use Rattle.std.proofs.Common.{◌==◌, ◌+◌, ◌∙◌, sym, ap, cond, drop, get_or}
+use Rattle.std.specs.Prelude.{Some, find}
 use Rattle.std.proofs.lemmas.Bool.{eq-eqb}
 use Rattle.std.proofs.lemmas.List.{drop_more}
 use Rattle.std.proofs.lemmas.Option.{slice_get-get_or}

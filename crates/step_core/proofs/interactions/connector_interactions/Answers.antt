@@ -1,4 +1,4 @@
-use Rattle.std.proofs.Common.{◌≤◌, ◌∙◌, ap, arith, length, get_or, ◌≡◌}
+use Rattle.std.proofs.Common.{◌∙◌, ap, arith, length, get_or, ◌≡◌}
 use Rattle.connector_tree.specs.Tree as tree
 use Rattle.step_core.proofs.Ports.{few_ports}
 use Rattle.step_core.proofs.interactions.connector_interactions.Goals as goal

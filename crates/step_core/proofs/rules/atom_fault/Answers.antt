@@ -1,9 +1,8 @@
-use Rattle.std.proofs.Common.{◌≡◌, Bool, cond, ◌∙◌, sym, ap, map, take}
+use Rattle.std.proofs.Common.{cond, ◌∙◌, sym, ap, take}
 use Rattle.std.specs.Prelude.{Some, None}
 use Rattle.std.specs.List.{list_any}
 use Rattle.petri_atom.specs.Atom.{definition_of}
 use Rattle.petri_atom.specs.Name.{is_same_text}
-use Rattle.petri_atom.specs.declared.atom.Atom.{Atom}
 use Rattle.step_core.specs.declared.fault.SystemFault.TheVariants.{BadAtom}
 use Rattle.step_core.proofs.Told.{any-of-first}
 use Rattle.step_core.proofs.rules.atom_fault.Goals as goal

@@ -1,5 +1,4 @@
 use Rattle.std.proofs.Common.{◌&&◌, ◌∙◌, ap, sym, length, map, leb}
-use Rattle.std.specs.List.{list_all}
 use Rattle.std.proofs.lemmas.List.{length-map}
 use Rattle.std.proofs.lemmas.List.Folds.{list_all-map}
 use Rattle.petri_atom.specs.Expression.{word_count}

@@ -1,5 +1,5 @@
-use Rattle.std.proofs.Common.{◌≡◌, ◌∙◌, sym, ap, map, take}
-use Rattle.std.specs.Prelude.{Some, None, option_map}
+use Rattle.std.proofs.Common.{◌∙◌, sym, ap, map}
+use Rattle.std.specs.Prelude.{option_map}
 use Rattle.std.proofs.lemmas.List.{take-map}
 use Rattle.petri_atom.specs.Atom.{definition_of}
 use Rattle.step_core.specs.Rules.{fault_of_wire}

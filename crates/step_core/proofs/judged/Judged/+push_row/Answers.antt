@@ -1,4 +1,4 @@
-use Rattle.std.proofs.Common.{◌≡◌, ◌<◌, ◌≤◌, ◌/◌, ◌%◌, ◌++◌, ◌∷◌, [], ◌∙◌, ap, sym, arith, map, get_or, length, take, drop, ◌-◌}
+use Rattle.std.proofs.Common.{◌/◌, ◌%◌, ◌++◌, ◌∷◌, [], ◌∙◌, ap, sym, arith, map, get_or, length, take, drop, ◌-◌}
 use Rattle.std.proofs.lemmas.List.{append_assoc, length-append}
 use Rattle.petri_atom.specs.Atom.{definition_of}
 use Rattle.connector_tree.specs.declared.tree.Port.{Port}

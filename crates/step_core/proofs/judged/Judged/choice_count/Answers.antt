@@ -1,4 +1,4 @@
-use Rattle.std.proofs.Common.{◌≤◌, ◌*◌, ◌^◌, ap, length, arith, le_trans, pow_mono}
+use Rattle.std.proofs.Common.{◌≤◌, ◌*◌, ap, length, arith, le_trans, pow_mono}
 use Rattle.step_core.proofs.judged.Judged.choice_count.Goals as goal
 
 pub returns-then-is_possible-clause-few : goal.returns-then-is_possible-clause-few

@@ -1,11 +1,8 @@
-use Rattle.std.proofs.Common.{ℕ, List, [], ◌<◌, ◌∙◌, ap, sym, arith, map, length, false, refl}
-use Rattle.std.specs.Prelude.{Option, None, option_map, slice_get}
+use Rattle.std.proofs.Common.{[], ◌∙◌, sym, map, length, refl}
 use Rattle.std.proofs.lemmas.List.{length-map}
-use Rattle.std.proofs.lemmas.Option.{slice_get-map}
-use Rattle.petri_atom.specs.Atom.{definition_of}
-use Rattle.petri_atom.specs.Definition.{enabled, offers_port}
+use Rattle.petri_atom.specs.Definition.{enabled}
 use Rattle.step_core.specs.Choice.{move_of}
-use Rattle.step_core.proofs.Judging.{of_atom-there, of_atom-past, atom-there, judged-set}
+use Rattle.step_core.proofs.Judging.{of_atom-there, of_atom-past, judged-set}
 use Rattle.step_core.proofs.judged.Judged.move_count.Goals as goal
 
 pub returns-in-Some-clause-count : goal.returns-in-Some-clause-count

@@ -1,4 +1,4 @@
-use Rattle.std.proofs.Common.{◌≡◌, ◌<◌, ◌≤◌, ◌+◌, ◌-◌, ◌∙◌, ap, sym, arith, map, drop, length}
+use Rattle.std.proofs.Common.{◌<◌, ◌≤◌, ◌+◌, ◌-◌, ◌∙◌, ap, sym, arith, map, drop, length}
 use Rattle.std.specs.Prelude.{slice_get, flat_map}
 use Rattle.petri_atom.specs.Atom.{definition_of}
 use Rattle.step_core.specs.Choice.{choices_in}

@@ -1,11 +1,6 @@
-use Rattle.std.proofs.Common.{ℕ, List, [], ◌<◌, ◌∙◌, ap, sym, arith, map, length, false, refl}
-use Rattle.std.specs.Prelude.{Option, None, option_map, slice_get}
-use Rattle.std.proofs.lemmas.List.{length-map}
-use Rattle.std.proofs.lemmas.Option.{slice_get-map}
-use Rattle.petri_atom.specs.Atom.{definition_of}
-use Rattle.petri_atom.specs.Definition.{enabled, offers_port}
-use Rattle.step_core.specs.Choice.{move_of}
-use Rattle.step_core.proofs.Judging.{of_atom-there, of_atom-past, atom-there, judged-set}
+use Rattle.std.proofs.Common.{false, refl}
+use Rattle.petri_atom.specs.Definition.{offers_port}
+use Rattle.step_core.proofs.Judging.{of_atom-there, of_atom-past, judged-set}
 use Rattle.step_core.proofs.judged.Judged.offers.Goals as goal
 
 pub returns-in-Some : goal.returns-in-Some

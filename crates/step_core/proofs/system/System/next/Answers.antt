@@ -1,5 +1,6 @@
-use Rattle.std.proofs.Common.{◌≡◌, ◌==◌, ◌<◌, ◌≤◌, ◌∙◌, sym, ap, subst, arith, length, map, get_or}
-use Rattle.std.specs.Prelude.{Some, find}
+use Rattle.std.proofs.Common.{◌==◌, ◌<◌, ◌∙◌, sym, ap, subst, arith, length}
+use Rattle.std.specs.Prelude.{find}
+use Rattle.std.proofs.lemmas.List.{length-map}
 use Rattle.petri_atom.specs.Atom.{definition_of}
 use Rattle.step_core.specs.Chosen.{choice_of}
 use Rattle.step_core.specs.Fitting.{AllFit}
@@ -57,3 +58,9 @@ returns-clause-next c =
 
 pub returns-clause-fits : goal.returns-clause-fits
 returns-clause-fits c = c.loop-number.invariant.1
+
+pub returns-clause-of_plant : goal.returns-clause-of_plant
+returns-clause-of_plant c =
+    let system = c.args.self.now in
+    items-length system.atoms.items system.wires.items c.args.states.now (choice_of c.args.choice.now) c.requires.of_plant c.loop-number.number c.loop-number.states-inside.states.items c.loop-number.invariant.0 ∙
+    sym (length-map system.atoms.items definition_of)
