@@ -10,3 +10,4 @@ pub mod Fitting
 pub mod Rules
 pub mod System
 pub mod Delivery
+pub mod Messages

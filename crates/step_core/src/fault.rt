@@ -1,7 +1,8 @@
 //! Why atoms and wires make no plant.
-
 use connector_tree::TreeFault;
 use std::alloc::AllocError;
+use std::error::Error;
+use std::fmt;
 
 /// What is wrong with a wire beside its tree.
 #[derive(Clone, Copy, Debug, PartialEq, Eq)]
@@ -30,6 +31,49 @@ pub enum SystemFault {
     /// There was no memory for the plant.
     Memory,
 }
+
+impl fmt::Display for WireFault {
+    ghost use Rattle.std.specs.Prelude.{Some};
+    ghost use Rattle.step_core.specs.Messages.{wire_message};
+
+    ghost output = { λ fault. Some (wire_message fault) };
+
+    fn fmt<W: fmt::Write>(&self, f: &mut fmt::Formatter<W>) -> fmt::Result {
+        match self {
+            WireFault::NameTwice => f.write_str("an earlier connector has its name"),
+            WireFault::UnknownPort => f.write_str("it names an atom or a port that is not there"),
+            WireFault::UnknownVariable => {
+                f.write_str("a transfer names a variable that no leaf of it exports")
+            }
+            WireFault::TargetTwice => f.write_str("two transfers have the same target"),
+        }
+    }
+}
+
+impl Error for WireFault {}
+
+impl fmt::Display for SystemFault {
+    ghost use Rattle.std.specs.Prelude.{Some};
+    ghost use Rattle.step_core.specs.Messages.{message_of};
+
+    ghost output = { λ fault. Some (message_of fault) };
+
+    fn fmt<W: fmt::Write>(&self, f: &mut fmt::Formatter<W>) -> fmt::Result {
+        match self {
+            SystemFault::Limit => f.write_str("there is no atom, or a limit of plants is passed"),
+            SystemFault::BadAtom(atom) => {
+                write!(f, "atom {atom} has the name of an earlier one")
+            }
+            SystemFault::BadConnector(connector, fault) => {
+                write!(f, "connector {connector}: {fault}")
+            }
+            SystemFault::BadWire(connector, fault) => write!(f, "connector {connector}: {fault}"),
+            SystemFault::Memory => f.write_str("not enough memory for the plant"),
+        }
+    }
+}
+
+impl Error for SystemFault {}
 
 impl From<AllocError> for SystemFault {
     ghost use Rattle.std.specs.Prelude.{◌≡◌};

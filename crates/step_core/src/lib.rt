@@ -1,12 +1,22 @@
 //! Choices and steps of a plant.
 //!
-//! What stands so far: what a plant is and which choices a state has, as definitions (`specs/Plant.antt`,
-//! `specs/Choice.antt`), and as code the list of a connector's interactions and the global state.
+//! A [`System`] is a plant: atoms, and wires, which are connectors with their transfers. It keeps each rule of a plant by its
+//! type ([`System::new`] tells the first rule that is broken), and has all of its interactions at hand. Contracts read it by
+//! `plant_of`, as a `PlantDefinition` (`specs/Plant.antt`).
 //!
-//! - `wire`: a connector with its name and its transfers.
-//! - `interaction`: the interactions of a connector, each with its ports in rising order of their atoms.
-//! - `state`: a local state for each atom.
-//! - `choice`: what one participant of a choice does.
+//! A [`PlantState`] is a local state for each atom; contracts see it as that list. In a state
+//! [`System::count_allowed`] and [`System::nth_allowed`] are the length and the entries of the list of its choices
+//! (`specs/Choice.antt`); [`System::transfer`] and [`System::next`] are what a choice delivers and what it leaves
+//! (`specs/Step.antt`). None of these takes memory.
+//!
+//! - `wire`: connectors with their names and transfers. `limits`: how large a plant may be.
+//! - `system`: what a system keeps. `making`: how it is made, and what it lends. `rules`, `wire_rules`: the rules of a plant, as
+//!   tests. `fault`: which of them is broken.
+//! - `interaction`, `interactions`: the interactions of a connector, each with its ports in rising order of their atoms.
+//! - `state`: a local state for each atom. `choice`: a choice, and the moves that it makes.
+//! - `judged`: a state with the offered transitions of its atoms, each judged once. `choices`: how many choices a state has,
+//!   and which.
+//! - `transfers`: what a choice delivers. `firing`: the state that it leaves.
 #![tactic(auto)]
 
 mod choice;
