@@ -1,0 +1,102 @@
+//! Reading an expression from the words of a line.
+ghost use Rattle.std.specs.Prelude.{◌≡◌, ℕ, suc, ◌-◌, ◌≤◌, ◌<◌, ◌∷◌, IfOk, IfErr, OnOk};
+ghost use Rattle.petri_atom.specs.Expression.{tree_of, negation, operation};
+ghost use Rattle.petri_atom.specs.declared.parts.TheConstants.{MAX_WORDS};
+ghost use Rattle.plant_expressions.specs.Expressions.{expression_in, expressions_in, on_trees, led_by, wanted_behind, PassesOver};
+
+use crate::fault::ExpressionFault;
+use crate::word::{Variables, Word, read_word};
+use petri_atom::{Expression, MAX_WORDS, Operator};
+use plant_words::Words;
+use std::alloc::{AllocError, Global};
+
+/// The expression that stands first in the words. The words behind it are left, or, where it is a fault, the words
+/// from its place on.
+pub fn read_expression<V: Drop, N: Variables<V>>(
+    alloc: Global,
+    words: &mut Words<'_>,
+    names: &N,
+) -> Result<Expression<V>, ExpressionFault>
+    ensures expression { IfOk result
+        (λ expression. expression_in (N.variable_named names.now) words.old ≡ Ok (tree_of expression, words.new)) }
+    ensures fault { IfErr result
+        (λ fault. ¬ (fault ≡ ExpressionFault.Memory) → expression_in (N.variable_named names.now) words.old ≡ Err fault) }
+    ensures passed { PassesOver (N.variable_named names.now) MAX_WORDS words.old words.new }
+{
+    let mut limit = MAX_WORDS;
+    read_operand(alloc, words, &mut limit, names)
+}
+
+/// The expression that stands first in the words, of at most so many; the limit falls by the words that it has.
+#[tactic(auto, using(crate::proofs::Passing::passes_both))]
+fn read_operand<V: Drop, N: Variables<V>>(
+    alloc: Global,
+    words: &mut Words<'_>,
+    limit: &mut usize,
+    names: &N,
+) -> Result<Expression<V>, ExpressionFault>
+    ensures expression { IfOk result (λ expression. (more : ℕ) →
+        expressions_in (N.variable_named names.now) limit.old (suc more) words.old
+        ≡ on_trees (λ trees. tree_of expression ∷ trees)
+            (expressions_in (N.variable_named names.now) limit.new more words.new)) }
+    ensures fault { IfErr result (λ fault. ¬ (fault ≡ ExpressionFault.Memory) → (more : ℕ) →
+        expressions_in (N.variable_named names.now) limit.old (suc more) words.old ≡ Err fault) }
+    ensures within { limit.new ≤ limit.old }
+    ensures passed { PassesOver (N.variable_named names.now) (limit.old - limit.new) words.old words.new }
+{
+    match next_word(words, limit, names)? {
+        Word::Number(number) => Ok(Expression::Number(number)),
+        Word::Variable(variable) => Ok(Expression::Variable(variable)),
+        Word::Negation => {
+            let operand = read_operand(alloc, words, limit, names)?;
+            Ok(negation(alloc, operand)?)
+        }
+        Word::Operation(operator) => {
+            let left = read_operand(alloc, words, limit, names)?;
+            let right = read_operand(alloc, words, limit, names)?;
+            Ok(operation(alloc, operator, left, right)?)
+        }
+    }
+}
+
+/// What the next word says; the limit falls by one. A word that is a fault stays the next.
+fn next_word<V, N: Variables<V>>(
+    words: &mut Words<'_>,
+    limit: &mut usize,
+    names: &N,
+) -> Result<Word<V>, ExpressionFault>
+    ensures word { IfOk result (λ word. (more : ℕ) →
+        expressions_in (N.variable_named names.now) limit.old (suc more) words.old
+        ≡ on_trees (led_by word)
+            (expressions_in (N.variable_named names.now) limit.new (wanted_behind word more) words.new)) }
+    ensures fault { IfErr result (λ fault. (more : ℕ) →
+        expressions_in (N.variable_named names.now) limit.old (suc more) words.old ≡ Err fault) }
+    ensures falls { OnOk result (limit.new < limit.old) }
+    ensures within { limit.new ≤ limit.old }
+    ensures passed { PassesOver (N.variable_named names.now) (limit.old - limit.new) words.old words.new }
+{
+    let word = words.peek().ok_or(ExpressionFault::BadExpression)?;
+    let left = limit.checked_sub(1).ok_or(ExpressionFault::Limit)?;
+    let meaning = read_word(word, names)?;
+    words.next_word();
+    *limit = left;
+    Ok(meaning)
+}
+
+fn negation<V: Drop>(alloc: Global, operand: Expression<V>) -> Result<Expression<V>, AllocError>
+    ensures { IfOk result (λ expression. tree_of expression ≡ negation (tree_of operand)) }
+{
+    Ok(Expression::Not(Box::new(alloc, operand)?))
+}
+
+fn operation<V: Drop>(
+    alloc: Global,
+    operator: Operator,
+    left: Expression<V>,
+    right: Expression<V>,
+) -> Result<Expression<V>, AllocError>
+    ensures { IfOk result
+        (λ expression. tree_of expression ≡ operation operator (tree_of left) (tree_of right)) }
+{
+    Ok(Expression::Apply(operator, Box::new(alloc, left)?, Box::new(alloc, right)?))
+}
