@@ -1,6 +1,5 @@
 -- Words that were passed over.
-use Rattle.std.proofs.Common.{◌≡◌, ◌∙◌, sym, ℕ, suc, ◌+◌, ◌-◌, ◌≤◌, ap, refl, ◌<◌, true, ◌&&◌, List, [], ◌∷◌, ◌++◌, length, append_assoc, Option, arith, rules}
-use Rattle.std.specs.List.{list_all}
+use Rattle.std.proofs.Common.{◌≡◌, ℕ, ◌-◌, ◌≤◌, refl, ◌<◌, true, List, [], ◌∷◌, ◌++◌, append_assoc, Option, arith, rules}
 use Rattle.std.proofs.lemmas.List.{length-append}
 use Rattle.std.proofs.lemmas.List.Folds.{list_all-append}
 use Rattle.plant_expressions.specs.Expressions.{has_meaning, PassesOver}

@@ -1,5 +1,5 @@
 -- Laws of readings.
-use Rattle.std.proofs.Common.{◌≡◌, ◌∙◌, refl, sym, ℕ, suc, ap, List, [], ◌∷◌, Option, Result, Ok, Err, IfOk, IfErr}
+use Rattle.std.proofs.Common.{◌≡◌, ◌∙◌, refl, sym, ℕ, suc, ap, List, [], ◌∷◌, Result, Ok, Err, IfOk, IfErr}
 use Rattle.petri_atom.specs.Expression.{Tree, tree_of, negation, operation}
 use Rattle.petri_atom.specs.declared.expression.Expression.{Expression}
 use Rattle.petri_atom.specs.declared.expression.Operator.{Operator}

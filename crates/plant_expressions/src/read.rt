@@ -10,8 +10,8 @@ use petri_atom::{Expression, MAX_WORDS, Operator};
 use plant_words::Words;
 use std::alloc::{AllocError, Global};
 
-/// The expression that stands first in the words. The words behind it are left, or, where it is a fault, the words
-/// from its place on.
+/// The expression that stands first in the words, and the words behind it stay; or the first fault from the left. Of
+/// a fault it is not said which words stay, but that each one before them means something.
 pub fn read_expression<V: Drop, N: Variables<V>>(
     alloc: Global,
     words: &mut Words<'_>,
@@ -38,7 +38,7 @@ fn read_operand<V: Drop, N: Variables<V>>(
     ensures expression { IfOk result (λ expression. (more : ℕ) →
         expressions_in (N.variable_named names.now) limit.old (suc more) words.old
         ≡ on_trees (λ trees. tree_of expression ∷ trees)
-            (expressions_in (N.variable_named names.now) limit.new more words.new)) }
+        (expressions_in (N.variable_named names.now) limit.new more words.new)) }
     ensures fault { IfErr result (λ fault. ¬ (fault ≡ ExpressionFault.Memory) → (more : ℕ) →
         expressions_in (N.variable_named names.now) limit.old (suc more) words.old ≡ Err fault) }
     ensures within { limit.new ≤ limit.old }
@@ -68,7 +68,7 @@ fn next_word<V, N: Variables<V>>(
     ensures word { IfOk result (λ word. (more : ℕ) →
         expressions_in (N.variable_named names.now) limit.old (suc more) words.old
         ≡ on_trees (led_by word)
-            (expressions_in (N.variable_named names.now) limit.new (wanted_behind word more) words.new)) }
+        (expressions_in (N.variable_named names.now) limit.new (wanted_behind word more) words.new)) }
     ensures fault { IfErr result (λ fault. (more : ℕ) →
         expressions_in (N.variable_named names.now) limit.old (suc more) words.old ≡ Err fault) }
     ensures falls { OnOk result (limit.new < limit.old) }

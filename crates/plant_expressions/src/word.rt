@@ -29,7 +29,10 @@ pub(crate) enum Word<V> {
 }
 
 /// What the word says, where an expression may stand.
-pub(crate) fn read_word<V, N: Variables<V>>(word: &[u8], names: &N) -> Result<Word<V>, ExpressionFault>
+pub(crate) fn read_word<V, N: Variables<V>>(
+    word: &[u8],
+    names: &N,
+) -> Result<Word<V>, ExpressionFault>
     ensures { result ≡ word_in (N.variable_named names.now) word.now }
 {
     if word == b"!".as_slice() {

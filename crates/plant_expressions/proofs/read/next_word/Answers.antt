@@ -1,7 +1,6 @@
-use Rattle.std.proofs.Common.{rules, arith, ◌≡◌, ◌∙◌, ap, sym, ◌∷◌}
+use Rattle.std.proofs.Common.{rules, ◌≡◌, ◌∙◌, ap, sym, ◌∷◌}
 use Rattle.std.specs.Prelude.{is_ok}
 use Rattle.plant_expressions.proofs.Passing.{passes_one}
-use Rattle.plant_expressions.specs.Expressions.{has_meaning, PassesOver}
 use Rattle.plant_expressions.proofs.read.next_word.Goals as goal
 
 pub returns-clause-passed : goal.returns-clause-passed
