@@ -15,7 +15,7 @@ wanted_behind (Variable v) more = more
 wanted_behind Negation more = suc more
 wanted_behind (Operation o) more = suc (suc more)
 
--- what a word makes of the expressions that stand behind it: it takes the first ones as its operands
+-- what a word makes of the expressions that stand behind it: it takes the first ones as its operands, which are there
 abbrev pub led_by : {V : Type 0} → Word V → List (Tree V) → List (Tree V)
 led_by (Number n) trees = number n ∷ trees
 led_by (Variable v) trees = variable v ∷ trees
@@ -46,7 +46,7 @@ expressions_in named zero (suc more) (word ∷ words) = Err Limit
 expressions_in named (suc limit) (suc more) (word ∷ words) =
     behind (word_in named word) more (λ wanted. expressions_in named limit wanted words)
 
--- the one expression, and the words that are left
+-- the one expression of a row of one, and the words that are left
 abbrev pub only : {V : Type 0} → Reading V → Result (Tree V × List (List ℕ)) ExpressionFault
 only (Ok ((e ∷ trees), words)) = Ok (e, words)
 only (Ok ([], words)) = Err BadExpression
