@@ -1,0 +1,112 @@
+-- Worked lines, as computed facts. The words are those behind the line's first one.
+use Rattle.std.proofs.Common.{◌≡◌, [], ◌∷◌, codes, replicate, refl, true, false, pos, negsuc, Some, None, Ok, Err}
+use Rattle.petri_atom.specs.Definition.{AtomDefinition}
+use Rattle.plant_words.specs.Words.{words_of}
+use Rattle.atom_lines.specs.declared.fault.LineFault.TheVariants.{BadName, Twice, UnknownName, BadNumber, Shape, Limit}
+use Rattle.atom_lines.specs.Lookup.{place_number, variable_number}
+use Rattle.atom_lines.specs.Rows.{place_row, variable_row, port_row, with_place, with_variable, with_port}
+
+-- place p, variables n and m, port t
+sample : AtomDefinition
+sample = record {
+  name = codes "A";
+  places = record { name = codes "p"; marked = true } ∷ [];
+  variables = record { name = codes "n"; first = pos 1 } ∷ record { name = codes "m"; first = pos 0 } ∷ [];
+  ports = record { name = codes "t"; exports = [] } ∷ [];
+  transitions = [];
+}
+
+-- as many places as an atom may have
+full : AtomDefinition
+unfolding sample
+full = record sample { places = replicate 64 (record { name = codes "p"; marked = false }) }
+
+numbers_count_from_zero : variable_number sample (codes "m") ≡ Some 1
+unfolding sample
+numbers_count_from_zero = refl
+
+a_name_of_another_part_is_unknown : place_number sample (codes "n") ≡ None
+unfolding sample
+a_name_of_another_part_is_unknown = refl
+
+-- ---- places
+
+an_unmarked_place : place_row (words_of (codes "q")) sample ≡ Ok (with_place sample (record { name = codes "q"; marked = false }))
+unfolding sample
+an_unmarked_place = refl
+
+a_marked_place : place_row (words_of (codes "q init")) sample ≡ Ok (with_place sample (record { name = codes "q"; marked = true }))
+unfolding sample
+a_marked_place = refl
+
+a_place_may_be_named_as_a_variable : place_row (words_of (codes "n")) sample ≡ Ok (with_place sample (record { name = codes "n"; marked = false }))
+unfolding sample
+a_place_may_be_named_as_a_variable = refl
+
+no_name_of_a_place : place_row [] sample ≡ Err Shape
+unfolding sample
+no_name_of_a_place = refl
+
+a_reserved_word_is_no_name : place_row (words_of (codes "to init")) sample ≡ Err BadName
+unfolding sample
+a_reserved_word_is_no_name = refl
+
+a_place_twice : place_row (words_of (codes "p inti")) sample ≡ Err Twice
+unfolding sample
+a_place_twice = refl
+
+init_misspelt : place_row (words_of (codes "q inti")) sample ≡ Err Shape
+unfolding sample
+init_misspelt = refl
+
+a_word_behind_init : place_row (words_of (codes "q init x")) sample ≡ Err Shape
+unfolding sample
+a_word_behind_init = refl
+
+a_place_too_many : place_row (words_of (codes "to")) full ≡ Err Limit
+unfolding sample full
+a_place_too_many = refl
+
+-- ---- variables
+
+a_negative_first_value : variable_row (words_of (codes "k -7")) sample ≡ Ok (with_variable sample (record { name = codes "k"; first = negsuc 6 }))
+unfolding sample
+a_negative_first_value = refl
+
+a_value_that_is_no_number : variable_row (words_of (codes "k 7x y")) sample ≡ Err BadNumber
+unfolding sample
+a_value_that_is_no_number = refl
+
+no_value : variable_row (words_of (codes "k")) sample ≡ Err Shape
+unfolding sample
+no_value = refl
+
+a_word_behind_the_value : variable_row (words_of (codes "k 7 8")) sample ≡ Err Shape
+unfolding sample
+a_word_behind_the_value = refl
+
+-- ---- ports
+
+exports_by_number_in_written_order : port_row (words_of (codes "u m n")) sample ≡ Ok (with_port sample (record { name = codes "u"; exports = 1 ∷ 0 ∷ [] }))
+unfolding sample
+exports_by_number_in_written_order = refl
+
+a_port_without_exports : port_row (words_of (codes "u")) sample ≡ Ok (with_port sample (record { name = codes "u"; exports = [] }))
+unfolding sample
+a_port_without_exports = refl
+
+an_export_that_is_no_variable : port_row (words_of (codes "u n p n")) sample ≡ Err UnknownName
+unfolding sample
+an_export_that_is_no_variable = refl
+
+an_export_twice : port_row (words_of (codes "u n n p")) sample ≡ Err Twice
+unfolding sample
+an_export_twice = refl
+
+four_exports : AtomDefinition
+unfolding sample
+four_exports = record sample { variables = record { name = codes "a"; first = pos 0 } ∷ record { name = codes "b"; first = pos 0 } ∷ record { name = codes "c"; first = pos 0 } ∷ record { name = codes "d"; first = pos 0 } ∷ [] }
+
+a_fifth_export : port_row (words_of (codes "u a b c d a")) four_exports ≡ Err Limit
+unfolding sample four_exports
+a_fifth_export = refl

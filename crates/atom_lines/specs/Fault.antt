@@ -1,0 +1,18 @@
+use Rattle.std.specs.Prelude.{◌≡◌, ◌≢◌, ℕ, Result, Err}
+use Rattle.atom_lines.specs.declared.fault.LineFault.{LineFault}
+use Rattle.atom_lines.specs.declared.fault.LineFault.TheVariants.{BadName, Twice, UnknownName, BadExpression, BadNumber, Shape, Limit, Memory}
+
+-- the number of a fault, as it is printed
+abbrev pub number_of : LineFault → ℕ
+number_of BadName = 5
+number_of Twice = 6
+number_of UnknownName = 7
+number_of BadExpression = 8
+number_of BadNumber = 9
+number_of Shape = 10
+number_of Limit = 13
+number_of Memory = 15
+
+-- a fault that is told is the one of what was read, or that memory ran out
+abbrev pub IsFaultOf : {A : Type 0} → Result A LineFault → LineFault → Type 0
+IsFaultOf read fault = fault ≢ Memory → read ≡ Err fault

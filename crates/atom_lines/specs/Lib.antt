@@ -1,0 +1,5 @@
+pub mod Fault
+pub mod Reading
+pub mod Lookup
+pub mod Rows
+pub mod Draft

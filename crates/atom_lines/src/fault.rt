@@ -1,0 +1,61 @@
+//! Why a line of a plant text says nothing that its atom could take.
+ghost use Rattle.std.specs.Prelude.{◌≡◌};
+ghost use Rattle.atom_lines.specs.Fault.{number_of};
+ghost use Rattle.atom_lines.specs.declared.fault.LineFault.TheVariants as fault;
+
+use std::alloc::{AllocError, AllocFailed};
+
+/// The fault of a line, told by its first word from the left that is at fault, or that memory ran out.
+#[derive(Clone, Copy, Debug, PartialEq, Eq)]
+pub enum LineFault {
+    /// A word that must be a name is none, or is reserved.
+    BadName,
+    /// The name is declared already, or stands twice where each may stand once.
+    Twice,
+    /// No earlier line of the atom declares the name.
+    UnknownName,
+    /// A word is no part of an expression, or an operand is missing.
+    BadExpression,
+    /// A word that must be a number is none, or is outside of an `i64`.
+    BadNumber,
+    /// A word is missing, stands where another must, or is left over.
+    Shape,
+    /// The atom, a port or a transition would have more parts than it may.
+    Limit,
+    /// Memory ran out.
+    Memory,
+}
+
+impl LineFault {
+    /// The number of the fault, as it is printed.
+    pub fn number(&self) -> u8
+        ensures { result ≡ number_of self.now }
+    {
+        match self {
+            LineFault::BadName => 5,
+            LineFault::Twice => 6,
+            LineFault::UnknownName => 7,
+            LineFault::BadExpression => 8,
+            LineFault::BadNumber => 9,
+            LineFault::Shape => 10,
+            LineFault::Limit => 13,
+            LineFault::Memory => 15,
+        }
+    }
+}
+
+impl From<AllocError> for LineFault {
+    ghost from_gives = { λ _ told. told ≡ fault.Memory };
+
+    fn from(_: AllocError) -> Self {
+        LineFault::Memory
+    }
+}
+
+impl<T: Drop> From<AllocFailed<T>> for LineFault {
+    ghost from_gives = { λ _ told. told ≡ fault.Memory };
+
+    fn from(_: AllocFailed<T>) -> Self {
+        LineFault::Memory
+    }
+}

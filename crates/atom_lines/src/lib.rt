@@ -1,0 +1,34 @@
+//! The lines of a plant text that describe one atom, each applied to the atom so far.
+//!
+//! An [`AtomDraft`] is an atom with a name, to which lines add parts in written order. A layer above cuts a
+//! line into words, reads its first word, knows by it which kind of part the line adds, and hands on the words
+//! behind it.
+//!
+//! | Line | Adds | By |
+//! |---|---|---|
+//! | `place NAME`, `place NAME init` | a place, marked at first with `init` | [`AtomDraft::add_place`] |
+//! | `var NAME INT` | a variable with its first value | [`AtomDraft::add_variable`] |
+//! | `port NAME VAR..` | a port that exports 0 to 4 different variables | [`AtomDraft::add_port`] |
+//!
+//! What a line makes of the atom, or which fault it has, is one definition for each kind (`specs/Rows.antt`), on
+//! the words and the atom that `drafted` shows. A fault is told by the first word from the left that is at
+//! fault. Where a part would be one too many for the atom, that is the line's first word; where a port would
+//! export one variable too many, it is that variable's word. A refused line leaves the draft as it was.
+//!
+//! A name is declared where it is new, and has to be a [`petri_atom::Name`]. Where it is used, it is looked up alone: a
+//! word that is no name is as unknown as one that no line declared. Places, variables and ports may share names.
+//!
+//! - `draft`: the atom so far, and its lines. `fault`: why a line is refused.
+//! - `reading`: steps that take words. `lookup`: parts by their names.
+#![tactic(auto)]
+
+mod draft;
+mod fault;
+mod lookup;
+mod reading;
+
+pub use draft::AtomDraft;
+pub use fault::LineFault;
+
+#[cfg(test)]
+mod tests;

@@ -1,0 +1,62 @@
+//! Steps of reading a line: each takes words, or tells the fault of one.
+ghost use Rattle.std.specs.Prelude.{◌≡◌, drop};
+ghost use Rattle.atom_lines.specs.Reading.{check, first_name, first_number, at_end, mark_in, value_in};
+
+use crate::fault::LineFault;
+use petri_atom::Name;
+use plant_words::{Words, read_int, read_name};
+
+/// The fault, unless the test passes.
+pub(crate) fn check(passes: bool, fault: LineFault) -> Result<(), LineFault>
+    ensures { result ≡ check passes fault }
+{
+    if passes { Ok(()) } else { Err(fault) }
+}
+
+/// The next word as a name.
+pub(crate) fn next_name(words: &mut Words) -> Result<Name, LineFault>
+    ensures name { result ≡ first_name words.old }
+    ensures taken { words.new ≡ drop 1 words.old }
+{
+    let word = words.next_word().ok_or(LineFault::Shape)?;
+    read_name(word).ok_or(LineFault::BadName)
+}
+
+/// The next word as a number.
+fn next_number(words: &mut Words) -> Result<i64, LineFault>
+    ensures number { result ≡ first_number words.old }
+    ensures taken { words.new ≡ drop 1 words.old }
+{
+    let word = words.next_word().ok_or(LineFault::Shape)?;
+    read_int(word).ok_or(LineFault::BadNumber)
+}
+
+/// Whether the words that are left mark a place at first.
+pub(crate) fn read_mark(words: &mut Words) -> Result<bool, LineFault>
+    ensures { result ≡ mark_in words.old }
+{
+    match words.next_word() {
+        None => Ok(false),
+        Some(word) => {
+            check(word == b"init".as_slice(), LineFault::Shape)?;
+            end(words)?;
+            Ok(true)
+        }
+    }
+}
+
+/// The number that the words that are left say, which is one word.
+pub(crate) fn read_value(words: &mut Words) -> Result<i64, LineFault>
+    ensures { result ≡ value_in words.old }
+{
+    let value = next_number(words)?;
+    end(words)?;
+    Ok(value)
+}
+
+/// No word is left.
+fn end(words: &mut Words) -> Result<(), LineFault>
+    ensures { result ≡ at_end words.old }
+{
+    check(words.next_word().is_none(), LineFault::Shape)
+}

@@ -1,0 +1,158 @@
+//! What no clause says: that the clauses mean what they should, on lines worked out by hand.
+use crate::draft::AtomDraft;
+use crate::fault::LineFault;
+use petri_atom::Name;
+use plant_words::Words;
+use std::alloc::Global;
+use std::test::Fail;
+
+/// An atom `A` without parts.
+fn empty(alloc: Global) -> Result<AtomDraft, Fail> {
+    Ok(AtomDraft::new(alloc, Name::new(b"A").ok_or("no name")?))
+}
+
+fn place(draft: &mut AtomDraft, words: &[u8]) -> Result<(), LineFault> {
+    draft.add_place(&mut Words::new(words))
+}
+
+fn variable(draft: &mut AtomDraft, words: &[u8]) -> Result<(), LineFault> {
+    draft.add_variable(&mut Words::new(words))
+}
+
+fn port(draft: &mut AtomDraft, words: &[u8]) -> Result<(), LineFault> {
+    draft.add_port(&mut Words::new(words))
+}
+
+/// Whether the line is refused with this fault.
+fn is_refused(read: Result<(), LineFault>, fault: LineFault) -> bool {
+    match read {
+        Ok(()) => false,
+        Err(told) => told == fault,
+    }
+}
+
+#[test]
+fn places_are_numbered_as_they_are_written(rt: HostRuntime) -> Result<(), Fail> {
+    let mut draft = empty(rt.alloc())?;
+    place(&mut draft, b"p")?;
+    place(&mut draft, b" q\tinit")?;
+    assert!(&rt; draft.find_place(b"p") == Some(0));
+    assert!(&rt; draft.find_place(b"q") == Some(1));
+    assert!(&rt; draft.find_place(b"r") == None);
+    let atom = draft.into_atom()?;
+    assert!(&rt; atom.places().len() == 2);
+    assert!(&rt; !atom.places()[0].marked && atom.places()[1].marked);
+    assert!(&rt; atom.initial().places() == 0b10);
+    Ok(())
+}
+
+#[test]
+fn the_first_fault_of_a_place_is_told(rt: HostRuntime) -> Result<(), Fail> {
+    let mut draft = empty(rt.alloc())?;
+    place(&mut draft, b"p")?;
+    assert!(&rt; is_refused(place(&mut draft, b""), LineFault::Shape));
+    assert!(&rt; is_refused(place(&mut draft, b"init"), LineFault::BadName));
+    assert!(&rt; is_refused(place(&mut draft, b"1 more words"), LineFault::BadName));
+    assert!(&rt; is_refused(place(&mut draft, b"p more words"), LineFault::Twice));
+    assert!(&rt; is_refused(place(&mut draft, b"q Init"), LineFault::Shape));
+    assert!(&rt; is_refused(place(&mut draft, b"q init init"), LineFault::Shape));
+    assert!(&rt; draft.find_place(b"q") == None);
+    Ok(())
+}
+
+#[test]
+fn variables_have_their_first_values(rt: HostRuntime) -> Result<(), Fail> {
+    let mut draft = empty(rt.alloc())?;
+    variable(&mut draft, b"n 12")?;
+    variable(&mut draft, b"m -9223372036854775808")?;
+    assert!(&rt; is_refused(variable(&mut draft, b"k"), LineFault::Shape));
+    assert!(&rt; is_refused(variable(&mut draft, b"n 1"), LineFault::Twice));
+    assert!(&rt; is_refused(variable(&mut draft, b"k x 1"), LineFault::BadNumber));
+    assert!(&rt;
+        is_refused(
+            variable(&mut draft, b"k 9223372036854775808"),
+            LineFault::BadNumber
+        )
+    );
+    assert!(&rt; is_refused(variable(&mut draft, b"k 1 1"), LineFault::Shape));
+    assert!(&rt; draft.find_variable(b"m") == Some(1));
+    let atom = draft.into_atom()?;
+    assert!(&rt; atom.variables().len() == 2);
+    assert!(&rt; atom.variables()[0].first == 12);
+    assert!(&rt; atom.variables()[1].first == i64::MIN);
+    Ok(())
+}
+
+#[test]
+fn ports_export_variables_by_number(rt: HostRuntime) -> Result<(), Fail> {
+    let mut draft = empty(rt.alloc())?;
+    for line in [
+        b"a 0".as_slice(),
+        b"b 0".as_slice(),
+        b"c 0".as_slice(),
+        b"d 0".as_slice(),
+    ] {
+        variable(&mut draft, line)?;
+    }
+    port(&mut draft, b"none")?;
+    port(&mut draft, b"all d a c b")?;
+    assert!(&rt; draft.find_port(b"all") == Some(1));
+    let atom = draft.into_atom()?;
+    assert!(&rt; atom.ports()[0].exports.is_empty());
+    assert!(&rt; atom.ports()[1].exports.as_slice() == [3, 0, 2, 1].as_slice());
+    Ok(())
+}
+
+#[test]
+fn the_first_fault_of_a_port_is_told(rt: HostRuntime) -> Result<(), Fail> {
+    let mut draft = empty(rt.alloc())?;
+    for line in [
+        b"a 0".as_slice(),
+        b"b 0".as_slice(),
+        b"c 0".as_slice(),
+        b"d 0".as_slice(),
+    ] {
+        variable(&mut draft, line)?;
+    }
+    port(&mut draft, b"t")?;
+    assert!(&rt; is_refused(port(&mut draft, b""), LineFault::Shape));
+    assert!(&rt; is_refused(port(&mut draft, b"when"), LineFault::BadName));
+    assert!(&rt; is_refused(port(&mut draft, b"t e"), LineFault::Twice));
+    assert!(&rt; is_refused(port(&mut draft, b"u a e a"), LineFault::UnknownName));
+    assert!(&rt; is_refused(port(&mut draft, b"u a b a e"), LineFault::Twice));
+    assert!(&rt; is_refused(port(&mut draft, b"u a b c d a"), LineFault::Limit));
+    assert!(&rt; is_refused(port(&mut draft, b"u a b c d e"), LineFault::Limit));
+    assert!(&rt; draft.find_port(b"u") == None);
+    Ok(())
+}
+
+/// Adds places `p00` to `p63`.
+fn add_all_places(draft: &mut AtomDraft) -> Result<(), LineFault> {
+    for number in 0..64u8 {
+        place(draft, &[b'p', b'0' + number / 10, b'0' + number % 10])?;
+    }
+    Ok(())
+}
+
+#[test]
+fn a_place_past_the_limit_is_refused_before_its_words(rt: HostRuntime) -> Result<(), Fail> {
+    let mut draft = empty(rt.alloc())?;
+    add_all_places(&mut draft)?;
+    assert!(&rt; draft.find_place(b"p63") == Some(63));
+    assert!(&rt; is_refused(place(&mut draft, b"q"), LineFault::Limit));
+    assert!(&rt; is_refused(place(&mut draft, b""), LineFault::Limit));
+    assert!(&rt; draft.into_atom()?.places().len() == 64);
+    Ok(())
+}
+
+#[test]
+fn faults_have_their_numbers(rt: HostRuntime) {
+    assert_eq!(rt; LineFault::BadName.number(), 5);
+    assert_eq!(rt; LineFault::Twice.number(), 6);
+    assert_eq!(rt; LineFault::UnknownName.number(), 7);
+    assert_eq!(rt; LineFault::BadExpression.number(), 8);
+    assert_eq!(rt; LineFault::BadNumber.number(), 9);
+    assert_eq!(rt; LineFault::Shape.number(), 10);
+    assert_eq!(rt; LineFault::Limit.number(), 13);
+    assert_eq!(rt; LineFault::Memory.number(), 15);
+}
