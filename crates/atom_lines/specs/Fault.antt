@@ -1,4 +1,6 @@
 use Rattle.std.specs.Prelude.{◌≡◌, ◌≢◌, ℕ, Result, Err}
+use Rattle.plant_expressions.specs.declared.fault.ExpressionFault.{ExpressionFault}
+use Rattle.plant_expressions.specs.declared.fault.ExpressionFault.TheVariants as expression
 use Rattle.atom_lines.specs.declared.fault.LineFault.{LineFault}
 use Rattle.atom_lines.specs.declared.fault.LineFault.TheVariants.{BadName, Twice, UnknownName, BadExpression, BadNumber, Shape, Limit, Memory}
 
@@ -16,3 +18,11 @@ number_of Memory = 15
 -- a fault that is told is the one of what was read, or that memory ran out
 abbrev pub IsFaultOf : {A : Type 0} → Result A LineFault → LineFault → Type 0
 IsFaultOf read fault = fault ≢ Memory → read ≡ Err fault
+
+-- the fault of a line where an expression in it has this one
+abbrev pub line_fault : ExpressionFault → LineFault
+line_fault expression.UnknownName = UnknownName
+line_fault expression.BadExpression = BadExpression
+line_fault expression.BadNumber = BadNumber
+line_fault expression.Limit = Limit
+line_fault expression.Memory = Memory

@@ -2,4 +2,5 @@ pub mod Fault
 pub mod Reading
 pub mod Lookup
 pub mod Rows
+pub mod Transitions
 pub mod Draft

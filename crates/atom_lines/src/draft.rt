@@ -1,14 +1,16 @@
 //! The atom as its lines have told it so far.
-ghost use Rattle.std.specs.Prelude.{◌≡◌, ◌≤◌, vec_len, IfOk, IfErr, OnOk, OnErr, Ok, None, []};
+ghost use Rattle.std.specs.Prelude.{◌<◌, drop, length, IfSome, IsTrue, ◌≡◌, ◌≤◌, vec_len, IfOk, IfErr, OnOk, OnErr, Ok, None, []};
 ghost use Rattle.atom_lines.specs.Fault.{IsFaultOf};
 ghost use Rattle.atom_lines.specs.Rows.{place_row, variable_row, port_row, export_in, exports_in};
 ghost use Rattle.atom_lines.specs.Lookup.{place_number, variable_number, port_number};
+ghost use Rattle.atom_lines.specs.Transitions.{port_in, place_in, places_in, places_behind};
+ghost use Rattle.petri_atom.specs.Local.{are_places};
 ghost use Rattle.petri_atom.specs.declared.state.TheConstants.{MAX_PLACES, MAX_VARIABLES};
 ghost use Rattle.petri_atom.specs.declared.parts.TheConstants.{MAX_PORTS, MAX_TRANSITIONS};
 
 use crate::fault::LineFault;
 use crate::lookup;
-use crate::reading::{check, next_name, read_mark, read_value};
+use crate::reading::{check, next_in_places, next_name, read_mark, read_value, skip_word};
 use petri_atom::{
     Atom, AtomFault, MAX_EXPORTS, MAX_PLACES, MAX_PORTS, MAX_VARIABLES, Name, Place, Port,
     Transition, Variable,
@@ -52,7 +54,8 @@ impl AtomDraft {
 
     /// The number of the place with the name.
     pub fn find_place(&self, name: &[u8]) -> Option<u8>
-        ensures { result ≡ place_number (drafted self.now) name.now }
+        ensures number { result ≡ place_number (drafted self.now) name.now }
+        ensures within { IfSome result (λ number. number < length (drafted self.now).places) }
     {
         Some(lookup::find_place(&self.places, name)? as u8)
     }
@@ -137,6 +140,51 @@ impl AtomDraft {
             exports.push(number)?;
         }
         Ok(exports)
+    }
+
+    /// The number of the port that the next word names.
+    fn read_port(&self, words: &mut Words) -> Result<u16, LineFault>
+        ensures port { result ≡ port_in (drafted self.now) words.old }
+        ensures taken { words.new ≡ drop 1 words.old }
+    {
+        let word = words.next_word().ok_or(LineFault::Shape)?;
+        self.find_port(word).ok_or(LineFault::UnknownName)
+    }
+
+    /// The number of the place that the word lists behind these.
+    fn next_place(&self, before: &[u8], word: &[u8]) -> Result<u8, LineFault>
+        ensures place { result ≡ place_in (drafted self.now) before.now word.now }
+        ensures within { IfOk result (λ number. number < MAX_PLACES) }
+    {
+        let number = self.find_place(word).ok_or(LineFault::UnknownName)?;
+        check(!before.contains(&number), LineFault::Twice)?;
+        Ok(number)
+    }
+
+    /// The numbers of the places that the words list.
+    fn read_places(&self, words: &mut Words) -> Result<Vec<u8>, LineFault>
+        ensures places { IfOk result (λ places. places_in (drafted self.now) [] words.old ≡ Ok (places.items, words.new)) }
+        ensures fault { IfErr result (IsFaultOf (places_in (drafted self.now) [] words.old)) }
+        ensures within { IfOk result (λ places. IsTrue (are_places places.items)) }
+    {
+        let mut places = Vec::new(self.alloc);
+        while let Some(word) = next_in_places(words) {
+            let place = self.next_place(&places, word)?;
+            places.push(place)?;
+        }
+        Ok(places)
+    }
+
+    /// The numbers of the places of a list that begins with the keyword.
+    fn read_places_behind(&self, keyword: &[u8], words: &mut Words) -> Result<Vec<u8>, LineFault>
+        ensures places { IfOk result (λ places. places_behind keyword.now (drafted self.now) words.old ≡ Ok (places.items, words.new)) }
+        ensures fault { IfErr result (IsFaultOf (places_behind keyword.now (drafted self.now) words.old)) }
+        ensures within { IfOk result (λ places. IsTrue (are_places places.items)) }
+    {
+        check(skip_word(words, keyword), LineFault::Shape)?;
+        let places = self.read_places(words)?;
+        check(0 < places.len(), LineFault::Shape)?;
+        Ok(places)
     }
 
     /// The atom of the parts that were added, or the rule that they break first.

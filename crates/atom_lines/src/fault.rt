@@ -1,8 +1,9 @@
 //! Why a line of a plant text says nothing that its atom could take.
 ghost use Rattle.std.specs.Prelude.{◌≡◌};
-ghost use Rattle.atom_lines.specs.Fault.{number_of};
+ghost use Rattle.atom_lines.specs.Fault.{number_of, line_fault};
 ghost use Rattle.atom_lines.specs.declared.fault.LineFault.TheVariants as fault;
 
+use plant_expressions::ExpressionFault;
 use std::alloc::{AllocError, AllocFailed};
 
 /// The fault of a line, told by its first word from the left that is at fault, or that memory ran out.
@@ -57,5 +58,19 @@ impl<T: Drop> From<AllocFailed<T>> for LineFault {
 
     fn from(_: AllocFailed<T>) -> Self {
         LineFault::Memory
+    }
+}
+
+impl From<ExpressionFault> for LineFault {
+    ghost from_gives = { λ fault told. told ≡ line_fault fault };
+
+    fn from(fault: ExpressionFault) -> Self {
+        match fault {
+            ExpressionFault::UnknownName => LineFault::UnknownName,
+            ExpressionFault::BadExpression => LineFault::BadExpression,
+            ExpressionFault::BadNumber => LineFault::BadNumber,
+            ExpressionFault::Limit => LineFault::Limit,
+            ExpressionFault::Memory => LineFault::Memory,
+        }
     }
 }

@@ -1,6 +1,7 @@
 //! Steps of reading a line: each takes words, or tells the fault of one.
-ghost use Rattle.std.specs.Prelude.{◌≡◌, drop};
+ghost use Rattle.std.specs.Prelude.{◌≡◌, drop, false, if◌then◌else◌, MatchOption, true, ◌∷◌};
 ghost use Rattle.atom_lines.specs.Reading.{check, first_name, first_number, at_end, mark_in, value_in};
+ghost use Rattle.atom_lines.specs.Transitions.{leads, ends_places};
 
 use crate::fault::LineFault;
 use petri_atom::Name;
@@ -59,4 +60,31 @@ fn end(words: &mut Words) -> Result<(), LineFault>
     ensures { result ≡ at_end words.old }
 {
     check(words.next_word().is_none(), LineFault::Shape)
+}
+
+/// Takes the next word where it is this one, and says whether it was.
+pub(crate) fn skip_word(words: &mut Words, keyword: &[u8]) -> bool
+    ensures leads { result ≡ leads keyword.now words.old }
+    ensures taken { words.new ≡ (if result then drop 1 words.old else words.old) }
+{
+    let leads = match words.peek() {
+        Some(word) => word == keyword,
+        None => false,
+    };
+    if leads {
+        words.next_word();
+    }
+    leads
+}
+
+/// Takes the next word of a list of places, or none where the list ends.
+pub(crate) fn next_in_places<'a>(words: &mut Words<'a>) -> Option<&'a [u8]>
+    ensures word { MatchOption result (words.new ≡ words.old) (λ word. words.old ≡ word.now ∷ words.new) }
+    ensures end { MatchOption result (ends_places words.old ≡ true) (λ _. ends_places words.old ≡ false) }
+{
+    let word = words.peek()?;
+    if word == b"to".as_slice() || word == b"when".as_slice() || word == b"do".as_slice() {
+        return None;
+    }
+    words.next_word()
 }
