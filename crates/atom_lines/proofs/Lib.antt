@@ -1,2 +1,3 @@
-mod Positions
+pub mod Positions
 mod Rows
+pub mod Updates

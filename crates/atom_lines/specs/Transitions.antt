@@ -1,6 +1,6 @@
 -- What a line `trans PORT from PLACE.. to PLACE..` with its guard and updates says of an atom, or the fault of its
 -- first word that is at fault.
-use Rattle.std.specs.Prelude.{ℕ, zero, suc, ◌-◌, Bool, true, false, ◌||◌, not, pos, if◌then◌else◌, List, [], ◌∷◌, ◌++◌, length, drop, nat_lt, nat_eq, Result, Ok, Err, codes}
+use Rattle.std.specs.Prelude.{ℕ, zero, suc, Bool, true, false, ◌||◌, not, pos, if◌then◌else◌, List, [], ◌∷◌, ◌++◌, length, drop, nat_lt, nat_eq, Result, Ok, Err, codes}
 use Rattle.std.specs.List.{list_any}
 use Rattle.std.specs.Option.{ok_or}
 use Rattle.petri_atom.specs.Name.{is_same_text}
@@ -52,3 +52,67 @@ places_behind keyword a words = do
   listed ← places_in a [] (drop 1 words)
   _ ← check (nat_lt 0 (length listed.0)) Shape
   Ok listed
+
+-- what an expression's words say, with its fault as one of the line
+abbrev pub on_line : {A : Type 0} → Result A ExpressionFault → Result A LineFault
+on_line (Ok x) = Ok x
+on_line (Err fault) = Err (line_fault fault)
+
+-- an expression over the variables of the atom, and the words behind it
+abbrev pub expression_on : AtomDefinition → List (List ℕ) → Result (Tree ℕ × List (List ℕ)) LineFault
+expression_on a words = on_line (expression_in (variable_number a) words)
+
+-- the guard behind `when`, or 1 where no `when` stands, and the words behind it
+abbrev pub guard_in : AtomDefinition → List (List ℕ) → Result (Tree ℕ × List (List ℕ)) LineFault
+guard_in a words = if leads (codes "when") words then expression_on a (drop 1 words) else Ok (number (pos 1), words)
+
+-- `VAR := EXPR`: the update, and the words behind it
+abbrev pub update_in : AtomDefinition → List (List ℕ) → Result (UpdateDefinition × List (List ℕ)) LineFault
+update_in a words = do
+  word ← first_word words
+  variable ← ok_or (variable_number a word) UnknownName
+  _ ← check (leads (codes ":=") (drop 1 words)) Shape
+  value ← expression_on a (drop 1 (drop 1 words))
+  Ok (record { variable = variable; value = value.0 }, value.1)
+
+-- whether the line goes on, which it may by this word alone
+abbrev pub goes_on : List ℕ → List (List ℕ) → Result Bool LineFault
+goes_on keyword [] = Ok false
+goes_on keyword (word ∷ words) = if is_same_text word keyword then Ok true else Err Shape
+
+-- The updates behind these, of which so many may come, where the line goes on. One too many is at fault by the
+-- word before it.
+unfoldable pub updates_from : AtomDefinition → ℕ → List UpdateDefinition → Bool → List (List ℕ) → Result (List UpdateDefinition) LineFault
+updates_from a left before false words = Ok before
+updates_from a zero before true words = Err Limit
+updates_from a (suc left) before true words = do
+  update ← update_in a words
+  more ← goes_on (codes ";") update.1
+  updates_from a left (before ++ update.0 ∷ []) more (drop 1 update.1)
+
+-- the updates behind `do`, or none where the line ends
+abbrev pub updates_in : AtomDefinition → List (List ℕ) → Result (List UpdateDefinition) LineFault
+updates_in a words = do
+  more ← goes_on (codes "do") words
+  updates_from a MAX_UPDATES [] more (drop 1 words)
+
+-- a transition of a port from places to places, with its guard and its updates
+abbrev pub transition_in : AtomDefinition → List (List ℕ) → Result TransitionDefinition LineFault
+transition_in a words = do
+  port ← port_in a words
+  sources ← places_behind (codes "from") a (drop 1 words)
+  targets ← places_behind (codes "to") a sources.1
+  guard ← guard_in a targets.1
+  updates ← updates_in a guard.1
+  Ok (record { port = port; sources = sources.0; targets = targets.0; guard = guard.0; updates = updates })
+
+-- the atom with one more transition behind its others
+abbrev pub with_transition : AtomDefinition → TransitionDefinition → AtomDefinition
+with_transition a transition = record a { transitions = a.transitions ++ transition ∷ [] }
+
+-- `trans PORT from PLACE.. to PLACE..`, with `when EXPR`, and with `do VAR := EXPR ; VAR := EXPR ..`: a transition
+abbrev pub transition_row : List (List ℕ) → AtomDefinition → Result AtomDefinition LineFault
+transition_row words a = do
+  _ ← check (nat_lt (length a.transitions) MAX_TRANSITIONS) Limit
+  transition ← transition_in a words
+  Ok (with_transition a transition)

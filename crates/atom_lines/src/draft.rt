@@ -1,20 +1,21 @@
 //! The atom as its lines have told it so far.
-ghost use Rattle.std.specs.Prelude.{◌<◌, drop, length, IfSome, IsTrue, ◌≡◌, ◌≤◌, vec_len, IfOk, IfErr, OnOk, OnErr, Ok, None, []};
+ghost use Rattle.std.specs.Prelude.{◌<◌, ◌-◌, true, drop, length, map, IfSome, IsTrue, ◌≡◌, ◌≤◌, vec_len, IfOk, IfErr, OnOk, OnErr, Ok, None, []};
 ghost use Rattle.atom_lines.specs.Fault.{IsFaultOf};
 ghost use Rattle.atom_lines.specs.Rows.{place_row, variable_row, port_row, export_in, exports_in};
 ghost use Rattle.atom_lines.specs.Lookup.{place_number, variable_number, port_number};
-ghost use Rattle.atom_lines.specs.Transitions.{port_in, place_in, places_in, places_behind};
+ghost use Rattle.atom_lines.specs.Transitions.{port_in, place_in, places_in, places_behind, expression_on, guard_in, update_in, updates_from, updates_in, transition_in, transition_row};
 ghost use Rattle.petri_atom.specs.Local.{are_places};
 ghost use Rattle.petri_atom.specs.declared.state.TheConstants.{MAX_PLACES, MAX_VARIABLES};
-ghost use Rattle.petri_atom.specs.declared.parts.TheConstants.{MAX_PORTS, MAX_TRANSITIONS};
+ghost use Rattle.petri_atom.specs.declared.parts.TheConstants.{MAX_PORTS, MAX_TRANSITIONS, MAX_UPDATES};
 
 use crate::fault::LineFault;
 use crate::lookup;
-use crate::reading::{check, next_in_places, next_name, read_mark, read_value, skip_word};
+use crate::reading::{check, goes_on, next_in_places, next_name, read_mark, read_value, skip_word};
 use petri_atom::{
-    Atom, AtomFault, MAX_EXPORTS, MAX_PLACES, MAX_PORTS, MAX_VARIABLES, Name, Place, Port,
-    Transition, Variable,
+    Atom, AtomFault, Expression, MAX_EXPORTS, MAX_PLACES, MAX_PORTS, MAX_TRANSITIONS, MAX_UPDATES,
+    MAX_VARIABLES, Name, Place, Port, Transition, Update, Variable,
 };
+use plant_expressions::{Variables, read_expression};
 use plant_words::Words;
 use std::alloc::Global;
 
@@ -37,6 +38,9 @@ impl AtomDraft {
     ghost use Rattle.petri_atom.specs.Atom.{definition_of};
     ghost use Rattle.petri_atom.specs.Definition.{fault_of, IsFaultOf as IsBrokenBy};
     ghost use Rattle.petri_atom.specs.Parts.{definition_by};
+    ghost use Rattle.petri_atom.specs.Expression.{tree_of};
+    ghost use Rattle.petri_atom.specs.Transition.{transition_of};
+    ghost use Rattle.petri_atom.specs.Update.{update_of};
 
     /// The atom with the name and no parts.
     pub fn new(alloc: Global, name: Name) -> Self
@@ -154,11 +158,11 @@ impl AtomDraft {
     /// The number of the place that the word lists behind these.
     fn next_place(&self, before: &[u8], word: &[u8]) -> Result<u8, LineFault>
         ensures place { result ≡ place_in (drafted self.now) before.now word.now }
-        ensures within { IfOk result (λ number. number < MAX_PLACES) }
+        ensures within { IfOk result (λ place. place < MAX_PLACES) }
     {
-        let number = self.find_place(word).ok_or(LineFault::UnknownName)?;
-        check(!before.contains(&number), LineFault::Twice)?;
-        Ok(number)
+        let place = self.find_place(word).ok_or(LineFault::UnknownName)?;
+        check(!before.contains(&place), LineFault::Twice)?;
+        Ok(place)
     }
 
     /// The numbers of the places that the words list.
@@ -187,6 +191,110 @@ impl AtomDraft {
         Ok(places)
     }
 
+    /// The expression that stands first in the words.
+    fn read_expression(&self, words: &mut Words) -> Result<Expression<u8>, LineFault>
+        ensures expression { IfOk result (λ expression. expression_on (drafted self.now) words.old ≡ Ok (tree_of expression, words.new)) }
+        ensures fault { IfErr result (IsFaultOf (expression_on (drafted self.now) words.old)) }
+    {
+        Ok(read_expression(self.alloc, words, self)?)
+    }
+
+    /// The guard of a transition.
+    fn read_guard(&self, words: &mut Words) -> Result<Expression<u8>, LineFault>
+        ensures guard { IfOk result (λ guard. guard_in (drafted self.now) words.old ≡ Ok (tree_of guard, words.new)) }
+        ensures fault { IfErr result (IsFaultOf (guard_in (drafted self.now) words.old)) }
+    {
+        if skip_word(words, b"when") {
+            self.read_expression(words)
+        } else {
+            Ok(Expression::Number(1))
+        }
+    }
+
+    /// The update that stands first in the words.
+    fn read_update(&self, words: &mut Words) -> Result<Update, LineFault>
+        ensures update { IfOk result (λ update. update_in (drafted self.now) words.old ≡ Ok (update_of update, words.new)) }
+        ensures fault { IfErr result (IsFaultOf (update_in (drafted self.now) words.old)) }
+    {
+        let word = words.next_word().ok_or(LineFault::Shape)?;
+        let variable = self.find_variable(word).ok_or(LineFault::UnknownName)?;
+        check(skip_word(words, b":="), LineFault::Shape)?;
+        let value = self.read_expression(words)?;
+        Ok(Update { variable, value })
+    }
+
+    /// The updates of a transition.
+    fn read_updates(&self, words: &mut Words) -> Result<Vec<Update>, LineFault>
+        ensures updates { IfOk result (λ updates. updates_in (drafted self.now) words.old ≡ Ok (map update_of updates.items)) }
+        ensures fault { IfErr result (IsFaultOf (updates_in (drafted self.now) words.old)) }
+    {
+        let more = goes_on(words, b"do")?;
+        self.read_update_list(more, words)
+    }
+
+    /// The updates of a list, where there is one.
+    #[tactic(auto, using(crate::proofs::Updates::no_more_updates))]
+    fn read_update_list(&self, mut more: bool, words: &mut Words) -> Result<Vec<Update>, LineFault>
+        ensures updates { IfOk result (λ updates. updates_from (drafted self.now) MAX_UPDATES [] more words.old ≡ Ok (map update_of updates.items)) }
+        ensures fault { IfErr result (IsFaultOf (updates_from (drafted self.now) MAX_UPDATES [] more words.old)) }
+    {
+        let mut updates = Vec::new(self.alloc);
+        let mut left = MAX_UPDATES;
+        while more {
+            more = self.add_update(left, &mut updates, words)?;
+            left -= 1;
+        }
+        Ok(updates)
+    }
+
+    /// Adds the update that stands first in the words, where so many may come, and says whether one stands behind it.
+    #[tactic(auto, using(crate::proofs::Updates::one_update_too_many, crate::proofs::Updates::fault_in_update, crate::proofs::Updates::fault_behind_update, crate::proofs::Updates::updates_behind_update))]
+    fn add_update(
+        &self,
+        left: usize,
+        updates: &mut Vec<Update>,
+        words: &mut Words,
+    ) -> Result<bool, LineFault>
+        ensures added { IfOk result (λ more. updates_from (drafted self.now) left (map update_of updates.old.items) true words.old
+            ≡ updates_from (drafted self.now) (left - 1) (map update_of updates.new.items) more words.new) }
+        ensures fault { IfErr result (IsFaultOf (updates_from (drafted self.now) left (map update_of updates.old.items) true words.old)) }
+        ensures within { OnOk result (0 < left) }
+    {
+        if left == 0 {
+            return Err(LineFault::Limit);
+        }
+        let update = self.read_update(words)?;
+        let more = goes_on(words, b";")?;
+        updates.push(update)?;
+        Ok(more)
+    }
+
+    /// The transition that the words describe.
+    fn read_transition(&self, words: &mut Words) -> Result<Transition, LineFault>
+        ensures transition { IfOk result (λ transition. transition_in (drafted self.now) words.old ≡ Ok (transition_of transition)) }
+        ensures fault { IfErr result (IsFaultOf (transition_in (drafted self.now) words.old)) }
+    {
+        let port = self.read_port(words)?;
+        let sources = self.read_places_behind(b"from", words)?;
+        let targets = self.read_places_behind(b"to", words)?;
+        let guard = self.read_guard(words)?;
+        let updates = self.read_updates(words)?;
+        Ok(Transition::new(port, sources, targets, guard, updates))
+    }
+
+    /// Adds the transition of a line `trans PORT from PLACE.. to PLACE..` with its guard and updates, by the words
+    /// behind its first.
+    pub fn add_transition(&mut self, words: &mut Words) -> Result<(), LineFault>
+        ensures added { OnOk result (transition_row words.old (drafted self.old) ≡ Ok (drafted self.new)) }
+        ensures fault { IfErr result (IsFaultOf (transition_row words.old (drafted self.old))) }
+        ensures unchanged { OnErr result (drafted self.new ≡ drafted self.old) }
+    {
+        check(self.transitions.len() < MAX_TRANSITIONS, LineFault::Limit)?;
+        let transition = self.read_transition(words)?;
+        self.transitions.push(transition)?;
+        Ok(())
+    }
+
     /// The atom of the parts that were added, or the rule that they break first.
     pub fn into_atom(self) -> Result<Atom, AtomFault>
         ensures made { IfOk result (λ atom. definition_of atom ≡ drafted self) }
@@ -201,5 +309,16 @@ impl AtomDraft {
             self.ports,
             self.transitions,
         )
+    }
+}
+
+impl Variables<u8> for AtomDraft {
+    ghost use Rattle.atom_lines.specs.Draft.{drafted};
+    ghost use Rattle.atom_lines.specs.Lookup.{variable_number};
+
+    ghost variable_named = { λ draft word. variable_number (drafted draft) word };
+
+    fn find(&self, word: &[u8]) -> Option<u8> {
+        self.find_variable(word)
     }
 }

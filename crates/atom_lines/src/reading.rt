@@ -1,7 +1,7 @@
 //! Steps of reading a line: each takes words, or tells the fault of one.
 ghost use Rattle.std.specs.Prelude.{◌≡◌, drop, false, if◌then◌else◌, MatchOption, true, ◌∷◌};
 ghost use Rattle.atom_lines.specs.Reading.{check, first_name, first_number, at_end, mark_in, value_in};
-ghost use Rattle.atom_lines.specs.Transitions.{leads, ends_places};
+ghost use Rattle.atom_lines.specs.Transitions.{leads, ends_places, goes_on};
 
 use crate::fault::LineFault;
 use petri_atom::Name;
@@ -87,4 +87,16 @@ pub(crate) fn next_in_places<'a>(words: &mut Words<'a>) -> Option<&'a [u8]>
         return None;
     }
     words.next_word()
+}
+
+/// Takes the next word, which must be this one, and says whether there was one.
+pub(crate) fn goes_on(words: &mut Words, keyword: &[u8]) -> Result<bool, LineFault>
+    ensures goes_on { result ≡ goes_on keyword.now words.old }
+    ensures taken { words.new ≡ drop 1 words.old }
+{
+    let Some(word) = words.next_word() else {
+        return Ok(false);
+    };
+    check(word == keyword, LineFault::Shape)?;
+    Ok(true)
 }

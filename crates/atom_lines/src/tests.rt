@@ -23,6 +23,22 @@ fn port(draft: &mut AtomDraft, words: &[u8]) -> Result<(), LineFault> {
     draft.add_port(&mut Words::new(words))
 }
 
+fn transition(draft: &mut AtomDraft, words: &[u8]) -> Result<(), LineFault> {
+    draft.add_transition(&mut Words::new(words))
+}
+
+/// An atom `A` of places p and q, p marked, variables n and m, and port t.
+fn sample(alloc: Global) -> Result<AtomDraft, Fail> {
+    let mut draft = empty(alloc)?;
+    place(&mut draft, b"p init")?;
+    place(&mut draft, b"q")?;
+    variable(&mut draft, b"n 5")?;
+    variable(&mut draft, b"m 0")?;
+    port(&mut draft, b"s")?;
+    port(&mut draft, b"t n")?;
+    Ok(draft)
+}
+
 /// Whether the line is refused with this fault.
 fn is_refused(read: Result<(), LineFault>, fault: LineFault) -> bool {
     match read {
@@ -155,4 +171,81 @@ fn faults_have_their_numbers(rt: HostRuntime) {
     assert_eq!(rt; LineFault::Shape.number(), 10);
     assert_eq!(rt; LineFault::Limit.number(), 13);
     assert_eq!(rt; LineFault::Memory.number(), 15);
+}
+
+#[test]
+fn transitions_name_ports_and_places_by_number(rt: HostRuntime) -> Result<(), Fail> {
+    let mut draft = sample(rt.alloc())?;
+    transition(&mut draft, b"t from p to q p")?;
+    let atom = draft.into_atom()?;
+    assert!(&rt; atom.transitions().len() == 1);
+    let written = &atom.transitions()[0];
+    assert!(&rt; written.port() == 1);
+    assert!(&rt; written.sources() == [0].as_slice());
+    assert!(&rt; written.targets() == [1, 0].as_slice());
+    assert!(&rt; written.updates().is_empty());
+    assert!(&rt; atom.is_offered(&atom.initial(), 0));
+    Ok(())
+}
+
+#[test]
+fn guards_and_updates_stand_behind_the_places(rt: HostRuntime) -> Result<(), Fail> {
+    let mut draft = sample(rt.alloc())?;
+    transition(&mut draft, b"t from p to q when < n 5")?;
+    transition(&mut draft, b"t from p to q when == n 5 do m := + n 1 ; n := * m 2")?;
+    transition(&mut draft, b"t from p to q do n := 0")?;
+    let atom = draft.into_atom()?;
+    let mut state = atom.initial();
+    assert!(&rt; !atom.is_offered(&state, 0));
+    assert!(&rt; atom.is_offered(&state, 1));
+    assert!(&rt; atom.is_offered(&state, 2));
+    assert!(&rt; atom.transitions()[1].updates().len() == 2);
+    assert!(&rt; atom.transitions()[1].updates()[0].variable == 1);
+    assert!(&rt; atom.transitions()[1].updates()[1].variable == 0);
+    assert!(&rt; atom.transitions()[2].updates().len() == 1);
+    Ok(())
+}
+
+#[test]
+fn the_first_fault_of_a_transition_is_told(rt: HostRuntime) -> Result<(), Fail> {
+    let mut draft = sample(rt.alloc())?;
+    assert!(&rt; is_refused(transition(&mut draft, b""), LineFault::Shape));
+    assert!(&rt; is_refused(transition(&mut draft, b"u from x"), LineFault::UnknownName));
+    assert!(&rt; is_refused(transition(&mut draft, b"t p to q"), LineFault::Shape));
+    assert!(&rt; is_refused(transition(&mut draft, b"t from to q"), LineFault::Shape));
+    assert!(&rt; is_refused(transition(&mut draft, b"t from p q"), LineFault::Shape));
+    assert!(&rt; is_refused(transition(&mut draft, b"t from p to"), LineFault::Shape));
+    assert!(&rt; is_refused(transition(&mut draft, b"t from p to when 1"), LineFault::Shape));
+    assert!(&rt; is_refused(transition(&mut draft, b"t from p x to"), LineFault::UnknownName));
+    assert!(&rt; is_refused(transition(&mut draft, b"t from p q p x"), LineFault::Twice));
+    assert!(&rt; is_refused(transition(&mut draft, b"t from p to q q"), LineFault::Twice));
+    assert!(&rt; is_refused(transition(&mut draft, b"t from p to q to p"), LineFault::Shape));
+    Ok(())
+}
+
+#[test]
+fn the_first_fault_behind_the_places_is_told(rt: HostRuntime) -> Result<(), Fail> {
+    let mut draft = sample(rt.alloc())?;
+    assert!(&rt; is_refused(transition(&mut draft, b"t from p to q when"), LineFault::BadExpression));
+    assert!(&rt; is_refused(transition(&mut draft, b"t from p to q when + k 1"), LineFault::UnknownName));
+    assert!(&rt; is_refused(transition(&mut draft, b"t from p to q when n 1"), LineFault::Shape));
+    assert!(&rt; is_refused(transition(&mut draft, b"t from p to q do"), LineFault::Shape));
+    assert!(&rt; is_refused(transition(&mut draft, b"t from p to q do k := 1"), LineFault::UnknownName));
+    assert!(&rt; is_refused(transition(&mut draft, b"t from p to q do n = 1"), LineFault::Shape));
+    assert!(&rt; is_refused(transition(&mut draft, b"t from p to q do n := 1 ;"), LineFault::Shape));
+    assert!(&rt; is_refused(transition(&mut draft, b"t from p to q do n := 1 m := 1"), LineFault::Shape));
+    assert!(&rt; is_refused(transition(&mut draft, b"t from p to q do n := 1 when 1"), LineFault::Shape));
+    assert!(&rt; draft.into_atom()?.transitions().is_empty());
+    Ok(())
+}
+
+#[test]
+fn sixteen_updates_are_taken_and_no_more(rt: HostRuntime) -> Result<(), Fail> {
+    let mut draft = sample(rt.alloc())?;
+    let most = b"t from p to q do n := 1 ; n := 2 ; n := 3 ; n := 4 ; n := 5 ; n := 6 ; n := 7 ; n := 8 ; n := 9 ; n := 10 ; n := 11 ; n := 12 ; n := 13 ; n := 14 ; n := 15 ; n := 16";
+    transition(&mut draft, most)?;
+    let more = b"t from p to q do n := 1 ; n := 2 ; n := 3 ; n := 4 ; n := 5 ; n := 6 ; n := 7 ; n := 8 ; n := 9 ; n := 10 ; n := 11 ; n := 12 ; n := 13 ; n := 14 ; n := 15 ; n := 16 ; x";
+    assert!(&rt; is_refused(transition(&mut draft, more), LineFault::Limit));
+    assert!(&rt; draft.into_atom()?.transitions()[0].updates().len() == 16);
+    Ok(())
 }
