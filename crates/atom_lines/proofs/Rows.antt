@@ -1,10 +1,13 @@
 -- Worked lines, as computed facts. The words are those behind the line's first one.
 use Rattle.std.proofs.Common.{◌≡◌, [], ◌∷◌, codes, replicate, refl, true, false, pos, negsuc, Some, None, Ok, Err}
 use Rattle.petri_atom.specs.Definition.{AtomDefinition}
+use Rattle.petri_atom.specs.Expression.{number, variable, operation}
+use Rattle.petri_atom.specs.declared.expression.Operator.TheVariants.{Add, Less}
 use Rattle.plant_words.specs.Words.{words_of}
-use Rattle.atom_lines.specs.declared.fault.LineFault.TheVariants.{BadName, Twice, UnknownName, BadNumber, Shape, Limit}
+use Rattle.atom_lines.specs.declared.fault.LineFault.TheVariants.{BadName, Twice, UnknownName, BadExpression, BadNumber, Shape, Limit}
 use Rattle.atom_lines.specs.Lookup.{place_number, variable_number}
 use Rattle.atom_lines.specs.Rows.{place_row, variable_row, port_row, with_place, with_variable, with_port}
+use Rattle.atom_lines.specs.Transitions.{transition_row, with_transition, updates_from}
 
 -- place p, variables n and m, port t
 sample : AtomDefinition
@@ -110,3 +113,70 @@ four_exports = record sample { variables = record { name = codes "a"; first = po
 a_fifth_export : port_row (words_of (codes "u a b c d a")) four_exports ≡ Err Limit
 unfolding sample four_exports
 a_fifth_export = refl
+
+-- ---- transitions
+
+-- places p and q
+moving : AtomDefinition
+unfolding sample
+moving = record sample { places = record { name = codes "p"; marked = true } ∷ record { name = codes "q"; marked = false } ∷ [] }
+
+places_by_number_and_the_guard_1 : transition_row (words_of (codes "t from q p to q")) moving ≡ Ok (with_transition moving (record { port = 0; sources = 1 ∷ 0 ∷ []; targets = 1 ∷ []; guard = number (pos 1); updates = [] }))
+unfolding sample moving updates_from
+places_by_number_and_the_guard_1 = refl
+
+a_guard_of_its_own : transition_row (words_of (codes "t from p to q when < n 3")) moving ≡ Ok (with_transition moving (record { port = 0; sources = 0 ∷ []; targets = 1 ∷ []; guard = operation Less (variable 0) (number (pos 3)); updates = [] }))
+unfolding sample moving updates_from
+a_guard_of_its_own = refl
+
+updates_in_written_order : transition_row (words_of (codes "t from p to q do m := + n 1 ; n := 0")) moving ≡ Ok (with_transition moving (record { port = 0; sources = 0 ∷ []; targets = 1 ∷ []; guard = number (pos 1); updates = record { variable = 1; value = operation Add (variable 0) (number (pos 1)) } ∷ record { variable = 0; value = number (pos 0) } ∷ [] }))
+unfolding sample moving updates_from
+updates_in_written_order = refl
+
+a_guard_and_an_update : transition_row (words_of (codes "t from p to q when n do n := m")) moving ≡ Ok (with_transition moving (record { port = 0; sources = 0 ∷ []; targets = 1 ∷ []; guard = variable 0; updates = record { variable = 0; value = variable 1 } ∷ [] }))
+unfolding sample moving updates_from
+a_guard_and_an_update = refl
+
+a_port_that_is_unknown : transition_row (words_of (codes "u to")) moving ≡ Err UnknownName
+unfolding sample moving updates_from
+a_port_that_is_unknown = refl
+
+no_source : transition_row (words_of (codes "t from to q")) moving ≡ Err Shape
+unfolding sample moving updates_from
+no_source = refl
+
+no_target : transition_row (words_of (codes "t from p to")) moving ≡ Err Shape
+unfolding sample moving updates_from
+no_target = refl
+
+a_source_that_is_unknown : transition_row (words_of (codes "t from p n p")) moving ≡ Err UnknownName
+unfolding sample moving updates_from
+a_source_that_is_unknown = refl
+
+a_source_twice : transition_row (words_of (codes "t from p p")) moving ≡ Err Twice
+unfolding sample moving updates_from
+a_source_twice = refl
+
+no_guard_behind_when : transition_row (words_of (codes "t from p to q when")) moving ≡ Err BadExpression
+unfolding sample moving updates_from
+no_guard_behind_when = refl
+
+an_update_before_the_guard : transition_row (words_of (codes "t from p to q do n := 1 when 1")) moving ≡ Err Shape
+unfolding sample moving updates_from
+an_update_before_the_guard = refl
+
+no_update_behind_do : transition_row (words_of (codes "t from p to q do")) moving ≡ Err Shape
+unfolding sample moving updates_from
+no_update_behind_do = refl
+
+no_update_behind_a_semicolon : transition_row (words_of (codes "t from p to q do n := 1 ;")) moving ≡ Err Shape
+unfolding sample moving updates_from
+no_update_behind_a_semicolon = refl
+
+an_update_of_no_variable : transition_row (words_of (codes "t from p to q do p := 1")) moving ≡ Err UnknownName
+unfolding sample moving updates_from
+an_update_of_no_variable = refl
+
+a_word_left_over : transition_row (words_of (codes "t from p to q when 1 1")) moving ≡ Err Shape
+unfolding sample moving updates_from
+a_word_left_over = refl

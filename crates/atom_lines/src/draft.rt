@@ -56,6 +56,13 @@ impl AtomDraft {
         }
     }
 
+    /// The name of the atom.
+    pub fn name(&self) -> &Name
+        ensures { result.now ≡ (drafted self.now).name }
+    {
+        &self.name
+    }
+
     /// The number of the place with the name.
     pub fn find_place(&self, name: &[u8]) -> Option<u8>
         ensures number { result ≡ place_number (drafted self.now) name.now }

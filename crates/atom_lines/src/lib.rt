@@ -9,11 +9,15 @@
 //! | `place NAME`, `place NAME init` | a place, marked at first with `init` | [`AtomDraft::add_place`] |
 //! | `var NAME INT` | a variable with its first value | [`AtomDraft::add_variable`] |
 //! | `port NAME VAR..` | a port that exports 0 to 4 different variables | [`AtomDraft::add_port`] |
+//! | `trans PORT from PLACE.. to PLACE..` | a transition, with one place at least in each list, and none twice in one | [`AtomDraft::add_transition`] |
+//! | .. followed by `when EXPR` | its guard; without it 1 | |
+//! | .. followed by `do VAR := EXPR ; VAR := EXPR ..` | its updates, behind the guard where both stand | |
 //!
-//! What a line makes of the atom, or which fault it has, is one definition for each kind (`specs/Rows.antt`), on
-//! the words and the atom that `drafted` shows. A fault is told by the first word from the left that is at
-//! fault. Where a part would be one too many for the atom, that is the line's first word; where a port would
-//! export one variable too many, it is that variable's word. A refused line leaves the draft as it was.
+//! What a line makes of the atom, or which fault it has, is one definition for each kind (`specs/Rows.antt`,
+//! `specs/Transitions.antt`), on the words and the atom that `drafted` shows. A fault is told by the first word from
+//! the left that is at fault. Where a part would be one too many for the atom, that is the line's first word; where
+//! a port would export one variable too many, it is that variable's word; where a transition would have one update
+//! too many, it is the `;` before it. A refused line leaves the draft as it was.
 //!
 //! A name is declared where it is new, and has to be a [`petri_atom::Name`]. Where it is used, it is looked up alone: a
 //! word that is no name is as unknown as one that no line declared. Places, variables and ports may share names.

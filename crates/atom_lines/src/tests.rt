@@ -52,6 +52,7 @@ fn places_are_numbered_as_they_are_written(rt: HostRuntime) -> Result<(), Fail> 
     let mut draft = empty(rt.alloc())?;
     place(&mut draft, b"p")?;
     place(&mut draft, b" q\tinit")?;
+    assert!(&rt; draft.name().as_bytes() == b"A".as_slice());
     assert!(&rt; draft.find_place(b"p") == Some(0));
     assert!(&rt; draft.find_place(b"q") == Some(1));
     assert!(&rt; draft.find_place(b"r") == None);
@@ -192,7 +193,10 @@ fn transitions_name_ports_and_places_by_number(rt: HostRuntime) -> Result<(), Fa
 fn guards_and_updates_stand_behind_the_places(rt: HostRuntime) -> Result<(), Fail> {
     let mut draft = sample(rt.alloc())?;
     transition(&mut draft, b"t from p to q when < n 5")?;
-    transition(&mut draft, b"t from p to q when == n 5 do m := + n 1 ; n := * m 2")?;
+    transition(
+        &mut draft,
+        b"t from p to q when == n 5 do m := + n 1 ; n := * m 2",
+    )?;
     transition(&mut draft, b"t from p to q do n := 0")?;
     let atom = draft.into_atom()?;
     let mut state = atom.initial();
@@ -215,26 +219,86 @@ fn the_first_fault_of_a_transition_is_told(rt: HostRuntime) -> Result<(), Fail> 
     assert!(&rt; is_refused(transition(&mut draft, b"t from to q"), LineFault::Shape));
     assert!(&rt; is_refused(transition(&mut draft, b"t from p q"), LineFault::Shape));
     assert!(&rt; is_refused(transition(&mut draft, b"t from p to"), LineFault::Shape));
-    assert!(&rt; is_refused(transition(&mut draft, b"t from p to when 1"), LineFault::Shape));
-    assert!(&rt; is_refused(transition(&mut draft, b"t from p x to"), LineFault::UnknownName));
+    assert!(&rt;
+        is_refused(
+            transition(&mut draft, b"t from p to when 1"),
+            LineFault::Shape
+        )
+    );
+    assert!(&rt;
+        is_refused(
+            transition(&mut draft, b"t from p x to"),
+            LineFault::UnknownName
+        )
+    );
     assert!(&rt; is_refused(transition(&mut draft, b"t from p q p x"), LineFault::Twice));
     assert!(&rt; is_refused(transition(&mut draft, b"t from p to q q"), LineFault::Twice));
-    assert!(&rt; is_refused(transition(&mut draft, b"t from p to q to p"), LineFault::Shape));
+    assert!(&rt;
+        is_refused(
+            transition(&mut draft, b"t from p to q to p"),
+            LineFault::Shape
+        )
+    );
     Ok(())
 }
 
 #[test]
 fn the_first_fault_behind_the_places_is_told(rt: HostRuntime) -> Result<(), Fail> {
     let mut draft = sample(rt.alloc())?;
-    assert!(&rt; is_refused(transition(&mut draft, b"t from p to q when"), LineFault::BadExpression));
-    assert!(&rt; is_refused(transition(&mut draft, b"t from p to q when + k 1"), LineFault::UnknownName));
-    assert!(&rt; is_refused(transition(&mut draft, b"t from p to q when n 1"), LineFault::Shape));
-    assert!(&rt; is_refused(transition(&mut draft, b"t from p to q do"), LineFault::Shape));
-    assert!(&rt; is_refused(transition(&mut draft, b"t from p to q do k := 1"), LineFault::UnknownName));
-    assert!(&rt; is_refused(transition(&mut draft, b"t from p to q do n = 1"), LineFault::Shape));
-    assert!(&rt; is_refused(transition(&mut draft, b"t from p to q do n := 1 ;"), LineFault::Shape));
-    assert!(&rt; is_refused(transition(&mut draft, b"t from p to q do n := 1 m := 1"), LineFault::Shape));
-    assert!(&rt; is_refused(transition(&mut draft, b"t from p to q do n := 1 when 1"), LineFault::Shape));
+    assert!(&rt;
+        is_refused(
+            transition(&mut draft, b"t from p to q when"),
+            LineFault::BadExpression
+        )
+    );
+    assert!(&rt;
+        is_refused(
+            transition(&mut draft, b"t from p to q when + k 1"),
+            LineFault::UnknownName
+        )
+    );
+    assert!(&rt;
+        is_refused(
+            transition(&mut draft, b"t from p to q when n 1"),
+            LineFault::Shape
+        )
+    );
+    assert!(&rt;
+        is_refused(
+            transition(&mut draft, b"t from p to q do"),
+            LineFault::Shape
+        )
+    );
+    assert!(&rt;
+        is_refused(
+            transition(&mut draft, b"t from p to q do k := 1"),
+            LineFault::UnknownName
+        )
+    );
+    assert!(&rt;
+        is_refused(
+            transition(&mut draft, b"t from p to q do n = 1"),
+            LineFault::Shape
+        )
+    );
+    assert!(&rt;
+        is_refused(
+            transition(&mut draft, b"t from p to q do n := 1 ;"),
+            LineFault::Shape
+        )
+    );
+    assert!(&rt;
+        is_refused(
+            transition(&mut draft, b"t from p to q do n := 1 m := 1"),
+            LineFault::Shape
+        )
+    );
+    assert!(&rt;
+        is_refused(
+            transition(&mut draft, b"t from p to q do n := 1 when 1"),
+            LineFault::Shape
+        )
+    );
     assert!(&rt; draft.into_atom()?.transitions().is_empty());
     Ok(())
 }
@@ -242,9 +306,11 @@ fn the_first_fault_behind_the_places_is_told(rt: HostRuntime) -> Result<(), Fail
 #[test]
 fn sixteen_updates_are_taken_and_no_more(rt: HostRuntime) -> Result<(), Fail> {
     let mut draft = sample(rt.alloc())?;
-    let most = b"t from p to q do n := 1 ; n := 2 ; n := 3 ; n := 4 ; n := 5 ; n := 6 ; n := 7 ; n := 8 ; n := 9 ; n := 10 ; n := 11 ; n := 12 ; n := 13 ; n := 14 ; n := 15 ; n := 16";
+    let most =
+        b"t from p to q do n := 1 ; n := 2 ; n := 3 ; n := 4 ; n := 5 ; n := 6 ; n := 7 ; n := 8 ; n := 9 ; n := 10 ; n := 11 ; n := 12 ; n := 13 ; n := 14 ; n := 15 ; n := 16";
     transition(&mut draft, most)?;
-    let more = b"t from p to q do n := 1 ; n := 2 ; n := 3 ; n := 4 ; n := 5 ; n := 6 ; n := 7 ; n := 8 ; n := 9 ; n := 10 ; n := 11 ; n := 12 ; n := 13 ; n := 14 ; n := 15 ; n := 16 ; x";
+    let more =
+        b"t from p to q do n := 1 ; n := 2 ; n := 3 ; n := 4 ; n := 5 ; n := 6 ; n := 7 ; n := 8 ; n := 9 ; n := 10 ; n := 11 ; n := 12 ; n := 13 ; n := 14 ; n := 15 ; n := 16 ; x";
     assert!(&rt; is_refused(transition(&mut draft, more), LineFault::Limit));
     assert!(&rt; draft.into_atom()?.transitions()[0].updates().len() == 16);
     Ok(())

@@ -22,5 +22,5 @@ pub returns-clause-added : goal.returns-clause-added
 returns-clause-added c =
     let some : 0 < c.args.left = omega arith in
     let items : map update_of c.push.new.self.items ≡ map update_of c.args.updates.now.items ++ update_of c.in_ok-update.update ∷ [] =
-        ap (map update_of) c.in_ok-push.ensures.items ∙ map-append _ _ _ in
+    ap (map update_of) c.in_ok-push.ensures.items ∙ map-append _ _ _ in
     rw (items, c.in_ok-more.ensures.taken) (updates_behind_update (drafted c.args.self.now) c.args.left (map update_of c.args.updates.now.items) c.args.words.now (update_of c.in_ok-update.update) c.read_update.new.words c.in_ok-more.more some c.in_ok-update.ensures.update (sym c.in_ok-more.ensures.goes_on))
