@@ -1,4 +1,4 @@
-use Rattle.std.proofs.Common.{◌≡◌, [], length, map}
+use Rattle.std.proofs.Common.{◌≡◌, [], map}
 use Rattle.petri_atom.specs.Update.{update_of}
 use Rattle.petri_atom.specs.declared.parts.TheConstants.{MAX_UPDATES}
 use Rattle.atom_lines.specs.Transitions.{updates_from}
