@@ -199,14 +199,15 @@ fn guards_and_updates_stand_behind_the_places(rt: HostRuntime) -> Result<(), Fai
     )?;
     transition(&mut draft, b"t from p to q do n := 0")?;
     let atom = draft.into_atom()?;
-    let mut state = atom.initial();
+    let state = atom.initial();
     assert!(&rt; !atom.is_offered(&state, 0));
     assert!(&rt; atom.is_offered(&state, 1));
     assert!(&rt; atom.is_offered(&state, 2));
-    assert!(&rt; atom.transitions()[1].updates().len() == 2);
-    assert!(&rt; atom.transitions()[1].updates()[0].variable == 1);
-    assert!(&rt; atom.transitions()[1].updates()[1].variable == 0);
-    assert!(&rt; atom.transitions()[2].updates().len() == 1);
+    let second = atom.transitions().get(1).ok_or("a second transition")?;
+    assert!(&rt; second.updates().len() == 2);
+    let first = second.updates().first().ok_or("an update")?;
+    let last = second.updates().last().ok_or("an update")?;
+    assert!(&rt; first.variable == 1 && last.variable == 0);
     Ok(())
 }
 
@@ -312,6 +313,8 @@ fn sixteen_updates_are_taken_and_no_more(rt: HostRuntime) -> Result<(), Fail> {
     let more =
         b"t from p to q do n := 1 ; n := 2 ; n := 3 ; n := 4 ; n := 5 ; n := 6 ; n := 7 ; n := 8 ; n := 9 ; n := 10 ; n := 11 ; n := 12 ; n := 13 ; n := 14 ; n := 15 ; n := 16 ; x";
     assert!(&rt; is_refused(transition(&mut draft, more), LineFault::Limit));
-    assert!(&rt; draft.into_atom()?.transitions()[0].updates().len() == 16);
+    let atom = draft.into_atom()?;
+    let written = atom.transitions().first().ok_or("a transition")?;
+    assert!(&rt; written.updates().len() == 16);
     Ok(())
 }
