@@ -9,8 +9,9 @@ use Rattle.petri_atom.specs.Atom.{definition_of}
 use Rattle.petri_atom.specs.Local.{Local}
 use Rattle.petri_atom.specs.Definition.{Fits, offers_number}
 use Rattle.petri_atom.specs.declared.atom.Atom.{Atom}
-use Rattle.step_core.specs.Choice.{ChoiceDefinition, IsAllowed, choices, of_atom}
+use Rattle.step_core.specs.Choice.{ChoiceDefinition, IsAllowed, choices}
 use Rattle.step_core.specs.Fitting.{AllFit}
+use Rattle.step_core.specs.Plant.{of_atom}
 use Rattle.step_core.specs.Made.{plant_by}
 use Rattle.step_core.specs.Step.{next, transfer, moved_by, stepped}
 use Rattle.step_core.specs.declared.choice.Move.{Move}

@@ -47,10 +47,11 @@ flat-filter p f (x ∷ xs) =
       | false ↦ flat-filter p f xs
     ]
 
--- the choices of a plant, from interactions and atoms that are lent
-pub choices-of-lent : (atoms lent_atoms : List Atom) (wires : List Wire) (interactions lent : List kept.Interaction) (states : List Local) → lent_atoms ≡ atoms → lent ≡ interactions → map interaction_of interactions ≡ plant_interactions (plant_by atoms wires) → flat_map (choices_in (map definition_of lent_atoms) states) (map interaction_of lent) ≡ choices (plant_by atoms wires) states
-choices-of-lent atoms lent_atoms wires interactions lent states same_atoms same listed =
-    ap (λ xs. flat_map (choices_in (map definition_of xs) states) (map interaction_of lent)) same_atoms ∙
-    ap (λ xs. flat_map (choices_in (map definition_of atoms) states) (map interaction_of xs)) same ∙
-    ap (flat_map (choices_in (map definition_of atoms) states)) listed ∙
-    sym (flat-filter (is_possible (map definition_of atoms) states) (choices_of (map definition_of atoms) states) (plant_interactions (plant_by atoms wires)))
+-- the choices of a plant, from its parts as they are lent
+pub choices-of-lent : (atoms lent_atoms : List Atom) (wires lent_wires : List Wire) (interactions lent : List kept.Interaction) (states : List Local) → lent_atoms ≡ atoms → lent_wires ≡ wires → lent ≡ interactions → map interaction_of interactions ≡ plant_interactions (plant_by atoms wires) → flat_map (choices_in (plant_by lent_atoms lent_wires) states) (map interaction_of lent) ≡ choices (plant_by atoms wires) states
+choices-of-lent atoms lent_atoms wires lent_wires interactions lent states same_atoms same_wires same listed =
+    ap (λ xs. flat_map (choices_in (plant_by xs lent_wires) states) (map interaction_of lent)) same_atoms ∙
+    ap (λ ws. flat_map (choices_in (plant_by atoms ws) states) (map interaction_of lent)) same_wires ∙
+    ap (λ xs. flat_map (choices_in (plant_by atoms wires) states) (map interaction_of xs)) same ∙
+    ap (flat_map (choices_in (plant_by atoms wires) states)) listed ∙
+    sym (flat-filter (is_possible (plant_by atoms wires) states) (choices_of (map definition_of atoms) states) (plant_interactions (plant_by atoms wires)))

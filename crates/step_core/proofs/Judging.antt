@@ -8,7 +8,7 @@ use Rattle.petri_atom.specs.Atom.{definition_of}
 use Rattle.petri_atom.specs.Definition.{AtomDefinition}
 use Rattle.petri_atom.specs.declared.atom.Atom.{Atom}
 use Rattle.petri_atom.specs.Definition.{offered_set}
-use Rattle.step_core.specs.Choice.{of_atom}
+use Rattle.step_core.specs.Plant.{of_atom}
 use Rattle.step_core.specs.Offers.{AreOffered}
 
 -- an atom of a plant with a number, as it was written

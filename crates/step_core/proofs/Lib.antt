@@ -5,6 +5,7 @@ pub mod Flattened
 pub mod Told
 pub mod RuleFaults
 pub mod Delivering
+pub mod Guarding
 pub mod Stepping
 pub mod FiringOfAll
 pub mod Initial

@@ -1,13 +1,15 @@
 -- Worked steps of a plant of two atoms, as computed facts of the definitions.
-use Rattle.std.proofs.Common.{◌≡◌, ℕ, ℤ, pos, refl, List, [], ◌∷◌}
+use Rattle.std.proofs.Common.{◌≡◌, ℕ, ℤ, pos, refl, true, false, List, [], ◌∷◌}
 use Rattle.std.specs.Int.{int_wrap}
-use Rattle.petri_atom.specs.Expression.{number, variable, operation}
+use Rattle.petri_atom.specs.Expression.{Tree, number, variable, operation}
 use Rattle.petri_atom.specs.Local.{Local, set_below, moved}
 use Rattle.petri_atom.specs.Definition.{AtomDefinition}
-use Rattle.petri_atom.specs.declared.expression.Operator.TheVariants.{Add}
+use Rattle.petri_atom.specs.declared.expression.Operator.TheVariants.{Add, Less}
 use Rattle.petri_atom.specs.declared.state.Delivered.{Delivered}
 use Rattle.connector_tree.specs.declared.tree.Port.{Port}
 use Rattle.step_core.specs.Plant.{TransferDefinition}
+use Rattle.step_core.specs.Exports.{guards_hold}
+use Rattle.step_core.specs.declared.wire.Export.{Export}
 use Rattle.step_core.specs.Step.{delivered_by, nothing_delivered, stepped_from}
 use Rattle.step_core.specs.declared.choice.Move.{Move}
 
@@ -81,3 +83,23 @@ delivered_to_the_counter = refl
 delivered_without_the_counter : delivered_by sample (at (pos 1) (pos 0)) send_leaves send_transfers 2 1 ≡ nothing_delivered
 unfolding sample counts holds set_below
 delivered_without_the_counter = refl
+
+-- the guard `< A.n 2` of `send`, at n = 1 and at n = 2; it does not apply where A takes no part, and one that names nothing always does
+abbrev below_two : List (Tree Export)
+below_two = operation Less (variable (record { leaf = 0; export = 0 })) (number (pos 2)) ∷ []
+
+guarded_at_one : guards_hold sample (at (pos 1) (pos 0)) send_leaves 3 below_two ≡ true
+unfolding sample counts holds
+guarded_at_one = refl
+
+guarded_at_two : guards_hold sample (at (pos 2) (pos 1)) send_leaves 3 below_two ≡ false
+unfolding sample counts holds
+guarded_at_two = refl
+
+guard_of_who_stays_away : guards_hold sample (at (pos 2) (pos 1)) send_leaves 2 below_two ≡ true
+unfolding sample counts holds
+guard_of_who_stays_away = refl
+
+guard_of_nobody : guards_hold sample (at (pos 1) (pos 0)) send_leaves 2 (number (pos 0) ∷ []) ≡ false
+unfolding sample counts holds
+guard_of_nobody = refl

@@ -7,8 +7,8 @@ use Rattle.petri_atom.specs.Local.{Local}
 use Rattle.petri_atom.specs.Definition.{AtomDefinition, enabled, offers_number}
 use Rattle.petri_atom.specs.declared.state.Delivered.{Delivered}
 use Rattle.connector_tree.specs.declared.tree.Port.{Port}
-use Rattle.step_core.specs.Plant.{PlantDefinition}
-use Rattle.step_core.specs.Choice.{of_atom, move_of, moves_of, combinations, choices_of, choices, is_possible, plant_interactions}
+use Rattle.step_core.specs.Plant.{PlantDefinition, of_atom}
+use Rattle.step_core.specs.Choice.{move_of, moves_of, combinations, choices_of, choices, is_possible, plant_interactions}
 use Rattle.step_core.specs.Step.{stepped, stepped_from}
 use Rattle.step_core.specs.declared.choice.Move.{Move}
 
@@ -151,7 +151,7 @@ pub offered-choices : (plant : PlantDefinition) (states : List Local) → list_a
 offered-choices plant states =
     all-flat_map (λ c. list_all (is_offered_move plant.atoms states) c.moves) (choices_of plant.atoms states)
     (λ i. all-map (λ c. list_all (is_offered_move plant.atoms states) c.moves) (λ moves. record { connector = i.connector; mask = i.mask; moves = moves }) (combinations (map (moves_of plant.atoms states) i.ports)) (all-combinations (is_offered_move plant.atoms states) (map (moves_of plant.atoms states) i.ports) (all-map (list_all (is_offered_move plant.atoms states)) (moves_of plant.atoms states) i.ports (each-true (λ p. offered-moves plant.atoms states p) i.ports))))
-    (filter (is_possible plant.atoms states) (plant_interactions plant))
+    (filter (is_possible plant states) (plant_interactions plant))
   where
     each-true : {X : Type 0} {f : X → Bool} → ((x : X) → f x ≡ true) → (xs : List X) → list_all f xs ≡ true
     each-true each [] = refl

@@ -1,8 +1,9 @@
-use Rattle.std.proofs.Common.{◌≡◌, ℕ, refl, sym, ◌∙◌, ap, List, [], ◌∷◌, map, take, get_or, length, ◌<◌, arith, Bool, ◌||◌}
+use Rattle.std.proofs.Common.{◌≡◌, add-one, ◌+◌, drop, ℕ, refl, sym, ◌∙◌, ap, List, [], ◌∷◌, map, take, get_or, length, ◌<◌, arith, Bool, ◌||◌, ◌&&◌}
 use Rattle.std.specs.List.{list_any}
-use Rattle.std.proofs.lemmas.List.{take-map, length-map}
+use Rattle.std.proofs.lemmas.List.{take-map, length-map, drop_more}
 use Rattle.std.proofs.lemmas.Option.{same_Some, slice_get_read, slice_get-map}
-use Rattle.std.specs.Prelude.{option_map, slice_get}
+use Rattle.std.specs.Prelude.{Option, Some, None, option_map, slice_get}
+use Rattle.step_core.specs.Rules.{first_of, first_told}
 use Rattle.step_core.specs.Wire.{transfer_of}
 use Rattle.step_core.specs.declared.wire.Transfer.{Transfer}
 
@@ -31,3 +32,23 @@ same_at f g xs ys same n x y within here there =
     let as_many : length xs ≡ length ys = sym (length-map xs f) ∙ ap length same ∙ length-map ys g in
     same_Some (f x) (g y)
     (ap (option_map f) (sym (slice_get_read xs (length xs) n x refl (omega (arith, within, as_many)) here)) ∙ sym (slice_get-map f xs n) ∙ ap (λ zs. slice_get zs n) same ∙ slice_get-map g ys n ∙ ap (option_map g) (slice_get_read ys (length ys) n y refl within there))
+
+-- two truth values that are the same, each beside another that is
+pub both : {a b c d : Bool} → a ≡ c → b ≡ d → (a && b) ≡ (c && d)
+both {b = b} {c = c} p q = ap (λ x. x && b) p ∙ ap (λ x. c && x) q
+
+-- what is told from an element of a list on, each element seen as something else
+module _ {X Y F : Type 0} (tell : ℕ → Y → Option F) (v : X → Y) (xs : List X) (i : ℕ) (x : X) (within : i < length xs) (here : x ≡ get_or xs i x) (all : Option F) (so_far : first_told tell i (map v (drop i xs)) ≡ all) where
+  from-here : first_of (tell i (v x)) (first_told tell (i + 1) (map v (drop (i + 1) xs))) ≡ all
+  from-here =
+      sym (ap (λ ys. first_told tell i (map v ys)) (drop_more xs i x within ∙ ap (λ y. y ∷ drop (i + 1) xs) (sym here)) ∙
+           ap (λ n. first_of (tell i (v x)) (first_told tell n (map v (drop (i + 1) xs)))) (sym (add-one i))) ∙
+      so_far
+
+  -- it tells something
+  pub told-now : (fault : F) → tell i (v x) ≡ Some fault → Some fault ≡ all
+  told-now fault told = ap (λ o. first_of o (first_told tell (i + 1) (map v (drop (i + 1) xs)))) (sym told) ∙ from-here
+
+  -- or nothing
+  pub told-later : tell i (v x) ≡ None → first_told tell (i + 1) (map v (drop (i + 1) xs)) ≡ all
+  told-later told = ap (λ o. first_of o (first_told tell (i + 1) (map v (drop (i + 1) xs)))) (sym told) ∙ from-here

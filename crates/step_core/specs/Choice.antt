@@ -1,5 +1,5 @@
 -- Which choices a state has.
-use Rattle.std.specs.Prelude.{ℕ, zero, suc, List, [], ◌∷◌, ◌++◌, map, filter, flat_map, length, slice_get, Contains, Bool, false, if◌then◌else◌, ◌==◌}
+use Rattle.std.specs.Prelude.{ℕ, zero, suc, List, [], ◌∷◌, ◌++◌, map, filter, flat_map, length, slice_get, Contains, Bool, true, false, ◌&&◌, if◌then◌else◌, ◌==◌}
 use Rattle.std.specs.List.{list_all}
 use Rattle.std.specs.Option.{option_map_or}
 use Rattle.petri_atom.specs.Local.{Local}
@@ -8,13 +8,9 @@ use Rattle.connector_tree.specs.Masks.{interactions_of, chosen}
 use Rattle.connector_tree.specs.Tree.{leaves}
 use Rattle.connector_tree.specs.declared.tree.Port.{Port}
 use Rattle.connector_tree.specs.declared.tree.Connector.{Connector}
-use Rattle.step_core.specs.Plant.{WireDefinition, PlantDefinition}
+use Rattle.step_core.specs.Plant.{WireDefinition, PlantDefinition, of_atom}
+use Rattle.step_core.specs.Exports.{guards_hold}
 use Rattle.step_core.specs.declared.choice.Move.{Move}
-
--- the atom and the local state with a number, and what is read of both; nothing where one is not there
-abbrev pub of_atom : {X : Type 0} → List AtomDefinition → List Local → ℕ → (AtomDefinition → Local → X) → X → X
-of_atom atoms states n read nothing =
-    option_map_or (λ a. option_map_or (λ s. read a s) (slice_get states n) nothing) (slice_get atoms n) nothing
 
 -- an interaction: the number of its connector, its leaves as a mask, and its ports in rising order of their atoms
 pub record Interaction : Type 0 where
@@ -49,9 +45,14 @@ plant_interactions plant = interactions_from (length plant.atoms) 0 plant.wires
 abbrev pub is_offered_port : List AtomDefinition → List Local → Port → Bool
 is_offered_port atoms states p = of_atom atoms states p.atom (λ a s. offers_port a s p.port) false
 
--- an interaction is possible where each of its ports has an offered transition
-abbrev pub is_possible : List AtomDefinition → List Local → Interaction → Bool
-is_possible atoms states i = list_all (is_offered_port atoms states) i.ports
+-- the guard clauses of an interaction's connector that apply to it are not 0
+abbrev pub is_unguarded : PlantDefinition → List Local → Interaction → Bool
+is_unguarded plant states i =
+    option_map_or (λ w. guards_hold plant.atoms states (leaves w.connector) i.mask w.guards) (slice_get plant.wires i.connector) true
+
+-- an interaction is possible where each of its ports has an offered transition, and no guard of its connector forbids it
+abbrev pub is_possible : PlantDefinition → List Local → Interaction → Bool
+is_possible plant states i = list_all (is_offered_port plant.atoms states) i.ports && is_unguarded plant states i
 
 -- the move of an atom by a transition
 abbrev pub move_of : ℕ → ℕ → Move
@@ -80,13 +81,13 @@ choices_of atoms states i =
     (combinations (map (moves_of atoms states) i.ports))
 
 -- the choices of one interaction in a state: none where it is not possible
-abbrev pub choices_in : List AtomDefinition → List Local → Interaction → List ChoiceDefinition
-choices_in atoms states i = if is_possible atoms states i then choices_of atoms states i else []
+abbrev pub choices_in : PlantDefinition → List Local → Interaction → List ChoiceDefinition
+choices_in plant states i = if is_possible plant states i then choices_of plant.atoms states i else []
 
 -- the choices of a state: those of each possible interaction, in the order of the interactions
 abbrev pub choices : PlantDefinition → List Local → List ChoiceDefinition
 choices plant states =
-    flat_map (choices_of plant.atoms states) (filter (is_possible plant.atoms states) (plant_interactions plant))
+    flat_map (choices_of plant.atoms states) (filter (is_possible plant states) (plant_interactions plant))
 
 -- a choice is allowed in a state where it is one of the state's choices
 abbrev pub IsAllowed : PlantDefinition → List Local → ChoiceDefinition → Type 0

@@ -1,6 +1,7 @@
 pub mod Plant
 pub mod Wire
 pub mod Made
+pub mod Exports
 pub mod Choice
 pub mod Chosen
 pub mod Interaction

@@ -11,7 +11,7 @@ use Rattle.step_core.specs.declared.fault.WireFault.TheVariants.{NameTwice, Unkn
 abbrev pub wire_message : WireFault → List ℕ
 wire_message NameTwice = codes "an earlier connector has its name"
 wire_message UnknownPort = codes "it names an atom or a port that is not there"
-wire_message UnknownVariable = codes "a transfer names a variable that no leaf of it exports"
+wire_message UnknownVariable = codes "a guard or a transfer names a variable that no leaf exports"
 wire_message TargetTwice = codes "two transfers have the same target"
 
 -- what is wrong with a plant

@@ -1,5 +1,7 @@
 -- What a plant is.
-use Rattle.std.specs.Prelude.{ℕ, List}
+use Rattle.std.specs.Prelude.{ℕ, List, slice_get}
+use Rattle.std.specs.Option.{option_map_or}
+use Rattle.petri_atom.specs.Local.{Local}
 use Rattle.petri_atom.specs.Expression.{Tree}
 use Rattle.petri_atom.specs.Definition.{AtomDefinition}
 use Rattle.connector_tree.specs.declared.tree.Connector.{Connector}
@@ -10,13 +12,19 @@ pub record TransferDefinition : Type 0 where
   pub target : Export
   pub value : Tree Export
 
--- a wire: a connector with its name and its transfers
+-- a wire: a connector with its name, its guard clauses and its transfers
 pub record WireDefinition : Type 0 where
   pub name : List ℕ
   pub connector : Connector
+  pub guards : List (Tree Export)
   pub transfers : List TransferDefinition
 
 -- a plant: its atoms and its wires, each numbered from 0 in written order
 pub record PlantDefinition : Type 0 where
   pub atoms : List AtomDefinition
   pub wires : List WireDefinition
+
+-- the atom and the local state with a number, and what is read of both; nothing where one is not there
+abbrev pub of_atom : {X : Type 0} → List AtomDefinition → List Local → ℕ → (AtomDefinition → Local → X) → X → X
+of_atom atoms states n read nothing =
+    option_map_or (λ a. option_map_or (λ s. read a s) (slice_get states n) nothing) (slice_get atoms n) nothing

@@ -2,7 +2,7 @@
 use Rattle.std.specs.Prelude.{◌≡◌, ℕ, suc, ◌==◌, ◌&&◌, not, Bool, false, if◌then◌else◌, List, [], ◌∷◌, map, take, length, slice_get, Option, Some, None, option_map, nat_lt, nat_le}
 use Rattle.std.specs.List.{list_all, list_any}
 use Rattle.std.specs.Option.{option_map_or}
-use Rattle.petri_atom.specs.Expression.{word_count, all_variables}
+use Rattle.petri_atom.specs.Expression.{Tree, word_count, all_variables}
 use Rattle.petri_atom.specs.Name.{is_same_text}
 use Rattle.petri_atom.specs.Definition.{AtomDefinition, exports_of, is_each_once}
 use Rattle.petri_atom.specs.declared.parts.TheConstants.{MAX_WORDS}
@@ -11,7 +11,7 @@ use Rattle.connector_tree.specs.Tree.{leaves}
 use Rattle.connector_tree.specs.declared.tree.Port.{Port}
 use Rattle.step_core.specs.Plant.{TransferDefinition, WireDefinition, PlantDefinition}
 use Rattle.step_core.specs.Choice.{plant_interactions}
-use Rattle.step_core.specs.declared.limits.TheConstants.{MAX_ATOMS, MAX_WIRES, MAX_TRANSFERS, MAX_INTERACTIONS}
+use Rattle.step_core.specs.declared.limits.TheConstants.{MAX_ATOMS, MAX_WIRES, MAX_GUARDS, MAX_TRANSFERS, MAX_INTERACTIONS}
 use Rattle.step_core.specs.declared.wire.Export.{Export}
 use Rattle.step_core.specs.declared.fault.SystemFault.{SystemFault}
 use Rattle.step_core.specs.declared.fault.SystemFault.TheVariants.{Limit, BadAtom, BadConnector, BadWire, Memory}
@@ -33,9 +33,14 @@ abbrev pub are_small_transfers : List TransferDefinition → Bool
 are_small_transfers transfers =
     nat_le (length transfers) MAX_TRANSFERS && list_all (λ t. nat_le (word_count t.value) MAX_WORDS) transfers
 
+-- there are no more guard clauses than a wire may have, each with no more words than an expression may have
+abbrev pub are_small_guards : List (Tree Export) → Bool
+are_small_guards clauses =
+    nat_le (length clauses) MAX_GUARDS && list_all (λ clause. nat_le (word_count clause) MAX_WORDS) clauses
+
 -- a wire is within the limits
 abbrev pub is_small_wire : WireDefinition → Bool
-is_small_wire w = are_small_transfers w.transfers
+is_small_wire w = are_small_guards w.guards && are_small_transfers w.transfers
 
 -- there is an atom, and there are no more atoms and wires than a plant may have, each wire within its limits
 abbrev pub is_within_limits : PlantDefinition → Bool
@@ -87,7 +92,7 @@ abbrev pub fault_of_wire : List AtomDefinition → List WireDefinition → WireD
 fault_of_wire atoms earlier w =
     first_broken (list_any (λ v. is_same_text v.name w.name) earlier)
     (list_all (is_known_port atoms) (leaves w.connector))
-    (list_all (names_known atoms (leaves w.connector)) w.transfers)
+    (list_all (all_variables (is_known_export atoms (leaves w.connector))) w.guards && list_all (names_known atoms (leaves w.connector)) w.transfers)
     (is_each_once is_same_export (map (λ t. t.target) w.transfers))
 
 -- the same of the wire with number k, told with that number

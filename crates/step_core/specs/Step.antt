@@ -11,26 +11,14 @@ use Rattle.connector_tree.specs.Masks.{is_set}
 use Rattle.connector_tree.specs.Tree.{leaves}
 use Rattle.connector_tree.specs.declared.tree.Port.{Port}
 use Rattle.step_core.specs.Plant.{TransferDefinition, PlantDefinition}
-use Rattle.step_core.specs.Choice.{ChoiceDefinition, of_atom}
+use Rattle.step_core.specs.Exports.{value_at, takes_part}
+use Rattle.step_core.specs.Choice.{ChoiceDefinition}
 use Rattle.step_core.specs.declared.choice.Move.{Move}
 use Rattle.step_core.specs.declared.wire.Export.{Export}
 
 -- the first state of a plant: each atom's first one
 abbrev pub initial_states : PlantDefinition → List Local
 initial_states plant = map initial plant.atoms
-
--- the value of a variable that a port exports in a global state; 0 where there is none
-abbrev pub exported_at : List AtomDefinition → List Local → Port → ℕ → ℤ
-exported_at atoms states p export = of_atom atoms states p.atom (λ a s. exported_value a s p.port export) (pos 0)
-
--- the value of an exported variable of a leaf in a global state, among these leaves; 0 where there is none
-abbrev pub value_at : List AtomDefinition → List Local → List Port → Export → ℤ
-value_at atoms states ports e =
-    option_map_or (λ p. exported_at atoms states p e.export) (slice_get ports e.leaf) (pos 0)
-
--- the leaf of an exported variable takes part
-abbrev pub takes_part : ℕ → Export → Bool
-takes_part mask e = is_set mask e.leaf
 
 -- a transfer applies where each leaf that it names takes part, its target's among them
 abbrev pub applies : ℕ → TransferDefinition → Bool

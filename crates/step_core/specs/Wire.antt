@@ -10,4 +10,9 @@ transfer_of t = record { target = t.target; value = tree_of t.value }
 
 -- a wire as it was written
 abbrev pub wire_of : Wire → WireDefinition
-wire_of w = record { name = w.name; connector = w.connector; transfers = map transfer_of w.transfers.items }
+wire_of w = record {
+  name = w.name;
+  connector = w.connector;
+  guards = map tree_of w.guards.items;
+  transfers = map transfer_of w.transfers.items;
+}

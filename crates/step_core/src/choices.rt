@@ -25,6 +25,8 @@ impl System {
         let offered = offered_sets(&self.atoms, states);
         let judged = Judged {
             atoms: &self.atoms,
+            wires: &self.wires,
+            ports: &self.ports,
             states,
             offered: &offered,
         };
@@ -41,6 +43,8 @@ impl System {
         let offered = offered_sets(&self.atoms, states);
         let judged = Judged {
             atoms: &self.atoms,
+            wires: &self.wires,
+            ports: &self.ports,
             states,
             offered: &offered,
         };

@@ -11,7 +11,7 @@ pub enum WireFault {
     NameTwice,
     /// A leaf names an atom that is not there, or a port that its atom has not.
     UnknownPort,
-    /// A transfer names a leaf that is not there, or a variable that the leaf's port does not export.
+    /// A guard clause or a transfer names a leaf that is not there, or a variable that the leaf's port does not export.
     UnknownVariable,
     /// Two transfers have the same target.
     TargetTwice,
@@ -20,7 +20,7 @@ pub enum WireFault {
 /// Why atoms and wires make no plant.
 #[derive(Clone, Copy, Debug, PartialEq, Eq)]
 pub enum SystemFault {
-    /// There is no atom, or there are more atoms, wires, transfers, words or interactions than a plant may have.
+    /// There is no atom, or there are more atoms, wires, guards, transfers, words or interactions than a plant may have.
     Limit,
     /// An earlier atom has the name of the atom with this number.
     BadAtom(u16),
@@ -43,7 +43,7 @@ impl fmt::Display for WireFault {
             WireFault::NameTwice => f.write_str("an earlier connector has its name"),
             WireFault::UnknownPort => f.write_str("it names an atom or a port that is not there"),
             WireFault::UnknownVariable => {
-                f.write_str("a transfer names a variable that no leaf of it exports")
+                f.write_str("a guard or a transfer names a variable that no leaf exports")
             }
             WireFault::TargetTwice => f.write_str("two transfers have the same target"),
         }

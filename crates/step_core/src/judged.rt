@@ -1,11 +1,14 @@
 //! A global state with the offered transitions of its atoms, each judged once: which interactions are possible in it,
 //! how many choices it has, and which they are.
 ghost use Rattle.std.specs.Prelude.{◌≡◌, [], ◌≤◌, ◌<◌, ◌+◌, ◌*◌, ◌^◌, ◌++◌, Some, None, List, map, length, get_or, slice_get, flat_map, option_map};
+ghost use Rattle.std.specs.List.{list_all};
 ghost use Rattle.petri_atom.specs.Atom.{definition_of};
 ghost use Rattle.petri_atom.specs.declared.parts.TheConstants.{MAX_TRANSITIONS};
 ghost use Rattle.connector_tree.specs.declared.tree.TheConstants.{MAX_LEAVES};
-ghost use Rattle.step_core.specs.Choice.{is_offered_port, is_possible, move_of, moves_of, combinations, choices_in};
+ghost use Rattle.step_core.specs.Choice.{is_offered_port, is_unguarded, is_possible, move_of, moves_of, combinations, choices_in};
 ghost use Rattle.step_core.specs.Interaction.{interaction_of};
+ghost use Rattle.connector_tree.specs.Tree.{leaves};
+ghost use Rattle.step_core.specs.Made.{plant_by};
 ghost use Rattle.step_core.specs.Offers.{AreOffered};
 ghost use Rattle.step_core.specs.Chosen.{choice_of};
 ghost use Rattle.step_core.specs.declared.choice.Move.{Move};
@@ -14,6 +17,8 @@ ghost use Rattle.step_core.specs.declared.limits.TheConstants.{MAX_INTERACTIONS}
 use crate::choice::{Choice, Move, Moves};
 use crate::interaction::Interaction;
 use crate::state::PlantState;
+use crate::values::Values;
+use crate::wire::Wire;
 use connector_tree::Port;
 use petri_atom::{Atom, TransitionSet};
 
@@ -21,10 +26,13 @@ use petri_atom::{Atom, TransitionSet};
 #[derive(Drop)]
 pub(crate) struct Judged<'a> {
     pub(crate) atoms: &'a [Atom],
+    pub(crate) wires: &'a [Wire],
+    pub(crate) ports: &'a [Vec<Port>],
     pub(crate) states: &'a PlantState,
     pub(crate) offered: &'a [TransitionSet],
     ghost as_many: { length states.now ≡ length atoms.now },
     ghost rows: { length atoms.now ≤ length offered.now },
+    ghost leaves: { map (λ list. list.items) ports.now ≡ map (λ w. leaves w.connector) wires.now },
     ghost exact: { AreOffered (map definition_of atoms.now) states.now offered.now },
 }
 
@@ -66,9 +74,34 @@ impl Judged<'_> {
 
     /// Whether the interaction is possible.
     fn is_possible(&self, interaction: &Interaction) -> bool
-        ensures { result ≡ is_possible (map definition_of self.now.atoms.now) self.now.states.now (interaction_of interaction.now) }
+        ensures { result ≡ is_possible (plant_by self.now.atoms.now self.now.wires.now) self.now.states.now (interaction_of interaction.now) }
     {
-        interaction.ports.iter().all(|port| self.offers(port))
+        self.offers_each(&interaction.ports) && self.is_unguarded(interaction)
+    }
+
+    /// Whether each of the ports has an offered transition.
+    fn offers_each(&self, ports: &[Port]) -> bool
+        ensures { result ≡ list_all (is_offered_port (map definition_of self.now.atoms.now) self.now.states.now) ports.now }
+    {
+        ports.iter().all(|port| self.offers(port))
+    }
+
+    /// Whether no guard clause of its connector that applies forbids the interaction.
+    fn is_unguarded(&self, interaction: &Interaction) -> bool
+        ensures { result ≡ is_unguarded (plant_by self.now.atoms.now self.now.wires.now) self.now.states.now (interaction_of interaction.now) }
+    {
+        let number = usize::from(interaction.connector);
+        match self.wires.get(number) {
+            Some(wire) => {
+                let values = Values {
+                    atoms: self.atoms,
+                    states: self.states,
+                    ports: &self.ports[number],
+                };
+                values.hold(&wire.guards, interaction.mask)
+            }
+            None => true,
+        }
     }
 
     /// How many rows of one move for each port there are.
@@ -118,7 +151,7 @@ impl Judged<'_> {
     /// How many choices the interaction has.
     fn choice_count(&self, interaction: &Interaction) -> u128
         ensures few { result ≤ 2 ^ 56 }
-        ensures count { result ≡ length (choices_in (map definition_of self.now.atoms.now) self.now.states.now (interaction_of interaction.now)) }
+        ensures count { result ≡ length (choices_in (plant_by self.now.atoms.now self.now.wires.now) self.now.states.now (interaction_of interaction.now)) }
     {
         if self.is_possible(interaction) {
             self.row_count(&interaction.ports)
@@ -129,9 +162,9 @@ impl Judged<'_> {
 
     /// The choice with this place, from 0, among those of the interaction, of which there are `total`.
     fn choice(&self, interaction: &Interaction, total: u128, place: u128) -> Choice
-        requires total { total ≡ length (choices_in (map definition_of self.now.atoms.now) self.now.states.now (interaction_of interaction.now)) }
+        requires total { total ≡ length (choices_in (plant_by self.now.atoms.now self.now.wires.now) self.now.states.now (interaction_of interaction.now)) }
         requires place { place < total }
-        ensures { slice_get (choices_in (map definition_of self.now.atoms.now) self.now.states.now (interaction_of interaction.now)) place ≡ Some (choice_of result) }
+        ensures { slice_get (choices_in (plant_by self.now.atoms.now self.now.wires.now) self.now.states.now (interaction_of interaction.now)) place ≡ Some (choice_of result) }
     {
         let mut moves = Moves::none();
         self.push_row(&interaction.ports, total, place, &mut moves);
@@ -145,7 +178,7 @@ impl Judged<'_> {
     /// How many choices the interactions have.
     pub(crate) fn count(&self, interactions: &[Interaction]) -> u128
         requires { length interactions.now ≤ MAX_INTERACTIONS }
-        ensures { result ≡ length (flat_map (choices_in (map definition_of self.now.atoms.now) self.now.states.now) (map interaction_of interactions.now)) }
+        ensures { result ≡ length (flat_map (choices_in (plant_by self.now.atoms.now self.now.wires.now) self.now.states.now) (map interaction_of interactions.now)) }
     {
         let mut count = 0;
         for interaction in interactions {
@@ -156,7 +189,7 @@ impl Judged<'_> {
 
     /// The choice with this place, from 0, among those of the interactions, if there is one.
     pub(crate) fn nth(&self, interactions: &[Interaction], place: u128) -> Option<Choice>
-        ensures { option_map choice_of result ≡ slice_get (flat_map (choices_in (map definition_of self.now.atoms.now) self.now.states.now) (map interaction_of interactions.now)) place }
+        ensures { option_map choice_of result ≡ slice_get (flat_map (choices_in (plant_by self.now.atoms.now self.now.wires.now) self.now.states.now) (map interaction_of interactions.now)) place }
     {
         let mut left = place;
         for interaction in interactions {

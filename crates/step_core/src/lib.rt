@@ -16,7 +16,7 @@
 //! - `state`: a local state for each atom. `choice`: a choice, and the moves that it makes.
 //! - `judged`: a state with the offered transitions of its atoms, each judged once. `choices`: how many choices a state has,
 //!   and which.
-//! - `transfers`: what a choice delivers. `firing`: the state that it leaves.
+//! - `values`: exported variables, and guard clauses on them. `transfers`: what a choice delivers. `firing`: the state that it leaves.
 #![tactic(auto)]
 
 mod choice;
@@ -32,6 +32,7 @@ mod rules;
 mod state;
 mod system;
 mod transfers;
+mod values;
 mod wire;
 mod wire_rules;
 
@@ -39,7 +40,7 @@ pub use choice::{Choice, Move, Moves};
 pub use fault::{SystemFault, WireFault};
 pub use interaction::Interaction;
 pub use interactions::connector_interactions;
-pub use limits::{MAX_ATOMS, MAX_INTERACTIONS, MAX_TRANSFERS, MAX_WIRES};
+pub use limits::{MAX_ATOMS, MAX_GUARDS, MAX_INTERACTIONS, MAX_TRANSFERS, MAX_WIRES};
 pub use state::PlantState;
 pub use system::System;
 pub use wire::{Export, Transfer, Wire};

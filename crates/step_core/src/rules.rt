@@ -7,13 +7,13 @@ ghost use Rattle.step_core.specs.declared.limits.TheConstants.{MAX_ATOMS, MAX_WI
 ghost use Rattle.petri_atom.specs.Atom.{definition_of};
 ghost use Rattle.petri_atom.specs.Name.{is_same_text};
 ghost use Rattle.step_core.specs.Made.{plant_by};
-ghost use Rattle.step_core.specs.Rules.{are_small_transfers, is_small_wire, is_within_limits, first_told, atom_fault, tree_fault, early_fault};
+ghost use Rattle.step_core.specs.Rules.{are_small_guards, are_small_transfers, is_small_wire, is_within_limits, first_told, atom_fault, tree_fault, early_fault};
 ghost use Rattle.step_core.specs.Wire.{wire_of, transfer_of};
 
 use crate::fault::SystemFault;
-use crate::limits::{MAX_ATOMS, MAX_TRANSFERS, MAX_WIRES};
-use crate::wire::{Transfer, Wire};
-use petri_atom::{Atom, Name};
+use crate::limits::{MAX_ATOMS, MAX_GUARDS, MAX_TRANSFERS, MAX_WIRES};
+use crate::wire::{Export, Transfer, Wire};
+use petri_atom::{Atom, Expression, Name};
 
 /// The first rule that is broken of those about limits, names of atoms and trees.
 pub(crate) fn early_fault(atoms: &[Atom], wires: &[Wire]) -> Option<SystemFault>
@@ -46,7 +46,21 @@ fn are_small(wires: &[Wire]) -> bool
 fn each_is_small(wires: &[Wire]) -> bool
     ensures { result ≡ list_all (λ w. is_small_wire (wire_of w)) wires.now }
 {
-    wires.iter().all(|wire| is_small(&wire.transfers))
+    wires.iter().all(|wire| are_small_guards(&wire.guards) & is_small(&wire.transfers))
+}
+
+/// Whether there are no more guard clauses than a wire may have, each with no more words than an expression may have.
+fn are_small_guards(clauses: &[Expression<Export>]) -> bool
+    ensures { result ≡ are_small_guards (map tree_of clauses.now) }
+{
+    (clauses.len() <= MAX_GUARDS) & are_small_clauses(clauses)
+}
+
+/// Whether each clause has no more words than an expression may have.
+fn are_small_clauses(clauses: &[Expression<Export>]) -> bool
+    ensures { result ≡ list_all (λ clause. nat_le (word_count (tree_of clause)) MAX_WORDS) clauses.now }
+{
+    clauses.iter().all(|clause| clause.is_small())
 }
 
 /// Whether there are no more transfers than a wire may make, each with no more words than an expression may have.

@@ -42,6 +42,7 @@ pub(crate) fn wire(alloc: Global, text: &[u8], atoms: &[u16]) -> Result<Wire, Fa
     Ok(Wire {
         name: name(text)?,
         connector: connector(alloc, atoms, false)?,
+        guards: Vec::new(alloc),
         transfers: Vec::new(alloc),
     })
 }

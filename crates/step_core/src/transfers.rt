@@ -3,16 +3,16 @@ ghost use Rattle.std.specs.Prelude.{◌≡◌, ◌&&◌, map, length};
 ghost use Rattle.petri_atom.specs.Atom.{definition_of};
 ghost use Rattle.step_core.specs.Chosen.{choice_of};
 ghost use Rattle.step_core.specs.Fitting.{IsOf};
-ghost use Rattle.step_core.specs.Step.{transfer, delivered_by, exported_at, value_to, applies, is_to, is_leaf_of};
+ghost use Rattle.step_core.specs.Step.{transfer, delivered_by, value_to, applies, is_to, is_leaf_of};
 ghost use Rattle.step_core.specs.Wire.{transfer_of};
 
 use crate::choice::Choice;
-use crate::interactions::has_leaf;
 use crate::state::PlantState;
 use crate::system::System;
+use crate::values::{Participants, Values};
 use crate::wire::{Export, Transfer};
 use connector_tree::{Mask, Port};
-use petri_atom::{Atom, Delivered, Valuation, VariableTest};
+use petri_atom::{Delivered, VariableTest};
 
 impl System {
     ghost use Rattle.step_core.specs.System.{plant_of};
@@ -37,41 +37,7 @@ impl System {
     }
 }
 
-/// The values of the variables that the ports of some leaves export, in a global state.
-#[derive(Drop)]
-struct Values<'a> {
-    atoms: &'a [Atom],
-    states: &'a PlantState,
-    ports: &'a [Port],
-    ghost as_many: { length states.now ≡ length atoms.now },
-}
-
-impl Valuation<Export> for Values<'_> {
-    ghost use Rattle.std.specs.Prelude.{map};
-    ghost use Rattle.petri_atom.specs.Atom.{definition_of};
-    ghost use Rattle.step_core.specs.Step.{value_at};
-
-    ghost value_at = { λ before e. value_at (map definition_of before.atoms.now) before.states.now before.ports.now e };
-
-    fn value_at(&self, variable: &Export) -> i64 {
-        match self.ports.get(usize::from(variable.leaf)) {
-            Some(port) => self.exported(port, variable.export),
-            None => 0,
-        }
-    }
-}
-
 impl Values<'_> {
-    /// The value of a variable that the port exports; 0 where it exports no such one.
-    fn exported(&self, port: &Port, export: u8) -> i64
-        ensures { result ≡ exported_at (map definition_of self.now.atoms.now) self.now.states.now port.now export }
-    {
-        match self.atoms.get(usize::from(port.atom)) {
-            Some(atom) => atom.exported(self.states.state(port.atom), port.port, export),
-            None => 0,
-        }
-    }
-
     /// What the transfers that apply deliver to the atom.
     fn delivered(&self, transfers: &[Transfer], mask: Mask, atom: u16) -> Delivered
         ensures { result ≡ delivered_by (map definition_of self.now.atoms.now) self.now.states.now self.now.ports.now (map transfer_of transfers.now) mask atom }
@@ -126,21 +92,5 @@ fn is_leaf_of(ports: &[Port], leaf: u8, atom: u16) -> bool
     match ports.get(usize::from(leaf)) {
         Some(port) => port.atom == atom,
         None => false,
-    }
-}
-
-/// The leaves that take part in an interaction.
-#[derive(Drop)]
-struct Participants {
-    mask: Mask,
-}
-
-impl VariableTest<Export> for Participants {
-    ghost use Rattle.step_core.specs.Step.{takes_part};
-
-    ghost passes = { λ participants e. takes_part participants.mask e };
-
-    fn passes(&self, variable: &Export) -> bool {
-        has_leaf(self.mask, usize::from(variable.leaf))
     }
 }

@@ -1,4 +1,4 @@
-//! Wires: connectors with their names and with the transfers that they make.
+//! Wires: connectors with their names, their guards and the transfers that they make.
 use connector_tree::Connector;
 use petri_atom::{Expression, Name};
 
@@ -16,10 +16,12 @@ pub struct Transfer {
     pub value: Expression<Export>,
 }
 
-/// A connector with its name and its transfers.
+/// A connector with its name, its guard clauses and its transfers. A clause or a transfer applies where each leaf that it names
+/// takes part; both are judged on the values from before the firing.
 #[derive(Debug, Drop)]
 pub struct Wire {
     pub name: Name,
     pub connector: Connector,
+    pub guards: Vec<Expression<Export>>,
     pub transfers: Vec<Transfer>,
 }

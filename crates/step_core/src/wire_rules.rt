@@ -3,16 +3,17 @@ ghost use Rattle.std.specs.Prelude.{◌≡◌, ◌<◌, ◌≤◌, map, length, 
 ghost use Rattle.std.specs.List.{list_all, list_any};
 ghost use Rattle.petri_atom.specs.Atom.{definition_of};
 ghost use Rattle.petri_atom.specs.Definition.{is_each_once};
+ghost use Rattle.petri_atom.specs.Expression.{tree_of, all_variables};
 ghost use Rattle.petri_atom.specs.Name.{is_same_text};
 ghost use Rattle.connector_tree.specs.Tree.{leaves};
-ghost use Rattle.step_core.specs.Rules.{first_told, is_known_port, is_exported, names_known, is_same_export, first_broken, fault_of_wire, wire_fault};
+ghost use Rattle.step_core.specs.Rules.{first_told, is_known_port, is_known_export, is_exported, names_known, is_same_export, first_broken, fault_of_wire, wire_fault};
 ghost use Rattle.step_core.specs.Wire.{wire_of, transfer_of};
 ghost use Rattle.step_core.specs.declared.limits.TheConstants.{MAX_WIRES};
 
 use crate::fault::{SystemFault, WireFault};
 use crate::wire::{Export, Transfer, Wire};
 use connector_tree::Port;
-use petri_atom::{Atom, Name, VariableTest};
+use petri_atom::{Atom, Expression, Name, VariableTest};
 
 /// The first wire that breaks a rule of those that are not about its tree alone; `ports` has the leaves of each.
 pub(crate) fn fault_of_wires(
@@ -60,7 +61,7 @@ fn fault_of_wire(atoms: &[Atom], earlier: &[Wire], wire: &Wire, ports: &[Port]) 
     first_broken(
         has_name(earlier, &wire.name),
         are_known_ports(atoms, ports),
-        name_known_variables(&known, &wire.transfers),
+        are_known_clauses(&known, &wire.guards) & name_known_variables(&known, &wire.transfers),
         are_each_once(&wire.transfers),
     )
 }
@@ -142,6 +143,13 @@ fn exports(atoms: &[Atom], leaf: &Port, export: u8) -> bool
         Some(atom) => usize::from(export) < atom.exports(leaf.port).len(),
         None => false,
     }
+}
+
+/// Whether each exported variable that the guard clauses name is there.
+fn are_known_clauses(known: &Exported, clauses: &[Expression<Export>]) -> bool
+    ensures { result ≡ list_all (λ clause. all_variables (is_known_export (map definition_of known.now.atoms.now) known.now.ports.now) (tree_of clause)) clauses.now }
+{
+    clauses.iter().all(|clause| clause.all_variables(known))
 }
 
 /// Whether each exported variable that the transfers name is there.

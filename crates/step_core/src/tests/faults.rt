@@ -88,6 +88,23 @@ fn what_a_wire_names_is_there(rt: HostRuntime) -> Result<(), Fail> {
 }
 
 #[test]
+fn what_a_guard_names_is_there(rt: HostRuntime) -> Result<(), Fail> {
+    let alloc = rt.alloc();
+    let bad = SystemFault::BadWire(0, WireFault::UnknownVariable);
+    for (leaf, fault) in [(0, None), (1, None), (2, Some(bad))] {
+        let mut one = wire(alloc, b"c", &[0, 1])?;
+        one.guards.push(Expression::Variable(export(leaf)))?;
+        assert_eq!(rt; told(alloc, one)?, fault, "leaf {leaf}");
+    }
+    let mut one = wire(alloc, b"c", &[0, 1])?;
+    for _ in 0..9 {
+        one.guards.push(Expression::Number(1))?;
+    }
+    assert_eq!(rt; told(alloc, one)?, Some(SystemFault::Limit));
+    Ok(())
+}
+
+#[test]
 fn a_target_stands_once(rt: HostRuntime) -> Result<(), Fail> {
     let alloc = rt.alloc();
     let mut one = wire_with_transfer(alloc, b"c", &[0, 1], 1, 0)?;
@@ -152,6 +169,7 @@ fn of_triggers(alloc: Global, count: usize) -> Result<Option<SystemFault>, Fail>
             wires.push(Wire {
                 name: name(text)?,
                 connector: tree,
+                guards: Vec::new(alloc),
                 transfers: Vec::new(alloc),
             })?;
         }

@@ -3,11 +3,12 @@ ghost use Rattle.std.specs.Prelude.{OnOk};
 ghost use Rattle.step_core.specs.Fitting.{IsOf};
 ghost use Rattle.step_core.specs.System.{plant_of};
 
-use super::{atom, wire, wire_with_transfer};
+use super::{atom, connector, export, name, wire, wire_with_transfer};
 use crate::choice::{Choice, Move};
 use crate::state::PlantState;
 use crate::system::System;
-use petri_atom::Delivered;
+use crate::wire::{Export, Wire};
+use petri_atom::{Delivered, Expression, Operator};
 use std::alloc::Global;
 use std::test::Fail;
 
@@ -186,5 +187,77 @@ fn a_plant_lends_what_it_was_made_of(rt: HostRuntime) -> Result<(), Fail> {
     let states = PlantState::init(alloc, &system)?;
     assert_eq!(rt; states.len(), 2);
     assert!(rt; !states.is_empty());
+    Ok(())
+}
+
+/// The guard clause `< variable bound`, over the variable of a leaf.
+fn below(alloc: Global, leaf: u8, bound: i64) -> Result<Expression<Export>, Fail> {
+    Ok(Expression::Apply(
+        Operator::Less,
+        Box::new(alloc, Expression::Variable(export(leaf)))?,
+        Box::new(alloc, Expression::Number(bound))?,
+    ))
+}
+
+#[test]
+fn a_guard_is_judged_before_the_transfer(rt: HostRuntime) -> Result<(), Fail> {
+    let alloc = rt.alloc();
+    let mut atoms = Vec::new(alloc);
+    atoms.push(atom(alloc, b"A", true, true, &[100])?)?;
+    atoms.push(atom(alloc, b"B", true, false, &[100])?)?;
+    let mut send = wire_with_transfer(alloc, b"send", &[0, 1], 1, 0)?;
+    send.guards.push(below(alloc, 0, 2)?)?;
+    let mut wires = Vec::new(alloc);
+    wires.push(send)?;
+    let system = System::new(alloc, atoms, wires, [0; 32])?;
+    let mut states = PlantState::init(alloc, &system)?;
+    let fired = fire(&system, &mut states, 0)?;
+    assert_eq!(rt; fired.delivered, [NOTHING, one(0)]);
+    let fired = fire(&system, &mut states, 0)?;
+    assert_eq!(rt; fired.delivered, [NOTHING, one(1)]);
+    assert_eq!(rt; system.count_allowed(&states), 0);
+    assert_eq!(rt; of_atom(&states, 0), Some((2, 1)));
+    assert_eq!(rt; of_atom(&states, 1), Some((1, 1)));
+    Ok(())
+}
+
+#[test]
+fn a_guard_applies_where_all_that_it_names_take_part(rt: HostRuntime) -> Result<(), Fail> {
+    let alloc = rt.alloc();
+    // The trigger A acts alone or with B; a clause over B's variable, which is 0, forbids the second.
+    for (leaf, bound, count) in [(1, 0, 1), (1, 1, 2), (0, 0, 0), (0, 1, 2)] {
+        let mut atoms = Vec::new(alloc);
+        atoms.push(atom(alloc, b"A", true, true, &[100])?)?;
+        atoms.push(atom(alloc, b"B", true, false, &[100])?)?;
+        let mut guards = Vec::new(alloc);
+        guards.push(below(alloc, leaf, bound)?)?;
+        let mut wires = Vec::new(alloc);
+        wires.push(Wire {
+            name: name(b"bc")?,
+            connector: connector(alloc, &[0, 1], true)?,
+            guards,
+            transfers: Vec::new(alloc),
+        })?;
+        let system = System::new(alloc, atoms, wires, [0; 32])?;
+        let states = PlantState::init(alloc, &system)?;
+        assert_eq!(rt; system.count_allowed(&states), count, "leaf {leaf} below {bound}");
+    }
+    Ok(())
+}
+
+#[test]
+fn a_clause_that_names_nothing_always_applies(rt: HostRuntime) -> Result<(), Fail> {
+    let alloc = rt.alloc();
+    for (clause, count) in [(0, 0), (1, 1), (-7, 1)] {
+        let mut atoms = Vec::new(alloc);
+        atoms.push(atom(alloc, b"A", true, true, &[100])?)?;
+        let mut tick = wire(alloc, b"tick", &[0])?;
+        tick.guards.push(Expression::Number(clause))?;
+        let mut wires = Vec::new(alloc);
+        wires.push(tick)?;
+        let system = System::new(alloc, atoms, wires, [0; 32])?;
+        let states = PlantState::init(alloc, &system)?;
+        assert_eq!(rt; system.count_allowed(&states), count, "clause {clause}");
+    }
     Ok(())
 }

@@ -1,14 +1,14 @@
 use Rattle.std.proofs.Common.{◌<◌, ◌≤◌, ◌+◌, ◌-◌, ◌∙◌, ap, sym, arith, map, drop, length}
 use Rattle.std.specs.Prelude.{slice_get, flat_map}
-use Rattle.petri_atom.specs.Atom.{definition_of}
 use Rattle.step_core.specs.Choice.{choices_in}
 use Rattle.step_core.specs.Interaction.{interaction_of}
+use Rattle.step_core.specs.Made.{plant_by}
 use Rattle.step_core.proofs.Flattened.{flat-here, flat-behind}
 use Rattle.step_core.proofs.judged.Judged.nth.Goals as goal
 
 pub returns-then-left-count : goal.returns-then-left-count
 returns-then-left-count c =
-    let choices = choices_in (map definition_of c.args.self.now.atoms.now) c.args.self.now.states.now in
+    let choices = choices_in (plant_by c.args.self.now.atoms.now c.args.self.now.wires.now) c.args.self.now.states.now in
     let left = c.loop-interaction.left in
     let inside : left < length (choices (interaction_of c.interaction-item.result)) = omega (arith, c.choice_count-count.ensures.count, c.if-left-count.true) in
     sym c.choice.ensures ∙
@@ -17,7 +17,7 @@ returns-then-left-count c =
 
 pub loop-interaction-preserved : goal.loop-interaction-preserved
 loop-interaction-preserved c =
-    let choices = choices_in (map definition_of c.args.self.now.atoms.now) c.args.self.now.states.now in
+    let choices = choices_in (plant_by c.args.self.now.atoms.now c.args.self.now.wires.now) c.args.self.now.states.now in
     let left = c.loop-interaction.left in
     let i = c.loop-interaction.interaction-index in
     let past : length (choices (interaction_of c.interaction-item.result)) ≤ left = omega (arith, c.choice_count-count.ensures.count, c.if-left-count.false) in

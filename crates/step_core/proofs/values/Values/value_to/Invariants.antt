@@ -2,7 +2,7 @@ use Rattle.std.proofs.Common.{◌≡◌, map, drop}
 use Rattle.petri_atom.specs.Atom.{definition_of}
 use Rattle.step_core.specs.Step.{value_to}
 use Rattle.step_core.specs.Wire.{transfer_of}
-use Rattle.step_core.proofs.transfers.Values.value_to.Given as goal
+use Rattle.step_core.proofs.values.Values.value_to.Given as goal
 
 abbrev pub invariant-loop-transfer : goal.invariant-loop-transfer
 invariant-loop-transfer l =
