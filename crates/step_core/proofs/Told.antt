@@ -42,7 +42,7 @@ module _ {X Y F : Type 0} (tell : ℕ → Y → Option F) (v : X → Y) (xs : Li
   from-here : first_of (tell i (v x)) (first_told tell (i + 1) (map v (drop (i + 1) xs))) ≡ all
   from-here =
       sym (ap (λ ys. first_told tell i (map v ys)) (drop_more xs i x within ∙ ap (λ y. y ∷ drop (i + 1) xs) (sym here)) ∙
-           ap (λ n. first_of (tell i (v x)) (first_told tell n (map v (drop (i + 1) xs)))) (sym (add-one i))) ∙
+      ap (λ n. first_of (tell i (v x)) (first_told tell n (map v (drop (i + 1) xs)))) (sym (add-one i))) ∙
       so_far
 
   -- it tells something

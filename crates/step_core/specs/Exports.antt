@@ -1,5 +1,5 @@
 -- The exported variables of a connector's leaves.
-use Rattle.std.specs.Prelude.{ℕ, ℤ, pos, Bool, List, slice_get, ◌&&◌, ◌||◌, not}
+use Rattle.std.specs.Prelude.{ℕ, ℤ, pos, Bool, List, slice_get, ◌||◌, not}
 use Rattle.std.specs.List.{list_all}
 use Rattle.std.specs.Option.{option_map_or}
 use Rattle.petri_atom.specs.Expression.{Tree, all_variables, is_true, value_of}

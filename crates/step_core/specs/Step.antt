@@ -1,13 +1,12 @@
 -- What a choice leaves of a state.
-use Rattle.std.specs.Prelude.{ℕ, suc, ℤ, pos, Bool, false, ◌&&◌, ◌==◌, List, [], ◌∷◌, map, find, slice_get, Option, None, option_map}
+use Rattle.std.specs.Prelude.{ℕ, suc, ℤ, Bool, false, ◌&&◌, ◌==◌, List, [], ◌∷◌, map, find, slice_get, Option, None, option_map}
 use Rattle.std.specs.List.{range_with_len}
 use Rattle.std.specs.Option.{option_map_or}
 use Rattle.petri_atom.specs.Expression.{all_variables, value_of}
 use Rattle.petri_atom.specs.Local.{Local, delivered_of}
-use Rattle.petri_atom.specs.Definition.{AtomDefinition, exported_value, fired, initial}
+use Rattle.petri_atom.specs.Definition.{AtomDefinition, fired, initial}
 use Rattle.petri_atom.specs.declared.state.Delivered.{Delivered}
 use Rattle.petri_atom.specs.declared.state.TheConstants.{MAX_EXPORTS}
-use Rattle.connector_tree.specs.Masks.{is_set}
 use Rattle.connector_tree.specs.Tree.{leaves}
 use Rattle.connector_tree.specs.declared.tree.Port.{Port}
 use Rattle.step_core.specs.Plant.{TransferDefinition, PlantDefinition}

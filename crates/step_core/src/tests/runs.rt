@@ -240,7 +240,11 @@ fn a_guard_applies_where_all_that_it_names_take_part(rt: HostRuntime) -> Result<
         })?;
         let system = System::new(alloc, atoms, wires, [0; 32])?;
         let states = PlantState::init(alloc, &system)?;
-        assert_eq!(rt; system.count_allowed(&states), count, "leaf {leaf} below {bound}");
+        assert_eq!(rt;
+            system.count_allowed(&states),
+            count,
+            "leaf {leaf} below {bound}"
+        );
     }
     Ok(())
 }

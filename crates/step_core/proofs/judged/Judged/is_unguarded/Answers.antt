@@ -1,4 +1,4 @@
-use Rattle.std.proofs.Common.{◌≡◌, ◌∙◌, ap, sym, map, refl, true}
+use Rattle.std.proofs.Common.{◌∙◌, ap, sym, refl, true}
 use Rattle.connector_tree.specs.Tree.{leaves}
 use Rattle.step_core.specs.Interaction.{interaction_of}
 use Rattle.step_core.proofs.Told.{same_at}
