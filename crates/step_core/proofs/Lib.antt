@@ -11,3 +11,4 @@ pub mod FiringOfAll
 pub mod Initial
 pub mod Rows
 pub mod StepRows
+mod Refreshing

@@ -12,3 +12,4 @@ pub mod Rules
 pub mod System
 pub mod Delivery
 pub mod Messages
+pub mod Running

@@ -22,15 +22,7 @@ impl System {
         requires { IsOf (plant_of self.now) states.now }
         ensures { result ≡ length (choices (plant_of self.now) states.now) }
     {
-        let offered = offered_sets(&self.atoms, states);
-        let judged = Judged {
-            atoms: &self.atoms,
-            wires: &self.wires,
-            ports: &self.ports,
-            states,
-            offered: &offered,
-        };
-        judged.count(&self.interactions)
+        self.count_among(states, &offered_sets(&self.atoms, states))
     }
 
     /// The choice of the state with this place, from 0, in the order of the choices.
@@ -40,13 +32,46 @@ impl System {
         ensures entry { slice_get (choices (plant_of self.now) states.now) place ≡ Some (choice_of result) }
         ensures allowed { IsAllowed (plant_of self.now) states.now (choice_of result) }
     {
-        let offered = offered_sets(&self.atoms, states);
+        self.nth_among(states, &offered_sets(&self.atoms, states), place)
+    }
+
+    /// How many choices the state has, by the sets of the transitions that it offers.
+    pub(crate) fn count_among(&self, states: &PlantState, offered: &[TransitionSet]) -> u128
+        requires of_plant { IsOf (plant_of self.now) states.now }
+        requires rows { length self.now.atoms.items ≤ length offered.now }
+        requires exact { AreOffered (map definition_of self.now.atoms.items) states.now offered.now }
+        ensures { result ≡ length (choices (plant_of self.now) states.now) }
+    {
         let judged = Judged {
             atoms: &self.atoms,
             wires: &self.wires,
             ports: &self.ports,
             states,
-            offered: &offered,
+            offered,
+        };
+        judged.count(&self.interactions)
+    }
+
+    /// The choice of the state with this place, by the sets of the transitions that it offers.
+    pub(crate) fn nth_among(
+        &self,
+        states: &PlantState,
+        offered: &[TransitionSet],
+        place: u128,
+    ) -> Choice
+        requires of_plant { IsOf (plant_of self.now) states.now }
+        requires rows { length self.now.atoms.items ≤ length offered.now }
+        requires exact { AreOffered (map definition_of self.now.atoms.items) states.now offered.now }
+        requires place { place < length (choices (plant_of self.now) states.now) }
+        ensures entry { slice_get (choices (plant_of self.now) states.now) place ≡ Some (choice_of result) }
+        ensures allowed { IsAllowed (plant_of self.now) states.now (choice_of result) }
+    {
+        let judged = Judged {
+            atoms: &self.atoms,
+            wires: &self.wires,
+            ports: &self.ports,
+            states,
+            offered,
         };
         match judged.nth(&self.interactions, place) {
             Some(choice) => choice,

@@ -16,6 +16,7 @@
 //! - `state`: a local state for each atom. `choice`: a choice, and the moves that it makes.
 //! - `judged`: a state with the offered transitions of its atoms, each judged once. `choices`: how many choices a state has,
 //!   and which.
+//! - `stepper`: a plant that runs: its present state, and what that offers, judged again for the atoms that moved alone.
 //! - `values`: exported variables, and guard clauses on them. `transfers`: what a choice delivers. `firing`: the state that it leaves.
 #![tactic(auto)]
 
@@ -30,6 +31,7 @@ mod limits;
 mod making;
 mod rules;
 mod state;
+mod stepper;
 mod system;
 mod transfers;
 mod values;
@@ -42,6 +44,7 @@ pub use interaction::Interaction;
 pub use interactions::connector_interactions;
 pub use limits::{MAX_ATOMS, MAX_GUARDS, MAX_INTERACTIONS, MAX_TRANSFERS, MAX_WIRES};
 pub use state::PlantState;
+pub use stepper::Stepper;
 pub use system::System;
 pub use wire::{Export, Transfer, Wire};
 

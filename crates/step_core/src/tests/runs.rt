@@ -43,7 +43,7 @@ fn fire(system: &System, states: &mut PlantState, pick: u128) -> Result<Fired, F
 }
 
 /// The value of the one variable of an atom, and its marking.
-fn of_atom(states: &PlantState, atom: u16) -> Option<(i64, u64)> {
+pub(super) fn of_atom(states: &PlantState, atom: u16) -> Option<(i64, u64)> {
     if usize::from(atom) < states.len() {
         let state = states.state(atom);
         Some((state.value(0), state.places()))
@@ -58,7 +58,7 @@ fn moves(entries: &[(u16, u16)], place: usize) -> Option<Move> {
 }
 
 /// Whether the choice is this one, by its connector, its mask and its moves.
-fn is(choice: &Choice, connector: u16, mask: u16, entries: &[(u16, u16)]) -> bool {
+pub(super) fn is(choice: &Choice, connector: u16, mask: u16, entries: &[(u16, u16)]) -> bool {
     let made = choice.moves.as_slice();
     choice.connector == connector
         && choice.mask == mask
@@ -76,7 +76,7 @@ fn one(value: i64) -> Delivered {
 }
 
 /// A counts in n; B remembers in m what A had counted when both last met.
-fn sample(alloc: Global) -> Result<System, Fail> {
+pub(super) fn sample(alloc: Global) -> Result<System, Fail> {
     let mut atoms = Vec::new(alloc);
     atoms.push(atom(alloc, b"A", true, true, &[100])?)?;
     atoms.push(atom(alloc, b"B", true, false, &[100])?)?;

@@ -1,0 +1,19 @@
+use Rattle.std.proofs.Common.{◌+◌, ◌∙◌, subst, map, drop, get_or}
+use Rattle.std.proofs.lemmas.List.{drop_more}
+use Rattle.petri_atom.specs.Atom.{definition_of}
+use Rattle.step_core.specs.Offers.{AreOfferedBut}
+use Rattle.step_core.specs.declared.choice.Move.{Move}
+use Rattle.step_core.proofs.Refreshing.{after-one}
+use Rattle.step_core.proofs.stepper.judge_moved.Goals as goal
+
+pub loop-step-preserved : goal.loop-step-preserved
+loop-step-preserved c =
+    let moves = c.args.moves.now in
+    let index = c.loop-step.step-index in
+    let atoms = map definition_of c.args.atoms.now in
+    let none : Move = record { atom = 0; transition = 0 } in
+    let move = get_or moves index none in
+    let again : AreOfferedBut (drop (index + 1) moves) atoms c.args.states.now c.judge_atom.new.offered =
+    after-one move (drop (index + 1) moves) atoms c.args.states.now c.loop-step.offered c.judge_atom.new.offered c.judge_atom.ensures.again c.judge_atom.ensures.others
+    (subst (λ left. AreOfferedBut left atoms c.args.states.now c.loop-step.offered) (drop_more moves index none c.loop-step-test.true) c.loop-step.invariant.0) in
+    (again, c.judge_atom.ensures.rows ∙ c.loop-step.invariant.1)
