@@ -1,29 +1,8 @@
--- Whether a chain of decided steps leads from one number to another is decided too.
-use Rattle.std.proofs.Common.{◌≡◌, ◌⊎◌, ℕ, zero, suc, ◌+◌, ◌<◌, List, [], ◌∷◌, inl, inr, ⊎_elim, subst, arith}
-use Rattle.std.proofs.lemmas.Bool.{cases_eq}
+-- The computed test of chains tells exactly whether a chain leads from one number to another.
+use Rattle.std.proofs.Common.{◌≡◌, ◌⊎◌, ◌↔◌, ℕ, zero, suc, ◌+◌, ◌<◌, Bool, ◌&&◌, List, [], ◌∷◌, inl, inr, ⊎_elim, sym, subst, arith, IsTrue}
+use Rattle.std.proofs.lemmas.Bool.{cases_eq, and_parts, and_from, or_cases, or_left, or_right}
 use Rattle.priority_filter.specs.Order.{Chain, Leads}
-
--- a fact or its denial
-abbrev pub Decided : Type 0 → Type 0
-Decided P = P ⊎ ¬ P
-
--- some number below n has the property, or none
-pub some_below : (P : ℕ → Type 0) → ((k : ℕ) → Decided (P k)) → (n : ℕ) → Decided ((k : ℕ) × (k < n) × P k)
-some_below P each zero = inr (λ some. absurd (omega (arith, some.1)))
-some_below P each (suc n) =
-    ⊎_elim
-    (λ some. inl (some.0, omega (arith, some.1), some.2))
-    (λ none. ⊎_elim
-    (λ here. inl (n, omega arith, here))
-    (λ not_here. inr (λ some. ⊎_elim
-    (λ same. not_here (subst P same some.2))
-    (λ other. none (some.0, omega (arith, some.1), some.2))
-    (cases_eq some.0 n)))
-    (each n))
-    (some_below P each n)
-
-pub both_decided : {P Q : Type 0} → Decided P → Decided Q → Decided (P × Q)
-both_decided p q = ⊎_elim (λ yes. ⊎_elim (λ also. inl (yes, also)) (λ no. inr (λ both. no both.1)) q) (λ no. inr (λ both. no both.0)) p
+use Rattle.priority_filter.specs.Decided.{leads_below}
 
 -- a chain whose stations are all below k
 abbrev ChainBelow : (ℕ → ℕ → Type 0) → ℕ → ℕ → List ℕ → ℕ → Type 0
@@ -73,26 +52,33 @@ module _ (Step : ℕ → ℕ → Type 0) where
   weaker : (k a b : ℕ) → LeadsBelow Step k a b → LeadsBelow Step (k + 1) a b
   weaker k a b leads = record { stations = leads.stations; chain = weaker_chain k a leads.stations b leads.chain }
 
-  -- one more station that chains may pass
-  decide_more : (k : ℕ) → ((a b : ℕ) → Decided (LeadsBelow Step k a b)) → (a b : ℕ) → Decided (LeadsBelow Step (k + 1) a b)
-  decide_more k decided a b =
-      ⊎_elim
-      (λ round. inl (weaker k a b round))
-      (λ not_round. ⊎_elim
-      (λ both. inl (join_at k a both.0.stations b both.0.chain (weaker k k b both.1)))
-      (λ not_both. inr (λ leads. ⊎_elim not_round not_both (split_at k a leads.stations b leads.chain)))
-      (both_decided (decided a k) (decided k b)))
-      (decided a b)
-
-  decide_below : ((a b : ℕ) → Decided (Step a b)) → (k a b : ℕ) → Decided (LeadsBelow Step k a b)
-  decide_below decide zero a b =
-      ⊎_elim
-      (λ step. inl (record { stations = []; chain = step }))
-      (λ none. inr (λ leads. none (one_step a leads.stations b leads.chain)))
-      (decide a b)
-  decide_below decide (suc k) a b =
+  -- the test of chains through stations below k tells whether there is one
+  told_below : (step : ℕ → ℕ → Bool) → ((a b : ℕ) → IsTrue (step a b) ↔ Step a b)
+      → (k a b : ℕ) → IsTrue (leads_below step k a b) ↔ LeadsBelow Step k a b
+  told_below step told zero a b = (
+    λ yes. record { stations = []; chain = (told a b).0 yes },
+    λ leads. (told a b).1 (one_step a leads.stations b leads.chain),
+  )
+  told_below step told (suc k) a b =
       let next : k + 1 ≡ suc k = omega arith in
-      subst (λ n. Decided (LeadsBelow Step n a b)) next (decide_more k (decide_below decide k) a b)
+      let round = told_below step told k a b in
+      let up = told_below step told k a k in
+      let on = told_below step told k k b in (
+        λ yes. subst (λ n. LeadsBelow Step n a b) next
+            (⊎_elim
+            (λ passed. weaker k a b (round.0 passed))
+            (λ both.
+            let parts = and_parts (leads_below step k a k) (leads_below step k k b) both in
+            let first : LeadsBelow Step k a k = up.0 parts.0 in
+            join_at k a first.stations b first.chain (weaker k k b (on.0 parts.1)))
+            (or_cases (leads_below step k a b) (leads_below step k a k && leads_below step k k b) yes)),
+        λ leads.
+            let wide : LeadsBelow Step (k + 1) a b = subst (λ n. LeadsBelow Step n a b) (sym next) leads in
+            ⊎_elim
+            (λ passed. or_left (leads_below step k a b) (leads_below step k a k && leads_below step k k b) (round.1 passed))
+            (λ both. or_right (leads_below step k a b) (leads_below step k a k && leads_below step k k b) (and_from (leads_below step k a k) (leads_below step k k b) (up.1 both.0) (on.1 both.1)))
+            (split_at k a wide.stations b wide.chain),
+      )
 
   -- where each step begins below n each station is below n
   all_below : (n : ℕ) → ((a b : ℕ) → Step a b → a < n) → (a : ℕ) (stations : List ℕ) (b : ℕ) → Chain Step a stations b → ChainBelow Step n a stations b
@@ -107,9 +93,13 @@ module _ (Step : ℕ → ℕ → Type 0) where
   forget_bound k a [] b chain = chain
   forget_bound k a (s ∷ stations) b chain = (chain.1.0, forget_bound k s stations b chain.1.1)
 
-  pub decide_leads : (n : ℕ) → ((a b : ℕ) → Step a b → a < n) → ((a b : ℕ) → Decided (Step a b)) → (a b : ℕ) → Decided (Leads Step a b)
-  decide_leads n range decide a b =
-      ⊎_elim
-      (λ leads. inl (record { stations = leads.stations; chain = forget_bound n a leads.stations b leads.chain }))
-      (λ none. inr (λ leads. none (record { stations = leads.stations; chain = all_below n range a leads.stations b leads.chain })))
-      (decide_below decide n a b)
+  -- where each step begins below n, the test of chains through stations below n tells whether a chain leads
+  pub told_leads : (n : ℕ) → ((a b : ℕ) → Step a b → a < n) → (step : ℕ → ℕ → Bool) → ((a b : ℕ) → IsTrue (step a b) ↔ Step a b)
+      → (a b : ℕ) → IsTrue (leads_below step n a b) ↔ Leads Step a b
+  told_leads n range step told a b =
+      let below = told_below step told n a b in (
+        λ yes.
+            let leads : LeadsBelow Step n a b = below.0 yes in
+            record { stations = leads.stations; chain = forget_bound n a leads.stations b leads.chain },
+        λ leads. below.1 (record { stations = leads.stations; chain = all_below n range a leads.stations b leads.chain }),
+      )

@@ -1,8 +1,10 @@
+pub mod DecidedTests
 pub mod MemberLaws
 pub mod CommonMembers
 pub mod Chains
 pub mod TableLaws
 pub mod MaskLaws
 pub mod DecidedChains
+pub mod DecidedOrder
 pub mod NoDeadlock
 pub mod Rows

@@ -1,16 +1,17 @@
 -- What a set of interactions holds, told by the bits of its words, and what a write to one word does to it.
-use Rattle.std.proofs.Common.{◌≡◌, ◌≢◌, ℕ, suc, ◌+◌, ◌*◌, ◌/◌, ◌%◌, ◌^◌, ◌<◌, ◌≤◌, Bool, true, false, not, ◌&&◌, ◌||◌, eqb, List, [], ◌∷◌, length, get_or, set, replicate, filter, refl, sym, ap, ◌∙◌, ⊎_elim, zero, bit_and, bit_or, w64, arith, get_or-set_same, get_or-set_other}
+use Rattle.std.proofs.Common.{◌≡◌, ◌≢◌, ◌↔◌, ℕ, suc, ◌+◌, ◌*◌, ◌/◌, ◌%◌, ◌^◌, ◌<◌, ◌≤◌, Bool, true, false, not, ◌&&◌, ◌||◌, eqb, List, [], ◌∷◌, length, get_or, set, replicate, filter, refl, sym, ap, ◌∙◌, ⊎_elim, zero, bit_and, bit_or, w64, arith, get_or-set_same, get_or-set_other, IsTrue}
 use Rattle.std.specs.List.{range_with_len, list_any}
 use Rattle.std.specs.Int.{bit_at, bit_not}
 use Rattle.std.specs.Ordering.{nat_cmp}
 use Rattle.std.specs.Cmp.{nat_cmp_total, unsigned_tied}
 use Rattle.std.specs.FinSet as fin
-use Rattle.std.specs.FinSet.{contains-from_list_nat}
-use Rattle.std.proofs.lemmas.Bool.{cases_eq, cases_Bool, cases_lt, eq-eqb, ne_eqb}
+use Rattle.std.specs.FinSet.{from_list, contains-from_list_nat}
+use Rattle.std.proofs.lemmas.Bool.{cases_eq, cases_Bool, cases_lt, eq-eqb, ne_eqb, eqb-true, and_parts, and_from}
 use Rattle.std.proofs.lemmas.Bool.Decides.{nat_tests}
 use Rattle.std.proofs.lemmas.List.{get_or_past, length-replicate, get_or-replicate}
 use Rattle.std.proofs.lemmas.Nat.Bits.{bit_at-zero, bit_at_set_same, bit_at_set_other, bit_at_clear_same, bit_at_clear_other, shr_and_one}
 use Rattle.priority_filter.specs.Members.{holds, members_of}
+use Rattle.priority_filter.proofs.DecidedTests.{any_in_range}
 
 and-false : (b : Bool) → (b && false) ≡ false
 and-false true = refl
@@ -33,6 +34,18 @@ any-filter p q (x ∷ xs) = grind (arith, nat_tests, any-filter p q xs, cases_Bo
 any-range : (q a n : ℕ) → a ≤ q → q < a + n → list_any (λ y. eqb y q) (range_with_len a n) ≡ true
 any-range q a zero low high = absurd (omega arith)
 any-range q a (suc n) low high = grind (arith, nat_tests, any-range q (a + 1) n, cases_eq a q)
+
+-- the set of all numbers below n that pass
+pub contains_passing : (p : ℕ → Bool) (n q : ℕ) → IsTrue (fin.contains (from_list {R = nat_cmp} (filter p (range_with_len 0 n))) q) ↔ (IsTrue (p q) × (q < n))
+contains_passing p n q =
+    let told : fin.contains (from_list {R = nat_cmp} (filter p (range_with_len 0 n))) q ≡ (p q && list_any (λ y. eqb y q) (range_with_len 0 n))
+    = contains-from_list_nat (filter p (range_with_len 0 n)) q ∙ any-filter p q (range_with_len 0 n) in (
+      λ yes.
+          let both = and_parts (p q) (list_any (λ y. eqb y q) (range_with_len 0 n)) (sym told ∙ yes) in
+          let found = any_in_range (λ y. eqb y q) 0 n both.1 in
+          (both.0, omega (arith, found.1, eqb-true found.0 q found.2)),
+      λ facts. told ∙ and_from (p q) (list_any (λ y. eqb y q) (range_with_len 0 n)) facts.0 (any-range q 0 n (omega arith) (omega (arith, facts.1))),
+    )
 
 -- past the words no bit is set
 pub holds_past : (words : List ℕ) (q : ℕ) → 64 * length words ≤ q → holds words q ≡ false

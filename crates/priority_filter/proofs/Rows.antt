@@ -1,5 +1,5 @@
 -- Worked examples of the definitions: connector 0 is `tick`, connector 1 is `send`, connector 2 is `stop`.
-use Rattle.std.proofs.Common.{◌≡◌, ℕ, List, [], ◌∷◌, true, refl, ⊎_elim, subst, arith}
+use Rattle.std.proofs.Common.{◌≡◌, ◌==◌, ℕ, List, [], ◌∷◌, true, false, Some, None, refl, ⊎_elim, subst, arith}
 use Rattle.std.specs.FinSet.{contains}
 use Rattle.std.proofs.lemmas.Bool.{cases_eq}
 use Rattle.priority_filter.specs.declared.rule.Side.TheVariants.{Whole, One}
@@ -10,6 +10,7 @@ use Rattle.priority_filter.specs.Fault.{number_of}
 use Rattle.priority_filter.specs.Members.{members_of}
 use Rattle.priority_filter.specs.Rule.{IsProperSubset, IsOn, Puts}
 use Rattle.priority_filter.specs.Order.{interaction_at, rule_at, IsRuleStep, IsBelow, IsFirstCyclic, IsKnown, IsFirstUnknown}
+use Rattle.priority_filter.specs.Decided.{is_on, is_proper_subset, puts, is_rule_step, is_below, is_overruled, order_fault}
 use Rattle.priority_filter.proofs.MaskLaws.{proper_differs, proper_from_and, subset_and}
 use Rattle.priority_filter.proofs.MemberLaws.{contains-members_of}
 
@@ -123,10 +124,77 @@ second_rule_is_unknown = record {
   before = λ j earlier. let first : 0 ≡ j = omega arith in subst (λ k. IsKnown plant (rule_at (Maximal 1 ∷ Maximal 3 ∷ []) k)) first (1, omega arith, refl);
 }
 
+-- ---- the computed order
+
+-- leaf 0 alone is less than leaves 0 and 1; 0 and 1 are not less than themselves, nor among 0 and 2
+computed_subsets : (is_proper_subset 1 3 ≡ true) × (is_proper_subset 3 3 ≡ false) × (is_proper_subset 3 5 ≡ false)
+computed_subsets = (refl, refl, refl)
+
+computed_sides : (is_on (Whole 1) send ≡ true) × (is_on (One 1 3) send ≡ true) × (is_on (One 1 1) send ≡ false)
+computed_sides = (refl, refl, refl)
+
+-- connectors 0 and 1 under one another; `maximal` in connector 1 alone
+computed_puts : (puts (Under (Whole 0) (Whole 1)) tick send ≡ true) × (puts (Under (Whole 0) (Whole 1)) send tick ≡ false) × (puts (Maximal 1) (1, 1) (1, 3) ≡ true) × (puts (Maximal 1) (0, 1) (1, 3) ≡ false)
+computed_puts = (refl, refl, refl, refl)
+
+-- no rule speaks of tick and stop, and yet tick is below stop through send; not the other way, nor below itself
+computed_ladder : (is_rule_step ladder plant 0 2 ≡ false) × (is_below ladder plant 0 2 ≡ true) × (is_below ladder plant 2 0 ≡ false) × (is_below ladder plant 0 0 ≡ false)
+unfolding is_below
+computed_ladder = (refl, refl, refl, refl)
+
+-- a number past the list is below nothing
+computed_past : (is_below ladder plant 3 2 ≡ false) × (is_below ladder plant 0 3 ≡ false)
+unfolding is_below
+computed_past = (refl, refl)
+
+-- where no rule stands nothing is below anything
+computed_no_rules : (is_below [] plant 0 1 ≡ false) × (is_below [] plant 0 2 ≡ false) × (is_below [] plant 1 2 ≡ false) × (order_fault [] plant ≡ None)
+unfolding is_below order_fault
+computed_no_rules = (refl, refl, refl, refl)
+
+-- leaf 0 of a connector that is to be maximal is below leaves 0 and 1 of it
+computed_maximal : (is_below (Maximal 1 ∷ []) ((1, 1) ∷ (1, 3) ∷ []) 0 1 ≡ true) × (is_below (Maximal 1 ∷ []) ((1, 1) ∷ (1, 3) ∷ []) 1 0 ≡ false)
+unfolding is_below
+computed_maximal = (refl, refl)
+
+-- tick is overruled where stop is possible, with send or without; by itself it is not, and nothing overrules stop
+computed_overruled : (is_overruled ladder plant (λ b. b == 2) 0 ≡ true) × (is_overruled ladder plant (λ b. b == 0) 0 ≡ false) × (is_overruled ladder plant (λ b. true) 2 ≡ false)
+unfolding is_below is_overruled
+computed_overruled = (refl, refl, refl)
+
+computed_ladder_is_sound : order_fault ladder plant ≡ None
+unfolding is_below order_fault
+computed_ladder_is_sound = refl
+
+-- tick and send under one another
+computed_circle : order_fault circle plant ≡ Some (Cycle 0)
+unfolding is_below order_fault
+computed_circle = refl
+
+-- leaf 0 of `send` is below leaves 0 and 1 of it, these are below tick, and tick is below leaf 0 of `send`
+computed_circle_of_three : order_fault (Maximal 1 ∷ Under (One 1 3) (Whole 0) ∷ Under (Whole 0) (One 1 1) ∷ []) (tick ∷ (1, 1) ∷ (1, 3) ∷ []) ≡ Some (Cycle 0)
+unfolding is_below order_fault
+computed_circle_of_three = refl
+
+-- without `maximal` the same two rules go round no circle
+computed_without_maximal : order_fault (Under (One 1 3) (Whole 0) ∷ Under (Whole 0) (One 1 1) ∷ []) (tick ∷ (1, 1) ∷ (1, 3) ∷ []) ≡ None
+unfolding is_below order_fault
+computed_without_maximal = refl
+
+-- a connector under itself
+computed_stop_under_stop : order_fault (Under (Whole 2) (Whole 2) ∷ []) plant ≡ Some (Cycle 2)
+unfolding is_below order_fault
+computed_stop_under_stop = refl
+
+-- connector 3 has no interaction, and an unknown name is told before a cycle
+computed_unknown : (order_fault (Maximal 1 ∷ Maximal 3 ∷ []) plant ≡ Some (UnknownName 1)) × (order_fault (Under (Whole 2) (Whole 2) ∷ Under (Whole 0) (Whole 3) ∷ []) plant ≡ Some (UnknownName 1))
+unfolding is_below order_fault
+computed_unknown = (refl, refl)
+
+-- ---- faults and bits
+
 fault_numbers : (number_of (Cycle 5) ≡ 1) × (number_of (UnknownName 0) ≡ 2) × (number_of Memory ≡ 3)
 fault_numbers = (refl, refl, refl)
-
--- ---- bits
 
 -- bit 1 of the second word stands for interaction 65
 bit_65 : contains (members_of (0 ∷ 2 ∷ [])) 65 ≡ true

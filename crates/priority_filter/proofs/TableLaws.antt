@@ -1,5 +1,5 @@
 -- A table of sets read as a relation, and how it grows by one row, one rule or one station.
-use Rattle.std.proofs.Common.{◌≡◌, ◌⊎◌, ◌↔◌, ℕ, ◌+◌, ◌<◌, ◌≤◌, Bool, cond, ◌||◌, List, length, get_or, set, sym, ap, ◌∙◌, subst, inl, inr, ⊎_elim, arith, IsTrue, eqb, get_or-set_same, get_or-set_other}
+use Rattle.std.proofs.Common.{◌≡◌, ◌⊎◌, ◌↔◌, ℕ, ◌+◌, ◌<◌, ◌≤◌, Bool, cond, ◌||◌, List, length, get_or, set, sym, ap, ◌∙◌, subst, None, inl, inr, ⊎_elim, arith, IsTrue, eqb, get_or-set_same, get_or-set_other}
 use Rattle.std.specs.Ordering.{nat_cmp}
 use Rattle.std.specs.Cmp.{nat_cmp_total, unsigned_tied}
 use Rattle.std.specs.FinSet.{FinSet, contains, empty, insert, union, contains-empty, contains-insert, contains-union}
@@ -8,6 +8,7 @@ use Rattle.std.proofs.lemmas.List.{get_or_past, get_or_default, get_or_read}
 use Rattle.priority_filter.specs.declared.rule.Rule.{Rule}
 use Rattle.priority_filter.specs.Rule.{Puts}
 use Rattle.priority_filter.specs.Order.{Priorities, interaction_at, rule_at, IsRuleStep, Leads, IsBelow, IsStrict, IsFirstCyclic}
+use Rattle.priority_filter.specs.Decided.{order_fault}
 use Rattle.priority_filter.specs.Table.{row_at, Above, PutsIn, Gains, row_through}
 use Rattle.priority_filter.proofs.Chains.{JoinsAt, Leads-weaker}
 
@@ -221,9 +222,9 @@ pub nothing_past : (now inside : Priorities) (rows : List (FinSet nat_cmp)) (a :
 nothing_past now inside rows a same exact past b below =
     let within : a < length rows = above_within rows a b ((exact a b).1 (subst (λ p. IsBelow p.rules p.interactions a b) (sym same) below)) in omega arith
 
--- the order that a value tells is strict where that of its fields is
-pub strict_at_value : (now inside : Priorities) → inside ≡ now → IsStrict inside.rules inside.interactions → IsStrict now.rules now.interactions
-strict_at_value now inside same strict = subst (λ p. IsStrict p.rules p.interactions) same strict
+-- the rules that a value tells are without fault where those of its fields are
+pub sound_at_value : (now inside : Priorities) → inside ≡ now → order_fault inside.rules inside.interactions ≡ None → order_fault now.rules now.interactions ≡ None
+sound_at_value now inside same sound = subst (λ p. order_fault p.rules p.interactions ≡ None) same sound
 
 -- the first row that holds its own number tells the first interaction below itself
 pub first_cyclic_from_rows : (rules : List Rule) (interactions : List (ℕ × ℕ)) (rows given : List (FinSet nat_cmp)) (a : ℕ) → given ≡ rows

@@ -1,9 +1,11 @@
 -- Laws of the order, over the definitions alone.
-use Rattle.std.specs.Prelude.{ℕ, ◌<◌, List, length, IsTrue}
+use Rattle.std.specs.Prelude.{◌≡◌, ◌≢◌, ◌↔◌, ℕ, ◌<◌, Bool, false, List, length, Some, None, IsTrue}
 use Rattle.std.specs.Ordering.{nat_cmp}
 use Rattle.std.specs.FinSet.{FinSet, contains}
 use Rattle.priority_filter.specs.declared.rule.Rule.{Rule}
-use Rattle.priority_filter.specs.Order.{IsBelow, IsStrict}
+use Rattle.priority_filter.specs.declared.fault.OrderFault.TheVariants.{Cycle, UnknownName, Memory}
+use Rattle.priority_filter.specs.Order.{IsBelow, IsStrict, IsFirstCyclic, AreKnown, IsFirstUnknown}
+use Rattle.priority_filter.specs.Decided.{is_below, is_overruled, order_fault}
 
 -- what is below something is an interaction of the list, and so is what it is below
 abbrev pub BelowIsWithin : Type 0
@@ -24,3 +26,34 @@ PrioritiesBringNoDeadlock =
     → IsStrict rules interactions
     → (a : ℕ) → IsTrue (contains possible a)
     → (top : ℕ) × IsTrue (contains possible top) × ((b : ℕ) → IsTrue (contains possible b) → ¬ IsBelow rules interactions top b)
+
+-- the computed order is the order
+abbrev pub BelowIsComputed : Type 0
+BelowIsComputed =
+    (rules : List Rule) (interactions : List (ℕ × ℕ)) (a b : ℕ)
+    → IsTrue (is_below rules interactions a b) ↔ IsBelow rules interactions a b
+
+-- an interaction is overruled in the computed order where something that passes is above it
+abbrev pub OverruledIsComputed : Type 0
+OverruledIsComputed =
+    (rules : List Rule) (interactions : List (ℕ × ℕ)) (possible : ℕ → Bool) (a : ℕ)
+    → IsTrue (is_overruled rules interactions possible a) ↔ ((b : ℕ) × IsTrue (possible b) × IsBelow rules interactions a b)
+
+-- the computed fault is the first unknown name, or with all names known the first cycle; and there is none
+-- where all names are known and the order is strict
+pub record FaultIsComputed : Type 0 where
+  pub unknown : (rules : List Rule) (interactions : List (ℕ × ℕ)) (k : ℕ)
+      → (order_fault rules interactions ≡ Some (UnknownName k)) ↔ IsFirstUnknown rules interactions k
+  pub cycle : (rules : List Rule) (interactions : List (ℕ × ℕ)) (a : ℕ)
+      → (order_fault rules interactions ≡ Some (Cycle a)) ↔ (AreKnown rules interactions × IsFirstCyclic rules interactions a)
+  pub none : (rules : List Rule) (interactions : List (ℕ × ℕ))
+      → (order_fault rules interactions ≡ None) ↔ (AreKnown rules interactions × IsStrict rules interactions)
+  pub memory : (rules : List Rule) (interactions : List (ℕ × ℕ)) → order_fault rules interactions ≢ Some Memory
+
+-- under rules without fault, where something of the list is possible, something possible is not overruled
+abbrev pub SomethingIsNotOverruled : Type 0
+SomethingIsNotOverruled =
+    (rules : List Rule) (interactions : List (ℕ × ℕ)) (possible : ℕ → Bool)
+    → order_fault rules interactions ≡ None
+    → (a : ℕ) → a < length interactions → IsTrue (possible a)
+    → (top : ℕ) × (top < length interactions) × IsTrue (possible top) × (is_overruled rules interactions possible top ≡ false)

@@ -1,11 +1,12 @@
 -- A table of sets, one for each interaction: row a holds what stands above interaction a.
-use Rattle.std.specs.Prelude.{◌≡◌, ℕ, ◌<◌, ◌≤◌, ◌⊎◌, ◌↔◌, List, length, slice_index_or, IsTrue, if◌then◌else◌}
+use Rattle.std.specs.Prelude.{◌≡◌, ℕ, ◌<◌, ◌≤◌, ◌⊎◌, ◌↔◌, List, length, slice_index_or, None, IsTrue, if◌then◌else◌}
 use Rattle.std.specs.Ordering.{nat_cmp}
 use Rattle.std.specs.FinSet.{FinSet, contains, empty, union}
 use Rattle.priority_filter.specs.declared.rule.Side.{Side}
 use Rattle.priority_filter.specs.declared.rule.Rule.{Rule}
 use Rattle.priority_filter.specs.Rule.{IsOn, Puts, IsProperSubset}
-use Rattle.priority_filter.specs.Order.{interaction_at, IsBelow, IsStrict}
+use Rattle.priority_filter.specs.Order.{interaction_at, IsBelow}
+use Rattle.priority_filter.specs.Decided.{order_fault}
 use Rattle.priority_filter.specs.declared.interaction_set.TheConstants.{INTERACTION_LIMIT}
 
 -- row a, which is empty past the table
@@ -39,9 +40,9 @@ Gains interactions rule old new = (a b : ℕ) → Above new a b ↔ (Above old a
 abbrev pub row_through : ℕ → FinSet nat_cmp → FinSet nat_cmp → FinSet nat_cmp
 row_through station through row = if contains row station then union row through else row
 
--- the table is the order that the rules put on the interactions, and no interaction is below itself
+-- the table is the order that the rules put on the interactions, and the rules are without fault
 pub record IsOrderTable (rules : List Rule) (interactions : List (ℕ × ℕ)) (rows : List (FinSet nat_cmp)) : Type 0 where
   pub limit : length interactions ≤ INTERACTION_LIMIT
   pub size : length rows ≡ length interactions
   pub exact : (a b : ℕ) → Above rows a b ↔ IsBelow rules interactions a b
-  pub strict : IsStrict rules interactions
+  pub sound : order_fault rules interactions ≡ None

@@ -1,5 +1,5 @@
 //! Laws of the order. Each is a function without code whose contract is the law.
-ghost use Rattle.priority_filter.specs.Laws.{BelowIsWithin, BelowIsTransitive, PrioritiesBringNoDeadlock};
+ghost use Rattle.priority_filter.specs.Laws.{BelowIsWithin, BelowIsTransitive, PrioritiesBringNoDeadlock, BelowIsComputed, OverruledIsComputed, FaultIsComputed, SomethingIsNotOverruled};
 
 /// What is below something is an interaction of the list, and so is what it is below.
 pub fn below_is_within()
@@ -14,4 +14,24 @@ pub fn below_is_transitive()
 /// Where something is possible, some possible interaction has no possible one above it.
 pub fn priorities_bring_no_deadlock()
     ensures { PrioritiesBringNoDeadlock }
+{}
+
+/// The computed order is the order.
+pub fn below_is_computed()
+    ensures { BelowIsComputed }
+{}
+
+/// What the computed order overrules is what something that passes is above.
+pub fn overruled_is_computed()
+    ensures { OverruledIsComputed }
+{}
+
+/// The computed fault is exactly the one that refuses the rules.
+pub fn fault_is_computed()
+    ensures { FaultIsComputed }
+{}
+
+/// Where rules without fault leave something possible, something possible is not overruled.
+pub fn something_is_not_overruled()
+    ensures { SomethingIsNotOverruled }
 {}

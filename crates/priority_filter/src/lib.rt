@@ -17,7 +17,9 @@
 //!   possible, some possible interaction has no possible one above it.
 //!
 //! The definitions: `specs/Rule.antt` says what one rule puts below what, and `specs/Order.antt` what
-//! a chain is. `table` builds the order as one row of bits for each interaction.
+//! a chain is. `specs/Decided.antt` says the same as tests and searches that compute, for definitions
+//! that count or list; laws tie each to its relation, and the contracts cite both. `table` builds the
+//! order as one row of bits for each interaction.
 #![tactic(auto)]
 
 pub mod fault;

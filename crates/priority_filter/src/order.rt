@@ -1,7 +1,8 @@
 //! The order that rules put on the interactions of a plant.
-ghost use Rattle.std.specs.Prelude.{◌≡◌, ◌≢◌, ℕ, ◌<◌, ◌≤◌, ◌↔◌, length, IfOk, OnOk, IsTrue, IfSome, IfNone};
+ghost use Rattle.std.specs.Prelude.{◌≡◌, ◌≢◌, ℕ, ◌<◌, ◌≤◌, ◌↔◌, length, IfOk, IfErr, OnOk, IsTrue, IfSome, IfNone, Some, None};
 ghost use Rattle.std.specs.FinSet as set;
 ghost use Rattle.priority_filter.specs.Order.{IsBelow, IsStrict, IsFirstCyclic, AreKnown, IsFirstUnknown};
+ghost use Rattle.priority_filter.specs.Decided.{is_below, is_overruled, order_fault};
 
 use crate::fault::OrderFault;
 use crate::interaction_set::{INTERACTION_LIMIT, InteractionSet};
@@ -48,6 +49,9 @@ impl Order {
             ↔ IsFirstUnknown rules.now interactions.now k }
         ensures cycle { (a : ℕ) → result ≢ Err OrderFault.Memory → (result ≡ Err (OrderFault.Cycle a))
             ↔ (AreKnown rules.now interactions.now × IsFirstCyclic rules.now interactions.now a) }
+        ensures sound { OnOk result (order_fault rules.now interactions.now ≡ None) }
+        ensures fault { IfErr result (λ fault. fault ≢ OrderFault.Memory
+            → order_fault rules.now interactions.now ≡ Some fault) }
     {
         if let Some(rule) = first_unknown(rules, interactions) {
             return Err(OrderFault::UnknownName(rule));
@@ -79,7 +83,9 @@ impl Order {
     /// number is of no interaction of the order.
     pub fn below(&self, a: u16, b: u16) -> bool
         ensures below { IsTrue result ↔ IsBelow self.now.rules self.now.interactions a b }
+        ensures value { result ≡ is_below self.now.rules self.now.interactions a b }
         ensures strict { IsStrict self.now.rules self.now.interactions }
+        ensures sound { order_fault self.now.rules self.now.interactions ≡ None }
     {
         match self.above.get(usize::from(a)) {
             Some(row) => row.contains(b),
@@ -92,7 +98,9 @@ impl Order {
     pub fn is_overruled(&self, interaction: u16, possible: &InteractionSet) -> bool
         ensures overruled { IsTrue result ↔ ((b : ℕ) × IsTrue (set.contains possible.now b)
             × IsBelow self.now.rules self.now.interactions interaction b) }
+        ensures value { result ≡ is_overruled self.now.rules self.now.interactions (set.contains possible.now) interaction }
         ensures strict { IsStrict self.now.rules self.now.interactions }
+        ensures sound { order_fault self.now.rules self.now.interactions ≡ None }
     {
         match self.above.get(usize::from(interaction)) {
             Some(row) => row.intersects(possible),
