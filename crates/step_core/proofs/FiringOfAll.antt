@@ -9,6 +9,7 @@ use Rattle.petri_atom.specs.Atom.{definition_of}
 use Rattle.petri_atom.specs.Local.{Local}
 use Rattle.petri_atom.specs.Definition.{Fits, offers_number}
 use Rattle.petri_atom.specs.declared.atom.Atom.{Atom}
+use Rattle.priority_filter.specs.declared.rule.Rule.{Rule}
 use Rattle.step_core.specs.Choice.{ChoiceDefinition, IsAllowed, choices}
 use Rattle.step_core.specs.Fitting.{AllFit}
 use Rattle.step_core.specs.Plant.{of_atom}
@@ -24,12 +25,12 @@ length-mixed : {X : Type 0} (xs ys : List X) (i : ℕ) → length xs ≡ length 
 length-mixed xs ys i long =
     length-append (take i xs) (drop i ys) ∙ omega (arith, length-take i xs, length-drop i ys, long)
 
-module _ (atoms : List Atom) (wires : List Wire) (old : List Local) (c : ChoiceDefinition) (as_many : length old ≡ length (map definition_of atoms)) (n : ℕ) (items : List Local) (so_far : items ≡ take n (next (plant_by atoms wires) old c) ++ drop n old) where
+module _ (atoms : List Atom) (wires : List Wire) (rules : List Rule) (old : List Local) (c : ChoiceDefinition) (as_many : length old ≡ length (map definition_of atoms)) (n : ℕ) (items : List Local) (so_far : items ≡ take n (next (plant_by atoms wires rules) old c) ++ drop n old) where
   abbrev after : List Local
-  after = next (plant_by atoms wires) old c
+  after = next (plant_by atoms wires rules) old c
 
   as_long : length after ≡ length old
-  as_long = length-stepped (map definition_of atoms) c.moves (transfer (plant_by atoms wires) old c) 0 old
+  as_long = length-stepped (map definition_of atoms) c.moves (transfer (plant_by atoms wires rules) old c) 0 old
 
   pub items-length : length items ≡ length atoms
   items-length = ap length so_far ∙ length-mixed after old n as_long ∙ as_many ∙ length-map atoms definition_of
@@ -54,9 +55,9 @@ module _ (atoms : List Atom) (wires : List Wire) (old : List Local) (c : ChoiceD
     there = slice_get-get_or old n now inside ∙ ap Some (sym still)
 
     -- its move is offered
-    pub offered-here : IsAllowed (plant_by atoms wires) old c → (m : Move) → find (λ k. k.atom == n) c.moves ≡ Some m → offers_number (definition_of atom) now m.transition ≡ true
+    pub offered-here : IsAllowed (plant_by atoms wires rules) old c → (m : Move) → find (λ k. k.atom == n) c.moves ≡ Some m → offers_number (definition_of atom) now m.transition ≡ true
     offered-here allowed m found =
-        let all = all-at (λ d. list_all (is_offered_move (map definition_of atoms) old) d.moves) (choices (plant_by atoms wires) old) allowed.0 c (offered-choices (plant_by atoms wires) old) allowed.1 in
+        let all = all-at (λ d. list_all (is_offered_move (map definition_of atoms) old) d.moves) (choices (plant_by atoms wires rules) old) allowed.0 c (offered-choices (plant_by atoms wires rules) old) allowed.1 in
         let moves = ap (λ d. list_all (is_offered_move (map definition_of atoms) old) d.moves) (sym allowed.2) ∙ all in
         let passes = found-passes (is_offered_move (map definition_of atoms) old) (λ k. k.atom == n) c.moves m found moves in
         let same : m.atom ≡ n = eqb-true m.atom n (found-is (λ k. k.atom == n) c.moves m found) in
@@ -66,9 +67,9 @@ module _ (atoms : List Atom) (wires : List Wire) (old : List Local) (c : ChoiceD
         passes
 
     -- and with the state that it gets, one atom more has fired
-    pub fired-here : (new : Local) → new ≡ moved_by (definition_of atom) c.moves (transfer (plant_by atoms wires) old c n) n now → set items n new ≡ take (n + 1) after ++ drop (n + 1) old
+    pub fired-here : (new : Local) → new ≡ moved_by (definition_of atom) c.moves (transfer (plant_by atoms wires rules) old c n) n now → set items n new ≡ take (n + 1) after ++ drop (n + 1) old
     fired-here new told =
-        let d = transfer (plant_by atoms wires) old c in
+        let d = transfer (plant_by atoms wires rules) old c in
         let is : new ≡ get_or after n now =
         told ∙ ap (moved_by (definition_of atom) c.moves (d n) n) still ∙
         sym (stepped-at (map definition_of atoms) c.moves d 0 n old now inside ∙
@@ -77,7 +78,7 @@ module _ (atoms : List Atom) (wires : List Wire) (old : List Local) (c : ChoiceD
         ap (λ xs. set xs n new) so_far ∙ mixed-next after old n now new inside as_long is
 
     -- and each state fits on
-    pub fits-here : (new : Local) → (Fits (definition_of atom) now → Fits (definition_of atom) new) → AllFit (plant_by atoms wires) items → AllFit (plant_by atoms wires) (set items n new)
+    pub fits-here : (new : Local) → (Fits (definition_of atom) now → Fits (definition_of atom) new) → AllFit (plant_by atoms wires rules) items → AllFit (plant_by atoms wires rules) (set items n new)
     fits-here new kept fit k a s known state = ⊎_elim one others (cases_eq k n)
       where
         placed : n < length items

@@ -12,7 +12,6 @@ use Rattle.connector_tree.specs.Tree.{leaves}
 use Rattle.connector_tree.specs.declared.tree.Port.{Port}
 use Rattle.step_core.specs.Choice.{Interaction, is_unguarded}
 use Rattle.step_core.specs.Exports.{guards_hold}
-use Rattle.step_core.specs.Made.{plant_by}
 use Rattle.step_core.specs.Plant.{WireDefinition}
 use Rattle.step_core.specs.Wire.{wire_of}
 use Rattle.step_core.specs.declared.wire.Export.{Export}
@@ -23,14 +22,14 @@ module _ (atoms : List Atom) (wires : List Wire) (states : List Local) (i : Inte
   abbrev judge : WireDefinition → Bool
   judge w = guards_hold (map definition_of atoms) states (leaves w.connector) i.mask w.guards
 
-  pub guards-there : (ports : List Port) (clauses : List (Expression Export)) (wire : Wire) → n < length wires → wire ≡ get_or wires n wire → ports ≡ leaves wire.connector → clauses ≡ wire.guards.items → answer ≡ guards_hold (map definition_of atoms) states ports i.mask (map tree_of clauses) → answer ≡ is_unguarded (plant_by atoms wires) states i
+  pub guards-there : (ports : List Port) (clauses : List (Expression Export)) (wire : Wire) → n < length wires → wire ≡ get_or wires n wire → ports ≡ leaves wire.connector → clauses ≡ wire.guards.items → answer ≡ guards_hold (map definition_of atoms) states ports i.mask (map tree_of clauses) → answer ≡ is_unguarded (map definition_of atoms) (map wire_of wires) states i
   guards-there ports clauses wire within here lent_ports lent_clauses told =
       let there : slice_get (map wire_of wires) n ≡ Some (wire_of wire) = slice_get-map wire_of wires n ∙ ap (option_map wire_of) (slice_get_read wires (length wires) n wire refl within here) in
       told ∙ ap (λ ps. guards_hold (map definition_of atoms) states ps i.mask (map tree_of clauses)) lent_ports ∙
       ap (λ gs. guards_hold (map definition_of atoms) states (leaves wire.connector) i.mask (map tree_of gs)) lent_clauses ∙
       sym (ap (λ k. option_map_or judge (slice_get (map wire_of wires) k) true) (sym same) ∙ ap (λ o. option_map_or judge o true) there)
 
-  pub guards-past : length wires ≤ n → answer ≡ true → answer ≡ is_unguarded (plant_by atoms wires) states i
+  pub guards-past : length wires ≤ n → answer ≡ true → answer ≡ is_unguarded (map definition_of atoms) (map wire_of wires) states i
   guards-past past told =
       let none : slice_get (map wire_of wires) n ≡ None = slice_get_past (map wire_of wires) n (omega (arith, length-map wires wire_of)) in
       told ∙ sym (ap (λ k. option_map_or judge (slice_get (map wire_of wires) k) true) (sym same) ∙ ap (λ o. option_map_or judge o true) none)

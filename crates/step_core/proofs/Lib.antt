@@ -12,3 +12,5 @@ pub mod Initial
 pub mod Rows
 pub mod StepRows
 mod Refreshing
+pub mod Noting
+pub mod Alive

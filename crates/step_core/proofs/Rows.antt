@@ -73,10 +73,10 @@ without_the_middle_one : choices_of two (both_at (pos 5)) together ≡ choice (m
 unfolding two
 without_the_middle_one = refl
 
-possible_below_nine : is_possible (record { atoms = two; wires = [] }) (both_at (pos 8)) together ≡ true
+possible_below_nine : is_possible two [] (both_at (pos 8)) together ≡ true
 unfolding two
 possible_below_nine = refl
 
-not_possible_at_nine : is_possible (record { atoms = two; wires = [] }) (both_at (pos 9)) together ≡ false
+not_possible_at_nine : is_possible two [] (both_at (pos 9)) together ≡ false
 unfolding two
 not_possible_at_nine = refl

@@ -8,9 +8,9 @@ use Rattle.petri_atom.specs.Name.{is_same_text}
 use Rattle.connector_tree.specs.Faults as tree
 use Rattle.connector_tree.specs.declared.faults.TreeFault.{TreeFault}
 use Rattle.step_core.specs.Plant.{WireDefinition, PlantDefinition}
-use Rattle.step_core.specs.Rules.{first_of, first_told, atom_fault, tree_fault, is_within_limits, early_fault, late_fault, IsFaultOf}
+use Rattle.step_core.specs.Rules.{first_of, first_told, atom_fault, tree_fault, is_within_limits, early_fault, late_fault, fault_of_order, IsFaultOf}
 use Rattle.step_core.specs.declared.fault.SystemFault.{SystemFault}
-use Rattle.step_core.specs.declared.fault.SystemFault.TheVariants.{Limit, BadAtom, BadConnector, BadWire, Memory}
+use Rattle.step_core.specs.declared.fault.SystemFault.TheVariants.{Limit, BadAtom, BadConnector, BadWire, Order, Memory}
 
 -- a fault that the rules can tell: any but want of memory
 abbrev is_of_rules : SystemFault → Bool
@@ -49,8 +49,9 @@ early_fault-rules plant =
 
 -- what the early rules tell is the fault of the plant
 pub early-told : (fault : SystemFault) (plant : PlantDefinition) → early_fault plant ≡ Some fault → IsFaultOf fault plant
-early-told Limit plant told = ap (λ o. first_of o (late_fault plant)) told
-early-told (BadAtom n) plant told = ap (λ o. first_of o (late_fault plant)) told
-early-told (BadConnector k f) plant told = ap (λ o. first_of o (late_fault plant)) told
-early-told (BadWire k f) plant told = ap (λ o. first_of o (late_fault plant)) told
+early-told Limit plant told = ap (λ o. first_of o (first_of (late_fault plant) (fault_of_order plant))) told
+early-told (BadAtom n) plant told = ap (λ o. first_of o (first_of (late_fault plant) (fault_of_order plant))) told
+early-told (BadConnector k f) plant told = ap (λ o. first_of o (first_of (late_fault plant) (fault_of_order plant))) told
+early-told (BadWire k f) plant told = ap (λ o. first_of o (first_of (late_fault plant) (fault_of_order plant))) told
+early-told (Order f) plant told = ap (λ o. first_of o (first_of (late_fault plant) (fault_of_order plant))) told
 early-told Memory plant told = absurd (false≢true (sym (ap tells_rules told) ∙ early_fault-rules plant))

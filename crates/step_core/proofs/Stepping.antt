@@ -8,7 +8,7 @@ use Rattle.petri_atom.specs.Definition.{AtomDefinition, enabled, offers_number}
 use Rattle.petri_atom.specs.declared.state.Delivered.{Delivered}
 use Rattle.connector_tree.specs.declared.tree.Port.{Port}
 use Rattle.step_core.specs.Plant.{PlantDefinition, of_atom}
-use Rattle.step_core.specs.Choice.{move_of, moves_of, combinations, choices_of, choices, is_possible, plant_interactions}
+use Rattle.step_core.specs.Choice.{Interaction, ChoiceDefinition, move_of, moves_of, combinations, choices_of, choices_at, choices, is_allowed_at, flat_from, plant_interactions}
 use Rattle.step_core.specs.Step.{stepped, stepped_from}
 use Rattle.step_core.specs.declared.choice.Move.{Move}
 
@@ -61,10 +61,6 @@ module _ {X : Type 0} (f : X → Bool) where
   all-append (x ∷ xs) ys all more =
       let parts = and_parts (f x) (list_all f xs) all in
       and_from (f x) (list_all f (xs ++ ys)) parts.0 (all-append xs ys parts.1 more)
-
-  all-flat_map : {Y : Type 0} (g : Y → List X) → ((y : Y) → list_all f (g y) ≡ true) → (ys : List Y) → list_all f (flat_map g ys) ≡ true
-  all-flat_map g each [] = refl
-  all-flat_map g each (y ∷ ys) = all-append (g y) (flat_map g ys) (each y) (all-flat_map g each ys)
 
   all-map : {Y : Type 0} (h : Y → X) (ys : List Y) → list_all (λ y. f (h y)) ys ≡ true → list_all f (map h ys) ≡ true
   all-map h [] all = refl
@@ -146,13 +142,29 @@ offered-moves atoms states p = by-atom (slice_get atoms p.atom) refl
     by-atom None none = refl
     by-atom (Some a) there = by-state a there (slice_get states p.atom) refl
 
+-- what each element gives passes a test where all that an element can give does
+all-flat_from : {X Y : Type 0} (f : Y → Bool) (give : ℕ → X → List Y) → ((n : ℕ) (x : X) → list_all f (give n x) ≡ true) → (n : ℕ) (xs : List X) → list_all f (flat_from give n xs) ≡ true
+all-flat_from f give each n [] = refl
+all-flat_from f give each n (x ∷ xs) = all-append f (give n x) (flat_from give (suc n) xs) (each n x) (all-flat_from f give each (suc n) xs)
+
 -- each choice of a state has moves that are offered
 pub offered-choices : (plant : PlantDefinition) (states : List Local) → list_all (λ c. list_all (is_offered_move plant.atoms states) c.moves) (choices plant states) ≡ true
-offered-choices plant states =
-    all-flat_map (λ c. list_all (is_offered_move plant.atoms states) c.moves) (choices_of plant.atoms states)
-    (λ i. all-map (λ c. list_all (is_offered_move plant.atoms states) c.moves) (λ moves. record { connector = i.connector; mask = i.mask; moves = moves }) (combinations (map (moves_of plant.atoms states) i.ports)) (all-combinations (is_offered_move plant.atoms states) (map (moves_of plant.atoms states) i.ports) (all-map (list_all (is_offered_move plant.atoms states)) (moves_of plant.atoms states) i.ports (each-true (λ p. offered-moves plant.atoms states p) i.ports))))
-    (filter (is_possible plant states) (plant_interactions plant))
+offered-choices plant states = all-flat_from offered (choices_at plant states (plant_interactions plant)) each 0 (plant_interactions plant)
   where
+    offered : ChoiceDefinition → Bool
+    offered c = list_all (is_offered_move plant.atoms states) c.moves
+
     each-true : {X : Type 0} {f : X → Bool} → ((x : X) → f x ≡ true) → (xs : List X) → list_all f xs ≡ true
     each-true each [] = refl
     each-true {f = f} each (x ∷ xs) = and_from (f x) (list_all f xs) (each x) (each-true each xs)
+
+    of-interaction : (i : Interaction) → list_all offered (choices_of plant.atoms states i) ≡ true
+    of-interaction i =
+        all-map offered (λ moves. record { connector = i.connector; mask = i.mask; moves = moves }) (combinations (map (moves_of plant.atoms states) i.ports)) (all-combinations (is_offered_move plant.atoms states) (map (moves_of plant.atoms states) i.ports) (all-map (list_all (is_offered_move plant.atoms states)) (moves_of plant.atoms states) i.ports (each-true (λ p. offered-moves plant.atoms states p) i.ports)))
+
+    each : (n : ℕ) (i : Interaction) → list_all offered (choices_at plant states (plant_interactions plant) n i) ≡ true
+    each n i =
+        elim (is_allowed_at plant states (plant_interactions plant) n) as (λ b. list_all offered (cond b (choices_of plant.atoms states i) []) ≡ true) [
+          | true ↦ of-interaction i
+          | false ↦ refl
+        ]

@@ -1,6 +1,6 @@
 -- Which choices a state has.
-use Rattle.std.specs.Prelude.{ℕ, zero, suc, List, [], ◌∷◌, ◌++◌, map, filter, flat_map, length, slice_get, Contains, Bool, true, false, ◌&&◌, if◌then◌else◌, ◌==◌}
-use Rattle.std.specs.List.{list_all}
+use Rattle.std.specs.Prelude.{◌≡◌, ℕ, zero, suc, List, [], ◌∷◌, ◌++◌, map, filter, flat_map, length, slice_get, Contains, Bool, true, false, ◌&&◌, not, if◌then◌else◌, ◌==◌}
+use Rattle.std.specs.List.{list_all, list_any}
 use Rattle.std.specs.Option.{option_map_or}
 use Rattle.petri_atom.specs.Local.{Local}
 use Rattle.petri_atom.specs.Definition.{AtomDefinition, enabled, offers_port}
@@ -8,6 +8,7 @@ use Rattle.connector_tree.specs.Masks.{interactions_of, chosen}
 use Rattle.connector_tree.specs.Tree.{leaves}
 use Rattle.connector_tree.specs.declared.tree.Port.{Port}
 use Rattle.connector_tree.specs.declared.tree.Connector.{Connector}
+use Rattle.priority_filter.specs.Decided.{is_overruled}
 use Rattle.step_core.specs.Plant.{WireDefinition, PlantDefinition, of_atom}
 use Rattle.step_core.specs.Exports.{guards_hold}
 use Rattle.step_core.specs.declared.choice.Move.{Move}
@@ -46,13 +47,13 @@ abbrev pub is_offered_port : List AtomDefinition → List Local → Port → Boo
 is_offered_port atoms states p = of_atom atoms states p.atom (λ a s. offers_port a s p.port) false
 
 -- the guard clauses of an interaction's connector that apply to it are not 0
-abbrev pub is_unguarded : PlantDefinition → List Local → Interaction → Bool
-is_unguarded plant states i =
-    option_map_or (λ w. guards_hold plant.atoms states (leaves w.connector) i.mask w.guards) (slice_get plant.wires i.connector) true
+abbrev pub is_unguarded : List AtomDefinition → List WireDefinition → List Local → Interaction → Bool
+is_unguarded atoms wires states i =
+    option_map_or (λ w. guards_hold atoms states (leaves w.connector) i.mask w.guards) (slice_get wires i.connector) true
 
 -- an interaction is possible where each of its ports has an offered transition, and no guard of its connector forbids it
-abbrev pub is_possible : PlantDefinition → List Local → Interaction → Bool
-is_possible plant states i = list_all (is_offered_port plant.atoms states) i.ports && is_unguarded plant states i
+abbrev pub is_possible : List AtomDefinition → List WireDefinition → List Local → Interaction → Bool
+is_possible atoms wires states i = list_all (is_offered_port atoms states) i.ports && is_unguarded atoms wires states i
 
 -- the move of an atom by a transition
 abbrev pub move_of : ℕ → ℕ → Move
@@ -80,14 +81,40 @@ choices_of atoms states i =
     map (λ moves. record { connector = i.connector; mask = i.mask; moves = moves })
     (combinations (map (moves_of atoms states) i.ports))
 
--- the choices of one interaction in a state: none where it is not possible
-abbrev pub choices_in : PlantDefinition → List Local → Interaction → List ChoiceDefinition
-choices_in plant states i = if is_possible plant states i then choices_of plant.atoms states i else []
+-- an interaction as priority rules name it: by its connector and its mask
+abbrev pub named : Interaction → ℕ × ℕ
+named i = (i.connector, i.mask)
 
--- the choices of a state: those of each possible interaction, in the order of the interactions
+-- the interaction with a number in a list of interactions is there and possible
+abbrev pub is_possible_at : List AtomDefinition → List WireDefinition → List Local → List Interaction → ℕ → Bool
+is_possible_at atoms wires states interactions n = option_map_or (is_possible atoms wires states) (slice_get interactions n) false
+
+-- an interaction is allowed where it is possible, and no possible one is above it in the order of the plant's rules
+abbrev pub is_allowed_at : PlantDefinition → List Local → List Interaction → ℕ → Bool
+is_allowed_at plant states interactions n =
+    is_possible_at plant.atoms plant.wires states interactions n &&
+    not (is_overruled plant.rules (map named interactions) (is_possible_at plant.atoms plant.wires states interactions) n)
+
+-- what each element of a list gives, one after another; the elements are numbered from n
+abbrev pub flat_from : {X Y : Type 0} → (ℕ → X → List Y) → ℕ → List X → List Y
+flat_from give n [] = []
+flat_from give n (x ∷ xs) = give n x ++ flat_from give (suc n) xs
+
+-- the choices of the interaction with a number: none where it is not allowed
+abbrev pub choices_at : PlantDefinition → List Local → List Interaction → ℕ → Interaction → List ChoiceDefinition
+choices_at plant states interactions n i = if is_allowed_at plant states interactions n then choices_of plant.atoms states i else []
+
+-- the choices of a state, by the interactions: those of each allowed one, in order
+abbrev pub choices_among : PlantDefinition → List Local → List Interaction → List ChoiceDefinition
+choices_among plant states interactions = flat_from (choices_at plant states interactions) 0 interactions
+
+-- the choices of a state: those of each allowed interaction, in the order of the interactions
 abbrev pub choices : PlantDefinition → List Local → List ChoiceDefinition
-choices plant states =
-    flat_map (choices_of plant.atoms states) (filter (is_possible plant states) (plant_interactions plant))
+choices plant states = choices_among plant states (plant_interactions plant)
+
+-- a state is stuck where no interaction is possible
+abbrev pub IsStuck : PlantDefinition → List Local → Type 0
+IsStuck plant states = list_any (is_possible plant.atoms plant.wires states) (plant_interactions plant) ≡ false
 
 -- a choice is allowed in a state where it is one of the state's choices
 abbrev pub IsAllowed : PlantDefinition → List Local → ChoiceDefinition → Type 0

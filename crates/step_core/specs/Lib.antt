@@ -13,3 +13,5 @@ pub mod System
 pub mod Delivery
 pub mod Messages
 pub mod Running
+pub mod Told
+pub mod Possible

@@ -2,8 +2,9 @@
 use Rattle.std.specs.Prelude.{ℕ, List, ◌++◌, codes}
 use Rattle.std.specs.Fmt.{decimal}
 use Rattle.connector_tree.specs.Faults as tree
+use Rattle.priority_filter.specs.Fault as order
 use Rattle.step_core.specs.declared.fault.SystemFault.{SystemFault}
-use Rattle.step_core.specs.declared.fault.SystemFault.TheVariants.{Limit, BadAtom, BadConnector, BadWire, Memory}
+use Rattle.step_core.specs.declared.fault.SystemFault.TheVariants.{Limit, BadAtom, BadConnector, BadWire, Order, Memory}
 use Rattle.step_core.specs.declared.fault.WireFault.{WireFault}
 use Rattle.step_core.specs.declared.fault.WireFault.TheVariants.{NameTwice, UnknownPort, UnknownVariable, TargetTwice}
 
@@ -20,4 +21,5 @@ message_of Limit = codes "there is no atom, or a limit of plants is passed"
 message_of (BadAtom n) = codes "atom " ++ decimal n ++ codes " has the name of an earlier one"
 message_of (BadConnector k fault) = codes "connector " ++ decimal k ++ codes ": " ++ tree.message_of fault
 message_of (BadWire k fault) = codes "connector " ++ decimal k ++ codes ": " ++ wire_message fault
+message_of (Order fault) = codes "priorities: " ++ order.message_of fault
 message_of Memory = codes "not enough memory for the plant"

@@ -5,6 +5,7 @@ use Rattle.petri_atom.specs.Local.{Local}
 use Rattle.petri_atom.specs.Expression.{Tree}
 use Rattle.petri_atom.specs.Definition.{AtomDefinition}
 use Rattle.connector_tree.specs.declared.tree.Connector.{Connector}
+use Rattle.priority_filter.specs.declared.rule.Rule.{Rule}
 use Rattle.step_core.specs.declared.wire.Export.{Export}
 
 -- a transfer: the exported variable of one leaf gets the value of an expression over exported variables
@@ -19,10 +20,11 @@ pub record WireDefinition : Type 0 where
   pub guards : List (Tree Export)
   pub transfers : List TransferDefinition
 
--- a plant: its atoms and its wires, each numbered from 0 in written order
+-- a plant: its atoms and its wires, each numbered from 0 in written order, and its priority rules
 pub record PlantDefinition : Type 0 where
   pub atoms : List AtomDefinition
   pub wires : List WireDefinition
+  pub rules : List Rule
 
 -- the atom and the local state with a number, and what is read of both; nothing where one is not there
 abbrev pub of_atom : {X : Type 0} → List AtomDefinition → List Local → ℕ → (AtomDefinition → Local → X) → X → X

@@ -10,11 +10,12 @@ use Rattle.connector_tree.specs.Faults as tree
 use Rattle.connector_tree.specs.Tree.{leaves}
 use Rattle.connector_tree.specs.declared.tree.Port.{Port}
 use Rattle.step_core.specs.Plant.{TransferDefinition, WireDefinition, PlantDefinition}
-use Rattle.step_core.specs.Choice.{plant_interactions}
-use Rattle.step_core.specs.declared.limits.TheConstants.{MAX_ATOMS, MAX_WIRES, MAX_GUARDS, MAX_TRANSFERS, MAX_INTERACTIONS}
+use Rattle.priority_filter.specs.Decided.{order_fault}
+use Rattle.step_core.specs.Choice.{named, plant_interactions}
+use Rattle.step_core.specs.declared.limits.TheConstants.{MAX_ATOMS, MAX_WIRES, MAX_RULES, MAX_GUARDS, MAX_TRANSFERS, MAX_INTERACTIONS}
 use Rattle.step_core.specs.declared.wire.Export.{Export}
 use Rattle.step_core.specs.declared.fault.SystemFault.{SystemFault}
-use Rattle.step_core.specs.declared.fault.SystemFault.TheVariants.{Limit, BadAtom, BadConnector, BadWire, Memory}
+use Rattle.step_core.specs.declared.fault.SystemFault.TheVariants.{Limit, BadAtom, BadConnector, BadWire, Order, Memory}
 use Rattle.step_core.specs.declared.fault.WireFault.{WireFault}
 use Rattle.step_core.specs.declared.fault.WireFault.TheVariants.{NameTwice, UnknownPort, UnknownVariable, TargetTwice}
 
@@ -42,11 +43,11 @@ are_small_guards clauses =
 abbrev pub is_small_wire : WireDefinition → Bool
 is_small_wire w = are_small_guards w.guards && are_small_transfers w.transfers
 
--- there is an atom, and there are no more atoms and wires than a plant may have, each wire within its limits
+-- there is an atom, and there are no more atoms, wires and rules than a plant may have, each wire within its limits
 abbrev pub is_within_limits : PlantDefinition → Bool
 is_within_limits plant =
     nat_lt 0 (length plant.atoms) && nat_le (length plant.atoms) MAX_ATOMS && nat_le (length plant.wires) MAX_WIRES &&
-    list_all is_small_wire plant.wires
+    nat_le (length plant.rules) MAX_RULES && list_all is_small_wire plant.wires
 
 -- the atom with number n has the name of an earlier one
 abbrev pub atom_fault : List AtomDefinition → ℕ → AtomDefinition → Option SystemFault
@@ -115,9 +116,13 @@ late_fault plant =
     first_of (first_told (wire_fault plant.atoms plant.wires) 0 plant.wires)
     (fault_of_count (length (plant_interactions plant)))
 
+-- why the priority rules put no order on the interactions, if they put none
+abbrev pub fault_of_order : PlantDefinition → Option SystemFault
+fault_of_order plant = option_map Order (order_fault plant.rules (map named (plant_interactions plant)))
+
 -- the first rule that a plant breaks
 abbrev pub fault_of : PlantDefinition → Option SystemFault
-fault_of plant = first_of (early_fault plant) (late_fault plant)
+fault_of plant = first_of (early_fault plant) (first_of (late_fault plant) (fault_of_order plant))
 
 -- why atoms and wires made no plant: the rule that they break first, or want of memory, which is told only where no limit, name of an atom or tree is at fault
 abbrev pub IsFaultOf : SystemFault → PlantDefinition → Type 0

@@ -4,4 +4,4 @@ use Rattle.step_core.specs.declared.system.System.{System}
 
 -- a system as its plant was written
 abbrev pub plant_of : System → PlantDefinition
-plant_of s = plant_by s.atoms.items s.wires.items
+plant_of s = plant_by s.atoms.items s.wires.items s.order.rules

@@ -4,15 +4,20 @@ ghost use Rattle.petri_atom.specs.Atom.{definition_of};
 ghost use Rattle.step_core.specs.Choice.{choices, IsAllowed};
 ghost use Rattle.step_core.specs.Chosen.{choice_of};
 ghost use Rattle.step_core.specs.Fitting.{IsOf};
+ghost use Rattle.step_core.specs.Interaction.{interaction_of};
 ghost use Rattle.step_core.specs.Offers.{AreOffered};
+ghost use Rattle.step_core.specs.Possible.{ArePossible};
+ghost use Rattle.step_core.specs.Wire.{wire_of};
 ghost use Rattle.step_core.specs.declared.limits.TheConstants.{MAX_ATOMS};
 
 use crate::choice::Choice;
+use crate::filtered::Filtered;
 use crate::judged::Judged;
 use crate::limits::MAX_ATOMS;
 use crate::state::PlantState;
 use crate::system::System;
 use petri_atom::{Atom, TransitionSet};
+use priority_filter::InteractionSet;
 
 impl System {
     ghost use Rattle.step_core.specs.System.{plant_of};
@@ -22,7 +27,9 @@ impl System {
         requires { IsOf (plant_of self.now) states.now }
         ensures { result ≡ length (choices (plant_of self.now) states.now) }
     {
-        self.count_among(states, &offered_sets(&self.atoms, states))
+        let offered = offered_sets(&self.atoms, states);
+        let possible = self.possible_among(states, &offered);
+        self.count_among(states, &offered, &possible)
     }
 
     /// The choice of the state with this place, from 0, in the order of the choices.
@@ -32,14 +39,43 @@ impl System {
         ensures entry { slice_get (choices (plant_of self.now) states.now) place ≡ Some (choice_of result) }
         ensures allowed { IsAllowed (plant_of self.now) states.now (choice_of result) }
     {
-        self.nth_among(states, &offered_sets(&self.atoms, states), place)
+        let offered = offered_sets(&self.atoms, states);
+        let possible = self.possible_among(states, &offered);
+        self.nth_among(states, &offered, &possible, place)
     }
 
-    /// How many choices the state has, by the sets of the transitions that it offers.
-    pub(crate) fn count_among(&self, states: &PlantState, offered: &[TransitionSet]) -> u128
+    /// The possible interactions of the state, by the sets of the transitions that it offers.
+    pub(crate) fn possible_among(
+        &self,
+        states: &PlantState,
+        offered: &[TransitionSet],
+    ) -> InteractionSet
         requires of_plant { IsOf (plant_of self.now) states.now }
         requires rows { length self.now.atoms.items ≤ length offered.now }
         requires exact { AreOffered (map definition_of self.now.atoms.items) states.now offered.now }
+        ensures { ArePossible (map definition_of self.now.atoms.items) (map wire_of self.now.wires.items) states.now (map interaction_of self.now.interactions.items) result }
+    {
+        let judged = Judged {
+            atoms: &self.atoms,
+            wires: &self.wires,
+            ports: &self.ports,
+            states,
+            offered,
+        };
+        judged.possible(&self.interactions)
+    }
+
+    /// How many choices the state has, by the sets of the transitions that it offers and of its possible interactions.
+    pub(crate) fn count_among<'x>(
+        &'x self,
+        states: &'x PlantState,
+        offered: &'x [TransitionSet],
+        possible: &'x InteractionSet,
+    ) -> u128
+        requires of_plant { IsOf (plant_of self.now) states.now }
+        requires rows { length self.now.atoms.items ≤ length offered.now }
+        requires exact { AreOffered (map definition_of self.now.atoms.items) states.now offered.now }
+        requires known { ArePossible (map definition_of self.now.atoms.items) (map wire_of self.now.wires.items) states.now (map interaction_of self.now.interactions.items) possible.now }
         ensures { result ≡ length (choices (plant_of self.now) states.now) }
     {
         let judged = Judged {
@@ -49,19 +85,28 @@ impl System {
             states,
             offered,
         };
-        judged.count(&self.interactions)
+        let filtered = Filtered {
+            judged,
+            interactions: &self.interactions,
+            order: &self.order,
+            possible,
+        };
+        filtered.count()
     }
 
-    /// The choice of the state with this place, by the sets of the transitions that it offers.
-    pub(crate) fn nth_among(
-        &self,
-        states: &PlantState,
-        offered: &[TransitionSet],
+    /// The choice of the state with this place, by the sets of the transitions that it offers and of its possible
+    /// interactions.
+    pub(crate) fn nth_among<'x>(
+        &'x self,
+        states: &'x PlantState,
+        offered: &'x [TransitionSet],
+        possible: &'x InteractionSet,
         place: u128,
     ) -> Choice
         requires of_plant { IsOf (plant_of self.now) states.now }
         requires rows { length self.now.atoms.items ≤ length offered.now }
         requires exact { AreOffered (map definition_of self.now.atoms.items) states.now offered.now }
+        requires known { ArePossible (map definition_of self.now.atoms.items) (map wire_of self.now.wires.items) states.now (map interaction_of self.now.interactions.items) possible.now }
         requires place { place < length (choices (plant_of self.now) states.now) }
         ensures entry { slice_get (choices (plant_of self.now) states.now) place ≡ Some (choice_of result) }
         ensures allowed { IsAllowed (plant_of self.now) states.now (choice_of result) }
@@ -73,7 +118,13 @@ impl System {
             states,
             offered,
         };
-        match judged.nth(&self.interactions, place) {
+        let filtered = Filtered {
+            judged,
+            interactions: &self.interactions,
+            order: &self.order,
+            possible,
+        };
+        match filtered.nth(place) {
             Some(choice) => choice,
             None => unreachable!(),
         }

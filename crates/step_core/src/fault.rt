@@ -1,5 +1,6 @@
 //! Why atoms and wires make no plant.
 use connector_tree::TreeFault;
+use priority_filter::OrderFault;
 use std::alloc::AllocError;
 use std::error::Error;
 use std::fmt;
@@ -20,7 +21,7 @@ pub enum WireFault {
 /// Why atoms and wires make no plant.
 #[derive(Clone, Copy, Debug, PartialEq, Eq)]
 pub enum SystemFault {
-    /// There is no atom, or there are more atoms, wires, guards, transfers, words or interactions than a plant may have.
+    /// There is no atom, or there are more atoms, wires, rules, guards, transfers, words or interactions than a plant may have.
     Limit,
     /// An earlier atom has the name of the atom with this number.
     BadAtom(u16),
@@ -28,6 +29,8 @@ pub enum SystemFault {
     BadConnector(u16, TreeFault),
     /// The wire with this number breaks a rule.
     BadWire(u16, WireFault),
+    /// The priority rules put no order on the interactions. The fault is not want of memory.
+    Order(OrderFault),
     /// There was no memory for the plant.
     Memory,
 }
@@ -68,6 +71,7 @@ impl fmt::Display for SystemFault {
                 write!(f, "connector {connector}: {fault}")
             }
             SystemFault::BadWire(connector, fault) => write!(f, "connector {connector}: {fault}"),
+            SystemFault::Order(fault) => write!(f, "priorities: {fault}"),
             SystemFault::Memory => f.write_str("not enough memory for the plant"),
         }
     }
@@ -83,5 +87,19 @@ impl From<AllocError> for SystemFault {
 
     fn from(_error: AllocError) -> Self {
         Self::Memory
+    }
+}
+
+impl From<OrderFault> for SystemFault {
+    ghost use Rattle.std.specs.Prelude.{◌≡◌};
+    ghost use Rattle.step_core.specs.Told.{told_of_order};
+
+    ghost from_gives = { λ fault told. told ≡ told_of_order fault };
+
+    fn from(fault: OrderFault) -> Self {
+        match fault {
+            OrderFault::Memory => Self::Memory,
+            fault => Self::Order(fault),
+        }
     }
 }

@@ -1,26 +1,28 @@
-//! A global state with the offered transitions of its atoms, each judged once: which interactions are possible in it,
-//! how many choices it has, and which they are.
-ghost use Rattle.std.specs.Prelude.{◌≡◌, [], ◌≤◌, ◌<◌, ◌+◌, ◌*◌, ◌^◌, ◌++◌, Some, None, List, map, length, get_or, slice_get, flat_map, option_map};
+//! A global state with the offered transitions of its atoms, each judged once: which interactions are possible in it, and how
+//! their participants can move.
+ghost use Rattle.std.specs.Prelude.{◌≡◌, ℕ, false, [], ◌≤◌, ◌<◌, ◌+◌, ◌*◌, ◌^◌, ◌++◌, Some, None, List, map, length, get_or, slice_get, flat_map, option_map};
+ghost use Rattle.std.specs.FinSet.{contains};
 ghost use Rattle.std.specs.List.{list_all};
 ghost use Rattle.petri_atom.specs.Atom.{definition_of};
 ghost use Rattle.petri_atom.specs.declared.parts.TheConstants.{MAX_TRANSITIONS};
 ghost use Rattle.connector_tree.specs.declared.tree.TheConstants.{MAX_LEAVES};
-ghost use Rattle.step_core.specs.Choice.{is_offered_port, is_unguarded, is_possible, move_of, moves_of, combinations, choices_in};
+ghost use Rattle.step_core.specs.Choice.{is_offered_port, is_unguarded, is_possible, move_of, moves_of, combinations};
 ghost use Rattle.step_core.specs.Interaction.{interaction_of};
 ghost use Rattle.connector_tree.specs.Tree.{leaves};
-ghost use Rattle.step_core.specs.Made.{plant_by};
+ghost use Rattle.step_core.specs.Possible.{ArePossible};
+ghost use Rattle.step_core.specs.Wire.{wire_of};
 ghost use Rattle.step_core.specs.Offers.{AreOffered};
-ghost use Rattle.step_core.specs.Chosen.{choice_of};
 ghost use Rattle.step_core.specs.declared.choice.Move.{Move};
 ghost use Rattle.step_core.specs.declared.limits.TheConstants.{MAX_INTERACTIONS};
 
-use crate::choice::{Choice, Move, Moves};
+use crate::choice::{Move, Moves};
 use crate::interaction::Interaction;
 use crate::state::PlantState;
 use crate::values::Values;
 use crate::wire::Wire;
 use connector_tree::Port;
 use petri_atom::{Atom, TransitionSet};
+use priority_filter::InteractionSet;
 
 /// A global state with the offered transitions of its atoms.
 #[derive(Drop)]
@@ -74,7 +76,7 @@ impl Judged<'_> {
 
     /// Whether the interaction is possible.
     fn is_possible(&self, interaction: &Interaction) -> bool
-        ensures { result ≡ is_possible (plant_by self.now.atoms.now self.now.wires.now) self.now.states.now (interaction_of interaction.now) }
+        ensures { result ≡ is_possible (map definition_of self.now.atoms.now) (map wire_of self.now.wires.now) self.now.states.now (interaction_of interaction.now) }
     {
         self.offers_each(&interaction.ports) && self.is_unguarded(interaction)
     }
@@ -88,7 +90,7 @@ impl Judged<'_> {
 
     /// Whether no guard clause of its connector that applies forbids the interaction.
     fn is_unguarded(&self, interaction: &Interaction) -> bool
-        ensures { result ≡ is_unguarded (plant_by self.now.atoms.now self.now.wires.now) self.now.states.now (interaction_of interaction.now) }
+        ensures { result ≡ is_unguarded (map definition_of self.now.atoms.now) (map wire_of self.now.wires.now) self.now.states.now (interaction_of interaction.now) }
     {
         let number = usize::from(interaction.connector);
         match self.wires.get(number) {
@@ -105,7 +107,7 @@ impl Judged<'_> {
     }
 
     /// How many rows of one move for each port there are.
-    fn row_count(&self, ports: &[Port]) -> u128
+    pub(crate) fn row_count(&self, ports: &[Port]) -> u128
         requires { length ports.now ≤ MAX_LEAVES }
         ensures few { result ≤ 2 ^ (7 * length ports.now) }
         ensures count { result ≡ length (combinations (map (moves_of (map definition_of self.now.atoms.now) self.now.states.now) ports.now)) }
@@ -148,57 +150,38 @@ impl Judged<'_> {
         }
     }
 
-    /// How many choices the interaction has.
-    fn choice_count(&self, interaction: &Interaction) -> u128
-        ensures few { result ≤ 2 ^ 56 }
-        ensures count { result ≡ length (choices_in (plant_by self.now.atoms.now self.now.wires.now) self.now.states.now (interaction_of interaction.now)) }
-    {
-        if self.is_possible(interaction) {
-            self.row_count(&interaction.ports)
-        } else {
-            0
-        }
-    }
-
-    /// The choice with this place, from 0, among those of the interaction, of which there are `total`.
-    fn choice(&self, interaction: &Interaction, total: u128, place: u128) -> Choice
-        requires total { total ≡ length (choices_in (plant_by self.now.atoms.now self.now.wires.now) self.now.states.now (interaction_of interaction.now)) }
+    /// The row with this place, from 0, of one move for each port, of which there are `total`.
+    pub(crate) fn nth_row(&self, ports: &[Port], total: u128, place: u128) -> Moves
+        requires few { length ports.now ≤ MAX_LEAVES }
+        requires total { total ≡ length (combinations (map (moves_of (map definition_of self.now.atoms.now) self.now.states.now) ports.now)) }
         requires place { place < total }
-        ensures { slice_get (choices_in (plant_by self.now.atoms.now self.now.wires.now) self.now.states.now (interaction_of interaction.now)) place ≡ Some (choice_of result) }
+        ensures { result ≡ get_or (combinations (map (moves_of (map definition_of self.now.atoms.now) self.now.states.now) ports.now)) place [] }
     {
         let mut moves = Moves::none();
-        self.push_row(&interaction.ports, total, place, &mut moves);
-        Choice {
-            connector: interaction.connector,
-            mask: interaction.mask,
-            moves,
-        }
+        self.push_row(ports, total, place, &mut moves);
+        moves
     }
 
-    /// How many choices the interactions have.
-    pub(crate) fn count(&self, interactions: &[Interaction]) -> u128
+    /// The interactions of the list that are possible, by their numbers in it.
+    pub(crate) fn possible(&self, interactions: &[Interaction]) -> InteractionSet
         requires { length interactions.now ≤ MAX_INTERACTIONS }
-        ensures { result ≡ length (flat_map (choices_in (plant_by self.now.atoms.now self.now.wires.now) self.now.states.now) (map interaction_of interactions.now)) }
+        ensures { ArePossible (map definition_of self.now.atoms.now) (map wire_of self.now.wires.now) self.now.states.now (map interaction_of interactions.now) result }
     {
-        let mut count = 0;
-        for interaction in interactions {
-            count += self.choice_count(interaction);
+        let mut possible = InteractionSet::new();
+        for (number, interaction) in interactions.iter().enumerate() {
+            self.note(number as u16, interaction, &mut possible);
         }
-        count
+        possible
     }
 
-    /// The choice with this place, from 0, among those of the interactions, if there is one.
-    pub(crate) fn nth(&self, interactions: &[Interaction], place: u128) -> Option<Choice>
-        ensures { option_map choice_of result ≡ slice_get (flat_map (choices_in (plant_by self.now.atoms.now self.now.wires.now) self.now.states.now) (map interaction_of interactions.now)) place }
+    /// Puts the interaction with this number into the set, where it is possible.
+    fn note(&self, number: u16, interaction: &Interaction, possible: &mut InteractionSet)
+        requires { number < MAX_INTERACTIONS }
+        ensures here { contains possible.old number ≡ false → contains possible.new number ≡ is_possible (map definition_of self.now.atoms.now) (map wire_of self.now.wires.now) self.now.states.now (interaction_of interaction.now) }
+        ensures others { (n : ℕ) → ¬ (n ≡ number) → contains possible.new n ≡ contains possible.old n }
     {
-        let mut left = place;
-        for interaction in interactions {
-            let count = self.choice_count(interaction);
-            if left < count {
-                return Some(self.choice(interaction, count, left));
-            }
-            left -= count;
+        if self.is_possible(interaction) {
+            possible.insert(number);
         }
-        None
     }
 }

@@ -23,6 +23,7 @@
 mod choice;
 mod choices;
 mod fault;
+mod filtered;
 mod firing;
 mod interaction;
 mod interactions;
@@ -42,7 +43,7 @@ pub use choice::{Choice, Move, Moves};
 pub use fault::{SystemFault, WireFault};
 pub use interaction::Interaction;
 pub use interactions::connector_interactions;
-pub use limits::{MAX_ATOMS, MAX_GUARDS, MAX_INTERACTIONS, MAX_TRANSFERS, MAX_WIRES};
+pub use limits::{MAX_ATOMS, MAX_GUARDS, MAX_INTERACTIONS, MAX_RULES, MAX_TRANSFERS, MAX_WIRES};
 pub use state::PlantState;
 pub use stepper::Stepper;
 pub use system::System;

@@ -4,6 +4,8 @@
 pub const MAX_ATOMS: usize = 64;
 /// How many connectors a plant may have.
 pub const MAX_WIRES: usize = 64;
+/// How many priority rules a plant may have.
+pub const MAX_RULES: usize = 1024;
 /// How many guard clauses a connector may have.
 pub const MAX_GUARDS: usize = 8;
 /// How many transfers a connector may make.

@@ -1,8 +1,8 @@
 //! Systems are made of atoms and wires that keep the rules of a plant.
-ghost use Rattle.std.specs.Prelude.{◌≡◌, ◌≤◌, IfOk, IfErr, None, map, length};
+ghost use Rattle.std.specs.Prelude.{◌≡◌, ◌≤◌, IfOk, IfErr, None, [], map, length};
 ghost use Rattle.petri_atom.specs.Atom.{definition_of};
 ghost use Rattle.connector_tree.specs.Tree.{leaves};
-ghost use Rattle.step_core.specs.Choice.{interactions_from, interactions_of_connector, plant_interactions};
+ghost use Rattle.step_core.specs.Choice.{interactions_from, interactions_of_connector, named, plant_interactions};
 ghost use Rattle.step_core.specs.Interaction.{interaction_of};
 ghost use Rattle.step_core.specs.Made.{plant_by};
 ghost use Rattle.step_core.specs.Rules.{early_fault, late_fault, fault_of, fault_of_count, IsFaultOf};
@@ -18,25 +18,27 @@ use crate::wire::Wire;
 use crate::{rules, wire_rules};
 use connector_tree::Port;
 use petri_atom::Atom;
+use priority_filter::{Order, Rule};
 use std::alloc::{AllocError, Global};
 
 impl System {
     ghost use Rattle.step_core.specs.System.{plant_of};
 
-    /// The plant of these atoms and wires, or the first rule that they break; `digest` is that of the text that they were
-    /// read from.
+    /// The plant of these atoms, wires and priority rules, or the first rule of plants that they break; `digest` is that of the
+    /// text that they were read from.
     pub fn new(
         alloc: Global,
         atoms: Vec<Atom>,
         wires: Vec<Wire>,
+        rules: &[Rule],
         digest: [u8; 32],
     ) -> Result<Self, SystemFault>
-        ensures made { IfOk result (λ system. plant_of system ≡ plant_by atoms.items wires.items) }
+        ensures made { IfOk result (λ system. plant_of system ≡ plant_by atoms.items wires.items rules.now) }
         ensures digest { IfOk result (λ system. system.digest ≡ digest) }
-        ensures sound { IfOk result (λ _. fault_of (plant_by atoms.items wires.items) ≡ None) }
-        ensures fault { IfErr result (λ fault. IsFaultOf fault (plant_by atoms.items wires.items)) }
+        ensures sound { IfOk result (λ _. fault_of (plant_by atoms.items wires.items rules.now) ≡ None) }
+        ensures fault { IfErr result (λ fault. IsFaultOf fault (plant_by atoms.items wires.items rules.now)) }
     {
-        if let Some(fault) = rules::early_fault(&atoms, &wires) {
+        if let Some(fault) = rules::early_fault(&atoms, &wires, rules) {
             return Err(fault);
         }
         let ports = leaves_of_wires(alloc, &wires)?;
@@ -44,12 +46,14 @@ impl System {
         if let Some(fault) = late_fault(&atoms, &wires, &ports, &interactions) {
             return Err(fault);
         }
+        let order = Order::new(alloc, rules, &names_of(alloc, &interactions)?)?;
         Ok(System {
             atoms,
             wires,
             digest,
             ports,
             interactions,
+            order,
         })
     }
 }
@@ -84,6 +88,24 @@ impl System {
     {
         self.interactions.len()
     }
+
+    /// The priority rules, as they were written.
+    pub fn rules(&self) -> &[Rule]
+        ensures { result.now ≡ (plant_of self.now).rules }
+    {
+        self.order.rules()
+    }
+}
+
+/// The interactions as priority rules name them: each by its connector and its mask.
+fn names_of(alloc: Global, interactions: &[Interaction]) -> Result<Vec<(u16, u16)>, AllocError>
+    ensures { IfOk result (λ names. names.items ≡ map named (map interaction_of interactions.now)) }
+{
+    let mut names = Vec::with_capacity(alloc, interactions.len())?;
+    for interaction in interactions {
+        names.push((interaction.connector, interaction.mask))?;
+    }
+    Ok(names)
 }
 
 /// The first rule that is broken of those about wires, and about how many interactions there are.
@@ -95,8 +117,8 @@ fn late_fault(
 ) -> Option<SystemFault>
     requires few { length wires.now ≤ MAX_WIRES }
     requires ports { map (λ list. list.items) ports.now ≡ map (λ w. leaves w.connector) wires.now }
-    requires listed { map interaction_of interactions.now ≡ plant_interactions (plant_by atoms.now wires.now) }
-    ensures { result ≡ late_fault (plant_by atoms.now wires.now) }
+    requires listed { map interaction_of interactions.now ≡ plant_interactions (plant_by atoms.now wires.now []) }
+    ensures { result ≡ late_fault (plant_by atoms.now wires.now []) }
 {
     match wire_rules::fault_of_wires(atoms, wires, ports) {
         Some(fault) => Some(fault),

@@ -11,15 +11,16 @@ ghost use Rattle.step_core.specs.Rules.{are_small_guards, are_small_transfers, i
 ghost use Rattle.step_core.specs.Wire.{wire_of, transfer_of};
 
 use crate::fault::SystemFault;
-use crate::limits::{MAX_ATOMS, MAX_GUARDS, MAX_TRANSFERS, MAX_WIRES};
+use crate::limits::{MAX_ATOMS, MAX_GUARDS, MAX_RULES, MAX_TRANSFERS, MAX_WIRES};
 use crate::wire::{Export, Transfer, Wire};
 use petri_atom::{Atom, Expression, Name};
+use priority_filter::Rule;
 
 /// The first rule that is broken of those about limits, names of atoms and trees.
-pub(crate) fn early_fault(atoms: &[Atom], wires: &[Wire]) -> Option<SystemFault>
-    ensures { result ≡ early_fault (plant_by atoms.now wires.now) }
+pub(crate) fn early_fault(atoms: &[Atom], wires: &[Wire], rules: &[Rule]) -> Option<SystemFault>
+    ensures { result ≡ early_fault (plant_by atoms.now wires.now rules.now) }
 {
-    if !is_within_limits(atoms, wires) {
+    if !is_within_limits(atoms, wires, rules) {
         return Some(SystemFault::Limit);
     }
     match fault_of_atoms(atoms) {
@@ -28,11 +29,15 @@ pub(crate) fn early_fault(atoms: &[Atom], wires: &[Wire]) -> Option<SystemFault>
     }
 }
 
-/// Whether there is an atom, and no limit of atoms and wires is passed.
-fn is_within_limits(atoms: &[Atom], wires: &[Wire]) -> bool
-    ensures { result ≡ is_within_limits (plant_by atoms.now wires.now) }
+/// Whether there is an atom, and no limit of atoms, wires and rules is passed.
+fn is_within_limits(atoms: &[Atom], wires: &[Wire], rules: &[Rule]) -> bool
+    ensures { result ≡ is_within_limits (plant_by atoms.now wires.now rules.now) }
 {
-    (0 < atoms.len()) & (atoms.len() <= MAX_ATOMS) & (wires.len() <= MAX_WIRES) & are_small(wires)
+    (0 < atoms.len())
+        & (atoms.len() <= MAX_ATOMS)
+        & (wires.len() <= MAX_WIRES)
+        & (rules.len() <= MAX_RULES)
+        & are_small(wires)
 }
 
 /// Whether each wire is within its limits.

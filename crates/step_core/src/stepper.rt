@@ -6,7 +6,10 @@ ghost use Rattle.petri_atom.specs.Definition.{AtomDefinition, offered_set};
 ghost use Rattle.step_core.specs.Choice.{choices, IsAllowed};
 ghost use Rattle.step_core.specs.Chosen.{choice_of};
 ghost use Rattle.step_core.specs.Fitting.{IsOf, AllFit};
+ghost use Rattle.step_core.specs.Interaction.{interaction_of};
 ghost use Rattle.step_core.specs.Offers.{AreOffered, AreOfferedBut};
+ghost use Rattle.step_core.specs.Possible.{ArePossible};
+ghost use Rattle.step_core.specs.Wire.{wire_of};
 ghost use Rattle.step_core.specs.Step.{initial_states, next};
 ghost use Rattle.step_core.specs.System.{plant_of};
 
@@ -14,20 +17,24 @@ use crate::choice::{Choice, Move};
 use crate::state::PlantState;
 use crate::system::System;
 use petri_atom::{Atom, TransitionSet};
+use priority_filter::InteractionSet;
 use std::alloc::{AllocError, Global};
 
-/// A plant that runs: a system, its present state, and the transitions which that state offers.
+/// A plant that runs: a system, its present state, and what that state offers: transitions, and possible interactions.
 ///
-/// It judges each transition once when it is made, and after a step only those of the atoms that moved. All of a step's
+/// It judges each transition once when it is made, and after a step only those of the atoms that moved; each interaction once a
+/// step. All of a step's
 /// questions ([`Stepper::count`], [`Stepper::nth`]) are answered from what is offered. Only making it takes memory.
 #[derive(Drop)]
 pub struct Stepper<'s> {
     system: &'s System,
     states: PlantState,
     offered: Vec<TransitionSet>,
+    possible: InteractionSet,
     ghost of_plant: { IsOf (plant_of system.now) states },
     ghost rows: { length system.now.atoms.items ≤ length offered.items },
     ghost exact: { AreOffered (map definition_of system.now.atoms.items) states offered.items },
+    ghost known: { ArePossible (map definition_of system.now.atoms.items) (map wire_of system.now.wires.items) states (map interaction_of system.now.interactions.items) possible },
 }
 
 impl<'s> Stepper<'s> {
@@ -50,10 +57,12 @@ impl<'s> Stepper<'s> {
         ensures states { IfOk result (λ run. states_in run ≡ states) }
     {
         let offered = offered_rows(alloc, &system.atoms, &states)?;
+        let possible = system.possible_among(&states, &offered);
         Ok(Stepper {
             system,
             states,
             offered,
+            possible,
         })
     }
 
@@ -76,7 +85,8 @@ impl<'s> Stepper<'s> {
     pub fn count(&self) -> u128
         ensures { result ≡ length (choices (plant_in self.now) (states_in self.now)) }
     {
-        self.system.count_among(&self.states, &self.offered)
+        self.system
+            .count_among(&self.states, &self.offered, &self.possible)
     }
 
     /// The choice of the present state with this place, from 0, in the order of the choices.
@@ -85,7 +95,8 @@ impl<'s> Stepper<'s> {
         ensures entry { slice_get (choices (plant_in self.now) (states_in self.now)) place ≡ Some (choice_of result) }
         ensures allowed { IsAllowed (plant_in self.now) (states_in self.now) (choice_of result) }
     {
-        self.system.nth_among(&self.states, &self.offered, place)
+        self.system
+            .nth_among(&self.states, &self.offered, &self.possible, place)
     }
 
     /// Fires the choice: the present state becomes the next one. What is offered is judged again for the atoms that moved,
@@ -103,6 +114,7 @@ impl<'s> Stepper<'s> {
             choice.moves.as_slice(),
             &mut self.offered,
         );
+        self.possible = self.system.possible_among(&self.states, &self.offered);
     }
 }
 

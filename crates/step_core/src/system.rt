@@ -1,7 +1,7 @@
-//! Systems: the atoms and wires of a plant, which keep each rule of one, and what is prepared for its steps.
+//! Systems: the atoms, wires and priority rules of a plant, which keep each rule of one, and what is prepared for its steps.
 ghost use Rattle.std.specs.Prelude.{◌≡◌, ◌≤◌, None, map, length};
 ghost use Rattle.connector_tree.specs.Tree.{leaves};
-ghost use Rattle.step_core.specs.Choice.{plant_interactions};
+ghost use Rattle.step_core.specs.Choice.{named, plant_interactions};
 ghost use Rattle.step_core.specs.Interaction.{interaction_of};
 ghost use Rattle.step_core.specs.Made.{plant_by};
 ghost use Rattle.step_core.specs.Rules.{fault_of};
@@ -10,12 +10,13 @@ use crate::interaction::Interaction;
 use crate::wire::Wire;
 use connector_tree::Port;
 use petri_atom::Atom;
+use priority_filter::Order;
 
-/// A plant: its atoms and its wires, each numbered from 0 in the order of their lists, with the digest of the text that it
-/// was read from.
+/// A plant: its atoms and its wires, each numbered from 0 in the order of their lists, its priority rules, and the digest of
+/// the text that it was read from.
 ///
-/// It keeps each rule of a plant, so that what can be asked of it cannot fail. It has all interactions at hand, and the
-/// leaves of each connector, so that no step takes memory.
+/// It keeps each rule of a plant, so that what can be asked of it cannot fail. It has all interactions at hand, the
+/// leaves of each connector, and for each interaction the row of those above it, so that no step takes memory.
 #[derive(Debug, Drop)]
 pub struct System {
     pub(crate) atoms: Vec<Atom>,
@@ -23,7 +24,9 @@ pub struct System {
     pub(crate) digest: [u8; 32],
     pub(crate) ports: Vec<Vec<Port>>,
     pub(crate) interactions: Vec<Interaction>,
-    ghost valid: { fault_of (plant_by atoms.items wires.items) ≡ None },
+    pub(crate) order: Order,
+    ghost valid: { fault_of (plant_by atoms.items wires.items order.rules) ≡ None },
     ghost leaves: { map (λ list. list.items) ports.items ≡ map (λ w. leaves w.connector) wires.items },
-    ghost listed: { map interaction_of interactions.items ≡ plant_interactions (plant_by atoms.items wires.items) },
+    ghost listed: { map interaction_of interactions.items ≡ plant_interactions (plant_by atoms.items wires.items order.rules) },
+    ghost ordered: { order.interactions ≡ map named (map interaction_of interactions.items) },
 }

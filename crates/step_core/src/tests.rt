@@ -1,5 +1,6 @@
 //! What no clause says: that the clauses mean what they should, on values worked out by hand.
 mod faults;
+mod priorities;
 mod running;
 mod runs;
 

@@ -20,13 +20,13 @@ fn two(alloc: Global) -> Result<Vec<Atom>, Fail> {
 fn told(alloc: Global, one: Wire) -> Result<Option<SystemFault>, Fail> {
     let mut wires = Vec::new(alloc);
     wires.push(one)?;
-    Ok(System::new(alloc, two(alloc)?, wires, [0; 32]).err())
+    Ok(System::new(alloc, two(alloc)?, wires, &[], [0; 32]).err())
 }
 
 #[test]
 fn no_atom_is_a_limit(rt: HostRuntime) -> Result<(), Fail> {
     let alloc = rt.alloc();
-    let told = System::new(alloc, Vec::new(alloc), Vec::new(alloc), [0; 32]);
+    let told = System::new(alloc, Vec::new(alloc), Vec::new(alloc), &[], [0; 32]);
     assert_eq!(rt; told.err(), Some(SystemFault::Limit));
     Ok(())
 }
@@ -36,12 +36,12 @@ fn the_second_of_two_names_is_told(rt: HostRuntime) -> Result<(), Fail> {
     let alloc = rt.alloc();
     let mut atoms = two(alloc)?;
     atoms.push(atom(alloc, b"A", true, false, &[1])?)?;
-    let told = System::new(alloc, atoms, Vec::new(alloc), [0; 32]);
+    let told = System::new(alloc, atoms, Vec::new(alloc), &[], [0; 32]);
     assert_eq!(rt; told.err(), Some(SystemFault::BadAtom(2)));
     let mut wires = Vec::new(alloc);
     wires.push(wire(alloc, b"tick", &[0])?)?;
     wires.push(wire(alloc, b"tick", &[1])?)?;
-    let told = System::new(alloc, two(alloc)?, wires, [0; 32]);
+    let told = System::new(alloc, two(alloc)?, wires, &[], [0; 32]);
     assert_eq!(rt;
         told.err(),
         Some(SystemFault::BadWire(1, WireFault::NameTwice))
@@ -132,7 +132,7 @@ fn the_limits_of_transfers_and_wires(rt: HostRuntime) -> Result<(), Fail> {
     for _ in 0..65 {
         wires.push(wire(alloc, b"c", &[0])?)?;
     }
-    let told = System::new(alloc, two(alloc)?, wires, [0; 32]);
+    let told = System::new(alloc, two(alloc)?, wires, &[], [0; 32]);
     assert_eq!(rt; told.err(), Some(SystemFault::Limit));
     Ok(())
 }
@@ -144,7 +144,7 @@ fn a_limit_is_told_before_a_name_and_a_name_before_a_tree(rt: HostRuntime) -> Re
     atoms.push(atom(alloc, b"B", true, false, &[1])?)?;
     let mut wires = Vec::new(alloc);
     wires.push(wire(alloc, b"c", &[])?)?;
-    let told = System::new(alloc, atoms, wires, [0; 32]);
+    let told = System::new(alloc, atoms, wires, &[], [0; 32]);
     assert_eq!(rt; told.err(), Some(SystemFault::BadAtom(2)));
     // Four connectors of eight triggers have 255 interactions each, which is within the limit; a fifth passes it.
     for (count, fault) in [(4, None), (5, Some(SystemFault::Limit))] {
@@ -174,5 +174,5 @@ fn of_triggers(alloc: Global, count: usize) -> Result<Option<SystemFault>, Fail>
             })?;
         }
     }
-    Ok(System::new(alloc, atoms, wires, [0; 32]).err())
+    Ok(System::new(alloc, atoms, wires, &[], [0; 32]).err())
 }

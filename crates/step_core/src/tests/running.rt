@@ -50,7 +50,7 @@ fn what_moved_is_judged_again(rt: HostRuntime) -> Result<(), Fail> {
     let mut wires = Vec::new(alloc);
     wires.push(wire(alloc, b"tick", &[1])?)?;
     wires.push(wire(alloc, b"rest", &[0])?)?;
-    let system = System::new(alloc, atoms, wires, [0; 32])?;
+    let system = System::new(alloc, atoms, wires, &[], [0; 32])?;
     let mut run = Stepper::first(alloc, &system)?;
     assert_eq!(rt; run.count(), 3);
     assert!(rt; is(&fire(&mut run, 0)?, 0, 1, &[(1, 0)]));

@@ -83,7 +83,7 @@ pub(super) fn sample(alloc: Global) -> Result<System, Fail> {
     let mut wires = Vec::new(alloc);
     wires.push(wire(alloc, b"tick", &[0])?)?;
     wires.push(wire_with_transfer(alloc, b"send", &[0, 1], 1, 0)?)?;
-    Ok(System::new(alloc, atoms, wires, [7; 32])?)
+    Ok(System::new(alloc, atoms, wires, &[], [7; 32])?)
 }
 
 #[test]
@@ -119,7 +119,7 @@ fn the_last_atom_varies_fastest(rt: HostRuntime) -> Result<(), Fail> {
     // The leaves stand in the other order of the atoms: the choices do not.
     wires.push(wire(alloc, b"both", &[1, 0])?)?;
     wires.push(wire(alloc, b"alone", &[1])?)?;
-    let system = System::new(alloc, atoms, wires, [0; 32])?;
+    let system = System::new(alloc, atoms, wires, &[], [0; 32])?;
     assert_eq!(rt; system.interaction_count(), 2);
     for (pick, connector, mask, entries) in [
         (0, 0, 3, [(0, 0), (1, 0)].as_slice()),
@@ -149,7 +149,7 @@ fn a_transition_that_is_not_offered_is_no_choice(rt: HostRuntime) -> Result<(), 
     atoms.push(atom(alloc, b"A", true, true, &[1, 0, 2])?)?;
     let mut wires = Vec::new(alloc);
     wires.push(wire(alloc, b"tick", &[0])?)?;
-    let system = System::new(alloc, atoms, wires, [0; 32])?;
+    let system = System::new(alloc, atoms, wires, &[], [0; 32])?;
     let mut states = PlantState::init(alloc, &system)?;
     assert_eq!(rt; system.count_allowed(&states), 2);
     let fired = fire(&system, &mut states, 1)?;
@@ -170,7 +170,7 @@ fn a_participant_that_is_not_ready_makes_it_impossible(rt: HostRuntime) -> Resul
     atoms.push(atom(alloc, b"B", false, false, &[100])?)?;
     let mut wires = Vec::new(alloc);
     wires.push(wire_with_transfer(alloc, b"send", &[0, 1], 1, 0)?)?;
-    let system = System::new(alloc, atoms, wires, [0; 32])?;
+    let system = System::new(alloc, atoms, wires, &[], [0; 32])?;
     let states = PlantState::init(alloc, &system)?;
     assert_eq!(rt; system.count_allowed(&states), 0);
     Ok(())
@@ -209,7 +209,7 @@ fn a_guard_is_judged_before_the_transfer(rt: HostRuntime) -> Result<(), Fail> {
     send.guards.push(below(alloc, 0, 2)?)?;
     let mut wires = Vec::new(alloc);
     wires.push(send)?;
-    let system = System::new(alloc, atoms, wires, [0; 32])?;
+    let system = System::new(alloc, atoms, wires, &[], [0; 32])?;
     let mut states = PlantState::init(alloc, &system)?;
     let fired = fire(&system, &mut states, 0)?;
     assert_eq!(rt; fired.delivered, [NOTHING, one(0)]);
@@ -238,7 +238,7 @@ fn a_guard_applies_where_all_that_it_names_take_part(rt: HostRuntime) -> Result<
             guards,
             transfers: Vec::new(alloc),
         })?;
-        let system = System::new(alloc, atoms, wires, [0; 32])?;
+        let system = System::new(alloc, atoms, wires, &[], [0; 32])?;
         let states = PlantState::init(alloc, &system)?;
         assert_eq!(rt;
             system.count_allowed(&states),
@@ -259,7 +259,7 @@ fn a_clause_that_names_nothing_always_applies(rt: HostRuntime) -> Result<(), Fai
         tick.guards.push(Expression::Number(clause))?;
         let mut wires = Vec::new(alloc);
         wires.push(tick)?;
-        let system = System::new(alloc, atoms, wires, [0; 32])?;
+        let system = System::new(alloc, atoms, wires, &[], [0; 32])?;
         let states = PlantState::init(alloc, &system)?;
         assert_eq!(rt; system.count_allowed(&states), count, "clause {clause}");
     }

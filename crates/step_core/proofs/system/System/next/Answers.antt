@@ -17,7 +17,7 @@ index_mut-requires c =
     let old = c.args.states.now in
     let n = c.loop-number.number in
     let items = c.loop-number.states-inside.states.items in
-    omega (arith, items-length system.atoms.items system.wires.items old choice c.requires.of_plant n items c.loop-number.invariant.0, c.loop-number.states-inside.states.ok.0, c.loop-number-test.true, system.atoms.ok.0, c.len-number-end.ensures)
+    omega (arith, items-length system.atoms.items system.wires.items system.order.rules old choice c.requires.of_plant n items c.loop-number.invariant.0, c.loop-number.states-inside.states.ok.0, c.loop-number-test.true, system.atoms.ok.0, c.len-number-end.ensures)
 
 pub fire-requires-clause-offered : goal.fire-requires-clause-offered
 fire-requires-clause-offered c m found =
@@ -27,7 +27,7 @@ fire-requires-clause-offered c m found =
     let n = c.loop-number.number in
     let items = c.loop-number.states-inside.states.items in
     let within : n < length system.atoms.items = omega (arith, c.loop-number-test.true, system.atoms.ok.0, c.len-number-end.ensures) in
-    offered-here system.atoms.items system.wires.items old choice c.requires.of_plant n items c.loop-number.invariant.0 c.index.result.now within c.index.ensures c.index_mut.result.now c.index_mut.ensures.value c.requires.allowed m (ap (find (λ k. k.atom == n)) (sym c.as_slice.ensures.moves) ∙ found)
+    offered-here system.atoms.items system.wires.items system.order.rules old choice c.requires.of_plant n items c.loop-number.invariant.0 c.index.result.now within c.index.ensures c.index_mut.result.now c.index_mut.ensures.value c.requires.allowed m (ap (find (λ k. k.atom == n)) (sym c.as_slice.ensures.moves) ∙ found)
 
 pub loop-number-preserved : goal.loop-number-preserved
 loop-number-preserved c =
@@ -40,8 +40,8 @@ loop-number-preserved c =
     let d = transfer (plant_of system) old choice in
     let delivered = subst (λ moves. AreDelivered moves d c.deliveries-delivered.result) (sym c.as_slice.ensures.moves) c.deliveries-delivered.ensures in
     let moved = c.fire.ensures.moved d delivered ∙ ap (λ moves. moved_by (definition_of c.index.result.now) moves (d n) n c.index_mut.result.now) c.as_slice.ensures.moves in (
-      fired-here system.atoms.items system.wires.items old choice c.requires.of_plant n items c.loop-number.invariant.0 c.index.result.now within c.index.ensures c.index_mut.result.now c.index_mut.ensures.value c.fire.new.state moved,
-      λ all. fits-here system.atoms.items system.wires.items old choice c.requires.of_plant n items c.loop-number.invariant.0 c.index.result.now within c.index.ensures c.index_mut.result.now c.index_mut.ensures.value c.fire.new.state c.fire.ensures.fits (c.loop-number.invariant.1 all),
+      fired-here system.atoms.items system.wires.items system.order.rules old choice c.requires.of_plant n items c.loop-number.invariant.0 c.index.result.now within c.index.ensures c.index_mut.result.now c.index_mut.ensures.value c.fire.new.state moved,
+      λ all. fits-here system.atoms.items system.wires.items system.order.rules old choice c.requires.of_plant n items c.loop-number.invariant.0 c.index.result.now within c.index.ensures c.index_mut.result.now c.index_mut.ensures.value c.fire.new.state c.fire.ensures.fits (c.loop-number.invariant.1 all),
     )
 
 pub loop-number-init : goal.loop-number-init
@@ -54,7 +54,7 @@ returns-clause-next c =
     let old = c.args.states.now in
     let n = c.loop-number.number in
     let items = c.loop-number.states-inside.states.items in
-    all-fired system.atoms.items system.wires.items old choice c.requires.of_plant n items c.loop-number.invariant.0 (omega (arith, c.loop-number-test.false, system.atoms.ok.0, c.len-number-end.ensures))
+    all-fired system.atoms.items system.wires.items system.order.rules old choice c.requires.of_plant n items c.loop-number.invariant.0 (omega (arith, c.loop-number-test.false, system.atoms.ok.0, c.len-number-end.ensures))
 
 pub returns-clause-fits : goal.returns-clause-fits
 returns-clause-fits c = c.loop-number.invariant.1
@@ -62,5 +62,5 @@ returns-clause-fits c = c.loop-number.invariant.1
 pub returns-clause-of_plant : goal.returns-clause-of_plant
 returns-clause-of_plant c =
     let system = c.args.self.now in
-    items-length system.atoms.items system.wires.items c.args.states.now (choice_of c.args.choice.now) c.requires.of_plant c.loop-number.number c.loop-number.states-inside.states.items c.loop-number.invariant.0 ∙
+    items-length system.atoms.items system.wires.items system.order.rules c.args.states.now (choice_of c.args.choice.now) c.requires.of_plant c.loop-number.number c.loop-number.states-inside.states.items c.loop-number.invariant.0 ∙
     sym (length-map system.atoms.items definition_of)

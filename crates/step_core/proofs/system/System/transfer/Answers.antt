@@ -20,7 +20,7 @@ returns-in-Some c =
     let here : wire ≡ get_or system.wires.items n wire = subst (λ ws. wire ≡ get_or ws n wire) c.deref.ensures.value found.1 in
     let lent : c.deref-in-Some-2.result.now ≡ leaves wire.connector =
     c.deref-in-Some-2.ensures.value ∙ same_at (λ list. list.items) (λ w. leaves w.connector) system.ports.items system.wires.items system.leaves n c.index.result.now wire within c.index.ensures here in
-    delivered-there system.atoms.items system.wires.items states choice c.args.atom n c.from-number.ensures c.delivered.result c.deref-in-Some-2.result.now (map transfer_of c.deref-in-Some-3.result.now) wire within here lent (ap (map transfer_of) c.deref-in-Some-3.ensures.value)
+    delivered-there system.atoms.items system.wires.items system.order.rules states choice c.args.atom n c.from-number.ensures c.delivered.result c.deref-in-Some-2.result.now (map transfer_of c.deref-in-Some-3.result.now) wire within here lent (ap (map transfer_of) c.deref-in-Some-3.ensures.value)
     (c.delivered.ensures ∙ ap (λ xs. delivered_by (map definition_of xs) states c.deref-in-Some-2.result.now (map transfer_of c.deref-in-Some-3.result.now) choice.mask c.args.atom) c.deref-in-Some.ensures.value)
 
 pub returns-in-None : goal.returns-in-None
@@ -28,4 +28,4 @@ returns-in-None c =
     let system = c.args.self.now in
     let n = c.from-number.result in
     let past : length system.wires.items ≤ n = subst (λ ws. length ws ≤ n) c.deref.ensures.value c.in-None.ensures.lookup.3 in
-    delivered-past system.atoms.items system.wires.items c.args.states.now (choice_of c.args.choice.now) c.args.atom n c.from-number.ensures c.of.result past c.of.ensures
+    delivered-past system.atoms.items system.wires.items system.order.rules c.args.states.now (choice_of c.args.choice.now) c.args.atom n c.from-number.ensures c.of.result past c.of.ensures

@@ -1,0 +1,13 @@
+use Rattle.std.proofs.Common.{◌∙◌, ap, sym}
+use Rattle.std.specs.FinSet.{contains}
+use Rattle.step_core.proofs.Noting.{put-here, put-other}
+use Rattle.step_core.proofs.judged.Judged.note.Goals as goal
+
+pub returns-then-is_possible-clause-here : goal.returns-then-is_possible-clause-here
+returns-then-is_possible-clause-here c out =
+    ap (λ set. contains set c.args.number) (c.insert.ensures.within c.requires) ∙ put-here c.args.possible.now c.args.number ∙
+    sym c.if-is_possible.true ∙ c.is_possible.ensures
+
+pub returns-then-is_possible-clause-others : goal.returns-then-is_possible-clause-others
+returns-then-is_possible-clause-others c n other =
+    ap (λ set. contains set n) (c.insert.ensures.within c.requires) ∙ put-other c.args.possible.now c.args.number n other

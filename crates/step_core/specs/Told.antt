@@ -1,0 +1,10 @@
+use Rattle.priority_filter.specs.declared.fault.OrderFault.{OrderFault}
+use Rattle.priority_filter.specs.declared.fault.OrderFault.TheVariants as order
+use Rattle.step_core.specs.declared.fault.SystemFault.{SystemFault}
+use Rattle.step_core.specs.declared.fault.SystemFault.TheVariants.{Order, Memory}
+
+-- what is told of a plant where its rules have this fault
+abbrev pub told_of_order : OrderFault → SystemFault
+told_of_order (order.Cycle interaction) = Order (order.Cycle interaction)
+told_of_order (order.UnknownName rule) = Order (order.UnknownName rule)
+told_of_order order.Memory = Memory
