@@ -1,3 +1,4 @@
 pub mod Reading
 pub mod Passing
+pub mod Parts
 pub mod Rows

@@ -13,7 +13,9 @@
 //!
 //! In contracts an expression is a tree, and what words say is a function on their list, `expression_in`
 //! (`specs/Expressions.antt`): it reads rows of expressions, where each word takes the ones directly behind it as
-//! its operands. It gives the tree and the words that are left, or the first fault from the left.
+//! its operands. It gives the tree and the words that are left, or the first fault from the left. Two laws say what
+//! such a tree is made of (`proofs/Parts.antt`): it has at most `MAX_WORDS` words, and a test that each variable passes
+//! that can be named is passed by each of its variables.
 //!
 //! - An expression has at most [`MAX_WORDS`](petri_atom::MAX_WORDS) words. So no text can make the calls nest deeper.
 //! - Memory is taken for an operator when its operands have been read. So where memory runs out, each word that was
