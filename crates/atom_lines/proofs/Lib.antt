@@ -1,3 +1,8 @@
 pub mod Positions
 mod Rows
 pub mod Updates
+pub mod Steps
+pub mod Once
+pub mod Bounds
+pub mod SoundParts
+pub mod Rules

@@ -4,3 +4,4 @@ pub mod Lookup
 pub mod Rows
 pub mod Transitions
 pub mod Draft
+pub mod Sound

@@ -1,10 +1,16 @@
 //! The atom as its lines have told it so far.
-ghost use Rattle.std.specs.Prelude.{◌<◌, ◌-◌, true, drop, length, map, IfSome, IsTrue, ◌≡◌, ◌≤◌, vec_len, IfOk, IfErr, OnOk, OnErr, Ok, None, []};
+ghost use Rattle.std.specs.Prelude.{◌<◌, ◌-◌, true, drop, length, map, IfSome, IsTrue, ◌≡◌, ◌≤◌, IfOk, IfErr, OnOk, OnErr, Ok, None, []};
+ghost use Rattle.std.specs.List.{list_all};
 ghost use Rattle.atom_lines.specs.Fault.{IsFaultOf};
 ghost use Rattle.atom_lines.specs.Rows.{place_row, variable_row, port_row, export_in, exports_in};
 ghost use Rattle.atom_lines.specs.Lookup.{place_number, variable_number, port_number};
 ghost use Rattle.atom_lines.specs.Transitions.{port_in, place_in, places_in, places_behind, expression_on, guard_in, update_in, updates_from, updates_in, transition_in, transition_row};
+ghost use Rattle.atom_lines.specs.Sound.{is_sound_port, is_sound_transition};
+ghost use Rattle.petri_atom.specs.Definition.{is_each_once};
 ghost use Rattle.petri_atom.specs.Local.{are_places};
+ghost use Rattle.petri_atom.specs.Name.{is_same_text};
+ghost use Rattle.petri_atom.specs.Parts.{port_of};
+ghost use Rattle.petri_atom.specs.Transition.{transition_of};
 ghost use Rattle.petri_atom.specs.declared.state.TheConstants.{MAX_PLACES, MAX_VARIABLES};
 ghost use Rattle.petri_atom.specs.declared.parts.TheConstants.{MAX_PORTS, MAX_TRANSITIONS, MAX_UPDATES};
 
@@ -17,7 +23,7 @@ use petri_atom::{
 };
 use plant_expressions::{Variables, read_expression};
 use plant_words::Words;
-use std::alloc::Global;
+use std::alloc::{AllocError, Global};
 
 /// An atom to which lines add parts.
 #[derive(Drop)]
@@ -28,18 +34,23 @@ pub struct AtomDraft {
     variables: Vec<Variable>,
     ports: Vec<Port>,
     transitions: Vec<Transition>,
-    ghost few_places: { vec_len places ≤ MAX_PLACES },
-    ghost few_variables: { vec_len variables ≤ MAX_VARIABLES },
-    ghost few_ports: { vec_len ports ≤ MAX_PORTS },
+    ghost few_places: { length places.items ≤ MAX_PLACES },
+    ghost few_variables: { length variables.items ≤ MAX_VARIABLES },
+    ghost few_ports: { length ports.items ≤ MAX_PORTS },
+    ghost few_transitions: { length transitions.items ≤ MAX_TRANSITIONS },
+    ghost places_once: { IsTrue (is_each_once (λ x y. is_same_text x.name y.name) places.items) },
+    ghost variables_once: { IsTrue (is_each_once (λ x y. is_same_text x.name y.name) variables.items) },
+    ghost ports_once: { IsTrue (is_each_once (λ x y. is_same_text x.name y.name) (map port_of ports.items)) },
+    ghost sound_ports: { IsTrue (list_all (is_sound_port (length variables.items)) (map port_of ports.items)) },
+    ghost sound_transitions: { IsTrue (list_all (is_sound_transition (length ports.items) (length places.items) (length variables.items)) (map transition_of transitions.items)) },
 }
 
 impl AtomDraft {
     ghost use Rattle.atom_lines.specs.Draft.{drafted};
     ghost use Rattle.petri_atom.specs.Atom.{definition_of};
-    ghost use Rattle.petri_atom.specs.Definition.{fault_of, IsFaultOf as IsBrokenBy};
+    ghost use Rattle.petri_atom.specs.Definition.{fault_of};
     ghost use Rattle.petri_atom.specs.Parts.{definition_by};
     ghost use Rattle.petri_atom.specs.Expression.{tree_of};
-    ghost use Rattle.petri_atom.specs.Transition.{transition_of};
     ghost use Rattle.petri_atom.specs.Update.{update_of};
 
     /// The atom with the name and no parts.
@@ -302,20 +313,33 @@ impl AtomDraft {
         Ok(())
     }
 
-    /// The atom of the parts that were added, or the rule that they break first.
-    pub fn into_atom(self) -> Result<Atom, AtomFault>
+    /// The atom of the parts that were added. They break no rule of an atom, so only memory can run out.
+    pub fn into_atom(self) -> Result<Atom, AllocError>
         ensures made { IfOk result (λ atom. definition_of atom ≡ drafted self) }
-        ensures sound { OnOk result (fault_of (drafted self) ≡ None) }
-        ensures fault { IfErr result (λ fault. IsBrokenBy fault (fault_of (drafted self))) }
+        ensures sound { fault_of (drafted self) ≡ None }
     {
-        Atom::new(
+        let made = Atom::new(
             self.alloc,
             self.name,
             self.places,
             self.variables,
             self.ports,
             self.transitions,
-        )
+        );
+        match made {
+            Ok(atom) => Ok(atom),
+            Err(fault) => Err(want_of_memory(fault)),
+        }
+    }
+}
+
+/// The fault that is left to parts that break no rule.
+fn want_of_memory(fault: AtomFault) -> AllocError
+    requires { fault ≡ AtomFault.Memory }
+{
+    match fault {
+        AtomFault::Memory => AllocError,
+        _ => unreachable!(),
     }
 }
 

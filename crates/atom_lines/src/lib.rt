@@ -22,6 +22,9 @@
 //! A name is declared where it is new, and has to be a [`petri_atom::Name`]. Where it is used, it is looked up alone: a
 //! word that is no name is as unknown as one that no line declared. Places, variables and ports may share names.
 //!
+//! Each line keeps the rules of an atom, so what was drafted is one at any time, also before any line: then
+//! [`AtomDraft::into_atom`] fails only where memory runs out.
+//!
 //! - `draft`: the atom so far, and its lines. `fault`: why a line is refused.
 //! - `reading`: steps that take words. `lookup`: parts by their names.
 #![tactic(auto)]

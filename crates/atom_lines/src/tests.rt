@@ -163,6 +163,14 @@ fn a_place_past_the_limit_is_refused_before_its_words(rt: HostRuntime) -> Result
 }
 
 #[test]
+fn an_atom_may_have_no_parts(rt: HostRuntime) -> Result<(), Fail> {
+    let atom = empty(rt.alloc())?.into_atom()?;
+    assert!(&rt; atom.name().as_bytes() == b"A".as_slice());
+    assert!(&rt; atom.places().is_empty() & atom.transitions().is_empty());
+    Ok(())
+}
+
+#[test]
 fn faults_have_their_numbers(rt: HostRuntime) {
     assert_eq!(rt; LineFault::BadName.number(), 5);
     assert_eq!(rt; LineFault::Twice.number(), 6);

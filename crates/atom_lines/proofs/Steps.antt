@@ -1,0 +1,49 @@
+-- What the steps of a reading were that led to an end without a fault.
+use Rattle.std.proofs.Common.{◌≡◌, refl, sym, subst, ℕ, ◌≤◌, Bool, true, false, not, if◌then◌else◌, List, [], ◌∷◌, ◌++◌, length, Option, Some, None, Result, Ok, Err, arith}
+use Rattle.std.specs.Prelude.{is_some}
+use Rattle.std.specs.Option.{ok_or}
+use Rattle.std.proofs.lemmas.List.{length-append}
+use Rattle.atom_lines.specs.declared.fault.LineFault.{LineFault}
+use Rattle.atom_lines.specs.Reading.{◌>>=◌, check}
+
+-- a step before others had no fault
+pub led_on : {A B : Type 0} (r : Result A LineFault) (next : A → Result B LineFault) (y : B) → (r >>= next) ≡ Ok y → (x : A) × (r ≡ Ok x) × (next x ≡ Ok y)
+led_on (Ok x) next y told = (x, refl, told)
+led_on (Err fault) next y told = absurd (cc)
+
+-- a test that was passed
+pub passed : (passes : Bool) (fault : LineFault) (u : Unit {0}) → check passes fault ≡ Ok u → passes ≡ true
+passed true fault u told = refl
+passed false fault u told = absurd (cc)
+
+-- a value that was there
+pub was_there : {A : Type 0} (o : Option A) (fault : LineFault) (x : A) → ok_or o fault ≡ Ok x → o ≡ Some x
+was_there (Some y) fault x told = cc
+was_there None fault x told = absurd (cc)
+
+-- two ends without a fault are the same where what they came to is
+pub same_end : {A : Type 0} (x y : A) → ◌≡◌ {A = Result A LineFault} (Ok x) (Ok y) → x ≡ y
+same_end x y same = cc
+
+-- a line goes one way or the other
+pub either_way : {A : Type 0} (test : Bool) (one other : Result A LineFault) (y : A) (P : Type 0) → (one ≡ Ok y → P) → (other ≡ Ok y → P) → (if test then one else other) ≡ Ok y → P
+either_way true one other y P first second told = first told
+either_way false one other y P first second told = second told
+
+-- what was not found, where the line may go on only then
+pub not_found : (found : Option ℕ) (is_new : Bool) (fault : LineFault) (u : Unit {0}) → is_some found ≡ not is_new → Ok u ≡ check is_new fault → found ≡ None
+not_found None is_new fault u tells told = refl
+not_found (Some n) true fault u tells told = absurd (cc)
+not_found (Some n) false fault u tells told = absurd (cc)
+
+-- what holds of a list and of the list with one more holds after a push, whether memory was there or not
+pub after_push : {X : Type 0} (P : List X → Type 0) (pushed : Bool) (before after : List X) (x : X) → after ≡ (if pushed then before ++ x ∷ [] else before) → P before → P (before ++ x ∷ []) → P after
+after_push P true before after x is without more = subst P (sym is) more
+after_push P false before after x is without more = subst P (sym is) without
+
+-- a list is no shorter after a push
+pub longer : {X : Type 0} (pushed : Bool) (before after : List X) (x : X) → after ≡ (if pushed then before ++ x ∷ [] else before) → length before ≤ length after
+longer pushed before after x is =
+    let same : length before ≤ length before = omega arith in
+    let more : length before ≤ length (before ++ x ∷ []) = omega (arith, length-append before (x ∷ [])) in
+    after_push (λ xs. length before ≤ length xs) pushed before after x is same more
