@@ -6,3 +6,4 @@ pub mod Once
 pub mod Bounds
 pub mod SoundParts
 pub mod Rules
+pub mod Exports

@@ -5,7 +5,7 @@ use Rattle.petri_atom.specs.Expression.{number, variable, operation}
 use Rattle.petri_atom.specs.declared.expression.Operator.TheVariants.{Add, Less}
 use Rattle.plant_words.specs.Words.{words_of}
 use Rattle.atom_lines.specs.declared.fault.LineFault.TheVariants.{BadName, Twice, UnknownName, BadExpression, BadNumber, Shape, Limit}
-use Rattle.atom_lines.specs.Lookup.{place_number, variable_number}
+use Rattle.atom_lines.specs.Lookup.{place_number, variable_number, export_number}
 use Rattle.atom_lines.specs.Rows.{place_row, variable_row, port_row, with_place, with_variable, with_port}
 use Rattle.atom_lines.specs.Transitions.{transition_row, with_transition, updates_from}
 
@@ -113,6 +113,19 @@ four_exports = record sample { variables = record { name = codes "a"; first = po
 a_fifth_export : port_row (words_of (codes "u a b c d a")) four_exports ≡ Err Limit
 unfolding sample four_exports
 a_fifth_export = refl
+
+-- port u exports m and n
+exporting : AtomDefinition
+unfolding sample
+exporting = with_port sample (record { name = codes "u"; exports = 1 ∷ 0 ∷ [] })
+
+an_export_by_its_place_in_the_port : export_number exporting 1 (codes "n") ≡ Some 1
+unfolding sample exporting
+an_export_by_its_place_in_the_port = refl
+
+a_variable_that_another_port_exports : export_number exporting 0 (codes "n") ≡ None
+unfolding sample exporting
+a_variable_that_another_port_exports = refl
 
 -- ---- transitions
 

@@ -3,7 +3,7 @@ ghost use Rattle.std.specs.Prelude.{◌<◌, ◌-◌, true, drop, length, map, I
 ghost use Rattle.std.specs.List.{list_all};
 ghost use Rattle.atom_lines.specs.Fault.{IsFaultOf};
 ghost use Rattle.atom_lines.specs.Rows.{place_row, variable_row, port_row, export_in, exports_in};
-ghost use Rattle.atom_lines.specs.Lookup.{place_number, variable_number, port_number};
+ghost use Rattle.atom_lines.specs.Lookup.{place_number, variable_number, port_number, export_number};
 ghost use Rattle.atom_lines.specs.Transitions.{port_in, place_in, places_in, places_behind, expression_on, guard_in, update_in, updates_from, updates_in, transition_in, transition_row};
 ghost use Rattle.atom_lines.specs.Sound.{is_sound_port, is_sound_transition};
 ghost use Rattle.petri_atom.specs.Definition.{is_each_once};
@@ -11,7 +11,7 @@ ghost use Rattle.petri_atom.specs.Local.{are_places};
 ghost use Rattle.petri_atom.specs.Name.{is_same_text};
 ghost use Rattle.petri_atom.specs.Parts.{port_of};
 ghost use Rattle.petri_atom.specs.Transition.{transition_of};
-ghost use Rattle.petri_atom.specs.declared.state.TheConstants.{MAX_PLACES, MAX_VARIABLES};
+ghost use Rattle.petri_atom.specs.declared.state.TheConstants.{MAX_PLACES, MAX_VARIABLES, MAX_EXPORTS};
 ghost use Rattle.petri_atom.specs.declared.parts.TheConstants.{MAX_PORTS, MAX_TRANSITIONS, MAX_UPDATES};
 
 use crate::fault::LineFault;
@@ -94,6 +94,16 @@ impl AtomDraft {
         ensures { result ≡ port_number (drafted self.now) name.now }
     {
         Some(lookup::find_port(&self.ports, name)? as u16)
+    }
+
+    /// The place of the variable with the name among those that the port exports. `None` where the port exports none
+    /// with the name, and where there is no such port.
+    pub fn find_export(&self, port: u16, variable: &[u8]) -> Option<u8>
+        ensures number { result ≡ export_number (drafted self.now) port variable.now }
+        ensures within { IfSome result (λ number. number < MAX_EXPORTS) }
+    {
+        let port = self.ports.get(usize::from(port))?;
+        Some(lookup::find_export(&self.variables, &port.exports, variable)? as u8)
     }
 
     /// Adds the place of a line `place NAME` or `place NAME init`, by the words behind its first.

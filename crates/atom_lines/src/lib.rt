@@ -25,6 +25,9 @@
 //! Each line keeps the rules of an atom, so what was drafted is one at any time, also before any line: then
 //! [`AtomDraft::into_atom`] fails only where memory runs out.
 //!
+//! Parts are found by their names: a place, a variable and a port by its number, and [`AtomDraft::find_export`] finds
+//! a variable among those that a port exports.
+//!
 //! - `draft`: the atom so far, and its lines. `fault`: why a line is refused.
 //! - `reading`: steps that take words. `lookup`: parts by their names.
 #![tactic(auto)]

@@ -121,6 +121,22 @@ fn ports_export_variables_by_number(rt: HostRuntime) -> Result<(), Fail> {
 }
 
 #[test]
+fn exports_are_found_by_name(rt: HostRuntime) -> Result<(), Fail> {
+    let mut draft = empty(rt.alloc())?;
+    for line in [b"a 0".as_slice(), b"b 0".as_slice(), b"c 0".as_slice()] {
+        variable(&mut draft, line)?;
+    }
+    port(&mut draft, b"first a")?;
+    port(&mut draft, b"second c a")?;
+    assert!(&rt; draft.find_export(0, b"a") == Some(0));
+    assert!(&rt; draft.find_export(1, b"a") == Some(1));
+    assert!(&rt; draft.find_export(1, b"c") == Some(0));
+    assert!(&rt; draft.find_export(1, b"b") == None);
+    assert!(&rt; draft.find_export(2, b"a") == None);
+    Ok(())
+}
+
+#[test]
 fn the_first_fault_of_a_port_is_told(rt: HostRuntime) -> Result<(), Fail> {
     let mut draft = empty(rt.alloc())?;
     for line in [
