@@ -9,10 +9,10 @@ use Rattle.petri_atom.specs.declared.parts.TheConstants.{MAX_WORDS}
 use Rattle.plant_expressions.specs.declared.fault.ExpressionFault.{ExpressionFault}
 use Rattle.plant_expressions.specs.declared.word.Word.{Word}
 use Rattle.plant_expressions.specs.declared.word.Word.TheVariants.{Number, Variable, Negation, Operation}
-use Rattle.plant_expressions.specs.Word.{number_in, variable_in, operator_in, is_numeric, could_be_variable, word_in}
+use Rattle.plant_expressions.specs.Word.{number_in, variable_in, operator_in, could_be_variable, word_in}
 use Rattle.plant_expressions.specs.Expressions.{Reading, expressions_in, expression_in, led_by, wanted_behind, on_trees, behind, only}
 use Rattle.petri_atom.specs.Name.{is_same_text}
-use Rattle.plant_words.specs.Numbers.{int_in}
+use Rattle.plant_words.specs.Numbers.{is_numeric, int_in}
 
 -- what a change of the expressions makes, it makes of expressions that were read
 on_trees-ok : {V : Type 0} (change : List (Tree V) → List (Tree V)) (r : Reading V) (trees : List (Tree V)) (rest : List (List ℕ)) →

@@ -1,11 +1,9 @@
-use Rattle.std.specs.Prelude.{ℕ, Bool, ℤ, ◌&&◌, if◌then◌else◌, List, drop, codes, Option, Some, None, Result, Ok, Err}
-use Rattle.std.specs.List.{list_all}
+use Rattle.std.specs.Prelude.{ℕ, Bool, ℤ, ◌&&◌, if◌then◌else◌, List, codes, Option, Some, None, Result, Ok, Err}
 use Rattle.std.specs.Option.{option_map_or}
 use Rattle.petri_atom.specs.Name.{is_name, is_same_text}
 use Rattle.petri_atom.specs.declared.expression.Operator.{Operator}
 use Rattle.petri_atom.specs.declared.expression.Operator.TheVariants.{Add, Subtract, Multiply, Min, Max, Less, LessOrEqual, Equal, NotEqual, And, Or}
-use Rattle.plant_words.specs.Words.{begins_with, is_filled}
-use Rattle.plant_words.specs.Numbers.{is_digit, int_in}
+use Rattle.plant_words.specs.Numbers.{is_numeric, int_in}
 use Rattle.plant_words.specs.Splits.{export_in}
 use Rattle.plant_expressions.specs.declared.fault.ExpressionFault.{ExpressionFault}
 use Rattle.plant_expressions.specs.declared.fault.ExpressionFault.TheVariants.{UnknownName, BadExpression, BadNumber}
@@ -27,14 +25,6 @@ operator_in word =
     else if is_same_text word (codes "&&") then Some And
     else if is_same_text word (codes "||") then Some Or
     else None
-
--- digits alone, and one at least
-abbrev pub has_digits_alone : List ℕ → Bool
-has_digits_alone word = is_filled word && list_all is_digit word
-
--- an optional `-` (45) and digits, however many
-abbrev pub is_numeric : List ℕ → Bool
-is_numeric word = has_digits_alone (if begins_with 45 word then drop 1 word else word)
 
 -- both parts are names
 abbrev pub are_names : List ℕ × List ℕ → Bool

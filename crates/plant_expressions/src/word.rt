@@ -1,12 +1,10 @@
 //! What one word of an expression says.
 ghost use Rattle.std.specs.Prelude.{◌≡◌, ℕ, List, Option};
-ghost use Rattle.std.specs.List.{list_all};
-ghost use Rattle.plant_words.specs.Numbers.{is_digit};
-ghost use Rattle.plant_expressions.specs.Word.{operator_in, has_digits_alone, is_numeric, could_be_variable, word_in};
+ghost use Rattle.plant_expressions.specs.Word.{operator_in, could_be_variable, word_in};
 
 use crate::fault::ExpressionFault;
 use petri_atom::{Operator, is_name};
-use plant_words::{read_int, split_export};
+use plant_words::{is_numeric, read_int, split_export};
 
 /// Which variables an expression may name.
 pub trait Variables<V> {
@@ -72,36 +70,6 @@ fn operator(word: &[u8]) -> Option<Operator>
         b"||" => Some(Operator::Or),
         _ => None,
     }
-}
-
-/// Whether the word is an optional `-` and digits.
-fn is_numeric(word: &[u8]) -> bool
-    ensures { result ≡ is_numeric word.now }
-{
-    match word {
-        [b'-', digits @ ..] => has_digits_alone(digits),
-        digits => has_digits_alone(digits),
-    }
-}
-
-/// Whether the word has digits alone, and one at least.
-fn has_digits_alone(word: &[u8]) -> bool
-    ensures { result ≡ has_digits_alone word.now }
-{
-    !word.is_empty() & has_digits(word)
-}
-
-/// Whether each byte of the word is a digit.
-fn has_digits(word: &[u8]) -> bool
-    ensures { result ≡ list_all is_digit word.now }
-{
-    word.iter().all(|byte| is_digit(*byte))
-}
-
-fn is_digit(byte: u8) -> bool
-    ensures { result ≡ is_digit byte }
-{
-    b'0' <= byte && byte <= b'9'
 }
 
 /// Whether the word is written as a variable's name is: `NAME`, or `NAME.NAME`.

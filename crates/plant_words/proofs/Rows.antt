@@ -2,7 +2,7 @@
 use Rattle.std.proofs.Common.{◌≡◌, true, false, refl, [], ◌∷◌, codes, ◌++◌, Some, None, pos, negsuc}
 use Rattle.plant_words.specs.Lines.{lines_of, is_legal_line}
 use Rattle.plant_words.specs.Words.{words_of, is_passed_over}
-use Rattle.plant_words.specs.Numbers.{int_in, pick_in, mask_in}
+use Rattle.plant_words.specs.Numbers.{is_numeric, int_in, pick_in, mask_in}
 use Rattle.plant_words.specs.Names.{name_in}
 use Rattle.plant_words.specs.Splits.{port_in, export_in, named_mask_in}
 
@@ -89,6 +89,12 @@ past_the_greatest_number = refl
 
 a_sign_alone_is_no_number : int_in (codes "-") ≡ None
 a_sign_alone_is_no_number = refl
+
+twenty_digits_are_numeric : is_numeric (codes "-00000000000000000042") ≡ true
+twenty_digits_are_numeric = refl
+
+a_sign_alone_is_not_numeric : is_numeric (codes "-") ≡ false
+a_sign_alone_is_not_numeric = refl
 
 a_plus_is_no_sign : int_in (codes "+1") ≡ None
 a_plus_is_no_sign = refl

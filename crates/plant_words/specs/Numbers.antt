@@ -8,6 +8,14 @@ use Rattle.plant_words.specs.declared.numbers.TheConstants.{MAX_DIGITS}
 abbrev pub is_digit : ℕ → Bool
 is_digit byte = nat_le 48 byte && nat_le byte 57
 
+-- digits alone, and one at least
+abbrev pub has_digits_alone : List ℕ → Bool
+has_digits_alone word = is_filled word && list_all is_digit word
+
+-- an optional `-` (45) and digits, however many
+abbrev pub is_numeric : List ℕ → Bool
+is_numeric word = has_digits_alone (if begins_with 45 word then drop 1 word else word)
+
 -- what digits write: the sum of each one, times ten as often as there are digits behind it
 abbrev pub decimal_value : List ℕ → ℕ
 decimal_value [] = 0
@@ -15,7 +23,7 @@ decimal_value (digit ∷ digits) = (digit - 48) * 10 ^ length digits + decimal_v
 
 -- the number that a word of digits alone writes
 abbrev pub decimal_in : List ℕ → Option ℕ
-decimal_in word = if is_filled word && list_all is_digit word then Some (decimal_value word) else None
+decimal_in word = if has_digits_alone word then Some (decimal_value word) else None
 
 -- the number, where it is below the bound
 abbrev pub below : ℕ → Option ℕ → Option ℕ

@@ -24,6 +24,8 @@
 //! | `A.n` | an export of an atom | [`split_export`] |
 //! | `link:3` | a connector and a mask | [`split_mask`] |
 //!
+//! [`is_numeric`] tells a word of an optional `-` and digits that is no number of the plant from other words.
+//!
 //! Nothing here takes memory: lines, words and parts are lent from the text.
 //!
 //! - `lines`, `words`: the text as lines, a line as words.
@@ -38,7 +40,7 @@ mod words;
 
 pub use lines::{Lines, is_legal};
 pub use names::read_name;
-pub use numbers::{MAX_DIGITS, read_decimal, read_int, read_mask};
+pub use numbers::{MAX_DIGITS, is_numeric, read_decimal, read_int, read_mask};
 pub use splits::{PortWord, split_export, split_mask, split_port};
 pub use words::{Words, is_passed_over};
 

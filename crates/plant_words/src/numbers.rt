@@ -1,7 +1,7 @@
 //! Words that are numbers.
 ghost use Rattle.std.specs.Prelude.{◌≡◌};
 ghost use Rattle.std.specs.List.{list_all};
-ghost use Rattle.plant_words.specs.Numbers.{is_digit, pick_in, mask_in, magnitude_in, int_in, below};
+ghost use Rattle.plant_words.specs.Numbers.{is_digit, has_digits_alone, is_numeric, pick_in, mask_in, magnitude_in, int_in, below};
 
 use std::str;
 
@@ -35,7 +35,7 @@ fn read_magnitude(digits: &[u8]) -> Option<u64>
 pub fn read_decimal(word: &[u8]) -> Option<u64>
     ensures { result ≡ pick_in word.now }
 {
-    if !has_digits_alone(word) {
+    if !has_digits(word) {
         return None;
     }
     str::from_utf8(word).ok()?.parse().ok()
@@ -48,8 +48,26 @@ pub fn read_mask(word: &[u8]) -> Option<u16>
     u16::try_from(read_decimal(word)?).ok()
 }
 
-/// Whether each byte of the word is a digit.
+/// Whether the word is an optional `-` and digits, however many: only [`read_int`] says whether they write a number of
+/// the plant.
+pub fn is_numeric(word: &[u8]) -> bool
+    ensures { result ≡ is_numeric word.now }
+{
+    match word {
+        [b'-', digits @ ..] => has_digits_alone(digits),
+        digits => has_digits_alone(digits),
+    }
+}
+
+/// Whether the word has digits alone, and one at least.
 fn has_digits_alone(word: &[u8]) -> bool
+    ensures { result ≡ has_digits_alone word.now }
+{
+    !word.is_empty() & has_digits(word)
+}
+
+/// Whether each byte of the word is a digit.
+fn has_digits(word: &[u8]) -> bool
     ensures { result ≡ list_all is_digit word.now }
 {
     word.iter().all(|byte| is_digit(*byte))

@@ -1,7 +1,7 @@
 //! What no clause says: that the clauses mean what they should, on values worked out by hand.
 use crate::lines::{Lines, is_legal};
 use crate::names::read_name;
-use crate::numbers::{read_decimal, read_int, read_mask};
+use crate::numbers::{is_numeric, read_decimal, read_int, read_mask};
 use crate::splits::{split_export, split_mask, split_port};
 use crate::words::{Words, is_passed_over};
 use std::test::Fail;
@@ -130,4 +130,14 @@ fn exports_and_named_masks_have_two_parts(rt: HostRuntime) -> Result<(), Fail> {
     assert!(&rt; split_mask(b":3").is_none());
     assert!(&rt; split_mask(b"A.n").is_none());
     Ok(())
+}
+
+#[test]
+fn digits_behind_a_minus_are_numeric_however_many(rt: HostRuntime) {
+    assert!(&rt; is_numeric(b"7"));
+    assert!(&rt; is_numeric(b"-99999999999999999999"));
+    assert!(&rt; !is_numeric(b"-"));
+    assert!(&rt; !is_numeric(b""));
+    assert!(&rt; !is_numeric(b"--7"));
+    assert!(&rt; !is_numeric(b"7x"));
 }
