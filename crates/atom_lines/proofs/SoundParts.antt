@@ -50,10 +50,11 @@ exported a before word k told =
     let room = led_on (check (nat_lt (length before) MAX_EXPORTS) Limit) (λ _. ok_or (variable_number a word) UnknownName >>= after) k told in
     let known = led_on (ok_or (variable_number a word) UnknownName) after k room.2 in
     let new = led_on (check (not (list_any (λ j. nat_eq j known.0) before)) Twice) (λ _. Ok known.0) k known.2 in
-    let same : known.0 ≡ k = cc (new.2) in
-    (ltb-true _ _ (passed _ _ _ room.1),
-     ap (λ n. list_any (λ j. nat_eq j n) before) (sym same) ∙ not-true _ (passed _ _ _ new.1),
-     subst (λ n. n < length a.variables) same (position-within (λ v. is_same_text v.name word) a.variables known.0 (was_there _ _ _ known.1)))
+    let same : known.0 ≡ k = cc (new.2) in (
+      ltb-true _ _ (passed _ _ _ room.1),
+      ap (λ n. list_any (λ j. nat_eq j n) before) (sym same) ∙ not-true _ (passed _ _ _ new.1),
+      subst (λ n. n < length a.variables) same (position-within (λ v. is_same_text v.name word) a.variables known.0 (was_there _ _ _ known.1)),
+    )
 
 -- the variables that words export, behind others
 exports_listed : (a : AtomDefinition) (before : List ℕ) (words : List (List ℕ)) (ks : List ℕ) → Listed (length a.variables) before → length before ≤ MAX_EXPORTS →
@@ -82,9 +83,10 @@ placed a before word k told =
     let after : ℕ → Result ℕ LineFault = λ n. check (not (list_any (λ j. nat_eq j n) before)) Twice >>= (λ _. Ok n) in
     let known = led_on (ok_or (place_number a word) UnknownName) after k told in
     let new = led_on (check (not (list_any (λ j. nat_eq j known.0) before)) Twice) (λ _. Ok known.0) k known.2 in
-    let same : known.0 ≡ k = cc (new.2) in
-    (ap (λ n. list_any (λ j. nat_eq j n) before) (sym same) ∙ not-true _ (passed _ _ _ new.1),
-     subst (λ n. n < length a.places) same (position-within (λ p. is_same_text p.name word) a.places known.0 (was_there _ _ _ known.1)))
+    let same : known.0 ≡ k = cc (new.2) in (
+      ap (λ n. list_any (λ j. nat_eq j n) before) (sym same) ∙ not-true _ (passed _ _ _ new.1),
+      subst (λ n. n < length a.places) same (position-within (λ p. is_same_text p.name word) a.places known.0 (was_there _ _ _ known.1)),
+    )
 
 -- the places that words list, behind others
 places_listed : (a : AtomDefinition) (before : List ℕ) (words : List (List ℕ)) (listed : List ℕ × List (List ℕ)) → Listed (length a.places) before →
@@ -108,9 +110,10 @@ places_sound a keyword words listed told =
     let begun = led_on (check (leads keyword words) Shape) (λ _. places_in a [] (drop 1 words) >>= last) listed told in
     let read = led_on (places_in a [] (drop 1 words)) last listed begun.2 in
     let filled = led_on (check (nat_lt 0 (length read.0.0)) Shape) (λ _. Ok read.0) listed read.2 in
-    let same : read.0 ≡ listed = cc (filled.2) in
-    (subst (λ l. Listed (length a.places) l.0) same (places_listed a [] (drop 1 words) read.0 (none_listed _) read.1),
-     subst (λ l. nat_lt 0 (length l.0) ≡ true) same (passed _ _ _ filled.1))
+    let same : read.0 ≡ listed = cc (filled.2) in (
+      subst (λ l. Listed (length a.places) l.0) same (places_listed a [] (drop 1 words) read.0 (none_listed _) read.1),
+      subst (λ l. nat_lt 0 (length l.0) ≡ true) same (passed _ _ _ filled.1),
+    )
 
 -- ---- guard and updates
 
@@ -130,7 +133,7 @@ expression_fits a words read told =
     record {
       few = le-leb _ _ (words_of_expression (variable_number a) words read.1 read.0 said);
       known = variables_below-all (length a.variables) read.0 ∙ variables_of_expression (variable_number a) (λ v. nat_lt v (length a.variables)) words read.1 read.0
-      (λ text v is. lt-ltb v (length a.variables) (position-within (λ w. is_same_text w.name text) a.variables v is)) said;
+          (λ text v is. lt-ltb v (length a.variables) (position-within (λ w. is_same_text w.name text) a.variables v is)) said;
     }
 
 -- a guard that stands, and one that doesn't
@@ -163,9 +166,10 @@ update_sound a words read told =
     let value = led_on (expression_on a (drop 1 (drop 1 words))) (made variable.0) read assigned.2 in
     let same : ◌≡◌ {A = UpdateDefinition × List (List ℕ)} (record { variable = variable.0; value = value.0.0 }, value.0.1) read = same_end _ _ value.2 in
     let fits = expression_fits a (drop 1 (drop 1 words)) value.0 value.1 in
-    let there : nat_lt variable.0 (length a.variables) ≡ true = lt-ltb _ _ (position-within (λ w. is_same_text w.name word.0) a.variables variable.0 (was_there _ _ _ variable.1)) in
-    (subst (λ r. is_small_value r.0 ≡ true) same fits.few,
-     subst (λ r. has_known_variables (length a.variables) r.0 ≡ true) same (and_from _ _ there fits.known))
+    let there : nat_lt variable.0 (length a.variables) ≡ true = lt-ltb _ _ (position-within (λ w. is_same_text w.name word.0) a.variables variable.0 (was_there _ _ _ variable.1)) in (
+      subst (λ r. is_small_value r.0 ≡ true) same fits.few,
+      subst (λ r. has_known_variables (length a.variables) r.0 ≡ true) same (and_from _ _ there fits.known),
+    )
 
 -- the updates of a line, behind others
 updates_sound : (a : AtomDefinition) (left : ℕ) (before : List UpdateDefinition) (more : Bool) (words : List (List ℕ)) (us : List UpdateDefinition) →
