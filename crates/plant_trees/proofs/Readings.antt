@@ -1,0 +1,45 @@
+-- Laws of readings.
+use Rattle.std.proofs.Common.{◌≡◌, ℕ, ◌==◌, Bool, true, false, if◌then◌else◌, List, [], ◌∷◌, ◌++◌, Option, Some, None, Result, Ok, Err, IfOk, refl, ap, subst, ◌∙◌}
+use Rattle.std.specs.Option.{option_map_or}
+use Rattle.plant_trees.specs.declared.token.Token.{Token}
+use Rattle.plant_trees.specs.declared.fault.TreeWordsFault.{TreeWordsFault}
+use Rattle.plant_trees.specs.declared.fault.TreeWordsFault.TheVariants.{Shape}
+use Rattle.plant_trees.specs.Tokens.{Names, Reading, word_in, level_behind, is_balanced, led_by, behind, tokens_in}
+
+-- tokens in front of those that are read behind them
+abbrev pub behind_all : List Token → Reading → Reading
+behind_all before (Ok tokens) = Ok (before ++ tokens)
+behind_all before (Err fault) = Err fault
+
+-- tokens whose brackets are balanced, where some were read
+IsBalanced : ℕ → Reading → Type 0
+IsBalanced level reading = IfOk reading (λ tokens. is_balanced level tokens ≡ true)
+
+at_end : (b : Bool) (level : ℕ) → (level == 0) ≡ b → IsBalanced level (if b then Ok [] else Err Shape)
+unfolding IsBalanced
+at_end true level h = h
+at_end false level h = tt
+
+at_rest : (token : Token) (level next : ℕ) (reading : Reading) → level_behind token level ≡ Some next → IsBalanced next reading → IsBalanced level (led_by token reading)
+unfolding IsBalanced
+at_rest token level next (Ok tokens) h balanced = ap (λ o. option_map_or (λ n. is_balanced n tokens) o false) h ∙ balanced
+at_rest token level next (Err fault) h balanced = tt
+
+at_level : (token : Token) (level : ℕ) (o : Option ℕ) (read : ℕ → Reading) → level_behind token level ≡ o → ((next : ℕ) → IsBalanced next (read next)) → IsBalanced level (option_map_or (λ next. led_by token (read next)) o (Err Shape))
+unfolding IsBalanced
+at_level token level None read h each = tt
+at_level token level (Some next) read h each = at_rest token level next (read next) h (each next)
+
+at_word : (word : Result Token TreeWordsFault) (level : ℕ) (read : ℕ → Reading) → ((next : ℕ) → IsBalanced next (read next)) → IsBalanced level (behind word level read)
+unfolding IsBalanced
+at_word (Err fault) level read each = tt
+at_word (Ok token) level read each = at_level token level (level_behind token level) read refl each
+
+at_words : (named : Names) (words : List (List ℕ)) (level : ℕ) → IsBalanced level (tokens_in named level words)
+at_words named [] level = at_end (level == 0) level refl
+at_words named (word ∷ words) level = at_word (word_in named word) level (λ next. tokens_in named next words) (λ next. at_words named words next)
+
+-- the tokens of words are balanced
+pub balanced : (named : Names) (words : List (List ℕ)) (level : ℕ) (tokens : List Token) → tokens_in named level words ≡ Ok tokens → is_balanced level tokens ≡ true
+unfolding IsBalanced
+balanced named words level tokens h = subst (λ r. IsBalanced level r) h (at_words named words level)

@@ -1,0 +1,17 @@
+use Rattle.std.proofs.Common.{sym, ap, ◌∙◌}
+use Rattle.plant_trees.specs.Tokens.{is_balanced}
+use Rattle.plant_trees.specs.Shape.{fault_in}
+use Rattle.plant_trees.proofs.Agreement.{fault-connector}
+use Rattle.plant_trees.proofs.Readings.{balanced}
+use Rattle.plant_trees.proofs.read.read_tree.Goals as goal
+
+pub connector-requires : goal.connector-requires
+connector-requires g c =
+    ap (is_balanced 0) c.deref-in-None.ensures.value
+    ∙ balanced (g.N.Ports.port_named c.args.names.now) c.args.words.now 0 c.in_ok-tokens.tokens.items c.in_ok-tokens.ensures.tokens
+
+pub returns-clause-sound : goal.returns-clause-sound
+returns-clause-sound g c =
+    sym (fault-connector c.in_ok-connector-in-None.field-0)
+    ∙ ap fault_in (c.in_ok-connector-in-None.ensures ∙ c.deref-in-None.ensures.value ∙ sym c.deref.ensures.value)
+    ∙ sym c.in-None.ensures

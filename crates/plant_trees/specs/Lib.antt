@@ -1,0 +1,5 @@
+pub mod Tokens
+pub mod Shape
+pub mod Trees
+pub mod Connectors
+pub mod Drafts

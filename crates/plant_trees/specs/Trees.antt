@@ -1,0 +1,23 @@
+-- The tree that the words of a line are.
+use Rattle.std.specs.Prelude.{ℕ, List, [], ◌∷◌, Option, Some, None, Ok, Err}
+use Rattle.connector_tree.specs.declared.faults.TreeFault.{TreeFault}
+use Rattle.plant_trees.specs.declared.token.Token.{Token}
+use Rattle.plant_trees.specs.declared.fault.TreeWordsFault.TheVariants.{Shape, Tree}
+use Rattle.plant_trees.specs.Tokens.{Names, Reading, tokens_in}
+use Rattle.plant_trees.specs.Shape.{fault_in}
+
+-- the tokens, or the fault of their tree
+abbrev pub unless : List Token → Option TreeFault → Reading
+unless tokens None = Ok tokens
+unless tokens (Some fault) = Err (Tree fault)
+
+-- what was read, where its tree has no fault
+abbrev pub judged : Reading → Reading
+judged (Ok tokens) = unless tokens (fault_in tokens)
+judged (Err fault) = Err fault
+
+-- The tree that the words are, as its tokens, or why they are none. There is one word at least. The faults of the tree are told
+-- only where no word has a fault.
+abbrev pub tree_in : Names → List (List ℕ) → Reading
+tree_in named [] = Err Shape
+tree_in named (word ∷ words) = judged (tokens_in named 0 (word ∷ words))
