@@ -6,3 +6,4 @@ pub mod Agreement
 pub mod Meaning
 pub mod Readings
 pub mod Drafting
+pub mod Rows

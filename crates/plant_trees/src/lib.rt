@@ -37,3 +37,6 @@ mod token;
 pub use fault::TreeWordsFault;
 pub use read::read_tree;
 pub use token::Ports;
+
+#[cfg(test)]
+mod tests;
