@@ -1,5 +1,5 @@
 -- Worked examples of the definitions, as computed facts.
-use Rattle.std.proofs.Common.{◌≡◌, ℕ, ◌-◌, ◌==◌, ◌&&◌, Bool, true, false, refl, if◌then◌else◌, List, [], ◌∷◌, ◌++◌, codes, length, slice_index, nat_le, Option, Some, None, Ok, Err}
+use Rattle.std.proofs.Common.{◌≡◌, ℕ, ◌-◌, ◌==◌, ◌&&◌, true, false, refl, if◌then◌else◌, List, [], ◌∷◌, codes, length, slice_index, nat_le, Option, Some, None, Ok, Err}
 use Rattle.connector_tree.specs.declared.tree.Port.{Port}
 use Rattle.connector_tree.specs.declared.faults.TreeFault.TheVariants.{TooManyLeaves, TooDeep, SameAtom, Empty}
 use Rattle.plant_words.specs.Words.{words_of}

@@ -8,8 +8,8 @@ use connector_tree::{Child, Connector, Node, Port};
 use std::alloc::{AllocError, Global};
 use std::mem;
 
-/// The connector with these tokens. The brackets that are open stand in a vector, so no call nests here; but each
-/// level of the connector does, wherever it is walked or dropped.
+/// The connector with these tokens. The brackets that are open stand in a vector, so no call nests here. But where a
+/// connector is walked or dropped calls nest as deep as its brackets: tokens that nest too deep are to be refused before.
 pub(crate) fn connector(alloc: Global, tokens: &[Token]) -> Result<Connector, AllocError>
     requires { is_balanced 0 tokens.now ≡ true }
     ensures { IfOk result (λ connector. tokens_of connector ≡ tokens.now) }
@@ -63,11 +63,14 @@ impl Draft {
         ensures tokens { OnOk result (tokens_made self.new ≡ tokens_made self.old ++ Leaf port trigger ∷ []) }
         ensures level { level_of self.new ≡ level_of self.old }
     {
-        let node = Node::Leaf {
-            atom: port.atom,
-            port: port.port,
+        let leaf = Child {
+            trigger,
+            node: Node::Leaf {
+                atom: port.atom,
+                port: port.port,
+            },
         };
-        self.children.push(Child { trigger, node })?;
+        self.children.push(leaf)?;
         Ok(())
     }
 
@@ -87,8 +90,11 @@ impl Draft {
     {
         let around = self.outer.pop().unwrap();
         let inner = mem::replace(&mut self.children, around);
-        let node = Node::Fusion(inner);
-        self.children.push(Child { trigger, node })?;
+        let bracket = Child {
+            trigger,
+            node: Node::Fusion(inner),
+        };
+        self.children.push(bracket)?;
         Ok(())
     }
 

@@ -72,12 +72,15 @@ fn is_deeper(tokens: &[Token]) -> bool
     false
 }
 
-/// Whether two of the ports are of one atom. This looks at all tokens once for each port.
+/// Whether two of the ports are of one atom. This goes over the tokens behind each port, so many ports are to be refused
+/// before.
 fn has_same_atom(tokens: &[Token]) -> bool
     ensures { result ≡ has_repeat (atoms (ports_in tokens.now)) }
 {
     for (i, token) in tokens.iter().enumerate() {
-        if let Token::Leaf { port, .. } = token && has_atom(&tokens[i + 1..], port.atom) {
+        if let Token::Leaf { port, .. } = token
+            && has_atom(&tokens[i + 1..], port.atom)
+        {
             return true;
         }
     }
@@ -89,7 +92,9 @@ fn has_atom(tokens: &[Token], atom: u16) -> bool
     ensures { result ≡ list_any (λ other. atom == other) (atoms (ports_in tokens.now)) }
 {
     for token in tokens {
-        if let Token::Leaf { port, .. } = token && atom == port.atom {
+        if let Token::Leaf { port, .. } = token
+            && atom == port.atom
+        {
             return true;
         }
     }

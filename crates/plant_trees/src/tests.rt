@@ -60,12 +60,7 @@ fn ports_without_quotes_act_together(rt: HostRuntime) -> Result<(), Fail> {
 #[test]
 fn a_quoted_port_leads(rt: HostRuntime) -> Result<(), Fail> {
     let all_with_the_first = [1, 3, 5, 7, 9, 11, 13, 15];
-    shows(
-        &rt,
-        rt.alloc(),
-        b"s.p' a.p b.p c.p",
-        &all_with_the_first,
-    )
+    shows(&rt, rt.alloc(), b"s.p' a.p b.p c.p", &all_with_the_first)
 }
 
 #[test]
@@ -75,7 +70,12 @@ fn ports_in_a_bracket_follow_together(rt: HostRuntime) -> Result<(), Fail> {
 
 #[test]
 fn brackets_nest(rt: HostRuntime) -> Result<(), Fail> {
-    shows(&rt, rt.alloc(), b"s.p' [ a.p' [ b.p' c.p ] ]", &[1, 3, 7, 15])
+    shows(
+        &rt,
+        rt.alloc(),
+        b"s.p' [ a.p' [ b.p' c.p ] ]",
+        &[1, 3, 7, 15],
+    )
 }
 
 #[test]
@@ -125,7 +125,10 @@ fn faults_of_words_are_told_apart(rt: HostRuntime) {
         b"a.p [' b.p ]".as_slice(),
         b"[ a.p ]''".as_slice(),
     ] {
-        assert!(&rt; fault(alloc, line) == Some(TreeWordsFault::Shape), "{line:?}");
+        assert!(&rt;
+            fault(alloc, line) == Some(TreeWordsFault::Shape),
+            "{line:?}"
+        );
     }
     for line in [
         b"A.p".as_slice(),
@@ -133,7 +136,10 @@ fn faults_of_words_are_told_apart(rt: HostRuntime) {
         b"a.p''".as_slice(),
         b"[a.p ]".as_slice(),
     ] {
-        assert!(&rt; fault(alloc, line) == Some(TreeWordsFault::UnknownName), "{line:?}");
+        assert!(&rt;
+            fault(alloc, line) == Some(TreeWordsFault::UnknownName),
+            "{line:?}"
+        );
     }
 }
 
@@ -149,7 +155,10 @@ fn brackets_have_both_ends(rt: HostRuntime) {
         b"]' a.p [".as_slice(),
         b"[ a.p ] ]'".as_slice(),
     ] {
-        assert!(&rt; fault(alloc, line) == Some(TreeWordsFault::Shape), "{line:?}");
+        assert!(&rt;
+            fault(alloc, line) == Some(TreeWordsFault::Shape),
+            "{line:?}"
+        );
     }
 }
 
@@ -180,7 +189,12 @@ fn eight_levels_are_the_most(rt: HostRuntime) -> Result<(), Fail> {
     shows(&rt, alloc, b"[ [ [ [ [ [ [ a.p ] ] ] ] ] ] ] b.p", &[3])?;
     let deep = TreeWordsFault::Tree(TreeFault::TooDeep);
     assert!(&rt; fault(alloc, b"[ [ [ [ [ [ [ [ a.p ] ] ] ] ] ] ] ]") == Some(deep));
-    shows(&rt, alloc, b"[ a.p ] [ b.p ] [ c.p ] [ d.p ] [ e.p ] [ f.p ] [ g.p ] [ h.p ]", &[255])
+    shows(
+        &rt,
+        alloc,
+        b"[ a.p ] [ b.p ] [ c.p ] [ d.p ] [ e.p ] [ f.p ] [ g.p ] [ h.p ]",
+        &[255],
+    )
 }
 
 #[test]

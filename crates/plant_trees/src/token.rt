@@ -19,7 +19,7 @@ pub trait Ports {
 }
 
 /// What one word of a tree says.
-#[derive(Clone, Copy, Debug, PartialEq, Eq)]
+#[derive(Clone, Copy)]
 pub(crate) enum Token {
     /// A port, and whether it is a trigger.
     Leaf { port: Port, trigger: bool },
