@@ -1,6 +1,7 @@
 //! A connector made from its tokens.
-ghost use Rattle.std.specs.Prelude.{◌≡◌, true, IfOk};
+ghost use Rattle.std.specs.Prelude.{◌≡◌, true, IfOk, None};
 ghost use Rattle.plant_trees.specs.Tokens.{is_balanced};
+ghost use Rattle.plant_trees.specs.Shape.{fault_in};
 ghost use Rattle.plant_trees.specs.Connectors.{tokens_of};
 
 use crate::token::Token;
@@ -9,9 +10,10 @@ use std::alloc::{AllocError, Global};
 use std::mem;
 
 /// The connector with these tokens. The brackets that are open stand in a vector, so no call nests here. But where a
-/// connector is walked or dropped calls nest as deep as its brackets: tokens that nest too deep are to be refused before.
+/// connector is walked or dropped calls nest as deep as its brackets: so none is made of a tree with a fault.
 pub(crate) fn connector(alloc: Global, tokens: &[Token]) -> Result<Connector, AllocError>
-    requires { is_balanced 0 tokens.now ≡ true }
+    requires balanced { is_balanced 0 tokens.now ≡ true }
+    requires judged { fault_in tokens.now ≡ None }
     ensures { IfOk result (λ connector. tokens_of connector ≡ tokens.now) }
 {
     let mut draft = Draft::new(alloc);

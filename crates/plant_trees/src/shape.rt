@@ -1,5 +1,5 @@
 //! The faults of a tree, on its tokens.
-ghost use Rattle.std.specs.Prelude.{◌≡◌, ◌<◌, ◌==◌, nat_lt, length};
+ghost use Rattle.std.specs.Prelude.{◌≡◌, ◌≤◌, ◌==◌, nat_lt, length};
 ghost use Rattle.std.specs.List.{list_any};
 ghost use Rattle.connector_tree.specs.Faults.{has_repeat, atoms};
 ghost use Rattle.plant_trees.specs.Shape.{ports_in, deepest, is_leaf, is_open, begins_with_close, has_empty_bracket, fault_in};
@@ -72,9 +72,9 @@ fn is_deeper(tokens: &[Token]) -> bool
     false
 }
 
-/// Whether two of the ports are of one atom. This goes over the tokens behind each port, so many ports are to be refused
-/// before.
+/// Whether two of the ports are of one atom. This goes over the tokens behind each port, so there may be only few ports.
 fn has_same_atom(tokens: &[Token]) -> bool
+    requires { length (ports_in tokens.now) ≤ MAX_LEAVES }
     ensures { result ≡ has_repeat (atoms (ports_in tokens.now)) }
 {
     for (i, token) in tokens.iter().enumerate() {

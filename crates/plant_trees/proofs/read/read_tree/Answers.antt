@@ -5,8 +5,8 @@ use Rattle.plant_trees.proofs.Agreement.{fault-connector}
 use Rattle.plant_trees.proofs.Readings.{balanced}
 use Rattle.plant_trees.proofs.read.read_tree.Goals as goal
 
-pub connector-requires : goal.connector-requires
-connector-requires g c =
+pub connector-requires-clause-balanced : goal.connector-requires-clause-balanced
+connector-requires-clause-balanced g c =
     ap (is_balanced 0) c.deref-in-None.ensures.value
     ∙ balanced (g.N.Ports.port_named c.args.names.now) c.args.words.now 0 c.in_ok-tokens.tokens.items c.in_ok-tokens.ensures.tokens
 
