@@ -1,0 +1,99 @@
+//! Steps of reading a line: each takes words, or tells the fault of one.
+ghost use Rattle.std.specs.Prelude.{◌≡◌, false, drop, map, IfOk, IfErr, Ok};
+ghost use Rattle.std.specs.List.{list_any};
+ghost use Rattle.petri_atom.specs.Expression.{tree_of};
+ghost use Rattle.atom_lines.specs.Fault.{IsFaultOf};
+ghost use Rattle.atom_lines.specs.Reading.{check, at_end};
+ghost use Rattle.atom_lines.specs.Transitions.{leads};
+ghost use Rattle.step_core.specs.Rules.{is_same_export};
+ghost use Rattle.step_core.specs.Wire.{transfer_of};
+ghost use Rattle.wire_lines.specs.Rows.{whole_expression, has_target, target_in, transfer_in};
+
+use atom_lines::LineFault;
+use petri_atom::Expression;
+use plant_expressions::{Variables, read_expression};
+use plant_words::Words;
+use std::alloc::Global;
+use step_core::{Export, Transfer};
+
+/// The fault, unless the test passes.
+pub(crate) fn check(passes: bool, fault: LineFault) -> Result<(), LineFault>
+    ensures { result ≡ check passes fault }
+{
+    if passes { Ok(()) } else { Err(fault) }
+}
+
+/// Takes the next word, and says whether there was one and it is this.
+pub(crate) fn take_word(words: &mut Words, keyword: &[u8]) -> bool
+    ensures leads { result ≡ leads keyword.now words.old }
+    ensures taken { words.new ≡ drop 1 words.old }
+{
+    match words.next_word() {
+        Some(word) => word == keyword,
+        None => false,
+    }
+}
+
+/// The expression that the words are, with none left over.
+pub(crate) fn read_whole<N: Variables<Export>>(
+    alloc: Global,
+    words: &mut Words,
+    names: &N,
+) -> Result<Expression<Export>, LineFault>
+    ensures expression { IfOk result (λ expression. whole_expression (N.variable_named names.now) words.old ≡ Ok (tree_of expression)) }
+    ensures fault { IfErr result (IsFaultOf (whole_expression (N.variable_named names.now) words.old)) }
+{
+    let expression = read_expression(alloc, words, names)?;
+    check(words.next_word().is_none(), LineFault::Shape)?;
+    Ok(expression)
+}
+
+/// Whether one of the transfers has the target.
+fn has_target(transfers: &[Transfer], target: Export) -> bool
+    ensures { result ≡ list_any (λ t. is_same_export t.target target) transfers.now }
+{
+    transfers
+        .iter()
+        .any(|transfer| is_same(transfer.target, target))
+}
+
+/// Whether the two are the same variable of the same leaf.
+fn is_same(one: Export, other: Export) -> bool
+    ensures { result ≡ is_same_export one other }
+{
+    (one.leaf == other.leaf) & (one.export == other.export)
+}
+
+/// The variable that the next word names, which must be no target of these transfers.
+#[tactic(auto, using(crate::proofs::Targets::has_target_of))]
+fn read_target<N: Variables<Export>>(
+    transfers: &[Transfer],
+    words: &mut Words,
+    names: &N,
+) -> Result<Export, LineFault>
+    ensures target { result ≡ target_in (N.variable_named names.now) (map transfer_of transfers.now) words.old }
+    ensures taken { words.new ≡ drop 1 words.old }
+    ensures new_target { IfOk result (λ target. has_target (map transfer_of transfers.now) target ≡ false) }
+{
+    let word = words.next_word().ok_or(LineFault::Shape)?;
+    let target = names.find(word).ok_or(LineFault::UnknownName)?;
+    check(!has_target(transfers, target), LineFault::Twice)?;
+    Ok(target)
+}
+
+/// The transfer behind these that the words are, with none left over.
+pub(crate) fn read_transfer<N: Variables<Export>>(
+    alloc: Global,
+    transfers: &[Transfer],
+    words: &mut Words,
+    names: &N,
+) -> Result<Transfer, LineFault>
+    ensures transfer { IfOk result (λ transfer. transfer_in (N.variable_named names.now) (map transfer_of transfers.now) words.old ≡ Ok (transfer_of transfer)) }
+    ensures fault { IfErr result (IsFaultOf (transfer_in (N.variable_named names.now) (map transfer_of transfers.now) words.old)) }
+    ensures new_target { IfOk result (λ transfer. has_target (map transfer_of transfers.now) transfer.target ≡ false) }
+{
+    let target = read_target(transfers, words, names)?;
+    check(take_word(words, b":="), LineFault::Shape)?;
+    let value = read_whole(alloc, words, names)?;
+    Ok(Transfer { target, value })
+}
