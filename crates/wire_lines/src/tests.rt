@@ -5,7 +5,7 @@ use atom_lines::LineFault;
 use connector_tree::{Child, Connector, Node, Port, first_fault};
 use petri_atom::{Expression, Name};
 use plant_words::Words;
-use std::alloc::Global;
+use std::alloc::{AllocError, Global};
 use std::test::Fail;
 use step_core::Export;
 
@@ -179,5 +179,91 @@ fn the_first_fault_of_a_transfer_is_told(rt: HostRuntime) -> Result<(), Fail> {
         assert!(&rt; is_refused(transfer(&mut draft, words), fault));
     }
     assert!(&rt; draft.into_wire().transfers.len() == 1);
+    Ok(())
+}
+
+/// So many words `!` and a number.
+fn denials(alloc: Global, count: usize) -> Result<Vec<u8>, AllocError> {
+    let mut words = Vec::new(alloc);
+    for _ in 0..count {
+        words.extend_from_slice(b"! ")?;
+    }
+    words.extend_from_slice(b"1")?;
+    Ok(words)
+}
+
+#[test]
+fn an_expression_has_sixty_four_words_at_most(rt: HostRuntime) -> Result<(), Fail> {
+    let mut draft = link(rt.alloc())?;
+    guard(&mut draft, &denials(rt.alloc(), 63)?)?;
+    assert!(&rt;
+        is_refused(
+            guard(&mut draft, &denials(rt.alloc(), 64)?),
+            LineFault::Limit
+        )
+    );
+    let wire = draft.into_wire();
+    assert!(&rt; wire.guards.len() == 1);
+    assert!(&rt; wire.guards[0].word_count() == 64);
+    Ok(())
+}
+
+#[test]
+fn a_ninth_guard_is_refused_before_its_words(rt: HostRuntime) -> Result<(), Fail> {
+    let mut draft = link(rt.alloc())?;
+    for _ in 0..8 {
+        guard(&mut draft, b"A.n")?;
+    }
+    assert!(&rt; is_refused(guard(&mut draft, b"A.n"), LineFault::Limit));
+    assert!(&rt; is_refused(guard(&mut draft, b""), LineFault::Limit));
+    assert!(&rt; draft.into_wire().guards.len() == 8);
+    Ok(())
+}
+
+/// Atom 0 is called A. Each of its ports exports 256 variables, whose names are their numbers as bytes.
+struct Bytes;
+
+impl Exports for Bytes {
+    ghost use Rattle.std.specs.Prelude.{if◌then◌else◌, codes, Some, None, slice_get};
+    ghost use Rattle.petri_atom.specs.Name.{is_same_text};
+
+    ghost atom_named = { λ _ name. if is_same_text name (codes "A") then Some 0 else None };
+
+    ghost export_named = { λ _ _ name. slice_get name 0 };
+
+    fn find_atom(&self, name: &[u8]) -> Option<u16> {
+        match name {
+            b"A" => Some(0),
+            _ => None,
+        }
+    }
+
+    fn find_export(&self, _port: Port, variable: &[u8]) -> Option<u8> {
+        variable.first().copied()
+    }
+}
+
+#[test]
+fn a_thirty_third_transfer_is_refused_before_its_words(rt: HostRuntime) -> Result<(), Fail> {
+    let mut root = Vec::new(rt.alloc());
+    root.push(leaf(0, 0))?;
+    let mut draft = link_of(rt.alloc(), root)?;
+    for name in 64..96u8 {
+        let words = [b'A', b'.', name, b' ', b':', b'=', b' ', b'1'];
+        draft.add_transfer(&mut Words::new(&words), &Bytes)?;
+    }
+    for words in [b"A.a := 1".as_slice(), b"A.A := 1", b""] {
+        let read = draft.add_transfer(&mut Words::new(words), &Bytes);
+        assert!(&rt; is_refused(read, LineFault::Limit));
+    }
+    let wire = draft.into_wire();
+    assert!(&rt; wire.transfers.len() == 32);
+    assert!(&rt;
+        wire.transfers[31].target
+            == Export {
+                leaf: 0,
+                export: 95
+            }
+    );
     Ok(())
 }
