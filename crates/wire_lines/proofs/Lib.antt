@@ -1,2 +1,4 @@
+pub mod Expressions
+pub mod Kept
 mod Rows
 pub mod Targets

@@ -1,13 +1,15 @@
 //! The connector as its lines have told it so far.
-ghost use Rattle.std.specs.Prelude.{◌≡◌, ◌≤◌, length, vec_len, map, true, false, IfOk, IfErr, OnOk, OnErr, Ok, []};
+ghost use Rattle.std.specs.Prelude.{◌≡◌, ◌≤◌, length, vec_len, map, Bool, true, false, IfOk, IfErr, OnOk, OnErr, Ok, []};
 ghost use Rattle.petri_atom.specs.Expression.{tree_of};
 ghost use Rattle.connector_tree.specs.Tree.{leaves};
 ghost use Rattle.connector_tree.specs.declared.tree.TheConstants.{MAX_LEAVES};
+ghost use Rattle.step_core.specs.Rules.{are_small_guards, are_small_transfers, is_small_wire};
 ghost use Rattle.step_core.specs.Wire.{wire_of, transfer_of};
-ghost use Rattle.step_core.specs.declared.limits.TheConstants.{MAX_GUARDS, MAX_TRANSFERS};
+ghost use Rattle.step_core.specs.declared.wire.Export.{Export};
 ghost use Rattle.atom_lines.specs.Fault.{IsFaultOf};
 ghost use Rattle.wire_lines.specs.Rows.{has_target, has_targets_once, named_on, whole_expression, transfer_in, guard_row, transfer_row};
 ghost use Rattle.wire_lines.specs.Names.{variable_in};
+ghost use Rattle.wire_lines.specs.Parts.{Passes, all_pass};
 
 use crate::names::{Exports, LeafVariables};
 use crate::reading::{check, read_transfer, read_whole};
@@ -29,8 +31,8 @@ pub struct WireDraft {
     transfers: Vec<Transfer>,
     ghost are_leaves: { ports.items ≡ leaves connector },
     ghost few_leaves: { vec_len ports ≤ MAX_LEAVES },
-    ghost few_guards: { vec_len guards ≤ MAX_GUARDS },
-    ghost few_transfers: { vec_len transfers ≤ MAX_TRANSFERS },
+    ghost small_guards: { are_small_guards (map tree_of guards.items) ≡ true },
+    ghost small_transfers: { are_small_transfers (map transfer_of transfers.items) ≡ true },
     ghost targets_once: { has_targets_once (map transfer_of transfers.items) ≡ true },
 }
 
@@ -104,6 +106,7 @@ impl WireDraft {
         ensures added { OnOk result (guard_row (N.atom_named names.now) (N.export_named names.now) words.old (drafted self.old) ≡ Ok (drafted self.new)) }
         ensures fault { IfErr result (IsFaultOf (guard_row (N.atom_named names.now) (N.export_named names.now) words.old (drafted self.old))) }
         ensures unchanged { OnErr result (drafted self.new ≡ drafted self.old) }
+        ensures known { OnOk result ((test : Export → Bool) → Passes test (named_on (N.atom_named names.now) (N.export_named names.now) (drafted self.old)) → all_pass test (drafted self.old) ≡ true → all_pass test (drafted self.new) ≡ true) }
     {
         check(self.guards.len() < MAX_GUARDS, LineFault::Limit)?;
         let guard = self.read_guard(words, names)?;
@@ -120,6 +123,7 @@ impl WireDraft {
         ensures added { OnOk result (transfer_row (N.atom_named names.now) (N.export_named names.now) words.old (drafted self.old) ≡ Ok (drafted self.new)) }
         ensures fault { IfErr result (IsFaultOf (transfer_row (N.atom_named names.now) (N.export_named names.now) words.old (drafted self.old))) }
         ensures unchanged { OnErr result (drafted self.new ≡ drafted self.old) }
+        ensures known { OnOk result ((test : Export → Bool) → Passes test (named_on (N.atom_named names.now) (N.export_named names.now) (drafted self.old)) → all_pass test (drafted self.old) ≡ true → all_pass test (drafted self.new) ≡ true) }
     {
         check(self.transfers.len() < MAX_TRANSFERS, LineFault::Limit)?;
         let transfer = self.read_transfer(words, names)?;
@@ -130,8 +134,7 @@ impl WireDraft {
     /// The connector with the parts that were added.
     pub fn into_wire(self) -> Wire
         ensures wire { wire_of result ≡ drafted self }
-        ensures few_guards { length (drafted self).guards ≤ MAX_GUARDS }
-        ensures few_transfers { length (drafted self).transfers ≤ MAX_TRANSFERS }
+        ensures small { is_small_wire (drafted self) ≡ true }
         ensures targets_once { has_targets_once (drafted self).transfers ≡ true }
     {
         Wire {

@@ -19,6 +19,10 @@
 //! `ATOM.VAR` names nothing, and is an unknown name like one that no leaf exports. A refused line leaves the draft as
 //! it was.
 //!
+//! What a draft makes keeps the rules of a wire that are about its lines: [`WireDraft::into_wire`] says that it is within
+//! the limits of a wire and has each target once, and the lines that add parts say that a test which each variable passes
+//! that may be named is passed by the variables of all parts, where it was before (`specs/Parts.antt`).
+//!
 //! - `draft`: the connector so far, and its lines. `names`: which variable a word names.
 //! - `reading`: steps that take words.
 #![tactic(auto)]
