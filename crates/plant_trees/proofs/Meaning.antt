@@ -11,19 +11,12 @@ use Rattle.connector_tree.specs.PortSets.{Part, fused, node_sets, part_of, port_
 use Rattle.connector_tree.specs.Masks.{masks_of, interactions_of}
 use Rattle.connector_tree.proofs.Trees.{by_nodes, Each, OfChild, sets-leaf, sets-fusion}
 use Rattle.plant_trees.specs.declared.token.Token.{Token}
-use Rattle.plant_trees.specs.declared.token.Token.TheVariants.{Leaf, Open, Close}
+use Rattle.plant_trees.specs.declared.token.Token.TheVariants.{Close}
 use Rattle.plant_trees.specs.Connectors.{node_tokens, children_tokens, tokens_of}
 use Rattle.plant_trees.specs.Shape.{ports_in}
+use Rattle.plant_trees.specs.Meaning.{parts_in, port_sets_in, interactions_in}
 use Rattle.plant_trees.proofs.Written.{leaf_before, fusion_before, child_before}
 use Rattle.plant_trees.proofs.Leaves.{ports-connector}
-
--- the parts of the root that tokens write: those so far of the brackets around, the innermost first, and of this bracket
-abbrev parts_in : List (List Part) → List Part → List Token → List Part
-parts_in outer parts [] = parts
-parts_in outer parts (Leaf port trigger ∷ tokens) = parts_in outer (parts ++ record { trigger = trigger; sets = (port ∷ []) ∷ [] } ∷ []) tokens
-parts_in outer parts (Open ∷ tokens) = parts_in (parts ∷ outer) [] tokens
-parts_in [] parts (Close trigger ∷ tokens) = parts_in [] parts tokens
-parts_in (around ∷ outer) parts (Close trigger ∷ tokens) = parts_in outer (around ++ record { trigger = trigger; sets = fused parts } ∷ []) tokens
 
 -- the tokens of a node write one part
 WritesPart : Node → Type 0
@@ -58,19 +51,22 @@ each_child [] = tt
 each_child (child ∷ children) = (by_nodes WritesPart at_leaf at_fusion child.node, each_child children)
 
 -- the tokens of a connector say its port sets
-port_sets_written : (connector : Connector) → fused (parts_in [] [] (tokens_of connector)) ≡ port_sets connector
+pub port_sets_written : (connector : Connector) → port_sets_in (tokens_of connector) ≡ port_sets connector
 port_sets_written connector =
-    ap (λ tokens. fused (parts_in [] [] tokens)) (sym (append-nil (tokens_of connector)))
+    ap port_sets_in (sym (append-nil (tokens_of connector)))
     ∙ ap fused (row connector.root.items (each_child connector.root.items) [] [] [])
 
+-- and its interactions
+pub interactions_written : (connector : Connector) → interactions_in (tokens_of connector) ≡ interactions_of connector
+interactions_written connector =
+    ap (λ ports. masks_of ports (port_sets_in (tokens_of connector))) (ports-connector connector)
+    ∙ ap (masks_of (leaves connector)) (port_sets_written connector)
+
 pub same_port_sets : (one other : Connector) → tokens_of one ≡ tokens_of other → port_sets one ≡ port_sets other
-same_port_sets one other same =
-    sym (port_sets_written one) ∙ ap (λ tokens. fused (parts_in [] [] tokens)) same ∙ port_sets_written other
+same_port_sets one other same = sym (port_sets_written one) ∙ ap port_sets_in same ∙ port_sets_written other
 
 pub same_leaves : (one other : Connector) → tokens_of one ≡ tokens_of other → leaves one ≡ leaves other
 same_leaves one other same = sym (ports-connector one) ∙ ap ports_in same ∙ ports-connector other
 
 pub same_interactions : (one other : Connector) → tokens_of one ≡ tokens_of other → interactions_of one ≡ interactions_of other
-same_interactions one other same =
-    ap (λ ports. masks_of ports (port_sets one)) (same_leaves one other same)
-    ∙ ap (masks_of (leaves other)) (same_port_sets one other same)
+same_interactions one other same = sym (interactions_written one) ∙ ap interactions_in same ∙ interactions_written other

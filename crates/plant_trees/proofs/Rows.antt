@@ -8,6 +8,7 @@ use Rattle.plant_trees.specs.declared.token.Token.TheVariants.{Leaf, Open, Close
 use Rattle.plant_trees.specs.declared.fault.TreeWordsFault.TheVariants.{UnknownName, Shape, Tree}
 use Rattle.plant_trees.specs.Tokens.{Reading}
 use Rattle.plant_trees.specs.Trees.{tree_in}
+use Rattle.plant_trees.specs.Meaning.{interactions_in}
 
 -- the atoms `a` to `z`, by their place in the alphabet, each with the ports `p` and `q`, which are 0 and 1
 named : List ℕ → List ℕ → Option Port
@@ -139,3 +140,17 @@ an_empty_bracket = refl
 an_empty_bracket_inside : read (codes "a.p [ b.p [ ]' ]") ≡ Err (Tree Empty)
 unfolding read
 an_empty_bracket_inside = refl
+
+-- ---- what tokens mean
+
+a_leader_and_a_follower : interactions_in (trigger 0 ∷ synchron 1 ∷ []) ≡ 1 ∷ 3 ∷ []
+unfolding synchron trigger
+a_leader_and_a_follower = refl
+
+followers_together_only : interactions_in (trigger 0 ∷ Open ∷ synchron 1 ∷ synchron 2 ∷ Close false ∷ []) ≡ 1 ∷ 7 ∷ []
+unfolding synchron trigger
+followers_together_only = refl
+
+a_leading_bracket : interactions_in (Open ∷ trigger 0 ∷ synchron 1 ∷ Close false ∷ synchron 2 ∷ []) ≡ 5 ∷ 7 ∷ []
+unfolding synchron trigger
+a_leading_bracket = refl

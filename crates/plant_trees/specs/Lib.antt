@@ -3,3 +3,4 @@ pub mod Shape
 pub mod Trees
 pub mod Connectors
 pub mod Drafts
+pub mod Meaning

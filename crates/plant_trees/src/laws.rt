@@ -7,6 +7,7 @@ ghost use Rattle.connector_tree.specs.PortSets.{port_sets};
 ghost use Rattle.connector_tree.specs.Masks.{interactions_of};
 ghost use Rattle.plant_trees.specs.Shape.{ports_in, fault_in};
 ghost use Rattle.plant_trees.specs.Connectors.{tokens_of};
+ghost use Rattle.plant_trees.specs.Meaning.{port_sets_in, interactions_in};
 
 /// The ports among the tokens are the leaves.
 pub fn tokens_have_the_leaves()
@@ -16,6 +17,12 @@ pub fn tokens_have_the_leaves()
 /// The fault that is told of the tokens is the connector's.
 pub fn tokens_have_the_fault()
     ensures { (connector : Connector) → fault_in (tokens_of connector) ≡ fault_of connector }
+{}
+
+/// The port sets and the interactions that the tokens say are the connector's.
+pub fn tokens_have_the_interactions()
+    ensures port_sets { (connector : Connector) → port_sets_in (tokens_of connector) ≡ port_sets connector }
+    ensures interactions { (connector : Connector) → interactions_in (tokens_of connector) ≡ interactions_of connector }
 {}
 
 /// Connectors with the same tokens have the same leaves, port sets and interactions.
