@@ -1,0 +1,9 @@
+use Rattle.std.proofs.Common.{◌<◌, ◌^◌, ◌∙◌, sym, arith}
+use Rattle.std.proofs.lemmas.Bool.{le-ltb}
+use Rattle.petri_atom.proofs.Sets.{has-above}
+use Rattle.run_text.proofs.states.is_marked.Goals as goal
+
+pub returns-else-place-lt-MAX_PLACES : goal.returns-else-place-lt-MAX_PLACES
+returns-else-place-lt-MAX_PLACES c =
+    let small : c.args.marking < 2 ^ 64 = omega arith in
+    le-ltb c.args.place 64 c.if-place-lt-MAX_PLACES.false ∙ sym (has-above c.args.marking 64 c.args.place small c.if-place-lt-MAX_PLACES.false)

@@ -1,0 +1,76 @@
+-- What the lines of a run say.
+use Rattle.std.specs.Prelude.{ℕ, ◌+◌, ℤ, List, [], ◌∷◌, ◌++◌, flat_map, slice_get, codes, decimal, if◌then◌else◌}
+use Rattle.std.specs.Fmt.{signed_decimal}
+use Rattle.std.specs.Option.{option_map_or}
+use Rattle.petri_atom.specs.Local.{Local, has, value_in}
+use Rattle.petri_atom.specs.Definition.{AtomDefinition}
+use Rattle.petri_atom.specs.declared.parts.Place.{Place}
+use Rattle.petri_atom.specs.declared.parts.Variable.{Variable}
+use Rattle.step_core.specs.Plant.{PlantDefinition}
+use Rattle.step_core.specs.Choice.{ChoiceDefinition}
+use Rattle.step_core.specs.declared.choice.Move.{Move}
+
+-- what is said of each element of a list, the elements numbered from n, one after another
+abbrev pub numbered : {X Y : Type 0} → (ℕ → X → List Y) → ℕ → List X → List Y
+numbered say n [] = []
+numbered say n (x ∷ xs) = say n x ++ numbered say (n + 1) xs
+
+-- words with one space between two, and this before the first
+abbrev pub spaced_after : List ℕ → List (List ℕ) → List ℕ
+spaced_after before [] = []
+spaced_after before (word ∷ words) = before ++ word ++ spaced_after (codes " ") words
+
+-- words with one space between two
+abbrev pub spaced : List (List ℕ) → List ℕ
+spaced words = spaced_after [] words
+
+-- the name of the connector with a number
+abbrev pub wire_name : PlantDefinition → ℕ → List ℕ
+wire_name plant connector = option_map_or (λ w. w.name) (slice_get plant.wires connector) []
+
+-- the name of the port that a transition of an atom fires
+abbrev pub port_name : AtomDefinition → ℕ → List ℕ
+port_name a transition =
+    option_map_or (λ t. option_map_or (λ p. p.name) (slice_get a.ports t.port) []) (slice_get a.transitions transition) []
+
+-- a participant of a fired interaction: its name, the port that its transition fires, and the transition's number
+abbrev pub participant : List AtomDefinition → Move → List ℕ
+participant atoms m =
+    option_map_or (λ a. a.name ++ codes "." ++ port_name a m.transition ++ codes "/" ++ decimal m.transition)
+    (slice_get atoms m.atom) []
+
+-- a fired interaction: its number, its connector's name, and its participants in rising order of their atoms
+abbrev pub fired_line : PlantDefinition → ℕ → ChoiceDefinition → List ℕ
+fired_line plant number c =
+    decimal number ++ codes " " ++ wire_name plant c.connector ++
+    flat_map (λ m. codes " " ++ participant plant.atoms m) c.moves
+
+-- the name of the place with number k, where it is marked
+abbrev pub marked_name : ℕ → ℕ → Place → List (List ℕ)
+marked_name marking k place = if has marking k then place.name ∷ [] else []
+
+-- the names of the marked places, in the order of the places
+abbrev pub marked_names : ℕ → List Place → List (List ℕ)
+marked_names marking places = numbered (marked_name marking) 0 places
+
+-- the variable with number k and its value, with a space before them
+abbrev pub value_text : List ℤ → ℕ → Variable → List ℕ
+value_text values k variable = codes " " ++ variable.name ++ codes "=" ++ signed_decimal (value_in values k)
+
+-- the variables with their values, in the order of the variables
+abbrev pub values_text : List ℤ → List Variable → List ℕ
+values_text values variables = numbered (value_text values) 0 variables
+
+-- an atom in a state: its name, its marked places, and its variables with their values
+abbrev pub state_line : AtomDefinition → Local → List ℕ
+state_line a state =
+    codes "state " ++ a.name ++ codes " [" ++ spaced (marked_names state.marking a.places) ++ codes "]" ++
+    values_text state.values a.variables
+
+-- the line of the atom with number n in its state
+abbrev pub state_text : List Local → ℕ → AtomDefinition → List ℕ
+state_text states n a = option_map_or (λ state. state_line a state ++ codes "\n") (slice_get states n) []
+
+-- a line for each atom of a plant, in order
+abbrev pub states_text : PlantDefinition → List Local → List ℕ
+states_text plant states = numbered (state_text states) 0 plant.atoms
