@@ -1,1 +1,3 @@
 pub mod Line
+pub mod Trace
+pub mod Message

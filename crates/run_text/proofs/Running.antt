@@ -1,0 +1,26 @@
+-- A step of a run that is printed.
+use Rattle.std.proofs.Common.{◌≡◌, ℕ, ◌+◌, ◌<◌, ◌∙◌, ap, List, ◌++◌, length, drop, get_or, codes}
+use Rattle.std.specs.Prelude.{Option, Some}
+use Rattle.std.specs.Option.{option_map_or}
+use Rattle.std.specs.Io.KnownBytes.{Appends}
+use Rattle.std.proofs.KnownBytes.{Appends-trans}
+use Rattle.std.proofs.lemmas.List.{drop_more}
+use Rattle.petri_atom.specs.Local.{Local}
+use Rattle.step_core.specs.Plant.{PlantDefinition}
+use Rattle.step_core.specs.Choice.{ChoiceDefinition}
+use Rattle.step_core.specs.Step.{next}
+use Rattle.run_text.specs.Line.{fired_line, states_text}
+use Rattle.run_text.specs.Trace.{picked, trace_from}
+use Rattle.run_text.proofs.Leading.{Leads, leads-more, leads-same}
+
+-- the line of the choice that a pick takes is printed, and the run goes on from the state after it
+pub leads-fired : (plant : PlantDefinition) (states : List Local) (number : ℕ) (picks : List ℕ) (i : ℕ) (c : ChoiceDefinition) (start before line after : Option (List ℕ)) (all : List ℕ)
+    → i < length picks → picked plant states (get_or picks i 0) ≡ Some c → Leads start before (trace_from plant states number (drop i picks)) all
+    → Appends before line (fired_line plant number c) → Appends line after (codes "\n")
+    → Leads start after (trace_from plant (next plant states c) (number + 1) (drop (i + 1) picks)) all
+leads-fired plant states number picks i c start before line after all within taken l fired ended =
+    let later : ChoiceDefinition → List ℕ = λ d. trace_from plant (next plant states d) (number + 1) (drop (i + 1) picks) in
+    let left : trace_from plant states number (drop i picks) ≡ (fired_line plant number c ++ codes "\n") ++ later c =
+    ap (trace_from plant states number) (drop_more picks i 0 within) ∙
+    ap (λ found. option_map_or (λ d. fired_line plant number d ++ codes "\n" ++ later d) found (codes "stuck\n" ++ states_text plant states)) taken in
+    leads-more _ _ _ _ _ _ (leads-same l left) (Appends-trans before line after _ _ fired ended)

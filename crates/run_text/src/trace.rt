@@ -1,0 +1,76 @@
+//! The run that a list of picks chooses.
+ghost use Rattle.std.specs.Prelude.{◌≡◌, Err, IfSome, OnOk, option_map};
+ghost use Rattle.std.specs.Io.KnownBytes.{Appends};
+ghost use Rattle.step_core.specs.Choice.{IsAllowed};
+ghost use Rattle.step_core.specs.Chosen.{choice_of};
+ghost use Rattle.step_core.specs.Fitting.{IsOf};
+ghost use Rattle.step_core.specs.System.{plant_of};
+ghost use Rattle.run_text.specs.Trace.{picked, trace_from, trace_text};
+ghost use Rattle.run_text.specs.declared.fault.TraceFault.TheVariants.{Memory};
+
+use crate::fault::TraceFault;
+use crate::fired::print_choice;
+use crate::states::print_states;
+use std::alloc::Global;
+use std::io::Write;
+use step_core::{Choice, PlantState, System};
+use text_io::{WriteFault, end_line, print_text};
+
+/// Prints the run of a plant from its first states on: for each pick the line of the interaction that it fires, and then the
+/// line of each atom's state.
+///
+/// A pick takes the entry of the state's choices at the pick modulo their number. Where there is no choice the line
+/// `stuck` is printed, and the picks that follow are passed over.
+pub fn trace_to<W: Write>(
+    alloc: Global,
+    system: &System,
+    picks: &[u64],
+    output: &mut W,
+) -> Result<(), TraceFault>
+    ensures trace { OnOk result (Appends (W.contents output.old) (W.contents output.new)
+        (trace_text (plant_of system.now) picks.now)) }
+    ensures nothing_written { result ≡ Err Memory → output.new ≡ output.old }
+{
+    let mut states = PlantState::init(alloc, system)?;
+    print_run(system, &mut states, picks, output)?;
+    Ok(())
+}
+
+/// Prints the run from these states on, and leaves them as they are at its end.
+fn print_run<W: Write>(
+    system: &System,
+    states: &mut PlantState,
+    picks: &[u64],
+    output: &mut W,
+) -> Result<(), WriteFault>
+    requires { IsOf (plant_of system.now) states.old }
+    ensures { OnOk result (Appends (W.contents output.old) (W.contents output.new)
+        (trace_from (plant_of system.now) states.old 1 picks.now)) }
+{
+    for (fired, pick) in picks.iter().enumerate() {
+        match picked(system, states, *pick) {
+            Some(choice) => {
+                print_choice(fired as u64 + 1, system, &choice, output)?;
+                end_line(output)?;
+                system.next(states, &choice);
+            }
+            None => {
+                print_text(output, b"stuck\n")?;
+                break;
+            }
+        }
+    }
+    print_states(system, states, output)
+}
+
+/// The choice that the pick takes; `None` where the state has no choice.
+fn picked(system: &System, states: &PlantState, pick: u64) -> Option<Choice>
+    requires { IsOf (plant_of system.now) states.now }
+    ensures choice { option_map choice_of result ≡ picked (plant_of system.now) states.now pick }
+    ensures allowed { IfSome result (λ choice. IsAllowed (plant_of system.now) states.now (choice_of choice)) }
+{
+    match system.count_allowed(states) {
+        0 => None,
+        count => Some(system.nth_allowed(states, u128::from(pick) % count)),
+    }
+}
