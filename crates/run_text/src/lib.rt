@@ -22,3 +22,6 @@ pub use fault::TraceFault;
 pub use fired::print_choice;
 pub use states::print_states;
 pub use trace::trace_to;
+
+#[cfg(test)]
+mod tests;
