@@ -1,0 +1,74 @@
+-- Worked lines, as computed facts of the definitions.
+use Rattle.std.proofs.Common.{◌≡◌, ℕ, ◌∷◌, [], List, ℤ, pos, negsuc, true, false, refl, codes, ◌^◌, ◌-◌}
+use Rattle.std.specs.Fmt.{digits}
+use Rattle.petri_atom.specs.Expression.{number}
+use Rattle.petri_atom.specs.Local.{set_below}
+use Rattle.petri_atom.specs.Definition.{AtomDefinition}
+use Rattle.petri_atom.specs.declared.parts.Place.{Place}
+use Rattle.petri_atom.specs.declared.parts.Variable.{Variable}
+use Rattle.connector_tree.specs.declared.tree.Connector.{Connector}
+use Rattle.step_core.specs.Plant.{PlantDefinition}
+use Rattle.step_core.specs.declared.choice.Move.{Move}
+use Rattle.run_text.specs.Line.{spaced, participant, fired_line, state_line, states_text}
+use Rattle.run_text.specs.Trace.{trace_text}
+
+-- no word, and two
+no_words : spaced [] ≡ []
+no_words = refl
+
+two_words : spaced (codes "p" ∷ codes "q" ∷ []) ≡ codes "p q"
+two_words = refl
+
+abbrev place : List ℕ → Place
+place name = record { name = name; marked = true }
+
+abbrev variable : List ℕ → Variable
+variable name = record { name = name; first = pos 0 }
+
+-- an atom with three places, two variables, two ports, and transition 1 of port 1 from place 0 to place 1
+wide : AtomDefinition
+wide = record {
+  name = codes "W";
+  places = place (codes "p") ∷ place (codes "q") ∷ place (codes "r") ∷ [];
+  variables = variable (codes "n") ∷ variable (codes "m") ∷ [];
+  ports = record { name = codes "a"; exports = [] } ∷ record { name = codes "b"; exports = [] } ∷ [];
+  transitions = record { port = 0; sources = 0 ∷ []; targets = 0 ∷ []; guard = number (pos 1); updates = [] } ∷ record { port = 1; sources = 0 ∷ []; targets = 1 ∷ []; guard = number (pos 1); updates = [] } ∷ [];
+}
+
+-- its states: the places are told by the marking, whatever is marked at first
+marked_at_the_ends : state_line wide (record { marking = 5; values = pos 10 ∷ negsuc 1 ∷ [] }) ≡ codes "state W [p r] n=10 m=-2"
+unfolding wide digits
+marked_at_the_ends = refl
+
+nothing_marked : state_line wide (record { marking = 0; values = pos 0 ∷ negsuc (2 ^ 63 - 1) ∷ [] }) ≡ codes "state W [] n=0 m=-9223372036854775808"
+unfolding wide digits
+nothing_marked = refl
+
+-- a participant by the port of its transition; one that is not there is not told
+told_by_its_port : participant (wide ∷ []) (record { atom = 0; transition = 1 }) ≡ codes "W.b/1"
+unfolding wide digits
+told_by_its_port = refl
+
+not_there : participant (wide ∷ []) (record { atom = 1; transition = 0 }) ≡ []
+unfolding wide digits
+not_there = refl
+
+-- a plant with a connector of this atom
+abbrev plant_by : Connector → PlantDefinition
+plant_by connector = record { atoms = wide ∷ []; wires = record { name = codes "go"; connector = connector; guards = []; transfers = [] } ∷ [] }
+
+fired_of_a_wire : (connector : Connector) → fired_line (plant_by connector) 12 (record { connector = 0; mask = 1; moves = record { atom = 0; transition = 1 } ∷ [] }) ≡ codes "12 go W.b/1"
+unfolding wide digits
+fired_of_a_wire connector = refl
+
+-- where no connector is there, each run is stuck at once, and one without picks tells the states alone
+abbrev alone : PlantDefinition
+alone = record { atoms = wide ∷ []; wires = [] }
+
+stuck_at_once : trace_text alone (3 ∷ 0 ∷ []) ≡ codes "stuck\nstate W [p q r] n=0 m=0\n"
+unfolding wide digits set_below
+stuck_at_once = refl
+
+no_picks : trace_text alone [] ≡ codes "state W [p q r] n=0 m=0\n"
+unfolding wide digits set_below
+no_picks = refl
