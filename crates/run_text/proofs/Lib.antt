@@ -1,3 +1,4 @@
 pub mod Leading
 pub mod Running
 mod Rows
+mod RunRows

@@ -1,5 +1,5 @@
 -- Worked lines, as computed facts of the definitions.
-use Rattle.std.proofs.Common.{◌≡◌, ℕ, ◌∷◌, [], List, ℤ, pos, negsuc, true, false, refl, codes, ◌^◌, ◌-◌}
+use Rattle.std.proofs.Common.{◌≡◌, ℕ, ◌∷◌, [], List, pos, negsuc, true, refl, codes, ◌^◌, ◌-◌}
 use Rattle.std.specs.Fmt.{digits}
 use Rattle.petri_atom.specs.Expression.{number}
 use Rattle.petri_atom.specs.Local.{set_below}
@@ -8,8 +8,7 @@ use Rattle.petri_atom.specs.declared.parts.Place.{Place}
 use Rattle.petri_atom.specs.declared.parts.Variable.{Variable}
 use Rattle.connector_tree.specs.declared.tree.Connector.{Connector}
 use Rattle.step_core.specs.Plant.{PlantDefinition}
-use Rattle.step_core.specs.declared.choice.Move.{Move}
-use Rattle.run_text.specs.Line.{spaced, participant, fired_line, state_line, states_text}
+use Rattle.run_text.specs.Line.{spaced, participant, fired_line, state_line}
 use Rattle.run_text.specs.Trace.{trace_text}
 
 -- no word, and two
