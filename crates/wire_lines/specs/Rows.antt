@@ -54,13 +54,19 @@ transfer_in named before words = do
   value ← whole_expression named (drop 1 (drop 1 words))
   Ok (record { target = target; value = value })
 
--- the connector with one more guard clause behind its others
-abbrev pub with_guard : WireDefinition → Tree Export → WireDefinition
-with_guard w guard = record w { guards = w.guards ++ guard ∷ [] }
+-- the guard clauses of a connector, and behind them the one that the words are
+abbrev pub guards_with : Named → List (List ℕ) → List (Tree Export) → Result (List (Tree Export)) LineFault
+guards_with named words guards = do
+  _ ← check (nat_lt (length guards) MAX_GUARDS) Limit
+  guard ← whole_expression named words
+  Ok (guards ++ guard ∷ [])
 
--- the connector with one more transfer behind its others
-abbrev pub with_transfer : WireDefinition → TransferDefinition → WireDefinition
-with_transfer w transfer = record w { transfers = w.transfers ++ transfer ∷ [] }
+-- the transfers of a connector, and behind them the one that the words are
+abbrev pub transfers_with : Named → List (List ℕ) → List TransferDefinition → Result (List TransferDefinition) LineFault
+transfers_with named words transfers = do
+  _ ← check (nat_lt (length transfers) MAX_TRANSFERS) Limit
+  transfer ← transfer_in named transfers words
+  Ok (transfers ++ transfer ∷ [])
 
 -- which exported variable of the connector's leaves a word names
 abbrev pub named_on : (List ℕ → Option ℕ) → (Port → List ℕ → Option ℕ) → WireDefinition → Named
@@ -69,16 +75,14 @@ named_on atom_named export_named w = variable_in atom_named export_named (leaves
 -- the connector with the guard clause that the words are, by what they name
 abbrev pub guard_added : Named → List (List ℕ) → WireDefinition → Result WireDefinition LineFault
 guard_added named words w = do
-  _ ← check (nat_lt (length w.guards) MAX_GUARDS) Limit
-  guard ← whole_expression named words
-  Ok (with_guard w guard)
+  guards ← guards_with named words w.guards
+  Ok (record w { guards = guards })
 
 -- the connector with the transfer that the words are, by what they name
 abbrev pub transfer_added : Named → List (List ℕ) → WireDefinition → Result WireDefinition LineFault
 transfer_added named words w = do
-  _ ← check (nat_lt (length w.transfers) MAX_TRANSFERS) Limit
-  transfer ← transfer_in named w.transfers words
-  Ok (with_transfer w transfer)
+  transfers ← transfers_with named words w.transfers
+  Ok (record w { transfers = transfers })
 
 -- `guard EXPR`: a guard clause over exported variables of the connector's leaves
 abbrev pub guard_row : (List ℕ → Option ℕ) → (Port → List ℕ → Option ℕ) → List (List ℕ) → WireDefinition → Result WireDefinition LineFault
