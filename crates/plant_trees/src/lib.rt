@@ -36,7 +36,7 @@ mod token;
 
 pub use fault::TreeWordsFault;
 pub use read::read_tree;
-pub use token::Ports;
+pub use token::{Ports, Token};
 
 #[cfg(test)]
 mod tests;

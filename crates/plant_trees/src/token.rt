@@ -19,8 +19,8 @@ pub trait Ports {
 }
 
 /// What one word of a tree says.
-#[derive(Clone, Copy)]
-pub(crate) enum Token {
+#[derive(Clone, Copy, Debug, PartialEq, Eq)]
+pub enum Token {
     /// A port, and whether it is a trigger.
     Leaf { port: Port, trigger: bool },
     /// A bracket begins.
