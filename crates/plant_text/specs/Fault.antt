@@ -1,0 +1,130 @@
+-- What is told where a text is no plant.
+use Rattle.std.specs.Prelude.{◌≡◌, ◌≢◌, ℕ, ◌==◌, if◌then◌else◌, List, ◌++◌, codes, Result, Err}
+use Rattle.std.specs.Fmt.{decimal}
+use Rattle.connector_tree.specs.Faults as connector
+use Rattle.connector_tree.specs.declared.faults.TreeFault.{TreeFault}
+use Rattle.connector_tree.specs.declared.faults.TreeFault.TheVariants as tree
+use Rattle.step_core.specs.declared.fault.SystemFault.{SystemFault}
+use Rattle.step_core.specs.declared.fault.SystemFault.TheVariants as system
+use Rattle.atom_lines.specs.declared.fault.LineFault.{LineFault}
+use Rattle.atom_lines.specs.declared.fault.LineFault.TheVariants as line
+use Rattle.plant_trees.specs.declared.fault.TreeWordsFault.{TreeWordsFault}
+use Rattle.plant_trees.specs.declared.fault.TreeWordsFault.TheVariants as words
+use Rattle.text_io.specs.declared.reading.TheConstants.{MAX_TEXT}
+use Rattle.text_io.specs.declared.reading.TextFault.{TextFault}
+use Rattle.text_io.specs.declared.reading.TextFault.TheVariants as reading
+use Rattle.plant_text.specs.declared.fault.Fault.{Fault}
+use Rattle.plant_text.specs.declared.fault.Fault.TheVariants.{NotAscii, TooLong, UnknownWord, Misplaced, BadName, Twice, UnknownName, BadExpression, BadNumber, Shape, Tree, Limit, NoAtom, Memory, Read}
+use Rattle.plant_text.specs.declared.fault.PlantFault.{PlantFault}
+
+-- the number of a fault
+abbrev pub number_of : Fault → ℕ
+number_of NotAscii = 1
+number_of TooLong = 2
+number_of UnknownWord = 3
+number_of Misplaced = 4
+number_of BadName = 5
+number_of Twice = 6
+number_of UnknownName = 7
+number_of BadExpression = 8
+number_of BadNumber = 9
+number_of Shape = 10
+number_of (Tree fault) = 11
+number_of Limit = 13
+number_of NoAtom = 14
+number_of Memory = 15
+number_of Read = 16
+
+-- the name of a tree's fault, as programs print it
+abbrev pub tree_name_of : TreeFault → List ℕ
+tree_name_of tree.TooManyLeaves = codes "TooManyLeaves"
+tree_name_of tree.TooDeep = codes "TooDeep"
+tree_name_of tree.SameAtom = codes "SameAtom"
+tree_name_of tree.Empty = codes "Empty"
+tree_name_of tree.Memory = codes "Memory"
+
+-- the name of a fault, as programs print it; a tree's fault has its own
+abbrev pub name_of : Fault → List ℕ
+name_of NotAscii = codes "NotAscii"
+name_of TooLong = codes "TooLong"
+name_of UnknownWord = codes "UnknownWord"
+name_of Misplaced = codes "Misplaced"
+name_of BadName = codes "BadName"
+name_of Twice = codes "Twice"
+name_of UnknownName = codes "UnknownName"
+name_of BadExpression = codes "BadExpr"
+name_of BadNumber = codes "BadNumber"
+name_of Shape = codes "Shape"
+name_of (Tree fault) = tree_name_of fault
+name_of Limit = codes "Limit"
+name_of NoAtom = codes "NoAtom"
+name_of Memory = codes "Memory"
+name_of Read = codes "Read"
+
+-- what a fault says to a person
+abbrev pub message_of : Fault → List ℕ
+message_of NotAscii = codes "a byte is no printed ASCII character, space or tab"
+message_of TooLong = codes "the text has more than " ++ decimal MAX_TEXT ++ codes " bytes"
+message_of UnknownWord = codes "no line begins with this word"
+message_of Misplaced = codes "the line speaks of the latest atom or connector, and there is none yet"
+message_of BadName = codes "a name is malformed or reserved"
+message_of Twice = codes "a name is declared already, or stands twice where it may stand once"
+message_of UnknownName = codes "a name is not known here"
+message_of BadExpression = codes "an expression is malformed"
+message_of BadNumber = codes "a number is malformed, or has more than 64 bits"
+message_of Shape = codes "a word is missing, misplaced or left over"
+message_of (Tree fault) = connector.message_of fault
+message_of Limit = codes "a limit of plants is passed"
+message_of NoAtom = codes "there is no atom"
+message_of Memory = codes "not enough memory for the plant"
+message_of Read = codes "the text could not be read"
+
+-- what a fault says to a person, with its line, where it is one of a line
+abbrev pub placed_message_of : PlantFault → List ℕ
+placed_message_of told =
+    if told.line == 0 then message_of told.fault else codes "line " ++ decimal told.line ++ codes ": " ++ message_of told.fault
+
+-- the fault of a line that an atom or a connector could not take
+abbrev pub of_line : LineFault → Fault
+of_line line.BadName = BadName
+of_line line.Twice = Twice
+of_line line.UnknownName = UnknownName
+of_line line.BadExpression = BadExpression
+of_line line.BadNumber = BadNumber
+of_line line.Shape = Shape
+of_line line.Limit = Limit
+of_line line.Memory = Memory
+
+-- the fault of a line whose words are no tree
+abbrev pub of_tree : TreeWordsFault → Fault
+of_tree words.UnknownName = UnknownName
+of_tree words.Shape = Shape
+of_tree (words.Tree fault) = Tree fault
+of_tree words.Memory = Memory
+
+-- the fault of a text that could not be read
+abbrev pub of_text : TextFault → Fault
+of_text reading.TooLong = TooLong
+of_text reading.Memory = Memory
+of_text reading.Read = Read
+
+-- the fault of a text whose atoms and connectors, as they were written, make no plant
+abbrev pub of_system : SystemFault → Fault
+of_system system.Limit = Limit
+of_system (system.BadAtom atom) = Limit
+of_system (system.BadConnector connector fault) = Limit
+of_system (system.BadWire connector fault) = Limit
+of_system system.Memory = Memory
+
+-- a fault that is of no line
+abbrev pub of_no_line : Fault → PlantFault
+of_no_line fault = record { line = 0; fault = fault }
+
+-- a fault with the line that has it; want of memory is of no line
+abbrev pub placed : ℕ → Fault → PlantFault
+placed number Memory = of_no_line Memory
+placed number fault = record { line = number; fault = fault }
+
+-- a fault that is told is the one of what was read, or that memory ran out
+abbrev pub IsFaultOf : {A : Type 0} → Result A Fault → Fault → Type 0
+IsFaultOf read fault = fault ≢ Memory → read ≡ Err fault

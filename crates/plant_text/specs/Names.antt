@@ -1,0 +1,47 @@
+-- What names and first words mean in a plant text.
+use Rattle.std.specs.Prelude.{ℕ, Bool, if◌then◌else◌, List, codes, slice_get, position, Option, Some, None, option_map}
+use Rattle.std.specs.List.{list_any}
+use Rattle.std.specs.Option.{option_and_then}
+use Rattle.petri_atom.specs.Name.{is_same_text}
+use Rattle.petri_atom.specs.Definition.{AtomDefinition}
+use Rattle.connector_tree.specs.declared.tree.Port.{Port}
+use Rattle.atom_lines.specs.Lookup.{port_number, export_number}
+use Rattle.plant_text.specs.Text.{WireText}
+use Rattle.plant_text.specs.declared.kinds.AtomPart.TheVariants.{Place, Variable, Port as PortPart, Transition}
+use Rattle.plant_text.specs.declared.kinds.WirePart.TheVariants.{Guard, Transfer}
+use Rattle.plant_text.specs.declared.kinds.LineKind.{LineKind}
+use Rattle.plant_text.specs.declared.kinds.LineKind.TheVariants.{Atom, Connector, OfAtom, OfConnector}
+
+-- what kind of line begins with a word
+abbrev pub kind_in : List ℕ → Option LineKind
+kind_in word =
+    if is_same_text word (codes "atom") then Some Atom
+    else if is_same_text word (codes "connector") then Some Connector
+    else if is_same_text word (codes "place") then Some (OfAtom Place)
+    else if is_same_text word (codes "var") then Some (OfAtom Variable)
+    else if is_same_text word (codes "port") then Some (OfAtom PortPart)
+    else if is_same_text word (codes "trans") then Some (OfAtom Transition)
+    else if is_same_text word (codes "guard") then Some (OfConnector Guard)
+    else if is_same_text word (codes "move") then Some (OfConnector Transfer)
+    else None
+
+-- the number of the first atom with the name
+abbrev pub atom_number : List AtomDefinition → List ℕ → Option ℕ
+atom_number atoms name = position (λ a. is_same_text a.name name) atoms
+
+-- some connector has the name
+abbrev pub has_wire : List WireText → List ℕ → Bool
+has_wire wires name = list_any (λ w. is_same_text w.name name) wires
+
+-- the port with the name of the atom with the number
+abbrev pub port_at : List AtomDefinition → List ℕ → ℕ → Option Port
+port_at atoms name number =
+    option_and_then (λ a. option_map (λ port. record { atom = number; port = port }) (port_number a name)) (slice_get atoms number)
+
+-- the port with the second name, of the first atom with the first name
+abbrev pub port_named : List AtomDefinition → List ℕ → List ℕ → Option Port
+port_named atoms atom port = option_and_then (port_at atoms port) (atom_number atoms atom)
+
+-- the place of the variable with the name, among those that the port exports
+abbrev pub export_named : List AtomDefinition → Port → List ℕ → Option ℕ
+export_named atoms port name = option_and_then (λ a. export_number a port.port name) (slice_get atoms port.atom)

@@ -1,0 +1,112 @@
+-- What each line says of the plant so far, or the fault of its first word that is at fault.
+use Rattle.std.specs.Prelude.{ℕ, ◌-◌, Bool, not, is_none, if◌then◌else◌, nat_lt, List, [], ◌∷◌, ◌++◌, length, drop, slice_get, slice_set, Result, Ok, Err}
+use Rattle.std.specs.Option.{ok_or, option_map_or}
+use Rattle.petri_atom.specs.Definition.{AtomDefinition}
+use Rattle.petri_atom.specs.Parts.{definition_by}
+use Rattle.step_core.specs.declared.limits.TheConstants.{MAX_ATOMS, MAX_WIRES}
+use Rattle.plant_words.specs.Lines.{is_legal_line}
+use Rattle.plant_words.specs.Words.{words_of, is_passed_over}
+use Rattle.atom_lines.specs.declared.fault.LineFault.{LineFault}
+use Rattle.atom_lines.specs.Reading.{first_name, at_end}
+use Rattle.atom_lines.specs.Rows.{place_row, variable_row, port_row}
+use Rattle.atom_lines.specs.Transitions.{transition_row}
+use Rattle.plant_trees.specs.declared.token.Token.{Token}
+use Rattle.plant_trees.specs.Shape.{ports_in}
+use Rattle.plant_trees.specs.Tokens.{Reading}
+use Rattle.plant_trees.specs.Trees.{tree_in}
+use Rattle.wire_lines.specs.Names.{variable_in}
+use Rattle.wire_lines.specs.Rows.{Named, guards_with, transfers_with}
+use Rattle.plant_text.specs.Text.{WireText, PlantText}
+use Rattle.plant_text.specs.Names.{kind_in, atom_number, has_wire, port_named, export_named}
+use Rattle.plant_text.specs.Fault.{of_line, of_tree}
+use Rattle.plant_text.specs.declared.kinds.AtomPart.{AtomPart}
+use Rattle.plant_text.specs.declared.kinds.AtomPart.TheVariants.{Place, Variable, Port, Transition}
+use Rattle.plant_text.specs.declared.kinds.WirePart.{WirePart}
+use Rattle.plant_text.specs.declared.kinds.WirePart.TheVariants.{Guard, Transfer}
+use Rattle.plant_text.specs.declared.kinds.LineKind.{LineKind}
+use Rattle.plant_text.specs.declared.kinds.LineKind.TheVariants.{Atom, Connector, OfAtom, OfConnector}
+use Rattle.plant_text.specs.declared.fault.Fault.{Fault}
+use Rattle.plant_text.specs.declared.fault.Fault.TheVariants.{NotAscii, UnknownWord, Misplaced, Twice, Limit}
+
+infixl 10 ◌>>=◌
+-- what comes next is judged only where nothing before it is at fault
+abbrev pub ◌>>=◌ : {A B F : Type 0} → Result A F → (A → Result B F) → Result B F
+Ok x >>= next = next x
+Err fault >>= next = Err fault
+
+-- the fault, unless the test passes
+abbrev pub check : Bool → Fault → Result (Unit {0}) Fault
+check passes fault = if passes then Ok tt else Err fault
+
+-- what the words of a line say of an atom or a connector, with their fault as one of the text
+abbrev pub told : {A : Type 0} → Result A LineFault → Result A Fault
+told (Ok x) = Ok x
+told (Err fault) = Err (of_line fault)
+
+-- the same of a tree
+abbrev pub told_tree : Reading → Result (List Token) Fault
+told_tree (Ok tokens) = Ok tokens
+told_tree (Err fault) = Err (of_tree fault)
+
+-- the list with this in the place of its last
+abbrev pub with_last : {A : Type 0} → List A → A → List A
+with_last list x = slice_set list (length list - 1) x
+
+-- the list with its last changed by a row; there must be one
+abbrev pub last_changed : {A : Type 0} → (A → Result A LineFault) → List A → Result (List A) Fault
+last_changed row list =
+    option_map_or (λ last. told (row last) >>= λ changed. Ok (with_last list changed)) (slice_get list (length list - 1)) (Err Misplaced)
+
+-- a line `place`, `var`, `port` or `trans`, by the words behind its first
+abbrev pub atom_part_row : AtomPart → List (List ℕ) → AtomDefinition → Result AtomDefinition LineFault
+atom_part_row Place = place_row
+atom_part_row Variable = variable_row
+atom_part_row Port = port_row
+atom_part_row Transition = transition_row
+
+-- which exported variable of the connector's leaves a word names
+abbrev pub named_on : List AtomDefinition → WireText → Named
+named_on atoms w = variable_in (atom_number atoms) (export_named atoms) (ports_in w.tree)
+
+-- a line `guard` or `move`, by the words behind its first
+abbrev pub wire_part_row : WirePart → List AtomDefinition → List (List ℕ) → WireText → Result WireText LineFault
+wire_part_row Guard atoms words w = guards_with (named_on atoms w) words w.guards >>= λ guards. Ok (record w { guards = guards })
+wire_part_row Transfer atoms words w = transfers_with (named_on atoms w) words w.transfers >>= λ transfers. Ok (record w { transfers = transfers })
+
+-- `atom NAME`: an atom with a new name and no parts
+abbrev pub atom_row : List (List ℕ) → PlantText → Result PlantText Fault
+atom_row words plant = do
+  _ ← check (nat_lt (length plant.atoms) MAX_ATOMS) Limit
+  name ← told (first_name words)
+  _ ← check (is_none (atom_number plant.atoms name)) Twice
+  _ ← told (at_end (drop 1 words))
+  Ok (record plant { atoms = plant.atoms ++ definition_by name [] [] [] [] ∷ [] })
+
+-- `connector NAME TREE`: a connector with a new name, over ports of the atoms so far
+abbrev pub connector_row : List (List ℕ) → PlantText → Result PlantText Fault
+connector_row words plant = do
+  _ ← check (nat_lt (length plant.wires) MAX_WIRES) Limit
+  name ← told (first_name words)
+  _ ← check (not (has_wire plant.wires name)) Twice
+  tree ← told_tree (tree_in (port_named plant.atoms) (drop 1 words))
+  Ok (record plant { wires = plant.wires ++ record { name = name; tree = tree; guards = []; transfers = [] } ∷ [] })
+
+-- a line of a kind, by the words behind its first: a part is one of the latest atom or connector
+abbrev pub row_of : LineKind → List (List ℕ) → PlantText → Result PlantText Fault
+row_of Atom words plant = atom_row words plant
+row_of Connector words plant = connector_row words plant
+row_of (OfAtom part) words plant = last_changed (atom_part_row part words) plant.atoms >>= λ atoms. Ok (record plant { atoms = atoms })
+row_of (OfConnector part) words plant = last_changed (wire_part_row part plant.atoms words) plant.wires >>= λ wires. Ok (record plant { wires = wires })
+
+-- the words of a line: the first one says of which kind it is
+abbrev pub words_row : List (List ℕ) → PlantText → Result PlantText Fault
+words_row [] plant = Ok plant
+words_row (word ∷ words) plant = do
+  kind ← ok_or (kind_in word) UnknownWord
+  row_of kind words plant
+
+-- a line: its bytes must be legal, and empty lines and comments say nothing
+abbrev pub line_row : List ℕ → PlantText → Result PlantText Fault
+line_row line plant = do
+  _ ← check (is_legal_line line) NotAscii
+  if is_passed_over line then Ok plant else words_row (words_of line) plant

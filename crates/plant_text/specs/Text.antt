@@ -1,0 +1,28 @@
+-- What the lines of a text say of a plant.
+use Rattle.std.specs.Prelude.{ℕ, List, map}
+use Rattle.petri_atom.specs.Expression.{Tree}
+use Rattle.petri_atom.specs.Definition.{AtomDefinition}
+use Rattle.step_core.specs.Plant.{TransferDefinition, WireDefinition, PlantDefinition}
+use Rattle.step_core.specs.declared.wire.Export.{Export}
+use Rattle.plant_trees.specs.declared.token.Token.{Token}
+use Rattle.plant_trees.specs.Connectors.{tokens_of}
+
+-- a connector as it is written: its tree as a list of tokens
+pub record WireText : Type 0 where
+  pub name : List ℕ
+  pub tree : List Token
+  pub guards : List (Tree Export)
+  pub transfers : List TransferDefinition
+
+-- a plant as it is written: its atoms and its connectors, each numbered from 0 in written order
+pub record PlantText : Type 0 where
+  pub atoms : List AtomDefinition
+  pub wires : List WireText
+
+-- how a connector is written
+abbrev pub wire_text_of : WireDefinition → WireText
+wire_text_of w = record { name = w.name; tree = tokens_of w.connector; guards = w.guards; transfers = w.transfers }
+
+-- how a plant is written
+abbrev pub text_of : PlantDefinition → PlantText
+text_of plant = record { atoms = plant.atoms; wires = map wire_text_of plant.wires }

@@ -1,0 +1,165 @@
+//! The plant as its lines have told it so far.
+ghost use Rattle.std.specs.Prelude.{◌≡◌, ◌≤◌, length, map, IfOk, IfErr, OnOk, Ok, None};
+ghost use Rattle.step_core.specs.declared.limits.TheConstants.{MAX_ATOMS, MAX_WIRES};
+ghost use Rattle.connector_tree.specs.Faults.{fault_of};
+ghost use Rattle.atom_lines.specs.Draft.{drafted as atom_drafted};
+ghost use Rattle.plant_trees.specs.Connectors.{tokens_of};
+ghost use Rattle.plant_trees.specs.Trees.{tree_in};
+ghost use Rattle.plant_text.specs.Fault.{IsFaultOf};
+ghost use Rattle.plant_text.specs.Names.{has_wire, port_named};
+ghost use Rattle.plant_text.specs.Rows.{told_tree, atom_row, connector_row, row_of, words_row, line_row};
+
+use crate::fault::Fault;
+use crate::kinds::{AtomPart, LineKind, WirePart};
+use crate::names::AtomTable;
+use crate::parts::{change_atom, change_wire, has_wire};
+use crate::reading::{check, end, next_name};
+use atom_lines::AtomDraft;
+use connector_tree::Connector;
+use plant_trees::read_tree;
+use plant_words::{Words, is_legal, is_passed_over};
+use std::alloc::Global;
+use step_core::{MAX_ATOMS, MAX_WIRES};
+use wire_lines::WireDraft;
+
+/// A plant to which lines add parts.
+#[derive(Drop)]
+pub(crate) struct PlantDraft {
+    pub(crate) alloc: Global,
+    pub(crate) atoms: Vec<AtomDraft>,
+    pub(crate) wires: Vec<WireDraft>,
+    ghost few_atoms: { length atoms.items ≤ MAX_ATOMS },
+    ghost few_wires: { length wires.items ≤ MAX_WIRES },
+}
+
+impl PlantDraft {
+    ghost use Rattle.plant_text.specs.Draft.{drafted};
+    ghost use Rattle.plant_text.specs.Meaning.{nothing};
+
+    /// The plant with no parts.
+    pub(crate) fn new(alloc: Global) -> Self
+        ensures { drafted result ≡ nothing }
+    {
+        PlantDraft {
+            alloc,
+            atoms: Vec::new(alloc),
+            wires: Vec::new(alloc),
+        }
+    }
+
+    /// What a line says. Behind a fault nothing is said of the plant.
+    pub(crate) fn add_line(&mut self, line: &[u8]) -> Result<(), Fault>
+        ensures added { OnOk result (line_row line.now (drafted self.old) ≡ Ok (drafted self.new)) }
+        ensures fault { IfErr result (IsFaultOf (line_row line.now (drafted self.old))) }
+    {
+        check(is_legal(line), Fault::NotAscii)?;
+        if is_passed_over(line) {
+            return Ok(());
+        }
+        self.add_words(&mut Words::new(line))
+    }
+
+    /// What the words of a line say.
+    fn add_words(&mut self, words: &mut Words) -> Result<(), Fault>
+        ensures added { OnOk result (words_row words.old (drafted self.old) ≡ Ok (drafted self.new)) }
+        ensures fault { IfErr result (IsFaultOf (words_row words.old (drafted self.old))) }
+    {
+        let Some(word) = words.next_word() else {
+            return Ok(());
+        };
+        let kind = LineKind::of(word).ok_or(Fault::UnknownWord)?;
+        self.add_of_kind(kind, words)
+    }
+
+    /// What a line of the kind says, by the words behind its first.
+    fn add_of_kind(&mut self, kind: LineKind, words: &mut Words) -> Result<(), Fault>
+        ensures added { OnOk result (row_of kind words.old (drafted self.old) ≡ Ok (drafted self.new)) }
+        ensures fault { IfErr result (IsFaultOf (row_of kind words.old (drafted self.old))) }
+    {
+        match kind {
+            LineKind::Atom => self.add_atom(words),
+            LineKind::Connector => self.add_connector(words),
+            LineKind::OfAtom(part) => self.add_atom_part(part, words),
+            LineKind::OfConnector(part) => self.add_wire_part(part, words),
+        }
+    }
+
+    /// Adds the atom of a line `atom NAME`, by the words behind its first.
+    fn add_atom(&mut self, words: &mut Words) -> Result<(), Fault>
+        ensures added { OnOk result (atom_row words.old (drafted self.old) ≡ Ok (drafted self.new)) }
+        ensures fault { IfErr result (IsFaultOf (atom_row words.old (drafted self.old))) }
+    {
+        check(self.atoms.len() < MAX_ATOMS, Fault::Limit)?;
+        let name = next_name(words)?;
+        let before = self.table().find(name.as_bytes());
+        check(before.is_none(), Fault::Twice)?;
+        end(words)?;
+        self.atoms.push(AtomDraft::new(self.alloc, name))?;
+        Ok(())
+    }
+
+    /// Adds a part to the latest atom, by the words behind the line's first.
+    fn add_atom_part(&mut self, part: AtomPart, words: &mut Words) -> Result<(), Fault>
+        ensures added { OnOk result (row_of (LineKind.OfAtom part) words.old (drafted self.old) ≡ Ok (drafted self.new)) }
+        ensures fault { IfErr result (IsFaultOf (row_of (LineKind.OfAtom part) words.old (drafted self.old))) }
+    {
+        let Some(atom) = self.atoms.last_mut() else {
+            return Err(Fault::Misplaced);
+        };
+        change_atom(atom, part, words)?;
+        Ok(())
+    }
+
+    /// Adds the connector of a line `connector NAME TREE`, by the words behind its first.
+    fn add_connector(&mut self, words: &mut Words) -> Result<(), Fault>
+        ensures added { OnOk result (connector_row words.old (drafted self.old) ≡ Ok (drafted self.new)) }
+        ensures fault { IfErr result (IsFaultOf (connector_row words.old (drafted self.old))) }
+    {
+        check(self.wires.len() < MAX_WIRES, Fault::Limit)?;
+        let name = next_name(words)?;
+        check(!self.has_wire(name.as_bytes()), Fault::Twice)?;
+        let connector = self.read_tree(words)?;
+        self.wires.push(WireDraft::new(self.alloc, name, connector)?)?;
+        Ok(())
+    }
+
+    /// The atoms so far, by their names.
+    fn table(&self) -> AtomTable<'_>
+        ensures { map atom_drafted result.drafts.now ≡ (drafted self.now).atoms }
+    {
+        AtomTable {
+            drafts: &self.atoms,
+        }
+    }
+
+    /// Whether a connector has the name.
+    fn has_wire(&self, name: &[u8]) -> bool
+        ensures { result ≡ has_wire (drafted self.now).wires name.now }
+    {
+        has_wire(&self.wires, name)
+    }
+
+    /// The tree that the words are, over ports of the atoms so far.
+    fn read_tree(&self, words: &mut Words) -> Result<Connector, Fault>
+        ensures tree { IfOk result (λ connector. told_tree (tree_in (port_named (drafted self.now).atoms) words.old) ≡ Ok (tokens_of connector)) }
+        ensures fault { IfErr result (IsFaultOf (told_tree (tree_in (port_named (drafted self.now).atoms) words.old))) }
+        ensures sound { IfOk result (λ connector. fault_of connector ≡ None) }
+    {
+        Ok(read_tree(self.alloc, words, &self.table())?)
+    }
+
+    /// Adds a part to the latest connector, by the words behind the line's first.
+    fn add_wire_part(&mut self, part: WirePart, words: &mut Words) -> Result<(), Fault>
+        ensures added { OnOk result (row_of (LineKind.OfConnector part) words.old (drafted self.old) ≡ Ok (drafted self.new)) }
+        ensures fault { IfErr result (IsFaultOf (row_of (LineKind.OfConnector part) words.old (drafted self.old))) }
+    {
+        let table = AtomTable {
+            drafts: &self.atoms,
+        };
+        let Some(wire) = self.wires.last_mut() else {
+            return Err(Fault::Misplaced);
+        };
+        change_wire(wire, part, words, &table)?;
+        Ok(())
+    }
+}

@@ -1,0 +1,76 @@
+//! The atoms so far, by the names that connectors use.
+ghost use Rattle.std.specs.Prelude.{◌≡◌, ◌<◌, ◌≤◌, length, map, IfSome, position};
+ghost use Rattle.petri_atom.specs.Name.{is_same_text};
+ghost use Rattle.step_core.specs.declared.limits.TheConstants.{MAX_ATOMS};
+ghost use Rattle.atom_lines.specs.Draft.{drafted};
+ghost use Rattle.plant_text.specs.Names.{atom_number};
+
+use atom_lines::AtomDraft;
+use connector_tree::Port;
+use plant_trees::Ports;
+use step_core::MAX_ATOMS;
+use wire_lines::Exports;
+
+/// The index of the first draft with the name.
+fn find_draft(drafts: &[AtomDraft], name: &[u8]) -> Option<usize>
+    ensures first { result ≡ position (λ draft. is_same_text (drafted draft).name name.now) drafts.now }
+    ensures within { IfSome result (λ index. index < length drafts.now) }
+{
+    drafts
+        .iter()
+        .position(|draft| draft.name().as_bytes() == name)
+}
+
+/// The atoms so far, numbered from 0.
+#[derive(Drop)]
+pub(crate) struct AtomTable<'a> {
+    pub(crate) drafts: &'a [AtomDraft],
+    ghost few: { length drafts.now ≤ MAX_ATOMS },
+}
+
+impl AtomTable<'_> {
+    /// The index of the first atom with the name.
+    pub(crate) fn find(&self, name: &[u8]) -> Option<usize>
+        ensures first { result ≡ atom_number (map drafted self.now.drafts.now) name.now }
+        ensures within { IfSome result (λ index. index < length self.now.drafts.now) }
+    {
+        find_draft(self.drafts, name)
+    }
+}
+
+impl Ports for AtomTable<'_> {
+    ghost use Rattle.std.specs.Prelude.{map};
+    ghost use Rattle.atom_lines.specs.Draft.{drafted};
+    ghost use Rattle.plant_text.specs.Names as names;
+
+    ghost port_named = { λ table atom port. names.port_named (map drafted table.drafts.now) atom port };
+
+    fn find_port(&self, atom: &[u8], port: &[u8]) -> Option<Port> {
+        let index = self.find(atom)?;
+        let port = self.drafts[index].find_port(port)?;
+        Some(Port {
+            atom: index as u16,
+            port,
+        })
+    }
+}
+
+impl Exports for AtomTable<'_> {
+    ghost use Rattle.std.specs.Prelude.{map};
+    ghost use Rattle.atom_lines.specs.Draft.{drafted};
+    ghost use Rattle.plant_text.specs.Names as names;
+
+    ghost atom_named = { λ table name. names.atom_number (map drafted table.drafts.now) name };
+
+    ghost export_named = { λ table port name. names.export_named (map drafted table.drafts.now) port name };
+
+    fn find_atom(&self, name: &[u8]) -> Option<u16> {
+        Some(self.find(name)? as u16)
+    }
+
+    fn find_export(&self, port: Port, variable: &[u8]) -> Option<u8> {
+        self.drafts
+            .get(usize::from(port.atom))?
+            .find_export(port.port, variable)
+    }
+}

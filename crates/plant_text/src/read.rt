@@ -1,0 +1,82 @@
+//! From the bytes of a text to its system.
+ghost use Rattle.std.specs.Prelude.{◌≡◌, ◌≢◌, ◌≤◌, length, IfOk, IfErr, IfSome, OnOk, Ok, Err};
+ghost use Rattle.std.specs.Io.KnownBytes.{IsAtEnd};
+ghost use Rattle.sha2.specs.Sha256.{sha256};
+ghost use Rattle.step_core.specs.System.{plant_of};
+ghost use Rattle.plant_words.specs.Lines.{lines_of};
+ghost use Rattle.text_io.specs.declared.reading.TheConstants.{MAX_TEXT};
+ghost use Rattle.plant_text.specs.Draft.{drafted};
+ghost use Rattle.plant_text.specs.Fault.{of_no_line};
+ghost use Rattle.plant_text.specs.Made.{IsTold};
+ghost use Rattle.plant_text.specs.Meaning.{meaning, lines_row, nothing};
+ghost use Rattle.plant_text.specs.Text.{text_of};
+ghost use Rattle.plant_text.specs.declared.fault.Fault.TheVariants as fault;
+
+use crate::draft::PlantDraft;
+use crate::fault::{Fault, PlantFault};
+use crate::making::system_of;
+use plant_words::Lines;
+use std::alloc::Global;
+use std::io::Read;
+use step_core::System;
+use text_io::{MAX_TEXT, digest_of, read_text};
+
+/// Reads a plant text to the reader's end, and gives its system.
+///
+/// A fault of a line is told when the reader is at its end. Of the reader behind another fault nothing is said.
+pub fn read_plant<R: Read>(alloc: Global, reader: &mut R) -> Result<System, PlantFault>
+    ensures end { OnOk result (IsAtEnd (R.remaining reader.new)) }
+    ensures plant { IfOk result
+        (λ system. IfSome (R.remaining reader.old) (λ bytes. meaning bytes ≡ Ok (text_of (plant_of system)))) }
+    ensures digest { IfOk result
+        (λ system. IfSome (R.remaining reader.old) (λ bytes. system.digest ≡ sha256 bytes)) }
+    ensures fault { IfErr result
+        (λ told. told ≢ of_no_line fault.Memory → told ≢ of_no_line fault.Read → IfSome (R.remaining reader.old) (λ bytes. IsTold bytes told)) }
+{
+    let text = read_text(alloc, reader)?;
+    plant_of_text(alloc, &text)
+}
+
+/// The system of a plant text.
+pub fn plant_of_text(alloc: Global, text: &[u8]) -> Result<System, PlantFault>
+    ensures plant { IfOk result (λ system. meaning text.now ≡ Ok (text_of (plant_of system))) }
+    ensures digest { IfOk result (λ system. system.digest ≡ sha256 text.now) }
+    ensures fault { IfErr result (λ told. told ≢ of_no_line fault.Memory → IsTold text.now told) }
+{
+    let draft = read_draft(alloc, text)?;
+    system_of(draft, digest_of(text))
+}
+
+/// The atoms and connectors of a plant text.
+fn read_draft(alloc: Global, text: &[u8]) -> Result<PlantDraft, PlantFault>
+    ensures draft { IfOk result (λ draft. meaning text.now ≡ Ok (drafted draft)) }
+    ensures fault { IfErr result (λ told. told ≢ of_no_line fault.Memory → meaning text.now ≡ Err told) }
+{
+    if text.len() > MAX_TEXT {
+        return Err(PlantFault::of_no_line(Fault::TooLong));
+    }
+    let draft = read_lines(alloc, text)?;
+    if draft.atoms.is_empty() {
+        return Err(PlantFault::of_no_line(Fault::NoAtom));
+    }
+    Ok(draft)
+}
+
+/// What the lines of a text say, one after the other.
+fn read_lines(alloc: Global, text: &[u8]) -> Result<PlantDraft, PlantFault>
+    requires { length text.now ≤ MAX_TEXT }
+    ensures draft { IfOk result (λ draft. lines_row 1 (lines_of text.now) nothing ≡ Ok (drafted draft)) }
+    ensures fault { IfErr result
+        (λ told. told ≢ of_no_line fault.Memory → lines_row 1 (lines_of text.now) nothing ≡ Err told) }
+{
+    let mut draft = PlantDraft::new(alloc);
+    let mut lines = Lines::new(text);
+    let mut number = 1;
+    while let Some(line) = lines.next_line() {
+        match draft.add_line(line) {
+            Ok(()) => number += 1,
+            Err(fault) => return Err(PlantFault::placed(number, fault)),
+        }
+    }
+    Ok(draft)
+}
