@@ -1,7 +1,7 @@
 //! The choices of a global state: how many there are, and which.
-ghost use Rattle.std.specs.Prelude.{◌≡◌, ◌<◌, ◌≤◌, Some, map, length, slice_get};
+ghost use Rattle.std.specs.Prelude.{◌≡◌, ◌↔◌, ◌<◌, ◌≤◌, Some, map, length, slice_get};
 ghost use Rattle.petri_atom.specs.Atom.{definition_of};
-ghost use Rattle.step_core.specs.Choice.{choices, IsAllowed};
+ghost use Rattle.step_core.specs.Choice.{choices, IsAllowed, IsStuck};
 ghost use Rattle.step_core.specs.Chosen.{choice_of};
 ghost use Rattle.step_core.specs.Fitting.{IsOf};
 ghost use Rattle.step_core.specs.Interaction.{interaction_of};
@@ -25,7 +25,8 @@ impl System {
     /// How many choices the state has; none exactly where no interaction is possible.
     pub fn count_allowed(&self, states: &PlantState) -> u128
         requires { IsOf (plant_of self.now) states.now }
-        ensures { result ≡ length (choices (plant_of self.now) states.now) }
+        ensures count { result ≡ length (choices (plant_of self.now) states.now) }
+        ensures stuck { (result ≡ 0) ↔ IsStuck (plant_of self.now) states.now }
     {
         let offered = offered_sets(&self.atoms, states);
         let possible = self.possible_among(states, &offered);

@@ -1,9 +1,9 @@
 //! A plant that runs: its present state, with what that state offers, judged once.
-ghost use Rattle.std.specs.Prelude.{◌≡◌, ◌≤◌, ◌<◌, ℕ, Some, IfOk, map, length, slice_get, slice_index_or};
+ghost use Rattle.std.specs.Prelude.{◌≡◌, ◌↔◌, ◌≤◌, ◌<◌, ℕ, Some, IfOk, map, length, slice_get, slice_index_or};
 ghost use Rattle.petri_atom.specs.Atom.{definition_of};
 ghost use Rattle.petri_atom.specs.Local.{Local};
 ghost use Rattle.petri_atom.specs.Definition.{AtomDefinition, offered_set};
-ghost use Rattle.step_core.specs.Choice.{choices, IsAllowed};
+ghost use Rattle.step_core.specs.Choice.{choices, IsAllowed, IsStuck};
 ghost use Rattle.step_core.specs.Chosen.{choice_of};
 ghost use Rattle.step_core.specs.Fitting.{IsOf, AllFit};
 ghost use Rattle.step_core.specs.Interaction.{interaction_of};
@@ -83,7 +83,8 @@ impl<'s> Stepper<'s> {
 
     /// How many choices the present state has; none exactly where no interaction is possible.
     pub fn count(&self) -> u128
-        ensures { result ≡ length (choices (plant_in self.now) (states_in self.now)) }
+        ensures count { result ≡ length (choices (plant_in self.now) (states_in self.now)) }
+        ensures stuck { (result ≡ 0) ↔ IsStuck (plant_in self.now) (states_in self.now) }
     {
         self.system
             .count_among(&self.states, &self.offered, &self.possible)
