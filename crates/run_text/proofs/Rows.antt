@@ -54,7 +54,7 @@ not_there = refl
 
 -- a plant with a connector of this atom
 abbrev plant_by : Connector → PlantDefinition
-plant_by connector = record { atoms = wide ∷ []; wires = record { name = codes "go"; connector = connector; guards = []; transfers = [] } ∷ [] }
+plant_by connector = record { atoms = wide ∷ []; wires = record { name = codes "go"; connector = connector; guards = []; transfers = [] } ∷ []; rules = [] }
 
 fired_of_a_wire : (connector : Connector) → fired_line (plant_by connector) 12 (record { connector = 0; mask = 1; moves = record { atom = 0; transition = 1 } ∷ [] }) ≡ codes "12 go W.b/1"
 unfolding wide digits
@@ -62,7 +62,7 @@ fired_of_a_wire connector = refl
 
 -- where no connector is there, each run is stuck at once, and one without picks tells the states alone
 abbrev alone : PlantDefinition
-alone = record { atoms = wide ∷ []; wires = [] }
+alone = record { atoms = wide ∷ []; wires = []; rules = [] }
 
 stuck_at_once : trace_text alone (3 ∷ 0 ∷ []) ≡ codes "stuck\nstate W [p q r] n=0 m=0\n"
 unfolding wide digits set_below

@@ -1,6 +1,6 @@
 -- A worked run of a plant of two atoms, computed from the definitions.
 use Rattle.std.proofs.Common.{◌≡◌, ℕ, ◌+◌, ◌%◌, ◌∙◌, ap, ℤ, pos, refl, true, List, [], ◌∷◌, ◌++◌, map, length, codes}
-use Rattle.std.specs.Prelude.{Some, flat_map, filter, slice_get}
+use Rattle.std.specs.Prelude.{Some, slice_get}
 use Rattle.std.specs.Fmt.{digits}
 use Rattle.std.specs.Int.{int_wrap}
 use Rattle.std.specs.Option.{option_map_or}
@@ -12,7 +12,8 @@ use Rattle.connector_tree.specs.Tree.{leaves}
 use Rattle.connector_tree.specs.declared.tree.Connector.{Connector}
 use Rattle.connector_tree.specs.declared.tree.Port.{Port}
 use Rattle.step_core.specs.Plant.{TransferDefinition, PlantDefinition}
-use Rattle.step_core.specs.Choice.{ChoiceDefinition, interaction_by, plant_interactions, is_possible, choices, choices_of}
+use Rattle.step_core.specs.Choice.{ChoiceDefinition, interaction_by, plant_interactions, choices, choices_among}
+use Rattle.priority_filter.specs.Decided.{is_overruled, is_below}
 use Rattle.step_core.specs.Step.{delivered_by, next, stepped_from}
 use Rattle.step_core.specs.declared.choice.Move.{Move}
 use Rattle.run_text.specs.Line.{fired_line, states_text}
@@ -44,6 +45,7 @@ sample tick send = record {
   } ∷ [];
   wires = record { name = codes "tick"; connector = tick; guards = []; transfers = [] } ∷
       record { name = codes "send"; connector = send; guards = []; transfers = transfers } ∷ [];
+  rules = [];
 }
 
 -- the state with these values of n and m
@@ -77,9 +79,8 @@ module _ (tick send : Connector) (tick_leaves : leaves tick ≡ port_of 0 ∷ []
 
   -- both are possible whatever the values
   the_choices : (n m : ℤ) → choices (sample tick send) (at n m) ≡ ticked ∷ sent ∷ []
-  unfolding sample
-  the_choices n m =
-      ap (λ is. flat_map (choices_of (sample tick send).atoms (at n m)) (filter (is_possible (sample tick send) (at n m)) is)) the_interactions
+  unfolding sample is_overruled is_below
+  the_choices n m = ap (choices_among (sample tick send) (at n m)) the_interactions
 
   -- an even pick takes tick, and an odd one send
   even_pick : (n m : ℤ) (pick : ℕ) → pick % 2 ≡ 0 → picked (sample tick send) (at n m) pick ≡ Some ticked

@@ -154,7 +154,7 @@ fn counting(alloc: Global, first: i64) -> Result<System, Fail> {
     let mut wires = Vec::new(alloc);
     wires.push(wire(alloc, b"tick", &[(0, 0)])?)?;
     wires.push(send)?;
-    Ok(System::new(alloc, atoms, wires, [0; 32])?)
+    Ok(System::new(alloc, atoms, wires, &[], [0; 32])?)
 }
 
 /// An atom A of places p and q, each marked or not, with `trans t from p to q`, and a connector c of its port.
@@ -173,5 +173,5 @@ fn moving(alloc: Global, p: bool, q: bool) -> Result<System, Fail> {
     atoms.push(Atom::new(alloc, name(b"A")?, places, variables, ports, transitions)?)?;
     let mut wires = Vec::new(alloc);
     wires.push(wire(alloc, b"c", &[(0, 0)])?)?;
-    Ok(System::new(alloc, atoms, wires, [0; 32])?)
+    Ok(System::new(alloc, atoms, wires, &[], [0; 32])?)
 }

@@ -3,7 +3,7 @@ ghost use Rattle.std.specs.Prelude.{◌≡◌, Err, IfSome, OnOk, option_map};
 ghost use Rattle.std.specs.Io.KnownBytes.{Appends};
 ghost use Rattle.step_core.specs.Choice.{IsAllowed};
 ghost use Rattle.step_core.specs.Chosen.{choice_of};
-ghost use Rattle.step_core.specs.Fitting.{IsOf};
+ghost use Rattle.step_core.specs.Running.{plant_in, states_in};
 ghost use Rattle.step_core.specs.System.{plant_of};
 ghost use Rattle.run_text.specs.Trace.{picked, trace_from, trace_text};
 ghost use Rattle.run_text.specs.declared.fault.TraceFault.TheVariants.{Memory};
@@ -13,7 +13,7 @@ use crate::fired::print_choice;
 use crate::states::print_states;
 use std::alloc::Global;
 use std::io::Write;
-use step_core::{Choice, PlantState, System};
+use step_core::{Choice, Stepper, System};
 use text_io::{WriteFault, end_line, print_text};
 
 /// Prints the run of a plant from its first states on: for each pick the line of the interaction that it fires, and then the
@@ -31,28 +31,26 @@ pub fn trace_to<W: Write>(
         (trace_text (plant_of system.now) picks.now)) }
     ensures nothing_written { result ≡ Err Memory → output.new ≡ output.old }
 {
-    let mut states = PlantState::init(alloc, system)?;
-    print_run(system, &mut states, picks, output)?;
+    let mut run = Stepper::first(alloc, system)?;
+    print_run(&mut run, picks, output)?;
     Ok(())
 }
 
-/// Prints the run from these states on, and leaves them as they are at its end.
+/// Prints the run from the present state on, and leaves the plant in the state at its end.
 fn print_run<W: Write>(
-    system: &System,
-    states: &mut PlantState,
+    run: &mut Stepper<'_>,
     picks: &[u64],
     output: &mut W,
 ) -> Result<(), WriteFault>
-    requires { IsOf (plant_of system.now) states.old }
     ensures { OnOk result (Appends (W.contents output.old) (W.contents output.new)
-        (trace_from (plant_of system.now) states.old 1 picks.now)) }
+        (trace_from (plant_in run.old) (states_in run.old) 1 picks.now)) }
 {
     for (fired, pick) in picks.iter().enumerate() {
-        match picked(system, states, *pick) {
+        match picked(run, *pick) {
             Some(choice) => {
-                print_choice(fired as u64 + 1, system, &choice, output)?;
+                print_choice(fired as u64 + 1, run.system(), &choice, output)?;
                 end_line(output)?;
-                system.next(states, &choice);
+                run.fire(&choice);
             }
             None => {
                 print_text(output, b"stuck\n")?;
@@ -60,17 +58,16 @@ fn print_run<W: Write>(
             }
         }
     }
-    print_states(system, states, output)
+    print_states(run.system(), run.states(), output)
 }
 
-/// The choice that the pick takes; `None` where the state has no choice.
-fn picked(system: &System, states: &PlantState, pick: u64) -> Option<Choice>
-    requires { IsOf (plant_of system.now) states.now }
-    ensures choice { option_map choice_of result ≡ picked (plant_of system.now) states.now pick }
-    ensures allowed { IfSome result (λ choice. IsAllowed (plant_of system.now) states.now (choice_of choice)) }
+/// The choice that the pick takes; `None` where the present state has no choice.
+fn picked(run: &Stepper<'_>, pick: u64) -> Option<Choice>
+    ensures choice { option_map choice_of result ≡ picked (plant_in run.now) (states_in run.now) pick }
+    ensures allowed { IfSome result (λ choice. IsAllowed (plant_in run.now) (states_in run.now) (choice_of choice)) }
 {
-    match system.count_allowed(states) {
+    match run.count() {
         0 => None,
-        count => Some(system.nth_allowed(states, u128::from(pick) % count)),
+        count => Some(run.nth(u128::from(pick) % count)),
     }
 }

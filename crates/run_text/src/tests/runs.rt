@@ -95,7 +95,7 @@ fn wide(alloc: Global) -> Result<System, Fail> {
     atoms.push(Atom::new(alloc, name(b"W")?, places, variables, ports, transitions)?)?;
     let mut wires = Vec::new(alloc);
     wires.push(wire(alloc, b"go", &[(0, 1)])?)?;
-    Ok(System::new(alloc, atoms, wires, [0; 32])?)
+    Ok(System::new(alloc, atoms, wires, &[], [0; 32])?)
 }
 
 #[test]
