@@ -114,6 +114,7 @@ of_system system.Limit = Limit
 of_system (system.BadAtom atom) = Limit
 of_system (system.BadConnector connector fault) = Limit
 of_system (system.BadWire connector fault) = Limit
+of_system (system.Order fault) = Limit
 of_system system.Memory = Memory
 
 -- a fault that is of no line

@@ -25,7 +25,7 @@ with_an_atom plant = if nat_lt 0 (length plant.atoms) then Ok plant else Err (of
 
 -- the plant with no parts
 abbrev pub nothing : PlantText
-nothing = record { atoms = []; wires = [] }
+nothing = record { atoms = []; wires = []; rules = [] }
 
 -- What a text means: its lines, numbered from 1, one after the other. The first line with a fault is told; a text that is too long
 -- is told before all lines, and that no atom stands in it behind them.

@@ -1,5 +1,5 @@
 -- What is made so far of the parts of a plant.
-use Rattle.std.specs.Prelude.{List, map}
+use Rattle.std.specs.Prelude.{List, [], map}
 use Rattle.atom_lines.specs.declared.draft.AtomDraft.{AtomDraft}
 use Rattle.atom_lines.specs.Draft as atom
 use Rattle.wire_lines.specs.declared.draft.WireDraft.{WireDraft}
@@ -12,4 +12,4 @@ wire_drafted w = wire_text_of (wire.drafted w)
 
 -- the plant of these atoms and connectors, as it was written
 abbrev pub plant_drafted : List AtomDraft → List WireDraft → PlantText
-plant_drafted atoms wires = record { atoms = map atom.drafted atoms; wires = map wire_drafted wires }
+plant_drafted atoms wires = record { atoms = map atom.drafted atoms; wires = map wire_drafted wires; rules = [] }

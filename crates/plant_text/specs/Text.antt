@@ -2,6 +2,7 @@
 use Rattle.std.specs.Prelude.{ℕ, List, map}
 use Rattle.petri_atom.specs.Expression.{Tree}
 use Rattle.petri_atom.specs.Definition.{AtomDefinition}
+use Rattle.priority_filter.specs.declared.rule.Rule.{Rule}
 use Rattle.step_core.specs.Plant.{TransferDefinition, WireDefinition, PlantDefinition}
 use Rattle.step_core.specs.declared.wire.Export.{Export}
 use Rattle.plant_trees.specs.declared.token.Token.{Token}
@@ -14,10 +15,11 @@ pub record WireText : Type 0 where
   pub guards : List (Tree Export)
   pub transfers : List TransferDefinition
 
--- a plant as it is written: its atoms and its connectors, each numbered from 0 in written order
+-- a plant as it is written: its atoms and its connectors, each numbered from 0 in written order, and its priority rules
 pub record PlantText : Type 0 where
   pub atoms : List AtomDefinition
   pub wires : List WireText
+  pub rules : List Rule
 
 -- how a connector is written
 abbrev pub wire_text_of : WireDefinition → WireText
@@ -25,4 +27,4 @@ wire_text_of w = record { name = w.name; tree = tokens_of w.connector; guards = 
 
 -- how a plant is written
 abbrev pub text_of : PlantDefinition → PlantText
-text_of plant = record { atoms = plant.atoms; wires = map wire_text_of plant.wires }
+text_of plant = record { atoms = plant.atoms; wires = map wire_text_of plant.wires; rules = plant.rules }

@@ -29,7 +29,7 @@ pub(crate) fn system_of(draft: PlantDraft, digest: [u8; 32]) -> Result<System, P
 {
     let atoms = make_atoms(draft.alloc, draft.atoms)?;
     let wires = make_wires(draft.alloc, draft.wires)?;
-    match System::new(draft.alloc, atoms, wires, digest) {
+    match System::new(draft.alloc, atoms, wires, &[], digest) {
         Ok(system) => Ok(system),
         Err(fault) => Err(PlantFault::of_no_line(system_fault(fault))),
     }

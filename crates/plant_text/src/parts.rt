@@ -14,7 +14,11 @@ use plant_words::Words;
 use wire_lines::WireDraft;
 
 /// Adds a part to the atom, by the words behind the line's first.
-pub(crate) fn change_atom(atom: &mut AtomDraft, part: AtomPart, words: &mut Words) -> Result<(), LineFault>
+pub(crate) fn change_atom(
+    atom: &mut AtomDraft,
+    part: AtomPart,
+    words: &mut Words,
+) -> Result<(), LineFault>
     ensures added { OnOk result (atom_part_row part words.old (drafted atom.old) ≡ Ok (drafted atom.new)) }
     ensures fault { IfErr result (IsFaultOf (atom_part_row part words.old (drafted atom.old))) }
 {
