@@ -1,3 +1,4 @@
 pub mod Lasts
+mod Rows
 pub mod Connectors
 pub mod Systems

@@ -1,4 +1,32 @@
-//! Reading a plant text: from its bytes to the system that it describes.
+//! Reading a whole plant text: from its bytes to the [`System`](step_core::System) that it describes.
+//!
+//! A plant text is a list of lines, numbered from 1. Its first word says what a line adds to the plant so far:
+//!
+//! | Line | Adds |
+//! |---|---|
+//! | `atom NAME` | an atom, the 64th at most |
+//! | `place ..`, `var ..`, `port ..`, `trans ..` | a part of the latest atom, as `atom_lines` reads it |
+//! | `connector NAME TREE` | a connector, the 64th at most, whose tree `plant_trees` reads over ports of the atoms so far |
+//! | `guard ..`, `move ..` | a part of the latest connector, as `wire_lines` reads it |
+//!
+//! Parts of the latest atom may stand behind lines of connectors. Empty lines and comments say nothing, and count as
+//! lines. Each byte must be printed ASCII, a space or a tab, also in a comment.
+//!
+//! What a text means is one definition, `meaning` (`specs/Meaning.antt`): the plant as it was written, or the first line
+//! with a fault. It applies a row for each kind of line (`specs/Rows.antt`) to the plant so far, line by line. No
+//! definition can make a connector, whose children are held in vectors; so a connector is written as the tokens of its
+//! tree, and `text_of` (`specs/Text.antt`) says how a plant is written. [`read_plant`] and [`plant_of_text`] give a system
+//! whose plant is written as the text means, with the SHA-256 of the text as its digest.
+//!
+//! - A fault ([`PlantFault`]) is the one of the text's meaning, or want of memory, or that the reader failed. Within a
+//!   line the first word from the left that is at fault is told; an illegal byte before all words; one atom or connector
+//!   too many before all else but an illegal byte.
+//! - A text may have no fault in a line and yet make no plant, as where its connectors have more interactions than a plant
+//!   may. That is told as a limit, at no line.
+//!
+//! - `read`: the text, its lines and its system. `draft`: the plant so far, and its lines. `making`: the system of a draft.
+//! - `kinds`: the kinds of lines. `parts`: an atom or a connector, changed by a line. `names`: the atoms by their names.
+//! - `reading`: steps that take words. `fault`: what is wrong with a text.
 #![tactic(auto)]
 
 mod draft;
@@ -12,3 +40,6 @@ mod reading;
 
 pub use fault::{Fault, PlantFault};
 pub use read::{plant_of_text, read_plant};
+
+#[cfg(test)]
+mod tests;

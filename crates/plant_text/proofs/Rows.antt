@@ -1,0 +1,142 @@
+-- Worked texts and lines, as computed facts.
+use Rattle.std.proofs.Common.{◌≡◌, refl, ℕ, pos, List, [], ◌∷◌, ◌++◌, codes, replicate, true, false, Some, None, Ok, Err}
+use Rattle.petri_atom.specs.Definition.{AtomDefinition}
+use Rattle.petri_atom.specs.Expression.{number, variable}
+use Rattle.connector_tree.specs.declared.faults.TreeFault.TheVariants.{SameAtom}
+use Rattle.connector_tree.specs.declared.tree.Port.{Port}
+use Rattle.plant_trees.specs.declared.token.Token.TheVariants.{Leaf}
+use Rattle.plant_text.specs.Text.{WireText, PlantText}
+use Rattle.plant_text.specs.Names.{port_named, export_named}
+use Rattle.plant_text.specs.Fault.{of_no_line}
+use Rattle.plant_text.specs.Rows.{line_row}
+use Rattle.plant_text.specs.Meaning.{nothing, lines_row, meaning}
+use Rattle.plant_text.specs.declared.fault.Fault.{Fault}
+use Rattle.plant_text.specs.declared.fault.Fault.TheVariants.{NotAscii, UnknownWord, Misplaced, BadName, Twice, UnknownName, BadExpression, Shape, Tree, Limit, NoAtom}
+use Rattle.plant_text.specs.declared.fault.PlantFault.{PlantFault}
+
+-- an atom with a place s, a variable, and a port that exports it
+abbrev atom_with : List ℕ → List ℕ → List ℕ → AtomDefinition
+atom_with name port value = record {
+  name = name;
+  places = record { name = codes "s"; marked = true } ∷ [];
+  variables = record { name = value; first = pos 0 } ∷ [];
+  ports = record { name = port; exports = 0 ∷ [] } ∷ [];
+  transitions = [];
+}
+
+-- atom B, with port u and variable m
+abbrev atom_b : AtomDefinition
+atom_b = atom_with (codes "B") (codes "u") (codes "m")
+
+-- a connector over port t of A and port u of B
+abbrev wire_named : List ℕ → WireText
+wire_named name = record {
+  name = name;
+  tree = Leaf (record { atom = 0; port = 0 }) true ∷ Leaf (record { atom = 1; port = 0 }) false ∷ [];
+  guards = [];
+  transfers = [];
+}
+
+-- atoms A and B, and two connectors
+abbrev sample : PlantText
+sample = record {
+  atoms = atom_with (codes "A") (codes "t") (codes "n") ∷ atom_b ∷ [];
+  wires = wire_named (codes "one") ∷ wire_named (codes "two") ∷ [];
+}
+
+-- the fault of a line
+abbrev at : ℕ → Fault → PlantFault
+at line fault = record { line = line; fault = fault }
+
+-- ---- names
+
+ports_are_those_of_the_atom : port_named sample.atoms (codes "B") (codes "u") ≡ Some (record { atom = 1; port = 0 })
+ports_are_those_of_the_atom = refl
+
+a_port_of_another_atom : port_named sample.atoms (codes "A") (codes "u") ≡ None
+a_port_of_another_atom = refl
+
+exports_are_those_of_the_port : export_named sample.atoms (record { atom = 1; port = 0 }) (codes "m") ≡ Some 0
+exports_are_those_of_the_port = refl
+
+an_export_of_another_port : export_named sample.atoms (record { atom = 0; port = 0 }) (codes "m") ≡ None
+an_export_of_another_port = refl
+
+-- ---- lines
+
+a_comment : line_row (codes " # foo") sample ≡ Ok sample
+a_comment = refl
+
+a_place_of_the_latest_atom : line_row (codes "place p") sample ≡ Ok (record sample {
+  atoms = atom_with (codes "A") (codes "t") (codes "n") ∷ record atom_b { places = record { name = codes "s"; marked = true } ∷ record { name = codes "p"; marked = false } ∷ [] } ∷ [];
+})
+a_place_of_the_latest_atom = refl
+
+a_guard_of_the_latest_connector : line_row (codes "guard B.m") sample ≡ Ok (record sample {
+  wires = wire_named (codes "one") ∷ record (wire_named (codes "two")) { guards = variable (record { leaf = 1; export = 0 }) ∷ [] } ∷ [];
+})
+a_guard_of_the_latest_connector = refl
+
+a_transfer_of_the_latest_connector : line_row (codes "move A.n := 7") sample ≡ Ok (record sample {
+  wires = wire_named (codes "one") ∷ record (wire_named (codes "two")) { transfers = record { target = record { leaf = 0; export = 0 }; value = number (pos 7) } ∷ [] } ∷ [];
+})
+a_transfer_of_the_latest_connector = refl
+
+another_atom : line_row (codes "atom C") nothing ≡ Ok (record nothing { atoms = record { name = codes "C"; places = []; variables = []; ports = []; transitions = [] } ∷ [] })
+another_atom = refl
+
+another_connector : line_row (codes "connector two A.t' B.u") (record sample { wires = wire_named (codes "one") ∷ [] }) ≡ Ok sample
+another_connector = refl
+
+an_illegal_byte : line_row (codes "foo " ++ 128 ∷ []) sample ≡ Err NotAscii
+an_illegal_byte = refl
+
+a_word_of_no_line : line_row (codes "prio one < two") sample ≡ Err UnknownWord
+a_word_of_no_line = refl
+
+a_place_of_no_atom : line_row (codes "place 3") nothing ≡ Err Misplaced
+a_place_of_no_atom = refl
+
+a_guard_of_no_connector : line_row (codes "guard 1") (record sample { wires = [] }) ≡ Err Misplaced
+a_guard_of_no_connector = refl
+
+a_reserved_name : line_row (codes "atom to more") sample ≡ Err BadName
+a_reserved_name = refl
+
+an_atom_twice : line_row (codes "atom A more") sample ≡ Err Twice
+an_atom_twice = refl
+
+a_word_left_over : line_row (codes "atom C more") sample ≡ Err Shape
+a_word_left_over = refl
+
+an_atom_too_many : line_row (codes "atom to") (record nothing { atoms = replicate 64 atom_b }) ≡ Err Limit
+an_atom_too_many = refl
+
+a_connector_twice : line_row (codes "connector one x") sample ≡ Err Twice
+a_connector_twice = refl
+
+a_connector_without_a_tree : line_row (codes "connector c") sample ≡ Err Shape
+a_connector_without_a_tree = refl
+
+a_connector_over_an_unknown_port : line_row (codes "connector c A.t C.t") sample ≡ Err UnknownName
+a_connector_over_an_unknown_port = refl
+
+an_atom_twice_in_a_tree : line_row (codes "connector c A.t A.t") sample ≡ Err (Tree SameAtom)
+an_atom_twice_in_a_tree = refl
+
+a_connector_too_many : line_row (codes "connector") (record sample { wires = replicate 64 (wire_named (codes "one")) }) ≡ Err Limit
+a_connector_too_many = refl
+
+-- ---- texts
+
+an_empty_text : meaning [] ≡ Err (of_no_line NoAtom)
+an_empty_text = refl
+
+lines_end_at_line_feeds : meaning (codes "atom A" ++ 13 ∷ 10 ∷ codes "atom A") ≡ Err (at 2 Twice)
+lines_end_at_line_feeds = refl
+
+lines_that_say_nothing_count : lines_row 1 (codes "# two atoms" ∷ [] ∷ codes "atom A" ∷ codes "atom A" ∷ []) nothing ≡ Err (at 4 Twice)
+lines_that_say_nothing_count = refl
+
+the_first_fault_is_told : lines_row 1 (codes "foo" ∷ codes "place p" ∷ []) nothing ≡ Err (at 1 UnknownWord)
+the_first_fault_is_told = refl
