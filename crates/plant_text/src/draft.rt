@@ -119,8 +119,8 @@ impl PlantDraft {
         let name = next_name(words)?;
         check(!self.has_wire(name.as_bytes()), Fault::Twice)?;
         let connector = self.read_tree(words)?;
-        self.wires
-            .push(WireDraft::new(self.alloc, name, connector)?)?;
+        let wire = WireDraft::new(self.alloc, name, connector)?;
+        self.wires.push(wire)?;
         Ok(())
     }
 

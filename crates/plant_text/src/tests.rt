@@ -8,7 +8,8 @@ mod limits;
 mod reader;
 
 /// Two atoms and two connectors, in 13 lines.
-const SAMPLE: &[u8] = b"atom A\nplace s init\nvar n 0\nport t n\ntrans t from s to s do n := + n 1\natom B\nplace s init\nvar m 0\nport u m\ntrans u from s to s\nconnector tick A.t\nconnector send A.t B.u\nmove B.m := A.n\n";
+const SAMPLE: &[u8] =
+    b"atom A\nplace s init\nvar n 0\nport t n\ntrans t from s to s do n := + n 1\natom B\nplace s init\nvar m 0\nport u m\ntrans u from s to s\nconnector tick A.t\nconnector send A.t B.u\nmove B.m := A.n\n";
 
 /// The sample, and these bytes behind it.
 fn sample_and(alloc: Global, more: &[u8]) -> Result<Vec<u8>, AllocError> {
@@ -98,7 +99,10 @@ fn each_fault_of_a_line_is_told_with_its_line(rt: HostRuntime) -> Result<(), Fai
         (b"atom B".as_slice(), Fault::Twice),
         (b"atom B more".as_slice(), Fault::Twice),
         (b"atom 3".as_slice(), Fault::BadName),
-        (b"atom abcdefghijklmnopqrstuvwxyz_123456".as_slice(), Fault::BadName),
+        (
+            b"atom abcdefghijklmnopqrstuvwxyz_123456".as_slice(),
+            Fault::BadName,
+        ),
         (b"place s".as_slice(), Fault::Twice),
         (b"var k x".as_slice(), Fault::BadNumber),
         (b"port w n".as_slice(), Fault::UnknownName),
@@ -109,7 +113,10 @@ fn each_fault_of_a_line_is_told_with_its_line(rt: HostRuntime) -> Result<(), Fai
         (b"connector c".as_slice(), Fault::Shape),
         (b"connector c A.u".as_slice(), Fault::UnknownName),
         (b"connector c C.t".as_slice(), Fault::UnknownName),
-        (b"connector two A.t A.t".as_slice(), Fault::Tree(TreeFault::SameAtom)),
+        (
+            b"connector two A.t A.t".as_slice(),
+            Fault::Tree(TreeFault::SameAtom),
+        ),
         (b"connector c [ ]".as_slice(), Fault::Tree(TreeFault::Empty)),
         (b"guard + A.n".as_slice(), Fault::BadExpression),
         (b"guard B.n".as_slice(), Fault::UnknownName),
@@ -117,7 +124,11 @@ fn each_fault_of_a_line_is_told_with_its_line(rt: HostRuntime) -> Result<(), Fai
         (b"prio tick < send".as_slice(), Fault::UnknownWord),
         (b"maximal".as_slice(), Fault::UnknownWord),
     ] {
-        assert!(&rt; told_behind(rt.alloc(), line)? == at(14, fault), "{}", fault.name());
+        assert!(&rt;
+            told_behind(rt.alloc(), line)? == at(14, fault),
+            "{}",
+            fault.name()
+        );
     }
     Ok(())
 }
@@ -147,9 +158,19 @@ fn parts_belong_to_the_latest_atom_and_connector(rt: HostRuntime) -> Result<(), 
 #[test]
 fn faults_say_what_is_wrong(rt: HostRuntime) -> Result<(), Fail> {
     for (line, fault, name, said) in [
-        (14, Fault::BadExpression, "BadExpr", "line 14: an expression is malformed"),
+        (
+            14,
+            Fault::BadExpression,
+            "BadExpr",
+            "line 14: an expression is malformed",
+        ),
         (0, Fault::NoAtom, "NoAtom", "there is no atom"),
-        (0, Fault::TooLong, "TooLong", "the text has more than 1048576 bytes"),
+        (
+            0,
+            Fault::TooLong,
+            "TooLong",
+            "the text has more than 1048576 bytes",
+        ),
         (
             3,
             Fault::Tree(TreeFault::SameAtom),

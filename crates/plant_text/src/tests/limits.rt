@@ -17,7 +17,12 @@ fn name_line(text: &mut Vec<u8>, word: &[u8], number: u8, end: &[u8]) -> Result<
 fn atoms(alloc: Global, count: u8) -> Result<Vec<u8>, AllocError> {
     let mut text = Vec::new(alloc);
     for number in 0..count {
-        name_line(&mut text, b"atom ", number, b"\nplace s init\nport t\ntrans t from s to s\n")?;
+        name_line(
+            &mut text,
+            b"atom ",
+            number,
+            b"\nplace s init\nport t\ntrans t from s to s\n",
+        )?;
     }
     Ok(text)
 }
