@@ -3,7 +3,6 @@ use Rattle.std.proofs.Common.{◌≡◌, refl, ℕ, pos, List, [], ◌∷◌, �
 use Rattle.petri_atom.specs.Definition.{AtomDefinition}
 use Rattle.petri_atom.specs.Expression.{number, variable}
 use Rattle.connector_tree.specs.declared.faults.TreeFault.TheVariants.{SameAtom}
-use Rattle.connector_tree.specs.declared.tree.Port.{Port}
 use Rattle.plant_trees.specs.declared.token.Token.TheVariants.{Leaf}
 use Rattle.plant_text.specs.Text.{WireText, PlantText}
 use Rattle.plant_text.specs.Names.{port_named, export_named}
@@ -11,7 +10,7 @@ use Rattle.plant_text.specs.Fault.{of_no_line}
 use Rattle.plant_text.specs.Rows.{line_row}
 use Rattle.plant_text.specs.Meaning.{nothing, lines_row, meaning}
 use Rattle.plant_text.specs.declared.fault.Fault.{Fault}
-use Rattle.plant_text.specs.declared.fault.Fault.TheVariants.{NotAscii, UnknownWord, Misplaced, BadName, Twice, UnknownName, BadExpression, Shape, Tree, Limit, NoAtom}
+use Rattle.plant_text.specs.declared.fault.Fault.TheVariants.{NotAscii, UnknownWord, Misplaced, BadName, Twice, UnknownName, Shape, Tree, Limit, NoAtom}
 use Rattle.plant_text.specs.declared.fault.PlantFault.{PlantFault}
 
 -- an atom with a place s, a variable, and a port that exports it
@@ -42,6 +41,7 @@ abbrev sample : PlantText
 sample = record {
   atoms = atom_with (codes "A") (codes "t") (codes "n") ∷ atom_b ∷ [];
   wires = wire_named (codes "one") ∷ wire_named (codes "two") ∷ [];
+  rules = [];
 }
 
 -- the fault of a line
