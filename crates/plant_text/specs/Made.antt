@@ -16,6 +16,6 @@ BreaksARule written = (plant : PlantDefinition) × (text_of plant ≡ written) �
 abbrev pub MeansNoPlant : List ℕ → Type 0
 MeansNoPlant text = (written : PlantText) × (meaning text ≡ Ok written) × BreaksARule written
 
--- why a text is no plant: a line or the text has the fault; or none has one, and the plant breaks a limit
+-- why a text is no plant: a line or the text has the fault; or none has one, and the plant breaks a rule, told as a limit
 abbrev pub IsTold : List ℕ → PlantFault → Type 0
 IsTold text told = (meaning text ≡ Err told) ⊎ ((told ≡ of_no_line Limit) × MeansNoPlant text)
