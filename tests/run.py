@@ -1,0 +1,136 @@
+#!/usr/bin/env python3
+"""Acceptance tests of the program: runs each case of tests/, and prints 'N passed, M failed' as its last line.
+
+A case is a folder tests/COMMAND/CASE. The program runs in a fresh copy of it, in which `examples` leads to the plants of examples/.
+
+    args          the words of the command line, one a line
+    stdin         the standard input; without the file there is none
+    stdout        what is printed; without the file nothing
+    stderr        what is told on the standard error; without the file nothing
+    stdout-has    in place of stdout: each line of it stands in what is printed
+    stderr-has    in place of stderr: each line of it stands in what is told
+    status        the exit status; without the file 0
+    setting       lines that say what else is so:
+                      standard output closed      the program has no standard output
+                      standard output full        the standard output takes nothing
+                      FILE has COUNT line feeds   the file, too long to be stored, is made
+    any other     a file that the words may name; `about`, if there, says what the case shows
+
+Words on the command line choose cases: `tests/run.py check` runs those whose COMMAND/CASE has `check` in it.
+"""
+
+import os
+import re
+import shutil
+import subprocess
+import sys
+import tempfile
+import unittest
+from pathlib import Path
+
+TESTS = Path(__file__).resolve().parent
+ROOT = TESTS.parent
+# Where the gate leaves the program that it has proved and built.
+PROGRAM = ROOT / "crates" / "bip_run" / "out" / "bip_run"
+SECONDS = 60
+
+
+def built_program():
+    """The program; the launcher proves and builds it where the gate has not."""
+    if not PROGRAM.exists():
+        subprocess.run([str(ROOT / "bip_run"), "--help"], stdout=subprocess.DEVNULL, check=True)
+    return PROGRAM
+
+
+class Case:
+    """A folder with what the program is given, and what it must answer."""
+
+    def __init__(self, folder):
+        self.folder = folder
+        self.name = f"{folder.parent.name}/{folder.name}"
+
+    def bytes_of(self, name):
+        file = self.folder / name
+        return file.read_bytes() if file.exists() else None
+
+    def lines_of(self, name):
+        return (self.bytes_of(name) or b"").decode().splitlines()
+
+    def status(self):
+        return int((self.bytes_of("status") or b"0").decode())
+
+    def make_files(self, place):
+        """Fills the folder that the program runs in, and says how its standard output is."""
+        shutil.copytree(self.folder, place, dirs_exist_ok=True)
+        os.symlink(ROOT / "examples", place / "examples")
+        output = "taken"
+        for line in self.lines_of("setting"):
+            made = re.fullmatch(r"(\S+) has (\d+) line feeds", line)
+            told = re.fullmatch(r"standard output (closed|full)", line)
+            if made:
+                (place / made[1]).write_bytes(b"\n" * int(made[2]))
+            elif told:
+                output = told[1]
+            else:
+                raise ValueError(f"{self.name}: no such setting: {line}")
+        return output
+
+    def run(self, program):
+        """Runs the program, and gives its status, standard output and standard error."""
+        with tempfile.TemporaryDirectory() as folder:
+            output = self.make_files(Path(folder))
+            command = [str(program), *self.lines_of("args")]
+            if output == "closed":
+                command = ["sh", "-c", 'exec "$0" "$@" >&-', *command]
+            elif output == "full":
+                command = ["sh", "-c", 'exec "$0" "$@" >/dev/full', *command]
+            ran = subprocess.run(
+                command, input=self.bytes_of("stdin") or b"", capture_output=True, cwd=folder, timeout=SECONDS
+            )
+            return ran.returncode, ran.stdout, ran.stderr
+
+
+class Answers(unittest.TestCase):
+    """Each case is a test of this class, by its name."""
+
+    maxDiff = None
+
+    def check_case(self, case):
+        status, printed, told = case.run(built_program())
+        self.check_stream(case, "stderr", told)
+        self.check_stream(case, "stdout", printed)
+        self.assertEqual(case.status(), status, f"{case.name}: status")
+
+    def check_stream(self, case, name, found):
+        text = found.decode(errors="replace")
+        if (case.folder / f"{name}-has").exists():
+            for line in case.lines_of(f"{name}-has"):
+                self.assertIn(line, text, f"{case.name}: {name}")
+        else:
+            self.assertEqual((case.bytes_of(name) or b"").decode(), text, f"{case.name}: {name}")
+
+
+def cases(words):
+    """The cases whose name has one of the words in it; all, where there is no word."""
+    found = [Case(args.parent) for args in sorted(TESTS.glob("*/*/args"))]
+    return [case for case in found if not words or any(word in case.name for word in words)]
+
+
+def suite(chosen):
+    tests = unittest.TestSuite()
+    for case in chosen:
+        setattr(Answers, f"test {case.name}", lambda self, case=case: self.check_case(case))
+        tests.addTest(Answers(f"test {case.name}"))
+    return tests
+
+
+def main():
+    chosen = cases(sys.argv[1:])
+    result = unittest.TextTestRunner(stream=sys.stdout, verbosity=1).run(suite(chosen))
+    failed = len(result.failures) + len(result.errors)
+    print(f"{result.testsRun - failed} passed, {failed} failed")
+    return 0 if chosen and failed == 0 else 1
+
+
+if __name__ == "__main__":
+    sys.exit(main())
