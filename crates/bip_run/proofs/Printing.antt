@@ -1,0 +1,34 @@
+-- What a writer took, where it is known.
+use Rattle.std.proofs.Common.{◌≡◌, ◌∙◌, ◌++◌, ap, subst, append_assoc, List, ℕ, Option, Some, None, Ok}
+use Rattle.std.specs.Prelude.{IfSome}
+use Rattle.std.specs.Io.KnownBytes.{Appends, Keeps}
+use Rattle.step_core.specs.Plant.{PlantDefinition}
+use Rattle.plant_text.specs.Text.{text_of}
+use Rattle.plant_text.specs.Meaning.{meaning}
+use Rattle.bip_run.specs.Printed.{counted, printed_of, Prints}
+use Rattle.bip_run.specs.declared.request.Task.{Task}
+
+-- what was appended stays so where the bytes are kept
+pub appended_and_kept : (a b c : Option (List ℕ)) (text : List ℕ) → Appends a b text → Keeps b c → Appends a c text
+appended_and_kept None b c text appended kept = tt
+appended_and_kept (Some xs) None c text appended kept = absurd appended
+appended_and_kept (Some xs) (Some ys) None text appended kept = absurd kept
+appended_and_kept (Some xs) (Some ys) (Some zs) text appended kept = kept ∙ appended
+
+-- what is said of the plant that the known bytes mean is what the task prints of them
+pub prints_of_plant : (known a b : Option (List ℕ)) (task : Task) (plant : PlantDefinition) →
+    IfSome known (λ bytes. meaning bytes ≡ Ok (text_of plant)) → Appends a b (printed_of task plant) →
+    IfSome known (λ bytes. Prints task bytes a b)
+prints_of_plant None a b task plant means appended = tt
+prints_of_plant (Some bytes) a b task plant means appended = (plant, means, appended)
+
+-- what was appended one after the other was appended as one
+pub appended_then : (a b c : Option (List ℕ)) (first second : List ℕ) → Appends a b first → Appends b c second → Appends a c (first ++ second)
+appended_then None b c first second one two = tt
+appended_then (Some xs) None c first second one two = absurd one
+appended_then (Some xs) (Some ys) None first second one two = absurd two
+appended_then (Some xs) (Some ys) (Some zs) first second one two = two ∙ ap (λ front. front ++ second) one ∙ append_assoc xs first second
+
+-- a count that was appended is this one
+pub counted_as : (a b : Option (List ℕ)) (word : List ℕ) (n m : ℕ) → n ≡ m → Appends a b (counted word n) → Appends a b (counted word m)
+counted_as a b word n m same appended = subst (λ count. Appends a b (counted word count)) same appended

@@ -1,0 +1,3 @@
+pub mod Picks
+pub mod Printed
+pub mod Stop

@@ -1,0 +1,63 @@
+-- What the program tells where it stops, and its exit status.
+use Rattle.std.specs.Prelude.{◌≡◌, ◌≢◌, ℕ, List, [], ◌++◌, codes, decimal, Result, Ok, Err}
+use Rattle.plant_text.specs.Fault.{number_of, name_of, of_no_line}
+use Rattle.plant_text.specs.Made.{IsTold}
+use Rattle.plant_text.specs.declared.fault.Fault.{Fault}
+use Rattle.plant_text.specs.declared.fault.Fault.TheVariants as fault
+use Rattle.plant_text.specs.declared.fault.PlantFault.{PlantFault}
+use Rattle.run_text.specs.declared.fault.TraceFault.{TraceFault}
+use Rattle.run_text.specs.declared.fault.TraceFault.TheVariants as trace
+use Rattle.bip_run.specs.declared.stop.Stop.{Stop}
+use Rattle.bip_run.specs.declared.stop.Stop.TheVariants.{Usage, Plant, Unopened, Memory, Unwritten}
+
+-- the exit status at a fault of a plant: a refused plant is 1; want of memory, and a text that can't be read, are 3
+abbrev pub fault_status : Fault → ℕ
+fault_status fault.Memory = 3
+fault_status fault.Read = 3
+fault_status fault = 1
+
+-- the exit status of the program: 0 done, 1 a refused plant, 2 usage, 3 a file, the memory or the output
+abbrev pub status_of : {A : Type 0} → Result A Stop → ℕ
+status_of (Ok done) = 0
+status_of (Err Usage) = 2
+status_of (Err (Plant told)) = fault_status told.fault
+status_of (Err Unopened) = 3
+status_of (Err Memory) = 3
+status_of (Err Unwritten) = 3
+
+-- the line of a plant's fault: its line, its number and its name
+abbrev pub fault_line : PlantFault → List ℕ
+fault_line told =
+    codes "plant line " ++ decimal told.line ++ codes ": fault " ++ decimal (number_of told.fault) ++ codes " " ++
+    name_of told.fault ++ codes "\n"
+
+-- the line of a file that can't be opened or read
+abbrev pub file_line : List ℕ → List ℕ
+file_line path = codes "file " ++ path ++ codes "\n"
+
+-- what is told of a plant's fault, where its text stood at the path
+abbrev pub plant_text : List ℕ → Fault → PlantFault → List ℕ
+plant_text path fault.Read told = file_line path
+plant_text path fault told = fault_line told
+
+-- What is told of a stop, where the plant text stood at the path. Of the words of the command line clap tells, and of an output that
+-- takes nothing there is nothing to tell.
+abbrev pub told_text : List ℕ → Stop → List ℕ
+told_text path Usage = []
+told_text path (Plant told) = plant_text path told.fault told
+told_text path Unopened = file_line path
+told_text path Memory = codes "memory\n"
+told_text path Unwritten = []
+
+-- the stop at a fault of a run
+abbrev pub of_trace : TraceFault → Stop
+of_trace trace.Memory = Memory
+of_trace trace.Write = Unwritten
+
+-- a stop that tells a fault of a plant text tells that of these bytes, but for want of memory and a reader that failed
+abbrev pub Tells : Stop → List ℕ → Type 0
+Tells (Plant told) bytes = told ≢ of_no_line fault.Memory → told ≢ of_no_line fault.Read → IsTold bytes told
+Tells Usage bytes = Unit {0}
+Tells Unopened bytes = Unit {0}
+Tells Memory bytes = Unit {0}
+Tells Unwritten bytes = Unit {0}

@@ -1,0 +1,161 @@
+//! The command line: its words, judged by `clap`, and its help.
+use crate::picks::{PickFault, read_picks};
+use crate::request::{Request, Task};
+use clap::error::ErrorKind;
+use clap::{Arg, ArgAction, ArgMatches, Command, Error};
+use std::alloc::{AllocError, Global};
+
+const ABOUT: &str = "Reads the text of a plant, and says what stands in it or runs it.
+
+A plant is atoms (machines with places, variables and ports), connectors (which ports move together, and what data passes between \
+them) and guards. Its text has a line for each part; examples/ has plants to begin with.";
+
+const AFTER: &str = "Exit status:
+  0  what was asked for is done
+  1  the text is no plant; the standard error has 'plant line L: fault K NAME'
+  2  the words of the command line were not understood
+  3  a file ('file PATH'), the memory ('memory') or the standard output failed
+
+Example:
+  bip_run trace examples/sample.plant 0 1 0 1";
+
+const CHECK_ABOUT: &str = "Counts the parts of a plant.
+
+Prints one line: how many atoms, connectors, interactions and priority rules the plant has. An interaction is a set of ports of one \
+connector that may move together.";
+
+const CHECK_AFTER: &str = "Example:
+  bip_run check examples/sample.plant
+prints
+  atoms 2 connectors 2 interactions 2 rules 0
+
+Exit status:
+  0  the counts are printed
+  1  the text is no plant; the standard error has 'plant line L: fault K NAME'
+  2  the words of the command line were not understood
+  3  a file ('file PATH'), the memory ('memory') or the standard output failed";
+
+const TRACE_ABOUT: &str = "Runs a plant from its first state, and prints the run.
+
+Prints a line for each pick: the number of the interaction that it fires, its connector, and each participant as \
+ATOM.PORT/TRANSITION. A pick takes the entry of the state's choices at the pick modulo their number. Where nothing is possible the \
+line 'stuck' is printed, and the picks that follow are passed over. At the end there is a line for each atom: its marked places, and \
+its variables with their values.";
+
+const TRACE_AFTER: &str = "Example:
+  bip_run trace examples/sample.plant 0 1
+prints
+  1 tick A.t/0
+  2 send A.t/0 B.u/0
+  state A [s] n=2
+  state B [s] m=1
+
+Exit status:
+  0  the run is printed, also one that is stuck
+  1  the text is no plant; the standard error has 'plant line L: fault K NAME'
+  2  the words of the command line were not understood
+  3  a file ('file PATH'), the memory ('memory') or the standard output failed";
+
+const PLANT: &str = "PLANT";
+const PICK: &str = "PICK";
+const CHECK: &str = "check";
+const TRACE: &str = "trace";
+
+/// What the words of the command line ask for, the program's own name first; or the answer to print in its place.
+pub(crate) fn read_request<'a>(alloc: Global, words: &'a [String]) -> Result<Request<'a>, Error> {
+    let mut program = program(alloc)?;
+    let matches = program.try_get_matches_from_mut(words)?;
+    match matches.subcommand() {
+        Some((CHECK, found)) => check_request(&mut program, found),
+        Some((TRACE, found)) => trace_request(alloc, &mut program, found),
+        _ => Err(program.error(ErrorKind::MissingSubcommand, "a command is missing")?),
+    }
+}
+
+/// The request to count the parts of a plant.
+fn check_request<'a>(
+    program: &mut Command<'a>,
+    found: &ArgMatches<'a>,
+) -> Result<Request<'a>, Error> {
+    Ok(Request {
+        task: Task::Check,
+        plant: plant_given(program, found)?,
+    })
+}
+
+/// The request to run a plant.
+fn trace_request<'a>(
+    alloc: Global,
+    program: &mut Command<'a>,
+    found: &ArgMatches<'a>,
+) -> Result<Request<'a>, Error> {
+    let plant = plant_given(program, found)?;
+    match read_picks(alloc, found.get_strs(PICK).unwrap_or(&[])) {
+        Ok(picks) => Ok(Request {
+            task: Task::Trace(picks),
+            plant,
+        }),
+        Err(PickFault::NoPick(word)) => Err(no_pick(alloc, program, word)?),
+        Err(PickFault::Memory) => Err(Error::from(AllocError)),
+    }
+}
+
+/// The word that says where the plant text stands.
+fn plant_given<'a>(program: &mut Command<'a>, found: &ArgMatches<'a>) -> Result<&'a str, Error> {
+    match found.get_str(PLANT) {
+        Some(plant) => Ok(plant),
+        None => Err(program.error(ErrorKind::MissingRequiredArgument, "a plant is missing")?),
+    }
+}
+
+/// The answer to a word that stands for a pick and is none.
+fn no_pick(alloc: Global, program: &mut Command<'_>, word: &str) -> Result<Error, AllocError> {
+    let message = format!(
+        in alloc;
+        "invalid value '{word}' for '[PICK]...': a pick is digits alone, at most 18446744073709551615"
+    )?;
+    program.error(ErrorKind::ValueValidation, message.as_str())
+}
+
+/// The program with its commands.
+fn program<'a>(alloc: Global) -> Result<Command<'a>, AllocError> {
+    Command::new(alloc, "bip_run")
+        .about(ABOUT)
+        .after_help(AFTER)
+        .subcommand_required(true)
+        .arg_required_else_help(true)
+        .subcommand(check_command(alloc)?)?
+        .subcommand(trace_command(alloc)?)
+}
+
+/// The command that counts the parts of a plant.
+fn check_command<'a>(alloc: Global) -> Result<Command<'a>, AllocError> {
+    Command::new(alloc, CHECK)
+        .about(CHECK_ABOUT)
+        .after_help(CHECK_AFTER)
+        .arg(plant_argument(alloc))
+}
+
+/// The command that runs a plant.
+fn trace_command<'a>(alloc: Global) -> Result<Command<'a>, AllocError> {
+    Command::new(alloc, TRACE)
+        .about(TRACE_ABOUT)
+        .after_help(TRACE_AFTER)
+        .arg(plant_argument(alloc))?
+        .arg(pick_argument(alloc))
+}
+
+/// The argument that says where the plant text stands.
+fn plant_argument<'a>(alloc: Global) -> Arg<'a> {
+    Arg::new(alloc, PLANT)
+        .required(true)
+        .help("The file with the text of the plant, or - for the standard input")
+}
+
+/// The argument of the picks.
+fn pick_argument<'a>(alloc: Global) -> Arg<'a> {
+    Arg::new(alloc, PICK)
+        .action(ArgAction::Append)
+        .num_args(0..)
+        .help("Which of the state's choices is fired, from 0")
+}

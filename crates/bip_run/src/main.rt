@@ -1,0 +1,26 @@
+//! The program: it reads a plant text and says what stands in it, or runs it.
+//!
+//! `main` only wires: it reads the command line, opens the plant and the standard output, and ends with the status of what
+//! came of it. What a task prints of a plant, what is told where it ends early, and which status the program then ends with
+//! are definitions in `specs/`, and the functions that the contracts tie to them know nothing of the process:
+//!
+//! - `command_line`: the words, judged by `clap`; the result is a [`request::Request`].
+//! - `picks`: the words of a run's picks.
+//! - `task`: what is done with a plant text, from a reader to a writer.
+//! - `stop`: why the program ends early, what it tells then, and its exit status.
+#![tactic(auto)]
+
+mod command_line;
+mod counts;
+mod picks;
+mod process;
+mod request;
+mod stop;
+mod task;
+
+
+use std::process::ExitCode;
+
+fn main(rt: HostRuntime) -> ExitCode {
+    ExitCode::from(process::run(&rt))
+}

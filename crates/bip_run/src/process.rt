@@ -1,0 +1,83 @@
+//! The program in its process: words, files, the standard output and error.
+ghost use Rattle.std.specs.Prelude.{◌≡◌, ◌≢◌, ◌↔◌, Err};
+ghost use Rattle.clap.specs.Words.{kind_of};
+ghost use Rattle.bip_run.specs.Stop.{status_of};
+ghost use Rattle.bip_run.specs.declared.stop.Stop.TheVariants.{Usage, Memory};
+
+use crate::command_line::read_request;
+use crate::request::Request;
+use crate::stop::{Stop, Told, exit_status};
+use crate::task::perform;
+use clap::Error;
+use clap::error::ErrorKind;
+use std::io::{BufWriter, ErrorKind as IoErrorKind};
+use std::rt::{Env, Files};
+use std::{env, fs, io};
+
+/// The path that stands for the standard input.
+const STANDARD_INPUT: &str = "-";
+
+/// Does what the words of the command line ask for, and gives the exit status.
+pub(crate) fn run<R: Env + Files + Input + Print + Eprint + AllocGlobal>(rt: &R) -> u8 {
+    match words(rt) {
+        Ok(words) => answer(rt, words.as_slice()),
+        Err(stop) => end(rt, "", Err(stop)),
+    }
+}
+
+/// The words of the command line, the program's name first.
+fn words<R: Env + Eprint + AllocGlobal>(rt: &R) -> Result<Vec<String>, Stop> {
+    match env::args(rt) {
+        Ok(words) => words.collect(rt.alloc()).map_err(|_| Stop::Memory),
+        Err(error) if error.kind() == IoErrorKind::OutOfMemory => Err(Stop::Memory),
+        Err(_) => {
+            let _ = eprintln!(rt; "error: a word of the command line is no UTF-8 text");
+            Err(Stop::Usage)
+        }
+    }
+}
+
+/// Answers the words of the command line.
+fn answer<R: Files + Input + Print + Eprint + AllocGlobal>(rt: &R, words: &[String]) -> u8 {
+    match read_request(rt.alloc(), words) {
+        Ok(request) => end(rt, request.plant, serve(rt, &request)),
+        Err(told) => end(rt, "", show(rt, &told)),
+    }
+}
+
+/// Prints what `clap` has to say: help that was asked for on the standard output, and anything else on the standard error.
+fn show<R: Print + Eprint>(rt: &R, told: &Error) -> Result<(), Stop>
+    ensures memory { (result ≡ Err Memory) ↔ (kind_of told.now ≡ ErrorKind.OutOfMemory) }
+    ensures usage { (result ≡ Err Usage) ↔
+        ((kind_of told.now ≢ ErrorKind.OutOfMemory) × (kind_of told.now ≢ ErrorKind.DisplayHelp) × (kind_of told.now ≢ ErrorKind.DisplayVersion)) }
+{
+    if told.kind() == ErrorKind::OutOfMemory {
+        return Err(Stop::Memory);
+    }
+    let shown = told.print(rt);
+    if told.use_stderr() {
+        return Err(Stop::Usage);
+    }
+    shown.map_err(|_| Stop::Unwritten)
+}
+
+/// Does what was asked for.
+fn serve<R: Files + Input + Print + AllocGlobal>(rt: &R, request: &Request<'_>) -> Result<(), Stop> {
+    let alloc = rt.alloc();
+    let mut output = BufWriter::new(alloc, io::writer(rt)).map_err(|_| Stop::Memory)?;
+    if request.plant == STANDARD_INPUT {
+        return perform(alloc, &request.task, &mut rt.reader(), &mut output);
+    }
+    let mut file = fs::open(rt, request.plant).map_err(|_| Stop::Unopened)?;
+    perform(alloc, &request.task, &mut file, &mut output)
+}
+
+/// Tells why the program stops, where it does, and gives the exit status.
+fn end<R: Eprint>(rt: &R, plant: &str, ended: Result<(), Stop>) -> u8
+    ensures { result ≡ status_of ended }
+{
+    if let Err(stop) = ended {
+        let _ = rt.eprint(Told { stop, plant });
+    }
+    exit_status(&ended)
+}

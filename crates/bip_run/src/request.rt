@@ -1,0 +1,19 @@
+//! What the command line asks for.
+
+/// What is to be done with a plant.
+#[derive(Debug, Drop, PartialEq, Eq)]
+pub(crate) enum Task {
+    /// Its parts are counted.
+    Check,
+    /// It is run from its first state, by these picks.
+    Trace(Vec<u64>),
+}
+
+/// A task, and the plant that it is done with.
+#[derive(Debug, Drop)]
+pub(crate) struct Request<'a> {
+    /// What is to be done.
+    pub(crate) task: Task,
+    /// Where the plant text stands: the path of a file, or `-` for the standard input.
+    pub(crate) plant: &'a str,
+}
