@@ -28,3 +28,6 @@ mod side;
 
 pub use connectors::Connectors;
 pub use rule::{read_maximal, read_priority};
+
+#[cfg(test)]
+mod tests;
