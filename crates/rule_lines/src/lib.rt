@@ -14,8 +14,8 @@
 //!
 //! What a line says, or which fault it has, is one definition for each kind (`specs/Rules.antt`), on the words. A fault
 //! is told by the first word from the left that is at fault; within `NAME:MASK` by the name before the mask. A word that
-//! is not written `NAME:MASK`, as one with two colons, is looked up as a name, and names nothing since no name has a
-//! colon. So does any word with a colon behind `maximal`.
+//! is not written `NAME:MASK`, as one with two colons, is looked up whole, and so is the word behind `maximal`: with a
+//! colon in it, it names nothing, since no connector's name has one.
 //!
 //! - `connectors`: what the layer above tells. `side`: one side of a rule. `rule`: the lines.
 //! - `reading`: steps that take words.
