@@ -7,8 +7,9 @@ use std::alloc::{AllocError, Global};
 
 const ABOUT: &str = "Reads the text of a plant, and says what stands in it or runs it.
 
-A plant is atoms (machines with places, variables and ports), connectors (which ports move together, and what data passes between \
-them) and guards. Its text has a line for each part; examples/ has plants to begin with.";
+A plant is atoms (machines with places, variables and ports), connectors (which ports
+move together, and what data passes between them) and guards. Its text has a line for
+each part; examples/ has plants to begin with.";
 
 const AFTER: &str = "Exit status:
   0  what was asked for is done
@@ -19,10 +20,12 @@ const AFTER: &str = "Exit status:
 Example:
   bip_run trace examples/sample.plant 0 1 0 1";
 
+const CHECK_BRIEF: &str = "Counts the parts of a plant";
+
 const CHECK_ABOUT: &str = "Counts the parts of a plant.
 
-Prints one line: how many atoms, connectors, interactions and priority rules the plant has. An interaction is a set of ports of one \
-connector that may move together.";
+Prints one line: how many atoms, connectors, interactions and priority rules the plant
+has. An interaction is a set of ports of one connector that may move together.";
 
 const CHECK_AFTER: &str = "Example:
   bip_run check examples/sample.plant
@@ -35,12 +38,15 @@ Exit status:
   2  the words of the command line were not understood
   3  a file ('file PATH'), the memory ('memory') or the standard output failed";
 
+const TRACE_BRIEF: &str = "Runs a plant from its first state, and prints the run";
+
 const TRACE_ABOUT: &str = "Runs a plant from its first state, and prints the run.
 
-Prints a line for each pick: the number of the interaction that it fires, its connector, and each participant as \
-ATOM.PORT/TRANSITION. A pick takes the entry of the state's choices at the pick modulo their number. Where nothing is possible the \
-line 'stuck' is printed, and the picks that follow are passed over. At the end there is a line for each atom: its marked places, and \
-its variables with their values.";
+Prints a line for each pick: the number of the interaction that it fires, its connector,
+and each participant as ATOM.PORT/TRANSITION. A pick takes the entry of the state's
+choices at the pick modulo their number. Where nothing is possible the line 'stuck' is
+printed, and the picks that follow are passed over. At the end there is a line for each
+atom: its marked places, and its variables with their values.";
 
 const TRACE_AFTER: &str = "Example:
   bip_run trace examples/sample.plant 0 1
@@ -57,8 +63,11 @@ Exit status:
   3  a file ('file PATH'), the memory ('memory') or the standard output failed";
 
 const PLANT: &str = "PLANT";
+
 const PICK: &str = "PICK";
+
 const CHECK: &str = "check";
+
 const TRACE: &str = "trace";
 
 /// What the words of the command line ask for, the program's own name first; or the answer to print in its place.
@@ -110,8 +119,7 @@ fn plant_given<'a>(program: &mut Command<'a>, found: &ArgMatches<'a>) -> Result<
 
 /// The answer to a word that stands for a pick and is none.
 fn no_pick(alloc: Global, program: &mut Command<'_>, word: &str) -> Result<Error, AllocError> {
-    let message = format!(
-        in alloc;
+    let message = format!(in alloc;
         "invalid value '{word}' for '[PICK]...': a pick is digits alone, at most 18446744073709551615"
     )?;
     program.error(ErrorKind::ValueValidation, message.as_str())
@@ -131,7 +139,8 @@ fn program<'a>(alloc: Global) -> Result<Command<'a>, AllocError> {
 /// The command that counts the parts of a plant.
 fn check_command<'a>(alloc: Global) -> Result<Command<'a>, AllocError> {
     Command::new(alloc, CHECK)
-        .about(CHECK_ABOUT)
+        .about(CHECK_BRIEF)
+        .long_about(CHECK_ABOUT)
         .after_help(CHECK_AFTER)
         .arg(plant_argument(alloc))
 }
@@ -139,7 +148,8 @@ fn check_command<'a>(alloc: Global) -> Result<Command<'a>, AllocError> {
 /// The command that runs a plant.
 fn trace_command<'a>(alloc: Global) -> Result<Command<'a>, AllocError> {
     Command::new(alloc, TRACE)
-        .about(TRACE_ABOUT)
+        .about(TRACE_BRIEF)
+        .long_about(TRACE_ABOUT)
         .after_help(TRACE_AFTER)
         .arg(plant_argument(alloc))?
         .arg(pick_argument(alloc))
@@ -147,9 +157,9 @@ fn trace_command<'a>(alloc: Global) -> Result<Command<'a>, AllocError> {
 
 /// The argument that says where the plant text stands.
 fn plant_argument<'a>(alloc: Global) -> Arg<'a> {
-    Arg::new(alloc, PLANT)
-        .required(true)
-        .help("The file with the text of the plant, or - for the standard input")
+    Arg::new(alloc, PLANT).required(true).help(
+        "The file with the text of the plant, or - for the standard input",
+    )
 }
 
 /// The argument of the picks.

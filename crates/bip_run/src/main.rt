@@ -17,7 +17,8 @@ mod process;
 mod request;
 mod stop;
 mod task;
-
+#[cfg(test)]
+mod tests;
 
 use std::process::ExitCode;
 

@@ -62,7 +62,10 @@ fn show<R: Print + Eprint>(rt: &R, told: &Error) -> Result<(), Stop>
 }
 
 /// Does what was asked for.
-fn serve<R: Files + Input + Print + AllocGlobal>(rt: &R, request: &Request<'_>) -> Result<(), Stop> {
+fn serve<R: Files + Input + Print + AllocGlobal>(
+    rt: &R,
+    request: &Request<'_>,
+) -> Result<(), Stop> {
     let alloc = rt.alloc();
     let mut output = BufWriter::new(alloc, io::writer(rt)).map_err(|_| Stop::Memory)?;
     if request.plant == STANDARD_INPUT {
