@@ -43,8 +43,10 @@ fn the_sample_is_a_plant(rt: HostRuntime) -> Result<(), Fail> {
     assert!(rt; system.atoms()[0].transitions().len() == 1);
     assert!(rt; system.atoms()[1].variables().len() == 1);
     assert!(rt; system.wires()[0].transfers.len() == 0);
-    assert!(rt; system.wires()[1].transfers.len() == 1);
-    assert!(rt; system.wires()[1].transfers[0].target.leaf == 1);
+    match system.wires()[1].transfers.as_slice() {
+        [transfer] => assert_eq!(rt; transfer.target.leaf, 1),
+        _ => return Err("not one transfer".into()),
+    }
     Ok(())
 }
 
