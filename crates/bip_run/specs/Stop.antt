@@ -1,6 +1,6 @@
 -- What the program tells where it stops, and its exit status.
-use Rattle.std.specs.Prelude.{◌≡◌, ◌≢◌, ℕ, List, [], ◌++◌, codes, decimal, Result, Ok, Err}
-use Rattle.plant_text.specs.Fault.{number_of, name_of, of_no_line}
+use Rattle.std.specs.Prelude.{◌≡◌, ◌≢◌, ℕ, List, [], ◌++◌, codes, decimal, Option, Some, None, Result, Ok, Err}
+use Rattle.plant_text.specs.Fault.{number_of, name_of, subject_of, of_no_line}
 use Rattle.plant_text.specs.Made.{IsTold}
 use Rattle.plant_text.specs.declared.fault.Fault.{Fault}
 use Rattle.plant_text.specs.declared.fault.Fault.TheVariants as fault
@@ -25,11 +25,16 @@ status_of (Err Unopened) = 3
 status_of (Err Memory) = 3
 status_of (Err Unwritten) = 3
 
--- the line of a plant's fault: its line, its number and its name
+-- the number that a fault speaks of, in parentheses
+abbrev pub subject_text : Option ℕ → List ℕ
+subject_text None = []
+subject_text (Some subject) = codes "(" ++ decimal subject ++ codes ")"
+
+-- the line of a plant's fault: its line, its number, its name, and what it speaks of
 abbrev pub fault_line : PlantFault → List ℕ
 fault_line told =
     codes "plant line " ++ decimal told.line ++ codes ": fault " ++ decimal (number_of told.fault) ++ codes " " ++
-    name_of told.fault ++ codes "\n"
+    name_of told.fault ++ subject_text (subject_of told.fault) ++ codes "\n"
 
 -- the line of a file that can't be opened or read
 abbrev pub file_line : List ℕ → List ℕ

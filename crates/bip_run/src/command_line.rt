@@ -8,8 +8,9 @@ use std::alloc::{AllocError, Global};
 const ABOUT: &str = "Reads the text of a plant, and says what stands in it or runs it.
 
 A plant is atoms (machines with places, variables and ports), connectors (which ports
-move together, and what data passes between them) and guards. Its text has a line for
-each part; examples/ has plants to begin with.";
+move together, under which guards, and what data passes between them) and priorities
+(what goes before what). Its text has a line for each part; examples/ has plants to
+begin with.";
 
 const AFTER: &str = "Exit status:
   0  what was asked for is done

@@ -59,14 +59,21 @@ impl<'a> fmt::Display for Told<'a> {
     fn fmt<W: fmt::Write>(&self, f: &mut fmt::Formatter<W>) -> fmt::Result {
         match self.stop {
             Stop::Usage => Ok(()),
-            Stop::Plant(told) => match told.fault {
-                Fault::Read => writeln!(f, "file {}", self.plant),
-                _ => writeln!(
+            Stop::Plant(told) => match (told.fault, told.fault.subject()) {
+                (Fault::Read, _) => writeln!(f, "file {}", self.plant),
+                (fault, None) => writeln!(
                     f,
                     "plant line {}: fault {} {}",
                     told.line,
-                    told.fault.number(),
-                    told.fault.name()
+                    fault.number(),
+                    fault.name()
+                ),
+                (fault, Some(subject)) => writeln!(
+                    f,
+                    "plant line {}: fault {} {}({subject})",
+                    told.line,
+                    fault.number(),
+                    fault.name()
                 ),
             },
             Stop::Unopened => writeln!(f, "file {}", self.plant),

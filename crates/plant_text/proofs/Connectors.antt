@@ -1,13 +1,16 @@
 -- What a line says of a connector, and of how it is written.
-use Rattle.std.proofs.Common.{◌≡◌, ◌∙◌, ap, refl, ℕ, List, Result, Ok, Err}
+use Rattle.std.proofs.Common.{◌≡◌, ◌∙◌, sym, ap, refl, ℕ, List, Result, Ok, Err}
+use Rattle.std.specs.Prelude.{OnOk, OnErr}
 use Rattle.petri_atom.specs.Expression.{Tree}
 use Rattle.petri_atom.specs.Definition.{AtomDefinition}
 use Rattle.connector_tree.specs.Tree.{leaves}
+use Rattle.connector_tree.specs.declared.tree.Connector.{Connector}
 use Rattle.connector_tree.specs.declared.tree.Port.{Port}
 use Rattle.step_core.specs.Plant.{TransferDefinition, WireDefinition}
 use Rattle.step_core.specs.declared.wire.Export.{Export}
 use Rattle.atom_lines.specs.declared.fault.LineFault.{LineFault}
 use Rattle.atom_lines.specs.Reading as line
+use Rattle.plant_trees.specs.Connectors.{tokens_of}
 use Rattle.plant_trees.proofs.Leaves.{ports-connector}
 use Rattle.wire_lines.specs.Names.{variable_in}
 use Rattle.wire_lines.specs.Rows.{guards_with, transfers_with, guard_row, transfer_row}
@@ -62,3 +65,32 @@ transfer_made atoms words w made says = transfer_written atoms words w ∙ ap wr
 -- the fault of a line `move`
 pub transfer_refused : (atoms : List AtomDefinition) (words : List (List ℕ)) (w : WireDefinition) (fault : LineFault) → transfer_row (atom_number atoms) (export_named atoms) words w ≡ Err fault → wire_part_row Transfer atoms words (wire_text_of w) ≡ Err fault
 transfer_refused atoms words w fault says = transfer_written atoms words w ∙ ap written says
+
+-- the tree of what was read, or another one where nothing was
+abbrev tree_behind : Connector → Result WireDefinition LineFault → Connector
+tree_behind before (Ok w) = w.connector
+tree_behind before (Err fault) = before
+
+-- a connector with guard clauses that were read has the tree that it had
+guards_keep_the_tree : (w made : WireDefinition) (read : Result (List (Tree Export)) LineFault) → (line.◌>>=◌ read (λ guards. Ok (record w { guards = guards }))) ≡ Ok made → made.connector ≡ w.connector
+guards_keep_the_tree w made (Ok guards) says = sym (ap (tree_behind w.connector) says)
+guards_keep_the_tree w made (Err fault) says = sym (ap (tree_behind w.connector) says)
+
+-- the same of transfers
+transfers_keep_the_tree : (w made : WireDefinition) (read : Result (List TransferDefinition) LineFault) → (line.◌>>=◌ read (λ transfers. Ok (record w { transfers = transfers }))) ≡ Ok made → made.connector ≡ w.connector
+transfers_keep_the_tree w made (Ok transfers) says = sym (ap (tree_behind w.connector) says)
+transfers_keep_the_tree w made (Err fault) says = sym (ap (tree_behind w.connector) says)
+
+-- behind a line `guard`, with or without a fault, the tree is as it was
+pub guard_same_tree : (atoms : List AtomDefinition) (words : List (List ℕ)) (w made : WireDefinition) (result : Result (Unit {0}) LineFault) →
+    OnOk result (guard_row (atom_number atoms) (export_named atoms) words w ≡ Ok made) → OnErr result (made ≡ w) → (wire_text_of made).tree ≡ (wire_text_of w).tree
+guard_same_tree atoms words w made (Ok done) added unchanged =
+    ap tokens_of (guards_keep_the_tree w made (guards_with (variable_in (atom_number atoms) (export_named atoms) (leaves w.connector)) words w.guards) added)
+guard_same_tree atoms words w made (Err fault) added unchanged = ap (λ (x : WireDefinition). tokens_of x.connector) unchanged
+
+-- the same of a line `move`
+pub transfer_same_tree : (atoms : List AtomDefinition) (words : List (List ℕ)) (w made : WireDefinition) (result : Result (Unit {0}) LineFault) →
+    OnOk result (transfer_row (atom_number atoms) (export_named atoms) words w ≡ Ok made) → OnErr result (made ≡ w) → (wire_text_of made).tree ≡ (wire_text_of w).tree
+transfer_same_tree atoms words w made (Ok done) added unchanged =
+    ap tokens_of (transfers_keep_the_tree w made (transfers_with (variable_in (atom_number atoms) (export_named atoms) (leaves w.connector)) words w.transfers) added)
+transfer_same_tree atoms words w made (Err fault) added unchanged = ap (λ (x : WireDefinition). tokens_of x.connector) unchanged

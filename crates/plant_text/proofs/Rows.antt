@@ -3,14 +3,19 @@ use Rattle.std.proofs.Common.{◌≡◌, refl, ℕ, pos, List, [], ◌∷◌, �
 use Rattle.petri_atom.specs.Definition.{AtomDefinition}
 use Rattle.petri_atom.specs.Expression.{number, variable}
 use Rattle.connector_tree.specs.declared.faults.TreeFault.TheVariants.{SameAtom}
+use Rattle.priority_filter.specs.Decided.{order_fault, is_below}
+use Rattle.priority_filter.specs.declared.fault.OrderFault.TheVariants.{Cycle}
+use Rattle.priority_filter.specs.declared.rule.Rule.TheVariants.{Under, Maximal}
+use Rattle.priority_filter.specs.declared.rule.Side.TheVariants.{Whole, One}
 use Rattle.plant_trees.specs.declared.token.Token.TheVariants.{Leaf}
 use Rattle.plant_text.specs.Text.{WireText, PlantText}
 use Rattle.plant_text.specs.Names.{port_named, export_named}
 use Rattle.plant_text.specs.Fault.{of_no_line}
 use Rattle.plant_text.specs.Rows.{line_row}
-use Rattle.plant_text.specs.Meaning.{nothing, lines_row, meaning}
+use Rattle.plant_text.specs.Interactions.{interactions_of}
+use Rattle.plant_text.specs.Meaning.{nothing, lines_row, with_an_order, meaning}
 use Rattle.plant_text.specs.declared.fault.Fault.{Fault}
-use Rattle.plant_text.specs.declared.fault.Fault.TheVariants.{NotAscii, UnknownWord, Misplaced, BadName, Twice, UnknownName, Shape, Tree, Limit, NoAtom}
+use Rattle.plant_text.specs.declared.fault.Fault.TheVariants.{NotAscii, UnknownWord, Misplaced, BadName, Twice, UnknownName, Shape, Tree, Order, Limit, NoAtom}
 use Rattle.plant_text.specs.declared.fault.PlantFault.{PlantFault}
 
 -- an atom with a place s, a variable, and a port that exports it
@@ -91,7 +96,7 @@ another_connector = refl
 an_illegal_byte : line_row (codes "foo " ++ 128 ∷ []) sample ≡ Err NotAscii
 an_illegal_byte = refl
 
-a_word_of_no_line : line_row (codes "prio one < two") sample ≡ Err UnknownWord
+a_word_of_no_line : line_row (codes "priority one < two") sample ≡ Err UnknownWord
 a_word_of_no_line = refl
 
 a_place_of_no_atom : line_row (codes "place 3") nothing ≡ Err Misplaced
@@ -127,7 +132,33 @@ an_atom_twice_in_a_tree = refl
 a_connector_too_many : line_row (codes "connector") (record sample { wires = replicate 64 (wire_named (codes "one")) }) ≡ Err Limit
 a_connector_too_many = refl
 
+a_priority : line_row (codes "prio one < two:3") sample ≡ Ok (record sample { rules = Under (Whole 0) (One 1 3) ∷ [] })
+a_priority = refl
+
+a_maximal_connector : line_row (codes "maximal two") (record sample { rules = Maximal 0 ∷ [] }) ≡ Ok (record sample { rules = Maximal 0 ∷ Maximal 1 ∷ [] })
+a_maximal_connector = refl
+
+a_priority_of_no_interaction : line_row (codes "prio one:2 < two") sample ≡ Err UnknownName
+a_priority_of_no_interaction = refl
+
+a_priority_before_all_connectors : line_row (codes "maximal one") nothing ≡ Err UnknownName
+a_priority_before_all_connectors = refl
+
+a_rule_too_many : line_row (codes "prio") (record sample { rules = replicate 1024 (Maximal 0) }) ≡ Err Limit
+a_rule_too_many = refl
+
 -- ---- texts
+
+interactions_are_numbered_by_connector_and_mask : interactions_of sample.wires ≡ (0, 1) ∷ (0, 3) ∷ (1, 1) ∷ (1, 3) ∷ []
+interactions_are_numbered_by_connector_and_mask = refl
+
+rules_with_an_order : with_an_order (record sample { rules = Under (Whole 0) (Whole 1) ∷ Maximal 0 ∷ [] }) ≡ Ok (record sample { rules = Under (Whole 0) (Whole 1) ∷ Maximal 0 ∷ [] })
+unfolding order_fault is_below
+rules_with_an_order = refl
+
+rules_with_a_cycle : with_an_order (record sample { rules = Under (Whole 1) (One 1 3) ∷ [] }) ≡ Err (of_no_line (Order (Cycle 3)))
+unfolding order_fault is_below
+rules_with_a_cycle = refl
 
 an_empty_text : meaning [] ≡ Err (of_no_line NoAtom)
 an_empty_text = refl

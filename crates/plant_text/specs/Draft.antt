@@ -4,4 +4,4 @@ use Rattle.plant_text.specs.declared.draft.PlantDraft.{PlantDraft}
 
 -- the plant as its lines have told it so far
 abbrev pub drafted : PlantDraft → PlantText
-drafted d = plant_drafted d.atoms.items d.wires.items
+drafted d = plant_drafted d.atoms.items d.wires.items d.rules.items

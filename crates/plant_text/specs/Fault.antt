@@ -1,9 +1,12 @@
 -- What is told where a text is no plant.
-use Rattle.std.specs.Prelude.{◌≡◌, ◌≢◌, ℕ, ◌==◌, if◌then◌else◌, List, ◌++◌, codes, Result, Err}
+use Rattle.std.specs.Prelude.{◌≡◌, ◌≢◌, ℕ, ◌==◌, if◌then◌else◌, List, ◌++◌, codes, Option, Some, None, Result, Err}
 use Rattle.std.specs.Fmt.{decimal}
 use Rattle.connector_tree.specs.Faults as connector
 use Rattle.connector_tree.specs.declared.faults.TreeFault.{TreeFault}
 use Rattle.connector_tree.specs.declared.faults.TreeFault.TheVariants as tree
+use Rattle.priority_filter.specs.Fault as priority
+use Rattle.priority_filter.specs.declared.fault.OrderFault.{OrderFault}
+use Rattle.priority_filter.specs.declared.fault.OrderFault.TheVariants as order
 use Rattle.step_core.specs.declared.fault.SystemFault.{SystemFault}
 use Rattle.step_core.specs.declared.fault.SystemFault.TheVariants as system
 use Rattle.atom_lines.specs.declared.fault.LineFault.{LineFault}
@@ -14,7 +17,7 @@ use Rattle.text_io.specs.declared.reading.TheConstants.{MAX_TEXT}
 use Rattle.text_io.specs.declared.reading.TextFault.{TextFault}
 use Rattle.text_io.specs.declared.reading.TextFault.TheVariants as reading
 use Rattle.plant_text.specs.declared.fault.Fault.{Fault}
-use Rattle.plant_text.specs.declared.fault.Fault.TheVariants.{NotAscii, TooLong, UnknownWord, Misplaced, BadName, Twice, UnknownName, BadExpression, BadNumber, Shape, Tree, Limit, NoAtom, Memory, Read}
+use Rattle.plant_text.specs.declared.fault.Fault.TheVariants.{NotAscii, TooLong, UnknownWord, Misplaced, BadName, Twice, UnknownName, BadExpression, BadNumber, Shape, Tree, Order, Limit, NoAtom, Memory, Read}
 use Rattle.plant_text.specs.declared.fault.PlantFault.{PlantFault}
 
 -- the number of a fault
@@ -30,6 +33,7 @@ number_of BadExpression = 8
 number_of BadNumber = 9
 number_of Shape = 10
 number_of (Tree fault) = 11
+number_of (Order fault) = 12
 number_of Limit = 13
 number_of NoAtom = 14
 number_of Memory = 15
@@ -43,7 +47,24 @@ tree_name_of tree.SameAtom = codes "SameAtom"
 tree_name_of tree.Empty = codes "Empty"
 tree_name_of tree.Memory = codes "Memory"
 
--- the name of a fault, as programs print it; a tree's fault has its own
+-- the name of a fault of the order, as programs print it before its number
+abbrev pub order_name_of : OrderFault → List ℕ
+order_name_of (order.Cycle interaction) = codes "Cycle"
+order_name_of (order.UnknownName rule) = codes "UnknownName"
+order_name_of order.Memory = codes "Memory"
+
+-- the number that a fault of the order speaks of: an interaction or a rule
+abbrev pub order_subject_of : OrderFault → Option ℕ
+order_subject_of (order.Cycle interaction) = Some interaction
+order_subject_of (order.UnknownName rule) = Some rule
+order_subject_of order.Memory = None
+
+-- the number that a fault speaks of, which programs print behind its name
+abbrev pub subject_of : Fault → Option ℕ
+subject_of (Order fault) = order_subject_of fault
+subject_of fault = None
+
+-- the name of a fault, as programs print it; a fault of a tree or of the order has its own
 abbrev pub name_of : Fault → List ℕ
 name_of NotAscii = codes "NotAscii"
 name_of TooLong = codes "TooLong"
@@ -56,6 +77,7 @@ name_of BadExpression = codes "BadExpr"
 name_of BadNumber = codes "BadNumber"
 name_of Shape = codes "Shape"
 name_of (Tree fault) = tree_name_of fault
+name_of (Order fault) = order_name_of fault
 name_of Limit = codes "Limit"
 name_of NoAtom = codes "NoAtom"
 name_of Memory = codes "Memory"
@@ -74,6 +96,7 @@ message_of BadExpression = codes "an expression is malformed"
 message_of BadNumber = codes "a number is malformed, or has more than 64 bits"
 message_of Shape = codes "a word is missing, misplaced or left over"
 message_of (Tree fault) = connector.message_of fault
+message_of (Order fault) = priority.message_of fault
 message_of Limit = codes "a limit of plants is passed"
 message_of NoAtom = codes "there is no atom"
 message_of Memory = codes "not enough memory for the plant"
@@ -114,7 +137,7 @@ of_system system.Limit = Limit
 of_system (system.BadAtom atom) = Limit
 of_system (system.BadConnector connector fault) = Limit
 of_system (system.BadWire connector fault) = Limit
-of_system (system.Order fault) = Limit
+of_system (system.Order fault) = Order fault
 of_system system.Memory = Memory
 
 -- a fault that is of no line

@@ -1,8 +1,10 @@
 pub mod Fault
 pub mod Text
+pub mod Interactions
 pub mod Names
 pub mod Rows
 pub mod Meaning
 pub mod Made
+pub mod Wires
 pub mod Parts
 pub mod Draft

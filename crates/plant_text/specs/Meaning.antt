@@ -1,12 +1,15 @@
 -- The plant that a text means, or the first line with a fault.
 use Rattle.std.specs.Prelude.{ℕ, ◌+◌, if◌then◌else◌, nat_lt, List, [], ◌∷◌, length, Result, Ok, Err}
+use Rattle.std.specs.Option.{option_map_or}
+use Rattle.priority_filter.specs.Decided.{order_fault}
 use Rattle.text_io.specs.declared.reading.TheConstants.{MAX_TEXT}
 use Rattle.plant_words.specs.Lines.{lines_of}
 use Rattle.plant_text.specs.Text.{PlantText}
+use Rattle.plant_text.specs.Interactions.{interactions_of}
 use Rattle.plant_text.specs.Fault.{of_no_line}
 use Rattle.plant_text.specs.Rows.{◌>>=◌, line_row}
 use Rattle.plant_text.specs.declared.fault.Fault.{Fault}
-use Rattle.plant_text.specs.declared.fault.Fault.TheVariants.{TooLong, NoAtom}
+use Rattle.plant_text.specs.declared.fault.Fault.TheVariants.{TooLong, NoAtom, Order}
 use Rattle.plant_text.specs.declared.fault.PlantFault.{PlantFault}
 
 -- what a line says, with its fault told by its number
@@ -23,13 +26,23 @@ lines_row number (line ∷ lines) plant = on_line number (line_row line plant) >
 abbrev pub with_an_atom : PlantText → Result PlantText PlantFault
 with_an_atom plant = if nat_lt 0 (length plant.atoms) then Ok plant else Err (of_no_line NoAtom)
 
+-- the plant, where its rules put an order on its interactions
+abbrev pub with_an_order : PlantText → Result PlantText PlantFault
+with_an_order plant =
+    option_map_or (λ fault. Err (of_no_line (Order fault))) (order_fault plant.rules (interactions_of plant.wires)) (Ok plant)
+
 -- the plant with no parts
 abbrev pub nothing : PlantText
 nothing = record { atoms = []; wires = []; rules = [] }
 
--- What a text means: its lines, numbered from 1, one after the other. The first line with a fault is told; a text that is too long
--- is told before all lines, and that no atom stands in it behind them.
-abbrev pub meaning : List ℕ → Result PlantText PlantFault
-meaning text =
+-- what the lines of a text write, numbered from 1, one after the other; a text that is too long is told before them, and behind
+-- them that no atom stands in it
+abbrev pub written_in : List ℕ → Result PlantText PlantFault
+written_in text =
     if nat_lt MAX_TEXT (length text) then Err (of_no_line TooLong) else
     (lines_row 1 (lines_of text) nothing >>= with_an_atom)
+
+-- What a text means: what its lines write, or the first line with a fault. Behind all lines it is told that the rules put no
+-- order on the interactions.
+abbrev pub meaning : List ℕ → Result PlantText PlantFault
+meaning text = written_in text >>= with_an_order

@@ -1,6 +1,5 @@
 -- What names and first words mean in a plant text.
-use Rattle.std.specs.Prelude.{ℕ, Bool, if◌then◌else◌, List, codes, slice_get, position, Option, Some, None, option_map}
-use Rattle.std.specs.List.{list_any}
+use Rattle.std.specs.Prelude.{ℕ, if◌then◌else◌, List, codes, slice_get, position, Option, Some, None, option_map}
 use Rattle.std.specs.Option.{option_and_then}
 use Rattle.petri_atom.specs.Name.{is_same_text}
 use Rattle.petri_atom.specs.Definition.{AtomDefinition}
@@ -9,8 +8,9 @@ use Rattle.atom_lines.specs.Lookup.{port_number, export_number}
 use Rattle.plant_text.specs.Text.{WireText}
 use Rattle.plant_text.specs.declared.kinds.AtomPart.TheVariants.{Place, Variable, Port as PortPart, Transition}
 use Rattle.plant_text.specs.declared.kinds.WirePart.TheVariants.{Guard, Transfer}
+use Rattle.plant_text.specs.declared.kinds.RuleKind.TheVariants.{Priority, Maximal}
 use Rattle.plant_text.specs.declared.kinds.LineKind.{LineKind}
-use Rattle.plant_text.specs.declared.kinds.LineKind.TheVariants.{Atom, Connector, OfAtom, OfConnector}
+use Rattle.plant_text.specs.declared.kinds.LineKind.TheVariants.{Atom, Connector, OfAtom, OfConnector, Rule}
 
 -- what kind of line begins with a word
 abbrev pub kind_in : List ℕ → Option LineKind
@@ -23,15 +23,17 @@ kind_in word =
     else if is_same_text word (codes "trans") then Some (OfAtom Transition)
     else if is_same_text word (codes "guard") then Some (OfConnector Guard)
     else if is_same_text word (codes "move") then Some (OfConnector Transfer)
+    else if is_same_text word (codes "prio") then Some (Rule Priority)
+    else if is_same_text word (codes "maximal") then Some (Rule Maximal)
     else None
 
 -- the number of the first atom with the name
 abbrev pub atom_number : List AtomDefinition → List ℕ → Option ℕ
 atom_number atoms name = position (λ a. is_same_text a.name name) atoms
 
--- some connector has the name
-abbrev pub has_wire : List WireText → List ℕ → Bool
-has_wire wires name = list_any (λ w. is_same_text w.name name) wires
+-- the number of the first connector with the name
+abbrev pub wire_number : List WireText → List ℕ → Option ℕ
+wire_number wires name = position (λ w. is_same_text w.name name) wires
 
 -- the port with the name of the atom with the number
 abbrev pub port_at : List AtomDefinition → List ℕ → ℕ → Option Port

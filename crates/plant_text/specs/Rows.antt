@@ -1,9 +1,10 @@
 -- What each line says of the plant so far, or the fault of its first word that is at fault.
-use Rattle.std.specs.Prelude.{ℕ, ◌-◌, Bool, not, is_none, if◌then◌else◌, nat_lt, List, [], ◌∷◌, ◌++◌, length, drop, slice_get, slice_set, Result, Ok, Err}
+use Rattle.std.specs.Prelude.{ℕ, ◌+◌, ◌-◌, Bool, is_none, if◌then◌else◌, nat_lt, nat_le, List, [], ◌∷◌, ◌++◌, length, drop, slice_get, slice_set, Result, Ok, Err}
 use Rattle.std.specs.Option.{ok_or, option_map_or}
 use Rattle.petri_atom.specs.Definition.{AtomDefinition}
 use Rattle.petri_atom.specs.Parts.{definition_by}
-use Rattle.step_core.specs.declared.limits.TheConstants.{MAX_ATOMS, MAX_WIRES}
+use Rattle.priority_filter.specs.declared.rule.Rule.{Rule}
+use Rattle.step_core.specs.declared.limits.TheConstants.{MAX_ATOMS, MAX_WIRES, MAX_RULES, MAX_INTERACTIONS}
 use Rattle.plant_words.specs.Lines.{is_legal_line}
 use Rattle.plant_words.specs.Words.{words_of, is_passed_over}
 use Rattle.atom_lines.specs.declared.fault.LineFault.{LineFault}
@@ -11,20 +12,25 @@ use Rattle.atom_lines.specs.Reading.{first_name, at_end}
 use Rattle.atom_lines.specs.Rows.{place_row, variable_row, port_row}
 use Rattle.atom_lines.specs.Transitions.{transition_row}
 use Rattle.plant_trees.specs.declared.token.Token.{Token}
+use Rattle.plant_trees.specs.Meaning.{interactions_in}
 use Rattle.plant_trees.specs.Shape.{ports_in}
 use Rattle.plant_trees.specs.Tokens.{Reading}
 use Rattle.plant_trees.specs.Trees.{tree_in}
+use Rattle.rule_lines.specs.Rules.{priority_in, maximal_in}
 use Rattle.wire_lines.specs.Names.{variable_in}
 use Rattle.wire_lines.specs.Rows.{Named, guards_with, transfers_with}
 use Rattle.plant_text.specs.Text.{WireText, PlantText}
-use Rattle.plant_text.specs.Names.{kind_in, atom_number, has_wire, port_named, export_named}
+use Rattle.plant_text.specs.Interactions.{interactions_of, has_interaction}
+use Rattle.plant_text.specs.Names.{kind_in, atom_number, wire_number, port_named, export_named}
 use Rattle.plant_text.specs.Fault.{of_line, of_tree}
 use Rattle.plant_text.specs.declared.kinds.AtomPart.{AtomPart}
 use Rattle.plant_text.specs.declared.kinds.AtomPart.TheVariants.{Place, Variable, Port, Transition}
 use Rattle.plant_text.specs.declared.kinds.WirePart.{WirePart}
 use Rattle.plant_text.specs.declared.kinds.WirePart.TheVariants.{Guard, Transfer}
+use Rattle.plant_text.specs.declared.kinds.RuleKind.{RuleKind}
+use Rattle.plant_text.specs.declared.kinds.RuleKind.TheVariants.{Priority, Maximal}
 use Rattle.plant_text.specs.declared.kinds.LineKind.{LineKind}
-use Rattle.plant_text.specs.declared.kinds.LineKind.TheVariants.{Atom, Connector, OfAtom, OfConnector}
+use Rattle.plant_text.specs.declared.kinds.LineKind.TheVariants.{Atom, Connector, OfAtom, OfConnector, Rule as OfRule}
 use Rattle.plant_text.specs.declared.fault.Fault.{Fault}
 use Rattle.plant_text.specs.declared.fault.Fault.TheVariants.{NotAscii, UnknownWord, Misplaced, Twice, Limit}
 
@@ -82,14 +88,31 @@ atom_row words plant = do
   _ ← told (at_end (drop 1 words))
   Ok (record plant { atoms = plant.atoms ++ definition_by name [] [] [] [] ∷ [] })
 
+-- so many more interactions are no more than a plant may have
+abbrev pub has_room : List WireText → List Token → Bool
+has_room wires tree = nat_le (length (interactions_of wires) + length (interactions_in tree)) MAX_INTERACTIONS
+
 -- `connector NAME TREE`: a connector with a new name, over ports of the atoms so far
 abbrev pub connector_row : List (List ℕ) → PlantText → Result PlantText Fault
 connector_row words plant = do
   _ ← check (nat_lt (length plant.wires) MAX_WIRES) Limit
   name ← told (first_name words)
-  _ ← check (not (has_wire plant.wires name)) Twice
+  _ ← check (is_none (wire_number plant.wires name)) Twice
   tree ← told_tree (tree_in (port_named plant.atoms) (drop 1 words))
+  _ ← check (has_room plant.wires tree) Limit
   Ok (record plant { wires = plant.wires ++ record { name = name; tree = tree; guards = []; transfers = [] } ∷ [] })
+
+-- the rule that a line `prio` or `maximal` writes over the connectors so far, by the words behind its first
+abbrev pub rule_in : RuleKind → List WireText → List (List ℕ) → Result Rule LineFault
+rule_in Priority wires = priority_in (wire_number wires) (has_interaction wires)
+rule_in Maximal wires = maximal_in (wire_number wires)
+
+-- `prio SIDE < SIDE`, `maximal NAME`: one more rule
+abbrev pub rule_row : RuleKind → List (List ℕ) → PlantText → Result PlantText Fault
+rule_row kind words plant = do
+  _ ← check (nat_lt (length plant.rules) MAX_RULES) Limit
+  rule ← told (rule_in kind plant.wires words)
+  Ok (record plant { rules = plant.rules ++ rule ∷ [] })
 
 -- a line of a kind, by the words behind its first: a part is one of the latest atom or connector
 abbrev pub row_of : LineKind → List (List ℕ) → PlantText → Result PlantText Fault
@@ -97,6 +120,7 @@ row_of Atom words plant = atom_row words plant
 row_of Connector words plant = connector_row words plant
 row_of (OfAtom part) words plant = last_changed (atom_part_row part words) plant.atoms >>= λ atoms. Ok (record plant { atoms = atoms })
 row_of (OfConnector part) words plant = last_changed (wire_part_row part plant.atoms words) plant.wires >>= λ wires. Ok (record plant { wires = wires })
+row_of (OfRule kind) words plant = rule_row kind words plant
 
 -- the words of a line: the first one says of which kind it is
 abbrev pub words_row : List (List ℕ) → PlantText → Result PlantText Fault

@@ -1,35 +1,40 @@
 //! The plant as its lines have told it so far.
 ghost use Rattle.std.specs.Prelude.{◌≡◌, ◌≤◌, length, map, IfOk, IfErr, OnOk, Ok, None};
-ghost use Rattle.step_core.specs.declared.limits.TheConstants.{MAX_ATOMS, MAX_WIRES};
+ghost use Rattle.step_core.specs.declared.limits.TheConstants.{MAX_ATOMS, MAX_WIRES, MAX_RULES};
 ghost use Rattle.connector_tree.specs.Faults.{fault_of};
 ghost use Rattle.atom_lines.specs.Draft.{drafted as atom_drafted};
 ghost use Rattle.plant_trees.specs.Connectors.{tokens_of};
 ghost use Rattle.plant_trees.specs.Trees.{tree_in};
 ghost use Rattle.plant_text.specs.Fault.{IsFaultOf};
-ghost use Rattle.plant_text.specs.Names.{has_wire, port_named};
-ghost use Rattle.plant_text.specs.Rows.{told_tree, atom_row, connector_row, row_of, words_row, line_row};
+ghost use Rattle.plant_text.specs.Names.{port_named};
+ghost use Rattle.plant_text.specs.Parts.{wire_listed};
+ghost use Rattle.plant_text.specs.Rows.{told_tree, atom_row, connector_row, rule_row, row_of, words_row, line_row};
 
 use crate::fault::Fault;
-use crate::kinds::{AtomPart, LineKind, WirePart};
+use crate::kinds::{AtomPart, LineKind, RuleKind, WirePart};
+use crate::listed::ListedWire;
 use crate::names::AtomTable;
-use crate::parts::{change_atom, change_wire, has_wire};
+use crate::parts::change_atom;
 use crate::reading::{check, end, next_name};
+use crate::wires::{WireTable, have_room, read_rule};
 use atom_lines::AtomDraft;
 use connector_tree::Connector;
 use plant_trees::read_tree;
 use plant_words::{Words, is_legal, is_passed_over};
+use priority_filter::Rule;
 use std::alloc::Global;
-use step_core::{MAX_ATOMS, MAX_WIRES};
-use wire_lines::WireDraft;
+use step_core::{MAX_ATOMS, MAX_RULES, MAX_WIRES};
 
 /// A plant to which lines add parts.
 #[derive(Drop)]
 pub(crate) struct PlantDraft {
     pub(crate) alloc: Global,
     pub(crate) atoms: Vec<AtomDraft>,
-    pub(crate) wires: Vec<WireDraft>,
+    pub(crate) wires: Vec<ListedWire>,
+    pub(crate) rules: Vec<Rule>,
     ghost few_atoms: { length atoms.items ≤ MAX_ATOMS },
     ghost few_wires: { length wires.items ≤ MAX_WIRES },
+    ghost few_rules: { length rules.items ≤ MAX_RULES },
 }
 
 impl PlantDraft {
@@ -44,6 +49,7 @@ impl PlantDraft {
             alloc,
             atoms: Vec::new(alloc),
             wires: Vec::new(alloc),
+            rules: Vec::new(alloc),
         }
     }
 
@@ -81,6 +87,7 @@ impl PlantDraft {
             LineKind::Connector => self.add_connector(words),
             LineKind::OfAtom(part) => self.add_atom_part(part, words),
             LineKind::OfConnector(part) => self.add_wire_part(part, words),
+            LineKind::Rule(kind) => self.add_rule(kind, words),
         }
     }
 
@@ -117,9 +124,11 @@ impl PlantDraft {
     {
         check(self.wires.len() < MAX_WIRES, Fault::Limit)?;
         let name = next_name(words)?;
-        check(!self.has_wire(name.as_bytes()), Fault::Twice)?;
+        let earlier = self.wire_table().find(name.as_bytes());
+        check(earlier.is_none(), Fault::Twice)?;
         let connector = self.read_tree(words)?;
-        let wire = WireDraft::new(self.alloc, name, connector)?;
+        let wire = ListedWire::new(self.alloc, name, connector)?;
+        check(have_room(&self.wires, wire.masks.len()), Fault::Limit)?;
         self.wires.push(wire)?;
         Ok(())
     }
@@ -133,11 +142,11 @@ impl PlantDraft {
         }
     }
 
-    /// Whether a connector has the name.
-    fn has_wire(&self, name: &[u8]) -> bool
-        ensures { result ≡ has_wire (drafted self.now).wires name.now }
+    /// The connectors so far, by their names.
+    fn wire_table(&self) -> WireTable<'_>
+        ensures { map wire_listed result.wires.now ≡ (drafted self.now).wires }
     {
-        has_wire(&self.wires, name)
+        WireTable { wires: &self.wires }
     }
 
     /// The tree that the words are, over ports of the atoms so far.
@@ -160,7 +169,18 @@ impl PlantDraft {
         let Some(wire) = self.wires.last_mut() else {
             return Err(Fault::Misplaced);
         };
-        change_wire(wire, part, words, &table)?;
+        wire.add_part(part, words, &table)?;
+        Ok(())
+    }
+
+    /// Adds the rule of a line `prio SIDE < SIDE` or `maximal NAME`, by the words behind its first.
+    fn add_rule(&mut self, kind: RuleKind, words: &mut Words) -> Result<(), Fault>
+        ensures added { OnOk result (rule_row kind words.old (drafted self.old) ≡ Ok (drafted self.new)) }
+        ensures fault { IfErr result (IsFaultOf (rule_row kind words.old (drafted self.old))) }
+    {
+        check(self.rules.len() < MAX_RULES, Fault::Limit)?;
+        let rule = read_rule(kind, words, &self.wire_table())?;
+        self.rules.push(rule)?;
         Ok(())
     }
 }

@@ -1,11 +1,12 @@
 //! Why a text is no plant.
 ghost use Rattle.std.specs.Prelude.{◌≡◌};
-ghost use Rattle.plant_text.specs.Fault.{number_of, name_of, tree_name_of};
+ghost use Rattle.plant_text.specs.Fault.{number_of, name_of, subject_of, tree_name_of, order_name_of, order_subject_of};
 ghost use Rattle.plant_text.specs.declared.fault.Fault.TheVariants as fault;
 
 use atom_lines::LineFault;
 use connector_tree::TreeFault;
 use plant_trees::TreeWordsFault;
+use priority_filter::OrderFault;
 use std::alloc::{AllocError, AllocFailed};
 use std::error::Error;
 use std::fmt;
@@ -36,6 +37,9 @@ pub enum Fault {
     Shape,
     /// The tree of a connector breaks a rule of trees; never its `Memory`.
     Tree(TreeFault),
+    /// The rules of the text put no order on its interactions: the least number of one that is below itself, where they are
+    /// numbered from 0 by connector and then by mask. It is told at no line.
+    Order(OrderFault),
     /// The plant, an atom, a port, a transition or a connector would have more parts than it may.
     Limit,
     /// No line declares an atom.
@@ -63,6 +67,7 @@ impl Fault {
             Fault::BadNumber => 9,
             Fault::Shape => 10,
             Fault::Tree(_) => 11,
+            Fault::Order(_) => 12,
             Fault::Limit => 13,
             Fault::NoAtom => 14,
             Fault::Memory => 15,
@@ -86,11 +91,45 @@ impl Fault {
             Fault::BadNumber => "BadNumber",
             Fault::Shape => "Shape",
             Fault::Tree(fault) => tree_name(*fault),
+            Fault::Order(fault) => order_name(*fault),
             Fault::Limit => "Limit",
             Fault::NoAtom => "NoAtom",
             Fault::Memory => "Memory",
             Fault::Read => "Read",
         }
+    }
+
+    /// The number that the fault speaks of, which programs print in parentheses behind its name: of a cycle the interaction
+    /// that is below itself, of the order's unknown name the rule.
+    pub fn subject(&self) -> Option<usize>
+        ensures { result ≡ subject_of self.now }
+    {
+        match self {
+            Fault::Order(fault) => order_subject(*fault),
+            _ => None,
+        }
+    }
+}
+
+/// The name of a fault of the order, as programs print it before its number.
+fn order_name(fault: OrderFault) -> &'static str
+    ensures { result.now ≡ order_name_of fault }
+{
+    match fault {
+        OrderFault::Cycle(_) => "Cycle",
+        OrderFault::UnknownName(_) => "UnknownName",
+        OrderFault::Memory => "Memory",
+    }
+}
+
+/// The number that a fault of the order speaks of.
+fn order_subject(fault: OrderFault) -> Option<usize>
+    ensures { result ≡ order_subject_of fault }
+{
+    match fault {
+        OrderFault::Cycle(interaction) => Some(usize::from(interaction)),
+        OrderFault::UnknownName(rule) => Some(rule),
+        OrderFault::Memory => None,
     }
 }
 
@@ -130,6 +169,7 @@ impl fmt::Display for Fault {
             Fault::BadNumber => f.write_str("a number is malformed, or has more than 64 bits"),
             Fault::Shape => f.write_str("a word is missing, misplaced or left over"),
             Fault::Tree(fault) => write!(f, "{fault}"),
+            Fault::Order(fault) => write!(f, "{fault}"),
             Fault::Limit => f.write_str("a limit of plants is passed"),
             Fault::NoAtom => f.write_str("there is no atom"),
             Fault::Memory => f.write_str("not enough memory for the plant"),

@@ -24,6 +24,15 @@ pub(crate) enum WirePart {
     Transfer,
 }
 
+/// Which rule a line adds to a plant.
+#[derive(Clone, Copy, Debug, PartialEq, Eq)]
+pub(crate) enum RuleKind {
+    /// `prio`
+    Priority,
+    /// `maximal`
+    Maximal,
+}
+
 /// What a line adds to a plant.
 #[derive(Clone, Copy, Debug, PartialEq, Eq)]
 pub(crate) enum LineKind {
@@ -35,6 +44,8 @@ pub(crate) enum LineKind {
     OfAtom(AtomPart),
     /// A part of the latest connector.
     OfConnector(WirePart),
+    /// A priority rule.
+    Rule(RuleKind),
 }
 
 impl LineKind {
@@ -58,6 +69,10 @@ impl LineKind {
             Some(LineKind::OfConnector(WirePart::Guard))
         } else if word == b"move".as_slice() {
             Some(LineKind::OfConnector(WirePart::Transfer))
+        } else if word == b"prio".as_slice() {
+            Some(LineKind::Rule(RuleKind::Priority))
+        } else if word == b"maximal".as_slice() {
+            Some(LineKind::Rule(RuleKind::Maximal))
         } else {
             None
         }

@@ -8,6 +8,7 @@
 //! | `place ..`, `var ..`, `port ..`, `trans ..` | a part of the latest atom, as `atom_lines` reads it |
 //! | `connector NAME TREE` | a connector, the 64th at most, whose tree `plant_trees` reads over ports of the atoms so far |
 //! | `guard ..`, `move ..` | a part of the latest connector, as `wire_lines` reads it |
+//! | `prio ..`, `maximal ..` | a priority rule over the connectors so far, the 1,024th at most, as `rule_lines` reads it |
 //!
 //! Parts of the latest atom may stand behind lines of connectors. Empty lines and comments say nothing, and count as
 //! lines. Each byte must be printed ASCII, a space or a tab, also in a comment.
@@ -19,24 +20,26 @@
 //! whose plant is written as the text means, with the SHA-256 of the text as its digest.
 //!
 //! - A fault ([`PlantFault`]) is the one of the text's meaning, or want of memory, or that the reader failed. Within a
-//!   line the first word from the left that is at fault is told; an illegal byte before all words; one atom or connector
-//!   too many before all else but an illegal byte.
-//! - A text may have no fault in a line and yet make no plant, as where its connectors have more interactions than a plant
-//!   may. That is told as a limit, at no line.
+//!   line the first word from the left that is at fault is told; an illegal byte before all words; one atom, connector or
+//!   rule too many before all else but an illegal byte; a connector with too many interactions behind all its words.
+//! - That the rules put an interaction below itself is told behind all lines, at no line.
 //!
 //! - `read`: the text, its lines and its system. `draft`: the plant so far, and its lines. `making`: the system of a draft.
-//! - `kinds`: the kinds of lines. `parts`: an atom or a connector, changed by a line. `names`: the atoms by their names.
+//! - `kinds`: the kinds of lines. `parts`: an atom, changed by a line. `listed`: a connector with its interactions.
+//! - `names`: the atoms by the names that connectors use. `wires`: the connectors by the names that rules use.
 //! - `reading`: steps that take words. `fault`: what is wrong with a text.
 #![tactic(auto)]
 
 mod draft;
 mod fault;
 mod kinds;
+mod listed;
 mod making;
 mod names;
 mod parts;
 mod read;
 mod reading;
+mod wires;
 
 pub use fault::{Fault, PlantFault};
 pub use read::{plant_of_text, read_plant};

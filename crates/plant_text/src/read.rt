@@ -8,7 +8,7 @@ ghost use Rattle.text_io.specs.declared.reading.TheConstants.{MAX_TEXT};
 ghost use Rattle.plant_text.specs.Draft.{drafted};
 ghost use Rattle.plant_text.specs.Fault.{of_no_line};
 ghost use Rattle.plant_text.specs.Made.{IsTold};
-ghost use Rattle.plant_text.specs.Meaning.{meaning, lines_row, nothing};
+ghost use Rattle.plant_text.specs.Meaning.{meaning, written_in, lines_row, nothing};
 ghost use Rattle.plant_text.specs.Text.{text_of};
 ghost use Rattle.plant_text.specs.declared.fault.Fault.TheVariants as fault;
 
@@ -47,10 +47,10 @@ pub fn plant_of_text(alloc: Global, text: &[u8]) -> Result<System, PlantFault>
     system_of(draft, digest_of(text))
 }
 
-/// The atoms and connectors of a plant text.
+/// What the lines of a plant text write.
 fn read_draft(alloc: Global, text: &[u8]) -> Result<PlantDraft, PlantFault>
-    ensures draft { IfOk result (λ draft. meaning text.now ≡ Ok (drafted draft)) }
-    ensures fault { IfErr result (λ told. told ≢ of_no_line fault.Memory → meaning text.now ≡ Err told) }
+    ensures draft { IfOk result (λ draft. written_in text.now ≡ Ok (drafted draft)) }
+    ensures fault { IfErr result (λ told. told ≢ of_no_line fault.Memory → written_in text.now ≡ Err told) }
 {
     if text.len() > MAX_TEXT {
         return Err(PlantFault::of_no_line(Fault::TooLong));

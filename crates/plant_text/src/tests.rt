@@ -1,6 +1,7 @@
 //! What no clause says: that the clauses mean what they should, on texts worked out by hand.
 use crate::{Fault, PlantFault, plant_of_text};
 use connector_tree::TreeFault;
+use priority_filter::{OrderFault, Rule, Side};
 use std::alloc::{AllocError, Global};
 use std::test::Fail;
 
@@ -123,8 +124,19 @@ fn each_fault_of_a_line_is_told_with_its_line(rt: HostRuntime) -> Result<(), Fai
         (b"guard + A.n".as_slice(), Fault::BadExpression),
         (b"guard B.n".as_slice(), Fault::UnknownName),
         (b"move B.m := 1".as_slice(), Fault::Twice),
-        (b"prio tick < send".as_slice(), Fault::UnknownWord),
-        (b"maximal".as_slice(), Fault::UnknownWord),
+        (b"prio".as_slice(), Fault::Shape),
+        (b"prio tick".as_slice(), Fault::Shape),
+        (b"prio tick > send".as_slice(), Fault::Shape),
+        (b"prio tick < send more".as_slice(), Fault::Shape),
+        (b"prio tock < 3".as_slice(), Fault::UnknownName),
+        (b"prio tick < sent".as_slice(), Fault::UnknownName),
+        (b"prio tick:x < send".as_slice(), Fault::BadNumber),
+        (b"prio tick:2 < send".as_slice(), Fault::UnknownName),
+        (b"prio tick < send:1".as_slice(), Fault::UnknownName),
+        (b"maximal".as_slice(), Fault::Shape),
+        (b"maximal sent".as_slice(), Fault::UnknownName),
+        (b"maximal send:3".as_slice(), Fault::UnknownName),
+        (b"maximal send more".as_slice(), Fault::Shape),
     ] {
         assert!(&rt;
             told_behind(rt.alloc(), line)? == at(14, fault),
@@ -158,6 +170,31 @@ fn parts_belong_to_the_latest_atom_and_connector(rt: HostRuntime) -> Result<(), 
 }
 
 #[test]
+fn rules_are_those_of_the_text(rt: HostRuntime) -> Result<(), Fail> {
+    let alloc = rt.alloc();
+    let text = sample_and(alloc, b"prio tick < send:3\nmaximal send\n")?;
+    match plant_of_text(alloc, &text)?.rules() {
+        [first, second] => {
+            let under = Rule::Under(Side::Whole(0), Side::One(1, 3));
+            assert!(&rt; *first == under);
+            assert!(&rt; *second == Rule::Maximal(1));
+        }
+        _ => return Err("not two rules".into()),
+    }
+    Ok(())
+}
+
+#[test]
+fn a_cycle_is_told_at_no_line(rt: HostRuntime) -> Result<(), Fail> {
+    let alloc = rt.alloc();
+    let cycle = |first| at(0, Fault::Order(OrderFault::Cycle(first)));
+    assert!(&rt; told_behind(alloc, b"prio tick < send\nprio send < tick\n")? == cycle(0));
+    assert!(&rt; told_behind(alloc, b"prio send < send:3\n")? == cycle(1));
+    assert!(&rt; told_behind(alloc, b"prio send < send\nplace s\n")? == at(15, Fault::Twice));
+    Ok(())
+}
+
+#[test]
 fn faults_say_what_is_wrong(rt: HostRuntime) -> Result<(), Fail> {
     for (line, fault, name, said) in [
         (
@@ -179,10 +216,18 @@ fn faults_say_what_is_wrong(rt: HostRuntime) -> Result<(), Fail> {
             "SameAtom",
             "line 3: an atom may stand only once in a connector",
         ),
+        (
+            0,
+            Fault::Order(OrderFault::Cycle(5)),
+            "Cycle",
+            "the rules put interaction 5 below itself",
+        ),
     ] {
         let text = PlantFault { line, fault }.to_string(rt.alloc())?;
         assert_eq!(rt; text.as_str(), said);
         assert_eq!(rt; fault.name(), name);
     }
+    assert!(&rt; Fault::Order(OrderFault::Cycle(5)).subject() == Some(5));
+    assert!(&rt; Fault::Shape.subject().is_none());
     Ok(())
 }

@@ -51,7 +51,7 @@ fn the_65th_connector_is_one_too_many(rt: HostRuntime) -> Result<(), Fail> {
 }
 
 #[test]
-fn the_1025th_interaction_is_told_at_no_line(rt: HostRuntime) -> Result<(), Fail> {
+fn the_1025th_interaction_is_told_at_its_connector(rt: HostRuntime) -> Result<(), Fail> {
     let alloc = rt.alloc();
     let mut text = atoms(alloc, 8)?;
     // 255 interactions each: any of the eight ports may lead.
@@ -64,7 +64,21 @@ fn the_1025th_interaction_is_told_at_no_line(rt: HostRuntime) -> Result<(), Fail
     }
     assert!(&rt; plant_of_text(alloc, &text)?.interaction_count() == 1024);
     text.extend_from_slice(b"connector other aa.t\n")?;
-    assert!(&rt; told(alloc, &text) == at(0, Fault::Limit));
+    assert!(&rt; told(alloc, &text) == at(41, Fault::Limit));
+    Ok(())
+}
+
+#[test]
+fn the_1025th_rule_is_one_too_many(rt: HostRuntime) -> Result<(), Fail> {
+    let alloc = rt.alloc();
+    let mut text = atoms(alloc, 1)?;
+    text.extend_from_slice(b"connector c aa.t\n")?;
+    for _ in 0..1024 {
+        text.extend_from_slice(b"maximal c\n")?;
+    }
+    assert!(&rt; plant_of_text(alloc, &text)?.rules().len() == 1024);
+    text.extend_from_slice(b"prio\n")?;
+    assert!(&rt; told(alloc, &text) == at(1030, Fault::Limit));
     Ok(())
 }
 

@@ -2,8 +2,8 @@ use Rattle.std.proofs.Common.{map}
 use Rattle.std.proofs.lemmas.Result.{on_ok_weaker, IfErr-weaker}
 use Rattle.atom_lines.specs.Draft.{drafted}
 use Rattle.wire_lines.specs.Draft.{drafted as wire_defined}
-use Rattle.plant_text.proofs.Connectors.{guard_made, guard_refused, transfer_made, transfer_refused}
-use Rattle.plant_text.proofs.parts.change_wire.Goals as goal
+use Rattle.plant_text.proofs.Connectors.{guard_made, guard_refused, guard_same_tree, transfer_made, transfer_refused, transfer_same_tree}
+use Rattle.plant_text.proofs.listed.change_wire.Goals as goal
 
 pub returns-in-Guard-clause-added : goal.returns-in-Guard-clause-added
 returns-in-Guard-clause-added c =
@@ -24,3 +24,11 @@ pub returns-in-Transfer-clause-fault : goal.returns-in-Transfer-clause-fault
 returns-in-Transfer-clause-fault c =
     rw c.in-Transfer.is
     (IfErr-weaker c.add_transfer.result _ _ (λ fault told other. transfer_refused (map drafted c.args.table.now.drafts.now) c.args.words.now (wire_defined c.args.wire.now) fault (told other)) c.add_transfer.ensures.fault)
+
+pub returns-in-Guard-clause-same_tree : goal.returns-in-Guard-clause-same_tree
+returns-in-Guard-clause-same_tree c =
+    guard_same_tree (map drafted c.args.table.now.drafts.now) c.args.words.now (wire_defined c.args.wire.now) (wire_defined c.add_guard.new.self) c.add_guard.result c.add_guard.ensures.added c.add_guard.ensures.unchanged
+
+pub returns-in-Transfer-clause-same_tree : goal.returns-in-Transfer-clause-same_tree
+returns-in-Transfer-clause-same_tree c =
+    transfer_same_tree (map drafted c.args.table.now.drafts.now) c.args.words.now (wire_defined c.args.wire.now) (wire_defined c.add_transfer.new.self) c.add_transfer.result c.add_transfer.ensures.added c.add_transfer.ensures.unchanged

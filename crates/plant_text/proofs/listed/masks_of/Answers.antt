@@ -1,0 +1,6 @@
+use Rattle.std.proofs.Common.{◌∙◌, sym}
+use Rattle.plant_trees.proofs.Meaning.{interactions_written}
+use Rattle.plant_text.proofs.listed.masks_of.Goals as goal
+
+pub returns-in-Ok-clause-masks : goal.returns-in-Ok-clause-masks
+returns-in-Ok-clause-masks c = c.in-Ok.ensures.list ∙ sym (interactions_written c.args.connector.now)

@@ -1,0 +1,91 @@
+//! The connectors so far, by the names that rules use.
+ghost use Rattle.std.specs.Prelude.{◌≡◌, ◌+◌, ◌<◌, ◌≤◌, length, nat_le, map, IfSome, position};
+ghost use Rattle.petri_atom.specs.Name.{is_same_text};
+ghost use Rattle.step_core.specs.declared.limits.TheConstants.{MAX_WIRES, MAX_INTERACTIONS};
+ghost use Rattle.plant_text.specs.Interactions.{interactions_of};
+ghost use Rattle.plant_text.specs.Names.{wire_number};
+ghost use Rattle.plant_text.specs.Parts.{wire_listed};
+ghost use Rattle.plant_text.specs.Rows.{rule_in};
+
+use crate::kinds::RuleKind;
+use crate::listed::ListedWire;
+use atom_lines::LineFault;
+use plant_words::Words;
+use priority_filter::Rule;
+use rule_lines::{Connectors, read_maximal, read_priority};
+use step_core::{MAX_INTERACTIONS, MAX_WIRES};
+
+/// Whether a plant with these connectors may have so many interactions more.
+pub(crate) fn have_room(wires: &[ListedWire], more: usize) -> bool
+    requires { length wires.now ≤ MAX_WIRES }
+    ensures { result ≡ nat_le (length (interactions_of (map wire_listed wires.now)) + more) MAX_INTERACTIONS }
+{
+    let mut total = more as u128;
+    for wire in wires {
+        total += wire.masks.len() as u128;
+    }
+    total <= MAX_INTERACTIONS as u128
+}
+
+/// The index of the first connector with the name.
+fn find_wire(wires: &[ListedWire], name: &[u8]) -> Option<usize>
+    ensures first { result ≡ position (λ wire. is_same_text (wire_listed wire).name name.now) wires.now }
+    ensures within { IfSome result (λ index. index < length wires.now) }
+{
+    wires
+        .iter()
+        .position(|wire| wire.draft.name().as_bytes() == name)
+}
+
+/// The connectors so far, numbered from 0.
+#[derive(Drop)]
+pub(crate) struct WireTable<'a> {
+    pub(crate) wires: &'a [ListedWire],
+    ghost few: { length wires.now ≤ MAX_WIRES },
+}
+
+impl WireTable<'_> {
+    /// The index of the first connector with the name.
+    pub(crate) fn find(&self, name: &[u8]) -> Option<usize>
+        ensures first { result ≡ wire_number (map wire_listed self.now.wires.now) name.now }
+        ensures within { IfSome result (λ index. index < length self.now.wires.now) }
+    {
+        find_wire(self.wires, name)
+    }
+}
+
+impl Connectors for WireTable<'_> {
+    ghost use Rattle.std.specs.Prelude.{map};
+    ghost use Rattle.plant_text.specs.Interactions as interactions;
+    ghost use Rattle.plant_text.specs.Names as names;
+    ghost use Rattle.plant_text.specs.Parts.{wire_listed};
+
+    ghost connector_named = { λ table name. names.wire_number (map wire_listed table.wires.now) name };
+
+    ghost has_interaction = { λ table connector mask. interactions.has_interaction (map wire_listed table.wires.now) connector mask };
+
+    fn find_connector(&self, name: &[u8]) -> Option<u16> {
+        Some(self.find(name)? as u16)
+    }
+
+    fn has_interaction(&self, connector: u16, mask: u16) -> bool {
+        match self.wires.get(usize::from(connector)) {
+            Some(wire) => wire.masks.contains(&mask),
+            None => false,
+        }
+    }
+}
+
+/// The rule that the words write over these connectors, behind the line's first.
+pub(crate) fn read_rule(
+    kind: RuleKind,
+    words: &mut Words,
+    table: &WireTable,
+) -> Result<Rule, LineFault>
+    ensures { result ≡ rule_in kind (map wire_listed table.now.wires.now) words.old }
+{
+    match kind {
+        RuleKind::Priority => read_priority(words, table),
+        RuleKind::Maximal => read_maximal(words, table),
+    }
+}
