@@ -5,5 +5,6 @@ pub mod Empties
 pub mod Agreement
 pub mod Meaning
 pub mod Readings
+pub mod Named
 pub mod Drafting
 pub mod Rows
