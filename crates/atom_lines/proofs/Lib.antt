@@ -2,6 +2,7 @@ pub mod Positions
 mod Rows
 pub mod Updates
 pub mod Steps
+pub mod Growing
 pub mod Once
 pub mod Bounds
 pub mod SoundParts
