@@ -1,4 +1,6 @@
 pub mod Expressions
 pub mod Kept
+pub mod Added
+pub mod Naming
 mod Rows
 pub mod Targets
