@@ -1,5 +1,6 @@
 pub mod Lasts
 pub mod Numbered
+pub mod SoundLists
 mod Rows
 pub mod Connectors
 pub mod Counts
