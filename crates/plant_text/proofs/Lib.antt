@@ -1,6 +1,7 @@
 pub mod Lasts
 pub mod Numbered
 pub mod SoundLists
+pub mod SoundAtoms
 mod Rows
 pub mod Connectors
 pub mod Counts
