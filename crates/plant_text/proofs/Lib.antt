@@ -2,6 +2,7 @@ pub mod Lasts
 pub mod Numbered
 pub mod SoundLists
 pub mod SoundAtoms
+pub mod SoundWires
 mod Rows
 pub mod Connectors
 pub mod Counts

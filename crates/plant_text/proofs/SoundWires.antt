@@ -1,0 +1,191 @@
+-- What holds of each connector that lines write, by the atoms and the connectors before it.
+use Rattle.std.proofs.Common.{◌≡◌, ◌∙◌, refl, ap, subst, sym, ℕ, suc, ◌+◌, ◌<◌, arith, Bool, true, false, ◌&&◌, List, [], ◌∷◌, ◌++◌, length, drop, None, Result, Ok, Err}
+use Rattle.std.specs.Prelude.{nat_lt, is_none}
+use Rattle.std.specs.List.{list_all, list_any}
+use Rattle.std.proofs.lemmas.Bool.{and_from, and_parts, ltb-true}
+use Rattle.std.proofs.lemmas.List.{length-append, length-map, map-append}
+use Rattle.petri_atom.specs.Definition.{AtomDefinition}
+use Rattle.petri_atom.specs.Expression.{Tree, all_variables}
+use Rattle.petri_atom.specs.Name.{is_same_text}
+use Rattle.connector_tree.specs.declared.tree.Port.{Port}
+use Rattle.step_core.specs.Plant.{TransferDefinition}
+use Rattle.step_core.specs.Rules.{is_known_port, is_known_export}
+use Rattle.step_core.specs.declared.limits.TheConstants.{MAX_WIRES}
+use Rattle.step_core.specs.declared.wire.Export.{Export}
+use Rattle.atom_lines.specs.Reading.{first_name}
+use Rattle.atom_lines.specs.declared.fault.LineFault.{LineFault}
+use Rattle.atom_lines.proofs.Once.{all_weaker, none-passes}
+use Rattle.plant_trees.specs.Meaning.{interactions_in}
+use Rattle.plant_trees.specs.Shape.{ports_in, fault_in}
+use Rattle.plant_trees.specs.Tokens.{Reading}
+use Rattle.plant_trees.specs.Trees.{tree_in}
+use Rattle.plant_trees.specs.declared.token.Token.{Token}
+use Rattle.plant_trees.proofs.Named.{tree-sound, ports-pass}
+use Rattle.wire_lines.specs.Rows.{guards_with, transfers_with}
+use Rattle.wire_lines.proofs.Added.{SoundGuards, SoundTransfers, guards_sound, transfers_sound}
+use Rattle.plant_text.specs.Text.{WireText, PlantText}
+use Rattle.plant_text.specs.Interactions.{interactions_at, interactions_from, interactions_of, trees_of}
+use Rattle.plant_text.specs.Names.{wire_number, port_named}
+use Rattle.plant_text.specs.Rows.{◌>>=◌, check, told, told_tree, named_on, wire_part_row, has_room, connector_row}
+use Rattle.plant_text.specs.declared.kinds.WirePart.{WirePart}
+use Rattle.plant_text.specs.declared.kinds.WirePart.TheVariants.{Guard, Transfer}
+use Rattle.plant_text.specs.declared.fault.Fault.{Fault}
+use Rattle.plant_text.specs.declared.fault.Fault.TheVariants.{Twice, Limit}
+use Rattle.plant_text.proofs.SoundLists.{led_on, passed, was_none, same_end}
+use Rattle.plant_text.proofs.SoundAtoms.{Extends, port_known, variables_known, exports_stay, variables_weaker}
+
+-- ---- one connector
+
+-- the tree has no fault; ports and exported variables that it names are there; guards and transfers are within the limits, and
+-- targets are all different
+pub record SoundWire (atoms : List AtomDefinition) (w : WireText) : Type 0 where
+  pub tree : fault_in w.tree ≡ None
+  pub ports : list_all (is_known_port atoms) (ports_in w.tree) ≡ true
+  pub guards : SoundGuards (is_known_export atoms (ports_in w.tree)) w.guards
+  pub transfers : SoundTransfers (is_known_export atoms (ports_in w.tree)) w.transfers
+
+-- the same, and none before it has its name
+pub record SoundBehind (atoms : List AtomDefinition) (before : List WireText) (w : WireText) : Type 0 where
+  pub name : list_any (λ v. is_same_text v.name w.name) before ≡ false
+  pub sound : SoundWire atoms w
+
+-- it stays so with more of the atoms
+wire_stays : (atoms next : List AtomDefinition) → Extends atoms next → (w : WireText) → SoundWire atoms w → SoundWire next w
+wire_stays atoms next extends w sound =
+    let ports : List Port = ports_in w.tree in
+    let known : Export → Bool = is_known_export atoms ports in
+    let later : Export → Bool = is_known_export next ports in
+    let stays : (e : Export) → known e ≡ true → later e ≡ true = exports_stay atoms next extends ports in
+    let variables : (e : Tree Export) → all_variables known e ≡ true → all_variables later e ≡ true = variables_weaker known later stays in
+    record {
+      tree = sound.tree;
+      ports = all_weaker (is_known_port atoms) (is_known_port next) extends.ports ports sound.ports;
+      guards = record {
+        small = sound.guards.small;
+        passing = all_weaker (all_variables known) (all_variables later) variables w.guards sound.guards.passing;
+      };
+      transfers = record {
+        small = sound.transfers.small;
+        passing = all_weaker (λ t. known t.target && all_variables known t.value) (λ t. later t.target && all_variables later t.value)
+            (λ t all. let parts = and_parts (known t.target) (all_variables known t.value) all in and_from _ _ (stays t.target parts.0) (variables t.value parts.1))
+            w.transfers sound.transfers.passing;
+        once = sound.transfers.once;
+      };
+    }
+
+pub stays_behind : (atoms next : List AtomDefinition) → Extends atoms next → (before : List WireText) (w : WireText) → SoundBehind atoms before w → SoundBehind next before w
+stays_behind atoms next extends before w sound = record { name = sound.name; sound = wire_stays atoms next extends w sound.sound }
+
+-- ---- a part more
+
+-- a connector with one part more has its name and its tree, and is sound
+pub record KeepsWire (atoms : List AtomDefinition) (w changed : WireText) : Type 0 where
+  pub name : changed.name ≡ w.name
+  pub tree : changed.tree ≡ w.tree
+  pub sound : SoundWire atoms changed
+
+pub part_kept : (part : WirePart) (atoms : List AtomDefinition) (words : List (List ℕ)) (w changed : WireText) → SoundWire atoms w → wire_part_row part atoms words w ≡ Ok changed → KeepsWire atoms w changed
+part_kept Guard atoms words w changed sound is =
+    let made : List (Tree Export) → Result WireText LineFault = λ guards. Ok (record w { guards = guards }) in
+    let guards = led_on (guards_with (named_on atoms w) words w.guards) made changed is in
+    let same : record w { guards = guards.0 } ≡ changed = same_end (record w { guards = guards.0 }) changed guards.2 in
+    subst (KeepsWire atoms w) same (record {
+      name = refl;
+      tree = refl;
+      sound = record {
+        tree = sound.tree;
+        ports = sound.ports;
+        guards = guards_sound (is_known_export atoms (ports_in w.tree)) (named_on atoms w) (variables_known atoms (ports_in w.tree)) words w.guards guards.0 sound.guards guards.1;
+        transfers = sound.transfers;
+      };
+    })
+part_kept Transfer atoms words w changed sound is =
+    let made : List TransferDefinition → Result WireText LineFault = λ transfers. Ok (record w { transfers = transfers }) in
+    let transfers = led_on (transfers_with (named_on atoms w) words w.transfers) made changed is in
+    let same : record w { transfers = transfers.0 } ≡ changed = same_end (record w { transfers = transfers.0 }) changed transfers.2 in
+    subst (KeepsWire atoms w) same (record {
+      name = refl;
+      tree = refl;
+      sound = record {
+        tree = sound.tree;
+        ports = sound.ports;
+        guards = sound.guards;
+        transfers = transfers_sound (is_known_export atoms (ports_in w.tree)) (named_on atoms w) (variables_known atoms (ports_in w.tree)) words w.transfers transfers.0 sound.transfers transfers.1;
+      };
+    })
+
+-- ---- a connector more
+
+-- what a line `connector` adds to a plant
+pub record AddsWire (plant next : PlantText) : Type 0 where
+  pub added : WireText
+  pub is : record plant { wires = plant.wires ++ added ∷ [] } ≡ next
+  pub room : length plant.wires < MAX_WIRES
+  pub has_room : has_room plant.wires added.tree ≡ true
+  pub sound : SoundBehind plant.atoms plant.wires added
+
+no_guards : (test : Export → Bool) → SoundGuards test []
+no_guards test = record { small = refl; passing = refl }
+
+no_transfers : (test : Export → Bool) → SoundTransfers test []
+no_transfers test = record { small = refl; passing = refl; once = refl }
+
+tree_told : (read : Reading) (tokens : List Token) → told_tree read ≡ Ok tokens → read ≡ Ok tokens
+tree_told (Ok other) tokens is = cc
+tree_told (Err fault) tokens is = absurd (cc)
+
+pub connector_added : (words : List (List ℕ)) (plant next : PlantText) → connector_row words plant ≡ Ok next → AddsWire plant next
+connector_added words plant next is =
+    let wire : List ℕ → List Token → WireText = λ name tree. record { name = name; tree = tree; guards = []; transfers = [] } in
+    let made : List ℕ → List Token → Unit {0} → Result PlantText Fault = λ name tree room. Ok (record plant { wires = plant.wires ++ wire name tree ∷ [] }) in
+    let roomy : List ℕ → List Token → Result PlantText Fault = λ name tree. check (has_room plant.wires tree) Limit >>= made name tree in
+    let treed : List ℕ → Unit {0} → Result PlantText Fault = λ name new. told_tree (tree_in (port_named plant.atoms) (drop 1 words)) >>= roomy name in
+    let named : List ℕ → Result PlantText Fault = λ name. check (is_none (wire_number plant.wires name)) Twice >>= treed name in
+    let few = led_on (check (nat_lt (length plant.wires) MAX_WIRES) Limit) (λ _. told (first_name words) >>= named) next is in
+    let name = led_on (told (first_name words)) named next few.2 in
+    let new = led_on (check (is_none (wire_number plant.wires name.0)) Twice) (treed name.0) next name.2 in
+    let tree = led_on (told_tree (tree_in (port_named plant.atoms) (drop 1 words))) (roomy name.0) next new.2 in
+    let room = led_on (check (has_room plant.wires tree.0) Limit) (made name.0 tree.0) next tree.2 in
+    let read = tree_told (tree_in (port_named plant.atoms) (drop 1 words)) tree.0 tree.1 in
+    let none = was_none (wire_number plant.wires name.0) (passed (is_none (wire_number plant.wires name.0)) Twice new.0 new.1) in
+    record {
+      added = wire name.0 tree.0;
+      is = same_end (record plant { wires = plant.wires ++ wire name.0 tree.0 ∷ [] }) next room.2;
+      room = ltb-true (length plant.wires) MAX_WIRES (passed (nat_lt (length plant.wires) MAX_WIRES) Limit few.0 few.1);
+      has_room = passed (has_room plant.wires tree.0) Limit room.0 room.1;
+      sound = record {
+        name = none-passes (λ v. is_same_text v.name name.0) plant.wires none;
+        sound = record {
+          tree = tree-sound (port_named plant.atoms) (drop 1 words) tree.0 read;
+          ports = ports-pass (is_known_port plant.atoms) (port_named plant.atoms) (port_known plant.atoms) (drop 1 words) tree.0 read;
+          guards = no_guards (is_known_export plant.atoms (ports_in tree.0));
+          transfers = no_transfers (is_known_export plant.atoms (ports_in tree.0));
+        };
+      };
+    }
+
+-- ---- interactions
+
+-- one tree more has its interactions behind the others
+more_interactions : (k : ℕ) (trees : List (List Token)) (tree : List Token) → length (interactions_from k (trees ++ tree ∷ [])) ≡ length (interactions_from k trees) + length (interactions_in tree)
+more_interactions k [] tree =
+    let one : length (interactions_at k tree) ≡ length (interactions_in tree) = length-map (interactions_in tree) (λ mask. (k, mask)) in
+    let all : length (interactions_at k tree ++ []) ≡ length (interactions_at k tree) + 0 = length-append (interactions_at k tree) [] in
+    omega (arith, one, all)
+more_interactions k (first ∷ trees) tree =
+    let rest = more_interactions (suc k) trees tree in
+    let all : length (interactions_at k first ++ interactions_from (suc k) (trees ++ tree ∷ [])) ≡ length (interactions_at k first) + length (interactions_from (suc k) (trees ++ tree ∷ [])) =
+    length-append (interactions_at k first) (interactions_from (suc k) (trees ++ tree ∷ [])) in
+    let before : length (interactions_at k first ++ interactions_from (suc k) trees) ≡ length (interactions_at k first) + length (interactions_from (suc k) trees) =
+    length-append (interactions_at k first) (interactions_from (suc k) trees) in
+    omega (arith, rest, all, before)
+
+pub interactions_and_more : (wires : List WireText) (w : WireText) → length (interactions_of (wires ++ w ∷ [])) ≡ length (interactions_of wires) + length (interactions_in w.tree)
+interactions_and_more wires w =
+    ap (λ trees. length (interactions_from 0 trees)) (map-append (λ v. v.tree) wires (w ∷ [])) ∙ more_interactions 0 (trees_of wires) w.tree
+
+-- another last one of the same tree leaves them as they are
+pub same_interactions : (front : List WireText) (last changed : WireText) → changed.tree ≡ last.tree → interactions_of (front ++ changed ∷ []) ≡ interactions_of (front ++ last ∷ [])
+same_interactions front last changed same =
+    ap (interactions_from 0)
+    (map-append (λ v. v.tree) front (changed ∷ []) ∙ ap (λ tree. trees_of front ++ tree ∷ []) same ∙ sym (map-append (λ v. v.tree) front (last ∷ [])))
