@@ -3,6 +3,7 @@ pub mod Numbered
 pub mod SoundLists
 pub mod SoundAtoms
 pub mod SoundWires
+pub mod SoundLines
 mod Rows
 pub mod Connectors
 pub mod Counts

@@ -1,0 +1,222 @@
+-- What holds of a plant that lines write, line by line, where none has a fault.
+use Rattle.std.proofs.Common.{◌≡◌, ◌∙◌, sym, ap, subst, ℕ, ◌+◌, ◌<◌, ◌≤◌, arith, Bool, true, false, List, [], ◌∷◌, ◌++◌, length, drop, Result, Ok, Err, lit≤}
+use Rattle.std.specs.Prelude.{nat_lt, is_none, if◌then◌else◌}
+use Rattle.std.specs.List.{list_any}
+use Rattle.std.specs.Option.{ok_or}
+use Rattle.std.proofs.lemmas.Bool.{ltb-true, leb-true}
+use Rattle.std.proofs.lemmas.List.{length-append}
+use Rattle.petri_atom.specs.Definition.{AtomDefinition}
+use Rattle.petri_atom.specs.Name.{is_same_text}
+use Rattle.petri_atom.specs.Parts.{definition_by}
+use Rattle.priority_filter.specs.declared.rule.Rule.{Rule}
+use Rattle.step_core.specs.declared.limits.TheConstants.{MAX_ATOMS, MAX_WIRES, MAX_RULES, MAX_INTERACTIONS}
+use Rattle.plant_words.specs.Lines.{is_legal_line}
+use Rattle.plant_words.specs.Words.{words_of, is_passed_over}
+use Rattle.atom_lines.specs.Reading.{first_name, at_end}
+use Rattle.atom_lines.proofs.Growing.{Grows, place_grows, variable_grows, port_grows, transition_grows}
+use Rattle.atom_lines.proofs.Once.{none-passes}
+use Rattle.plant_trees.specs.Meaning.{interactions_in}
+use Rattle.plant_text.specs.Text.{WireText, PlantText}
+use Rattle.plant_text.specs.Interactions.{interactions_of}
+use Rattle.plant_text.specs.Names.{kind_in, atom_number}
+use Rattle.plant_text.specs.Rows.{◌>>=◌, check, told, last_changed, atom_part_row, wire_part_row, atom_row, rule_in, rule_row, row_of, words_row, line_row}
+use Rattle.plant_text.specs.Meaning.{on_line, lines_row, nothing}
+use Rattle.plant_text.specs.declared.kinds.AtomPart.{AtomPart}
+use Rattle.plant_text.specs.declared.kinds.AtomPart.TheVariants.{Place, Variable, Port, Transition}
+use Rattle.plant_text.specs.declared.kinds.WirePart.{WirePart}
+use Rattle.plant_text.specs.declared.kinds.RuleKind.{RuleKind}
+use Rattle.plant_text.specs.declared.kinds.LineKind.{LineKind}
+use Rattle.plant_text.specs.declared.kinds.LineKind.TheVariants.{Atom, Connector, OfAtom, OfConnector, Rule as OfRule}
+use Rattle.plant_text.specs.declared.fault.Fault.{Fault}
+use Rattle.plant_text.specs.declared.fault.Fault.TheVariants.{NotAscii, UnknownWord, Twice, Limit}
+use Rattle.plant_text.proofs.SoundLists.{led_on, passed, was_none, same_end, changed_last, EachBehind, each_of_none, each_and_one, each_before_last, each_weaker}
+use Rattle.plant_text.proofs.SoundAtoms.{Extends, extended, extended_last}
+use Rattle.plant_text.proofs.SoundWires.{SoundBehind, stays_behind, part_kept, connector_added, interactions_and_more, same_interactions}
+
+-- no atom before has the name of this one
+abbrev pub HasNewName : List AtomDefinition → AtomDefinition → Type 0
+HasNewName before a = list_any (λ b. is_same_text b.name a.name) before ≡ false
+
+-- a plant as it is written, of which each line was without a fault
+pub record SoundText (plant : PlantText) : Type 0 where
+  pub few_atoms : length plant.atoms ≤ MAX_ATOMS
+  pub few_wires : length plant.wires ≤ MAX_WIRES
+  pub few_rules : length plant.rules ≤ MAX_RULES
+  pub few_interactions : length (interactions_of plant.wires) ≤ MAX_INTERACTIONS
+  pub names : EachBehind HasNewName [] plant.atoms
+  pub wires : EachBehind (SoundBehind plant.atoms) [] plant.wires
+
+nothing_sound : SoundText nothing
+nothing_sound = record {
+  few_atoms = lit≤ tt;
+  few_wires = lit≤ tt;
+  few_rules = lit≤ tt;
+  few_interactions = lit≤ tt;
+  names = each_of_none HasNewName [];
+  wires = each_of_none (SoundBehind []) [];
+}
+
+-- no more than a bound, where there was room for one
+room_for_one : {X : Type 0} (bound : ℕ) (xs : List X) (x : X) → length xs < bound → length (xs ++ x ∷ []) ≤ bound
+room_for_one bound xs x room = let more : length (xs ++ x ∷ []) ≡ length xs + 1 = length-append xs (x ∷ []) in omega (arith, more, room)
+
+-- as many, with another last one
+as_many : {X : Type 0} (bound : ℕ) (front : List X) (last changed : X) → length (front ++ last ∷ []) ≤ bound → length (front ++ changed ∷ []) ≤ bound
+as_many bound front last changed few =
+    let before : length (front ++ last ∷ []) ≡ length front + 1 = length-append front (last ∷ []) in
+    let after : length (front ++ changed ∷ []) ≡ length front + 1 = length-append front (changed ∷ []) in
+    omega (arith, before, after, few)
+
+-- ---- atoms
+
+-- what holds of the atoms, and of the connectors by them, with other atoms
+with_atoms : (plant : PlantText) (atoms : List AtomDefinition) → SoundText plant → Extends plant.atoms atoms → length atoms ≤ MAX_ATOMS → EachBehind HasNewName [] atoms → SoundText (record plant { atoms = atoms })
+with_atoms plant atoms sound extends few names = record {
+  few_atoms = few;
+  few_wires = sound.few_wires;
+  few_rules = sound.few_rules;
+  few_interactions = sound.few_interactions;
+  names = names;
+  wires = each_weaker (SoundBehind plant.atoms) (SoundBehind atoms) (stays_behind plant.atoms atoms extends) [] plant.wires sound.wires;
+}
+
+atom_sound : (words : List (List ℕ)) (plant next : PlantText) → SoundText plant → atom_row words plant ≡ Ok next → SoundText next
+atom_sound words plant next sound is =
+    let atom : List ℕ → AtomDefinition = λ name. definition_by name [] [] [] [] in
+    let made : List ℕ → Unit {0} → Result PlantText Fault = λ name end. Ok (record plant { atoms = plant.atoms ++ atom name ∷ [] }) in
+    let ended : List ℕ → Unit {0} → Result PlantText Fault = λ name new. told (at_end (drop 1 words)) >>= made name in
+    let named : List ℕ → Result PlantText Fault = λ name. check (is_none (atom_number plant.atoms name)) Twice >>= ended name in
+    let room = led_on (check (nat_lt (length plant.atoms) MAX_ATOMS) Limit) (λ _. told (first_name words) >>= named) next is in
+    let name = led_on (told (first_name words)) named next room.2 in
+    let new = led_on (check (is_none (atom_number plant.atoms name.0)) Twice) (ended name.0) next name.2 in
+    let end = led_on (told (at_end (drop 1 words))) (made name.0) next new.2 in
+    let same : record plant { atoms = plant.atoms ++ atom name.0 ∷ [] } ≡ next = same_end (record plant { atoms = plant.atoms ++ atom name.0 ∷ [] }) next end.2 in
+    let none = was_none (atom_number plant.atoms name.0) (passed (is_none (atom_number plant.atoms name.0)) Twice new.0 new.1) in
+    let few : length plant.atoms < MAX_ATOMS = ltb-true (length plant.atoms) MAX_ATOMS (passed (nat_lt (length plant.atoms) MAX_ATOMS) Limit room.0 room.1) in
+    subst SoundText same
+    (with_atoms plant (plant.atoms ++ atom name.0 ∷ []) sound (extended plant.atoms (atom name.0)) (room_for_one MAX_ATOMS plant.atoms (atom name.0) few)
+    (each_and_one HasNewName [] plant.atoms (atom name.0) sound.names (none-passes (λ b. is_same_text b.name name.0) plant.atoms none)))
+
+-- a part of an atom leaves its name and its ports
+part_grows : (part : AtomPart) (words : List (List ℕ)) (a grown : AtomDefinition) → atom_part_row part words a ≡ Ok grown → Grows a grown
+part_grows Place words a grown is = place_grows words a grown is
+part_grows Variable words a grown is = variable_grows words a grown is
+part_grows Port words a grown is = port_grows words a grown is
+part_grows Transition words a grown is = transition_grows words a grown is
+
+last_grown : (plant : PlantText) (front : List AtomDefinition) (a grown : AtomDefinition) → SoundText plant → plant.atoms ≡ front ++ a ∷ [] → Grows a grown → SoundText (record plant { atoms = front ++ grown ∷ [] })
+last_grown plant front a grown sound split grows =
+    let names = each_before_last HasNewName [] front a (subst (EachBehind HasNewName []) split sound.names) in
+    let new : HasNewName front grown = subst (λ name. list_any (λ b. is_same_text b.name name) front ≡ false) (sym grows.name) names.1 in
+    with_atoms plant (front ++ grown ∷ []) sound
+    (subst (λ atoms. Extends atoms (front ++ grown ∷ [])) (sym split) (extended_last front a grown grows))
+    (as_many MAX_ATOMS front a grown (subst (λ atoms. length atoms ≤ MAX_ATOMS) split sound.few_atoms))
+    (each_and_one HasNewName [] front grown names.0 new)
+
+atom_part_sound : (part : AtomPart) (words : List (List ℕ)) (plant next : PlantText) → SoundText plant → row_of (OfAtom part) words plant ≡ Ok next → SoundText next
+atom_part_sound part words plant next sound is =
+    let made : List AtomDefinition → Result PlantText Fault = λ atoms. Ok (record plant { atoms = atoms }) in
+    let read = led_on (last_changed (atom_part_row part words) plant.atoms) made next is in
+    let last = changed_last (atom_part_row part words) plant.atoms read.0 read.1 in
+    let same : record plant { atoms = read.0 } ≡ next = same_end (record plant { atoms = read.0 }) next read.2 in
+    subst SoundText (ap (λ atoms. record plant { atoms = atoms }) (sym last.after) ∙ same)
+    (last_grown plant last.front last.last last.changed sound last.before (part_grows part words last.last last.changed last.by))
+
+-- ---- connectors
+
+-- with other connectors
+with_wires : (plant : PlantText) (wires : List WireText) → SoundText plant → length wires ≤ MAX_WIRES → length (interactions_of wires) ≤ MAX_INTERACTIONS → EachBehind (SoundBehind plant.atoms) [] wires → SoundText (record plant { wires = wires })
+with_wires plant wires sound few few_interactions each = record {
+  few_atoms = sound.few_atoms;
+  few_wires = few;
+  few_rules = sound.few_rules;
+  few_interactions = few_interactions;
+  names = sound.names;
+  wires = each;
+}
+
+connector_sound : (words : List (List ℕ)) (plant next : PlantText) → SoundText plant → row_of Connector words plant ≡ Ok next → SoundText next
+connector_sound words plant next sound is =
+    let adds = connector_added words plant next is in
+    let more : length (interactions_of (plant.wires ++ adds.added ∷ [])) ≡ length (interactions_of plant.wires) + length (interactions_in adds.added.tree) = interactions_and_more plant.wires adds.added in
+    let room : length (interactions_of plant.wires) + length (interactions_in adds.added.tree) ≤ MAX_INTERACTIONS =
+    leb-true (length (interactions_of plant.wires) + length (interactions_in adds.added.tree)) MAX_INTERACTIONS adds.has_room in
+    subst SoundText adds.is
+    (with_wires plant (plant.wires ++ adds.added ∷ []) sound (room_for_one MAX_WIRES plant.wires adds.added adds.room) (omega (arith, more, room))
+    (each_and_one (SoundBehind plant.atoms) [] plant.wires adds.added sound.wires adds.sound))
+
+last_kept : (part : WirePart) (words : List (List ℕ)) (plant : PlantText) (front : List WireText) (last changed : WireText) → SoundText plant → plant.wires ≡ front ++ last ∷ [] → wire_part_row part plant.atoms words last ≡ Ok changed → SoundText (record plant { wires = front ++ changed ∷ [] })
+last_kept part words plant front last changed sound split by =
+    let behind = each_before_last (SoundBehind plant.atoms) [] front last (subst (EachBehind (SoundBehind plant.atoms) []) split sound.wires) in
+    let kept = part_kept part plant.atoms words last changed behind.1.sound by in
+    let named : list_any (λ v. is_same_text v.name changed.name) front ≡ false = subst (λ name. list_any (λ v. is_same_text v.name name) front ≡ false) (sym kept.name) behind.1.name in
+    with_wires plant (front ++ changed ∷ []) sound
+    (as_many MAX_WIRES front last changed (subst (λ wires. length wires ≤ MAX_WIRES) split sound.few_wires))
+    (subst (λ is. length is ≤ MAX_INTERACTIONS) (ap interactions_of split ∙ sym (same_interactions front last changed kept.tree)) sound.few_interactions)
+    (each_and_one (SoundBehind plant.atoms) [] front changed behind.0 (record { name = named; sound = kept.sound }))
+
+wire_part_sound : (part : WirePart) (words : List (List ℕ)) (plant next : PlantText) → SoundText plant → row_of (OfConnector part) words plant ≡ Ok next → SoundText next
+wire_part_sound part words plant next sound is =
+    let made : List WireText → Result PlantText Fault = λ wires. Ok (record plant { wires = wires }) in
+    let read = led_on (last_changed (wire_part_row part plant.atoms words) plant.wires) made next is in
+    let last = changed_last (wire_part_row part plant.atoms words) plant.wires read.0 read.1 in
+    let same : record plant { wires = read.0 } ≡ next = same_end (record plant { wires = read.0 }) next read.2 in
+    subst SoundText (ap (λ wires. record plant { wires = wires }) (sym last.after) ∙ same)
+    (last_kept part words plant last.front last.last last.changed sound last.before last.by)
+
+-- ---- rules
+
+rule_sound : (kind : RuleKind) (words : List (List ℕ)) (plant next : PlantText) → SoundText plant → rule_row kind words plant ≡ Ok next → SoundText next
+rule_sound kind words plant next sound is =
+    let made : Rule → Result PlantText Fault = λ rule. Ok (record plant { rules = plant.rules ++ rule ∷ [] }) in
+    let room = led_on (check (nat_lt (length plant.rules) MAX_RULES) Limit) (λ _. told (rule_in kind plant.wires words) >>= made) next is in
+    let rule = led_on (told (rule_in kind plant.wires words)) made next room.2 in
+    let same : record plant { rules = plant.rules ++ rule.0 ∷ [] } ≡ next = same_end (record plant { rules = plant.rules ++ rule.0 ∷ [] }) next rule.2 in
+    let few : length plant.rules < MAX_RULES = ltb-true (length plant.rules) MAX_RULES (passed (nat_lt (length plant.rules) MAX_RULES) Limit room.0 room.1) in
+    subst SoundText same (record {
+      few_atoms = sound.few_atoms;
+      few_wires = sound.few_wires;
+      few_rules = room_for_one MAX_RULES plant.rules rule.0 few;
+      few_interactions = sound.few_interactions;
+      names = sound.names;
+      wires = sound.wires;
+    })
+
+-- ---- lines
+
+row_sound : (kind : LineKind) (words : List (List ℕ)) (plant next : PlantText) → SoundText plant → row_of kind words plant ≡ Ok next → SoundText next
+row_sound Atom words plant next sound is = atom_sound words plant next sound is
+row_sound Connector words plant next sound is = connector_sound words plant next sound is
+row_sound (OfAtom part) words plant next sound is = atom_part_sound part words plant next sound is
+row_sound (OfConnector part) words plant next sound is = wire_part_sound part words plant next sound is
+row_sound (OfRule kind) words plant next sound is = rule_sound kind words plant next sound is
+
+words_sound : (words : List (List ℕ)) (plant next : PlantText) → SoundText plant → words_row words plant ≡ Ok next → SoundText next
+words_sound [] plant next sound is = subst SoundText (same_end plant next is) sound
+words_sound (word ∷ words) plant next sound is =
+    let kind = led_on (ok_or (kind_in word) UnknownWord) (λ kind. row_of kind words plant) next is in
+    row_sound kind.0 words plant next sound kind.2
+
+-- a line without a fault
+pub line_sound : (line : List ℕ) (plant next : PlantText) → SoundText plant → line_row line plant ≡ Ok next → SoundText next
+line_sound line plant next sound is =
+    let said = led_on (check (is_legal_line line) NotAscii) (λ _. if is_passed_over line then Ok plant else words_row (words_of line) plant) next is in
+    either (is_passed_over line) said.2
+  where
+    either : (over : Bool) → (if over then Ok plant else words_row (words_of line) plant) ≡ Ok next → SoundText next
+    either true same = subst SoundText (same_end plant next same) sound
+    either false row = words_sound (words_of line) plant next sound row
+
+told_on_line : {A : Type 0} (number : ℕ) (r : Result A Fault) (x : A) → on_line number r ≡ Ok x → r ≡ Ok x
+told_on_line number (Ok y) x is = cc
+told_on_line number (Err fault) x is = absurd (cc)
+
+-- lines without a fault
+pub lines_sound : (number : ℕ) (lines : List (List ℕ)) (plant next : PlantText) → SoundText plant → lines_row number lines plant ≡ Ok next → SoundText next
+lines_sound number [] plant next sound is = subst SoundText (same_end plant next is) sound
+lines_sound number (line ∷ lines) plant next sound is =
+    let first = led_on (on_line number (line_row line plant)) (λ p. lines_row (number + 1) lines p) next is in
+    lines_sound (number + 1) lines first.0 next (line_sound line plant first.0 sound (told_on_line number (line_row line plant) first.0 first.1)) first.2
+
+pub text_sound : (number : ℕ) (lines : List (List ℕ)) (written : PlantText) → lines_row number lines nothing ≡ Ok written → SoundText written
+text_sound number lines written is = lines_sound number lines nothing written nothing_sound is
