@@ -4,6 +4,7 @@ pub mod SoundLists
 pub mod SoundAtoms
 pub mod SoundWires
 pub mod SoundLines
+pub mod Sound
 mod Rows
 pub mod Connectors
 pub mod Counts
