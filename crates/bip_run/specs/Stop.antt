@@ -1,7 +1,7 @@
 -- What the program tells where it stops, and its exit status.
 use Rattle.std.specs.Prelude.{◌≡◌, ◌≢◌, ℕ, List, [], ◌++◌, codes, decimal, Option, Some, None, Result, Ok, Err}
 use Rattle.plant_text.specs.Fault.{number_of, name_of, subject_of, of_no_line}
-use Rattle.plant_text.specs.Made.{IsTold}
+use Rattle.plant_text.specs.Meaning.{meaning}
 use Rattle.plant_text.specs.declared.fault.Fault.{Fault}
 use Rattle.plant_text.specs.declared.fault.Fault.TheVariants as fault
 use Rattle.plant_text.specs.declared.fault.PlantFault.{PlantFault}
@@ -61,7 +61,7 @@ of_trace trace.Write = Unwritten
 
 -- a stop that tells a fault of a plant text tells that of these bytes, but for want of memory and a reader that failed
 abbrev pub Tells : Stop → List ℕ → Type 0
-Tells (Plant told) bytes = told ≢ of_no_line fault.Memory → told ≢ of_no_line fault.Read → IsTold bytes told
+Tells (Plant told) bytes = told ≢ of_no_line fault.Memory → told ≢ of_no_line fault.Read → meaning bytes ≡ Err told
 Tells Usage bytes = Unit {0}
 Tells Unopened bytes = Unit {0}
 Tells Memory bytes = Unit {0}

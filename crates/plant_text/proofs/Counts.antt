@@ -1,5 +1,5 @@
 -- How many interactions the connectors of a text have.
-use Rattle.std.proofs.Common.{◌≡◌, ◌∙◌, sym, ap, refl, ℕ, suc, ◌+◌, List, [], ◌∷◌, ◌++◌, length, map}
+use Rattle.std.proofs.Common.{◌≡◌, ◌∙◌, sym, ap, refl, ℕ, suc, ◌+◌, List, [], ◌∷◌, length, map}
 use Rattle.std.proofs.lemmas.List.{length-map, length-append}
 use Rattle.plant_trees.specs.Meaning.{interactions_in}
 use Rattle.plant_text.specs.Interactions.{interactions_at, interactions_from, trees_of}

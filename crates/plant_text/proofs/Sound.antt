@@ -25,7 +25,7 @@ use Rattle.plant_text.specs.Text.{PlantText, wire_text_of, text_of}
 use Rattle.plant_text.specs.Interactions.{interactions_of}
 use Rattle.plant_text.specs.Fault.{of_no_line}
 use Rattle.plant_text.specs.Rows.{◌>>=◌}
-use Rattle.plant_text.specs.Meaning.{lines_row, nothing, with_an_atom, with_an_order, meaning}
+use Rattle.plant_text.specs.Meaning.{lines_row, nothing, with_an_atom, with_an_order, written_in, meaning}
 use Rattle.plant_text.specs.declared.fault.Fault.TheVariants as fault
 use Rattle.plant_text.proofs.Numbered.{interactions_written}
 use Rattle.plant_text.proofs.SoundLists.{led_on, same_end, EachBehind, each_passes, each_mapped, none_told}
@@ -41,7 +41,7 @@ wire_keeps atoms before w sound =
     let leaves = ports-connector w.connector in
     let ports = subst (λ ports. list_all (is_known_port atoms) ports ≡ true) leaves sound.sound.ports in
     let variables = subst (λ ports. (list_all (all_variables (is_known_export atoms ports)) w.guards && list_all (names_known atoms ports) w.transfers) ≡ true) leaves
-        (and_from _ _ sound.sound.guards.passing sound.sound.transfers.passing) in
+    (and_from _ _ sound.sound.guards.passing sound.sound.transfers.passing) in
     four first_broken named ports variables sound.sound.transfers.once
 
 module _ (plant : PlantDefinition) (sound : SoundText (text_of plant)) where
@@ -120,21 +120,23 @@ pub record MeantBy (text : List ℕ) (written : PlantText) : Type 0 where
   pub order : order_fault written.rules (interactions_of written.wires) ≡ None
 
 pub meant : (text : List ℕ) (written : PlantText) → meaning text ≡ Ok written → MeantBy text written
-meant text written is = each (nat_lt MAX_TEXT (length text)) is
+meant text written is =
+    let last = led_on (written_in text) with_an_order written is in
+    let order = some_order last.0 written last.2 in
+    let parts = each last.0 (nat_lt MAX_TEXT (length text)) last.1 in
+    record {
+      lines = parts.0 ∙ ap Ok order.0;
+      atoms = subst (λ p. 0 < length p.atoms) order.0 parts.1;
+      order = subst (λ p. order_fault p.rules (interactions_of p.wires) ≡ None) order.0 order.1;
+    }
   where
-    each : (long : Bool) → (if long then Err (of_no_line fault.TooLong) else (lines_row 1 (lines_of text) nothing >>= with_an_atom >>= with_an_order)) ≡ Ok written → MeantBy text written
-    each true told = absurd (cc)
-    each false told =
-        let last = led_on (lines_row 1 (lines_of text) nothing >>= with_an_atom) with_an_order written told in
-        let first = led_on (lines_row 1 (lines_of text) nothing) with_an_atom last.0 last.1 in
-        let atom = some_atom first.0 last.0 first.2 in
-        let order = some_order last.0 written last.2 in
-        let same : first.0 ≡ written = atom.0 ∙ order.0 in
-        record {
-          lines = first.1 ∙ ap Ok same;
-          atoms = subst (λ p. 0 < length p.atoms) same atom.1;
-          order = subst (λ p. order_fault p.rules (interactions_of p.wires) ≡ None) order.0 order.1;
-        }
+    each : (p : PlantText) (long : Bool) → (if long then Err (of_no_line fault.TooLong) else (lines_row 1 (lines_of text) nothing >>= with_an_atom)) ≡ Ok p →
+        (lines_row 1 (lines_of text) nothing ≡ Ok p) × (0 < length p.atoms)
+    each p true told = absurd (cc)
+    each p false told =
+        let first = led_on (lines_row 1 (lines_of text) nothing) with_an_atom p told in
+        let atom = some_atom first.0 p first.2 in
+        (first.1 ∙ ap Ok atom.0, subst (λ q. 0 < length q.atoms) atom.0 atom.1)
 
 -- a plant that is written as a text means breaks no rule
 pub meaning_sound : (text : List ℕ) (written : PlantText) (plant : PlantDefinition) → meaning text ≡ Ok written → text_of plant ≡ written → fault_of plant ≡ None

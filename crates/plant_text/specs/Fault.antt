@@ -131,7 +131,7 @@ of_text reading.TooLong = TooLong
 of_text reading.Memory = Memory
 of_text reading.Read = Read
 
--- the fault of a text whose atoms and connectors, as they were written, make no plant
+-- the fault of a text whose parts, as they were written, make no plant; lines keep all other rules of plants
 abbrev pub of_system : SystemFault → Fault
 of_system system.Limit = Limit
 of_system (system.BadAtom atom) = Limit

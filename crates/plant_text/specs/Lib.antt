@@ -4,7 +4,6 @@ pub mod Interactions
 pub mod Names
 pub mod Rows
 pub mod Meaning
-pub mod Made
 pub mod Wires
 pub mod Parts
 pub mod Draft

@@ -1,5 +1,5 @@
 -- The plant that a text means, or the first line with a fault.
-use Rattle.std.specs.Prelude.{ℕ, ◌+◌, if◌then◌else◌, nat_lt, List, [], ◌∷◌, length, Result, Ok, Err}
+use Rattle.std.specs.Prelude.{◌≡◌, ℕ, ◌+◌, ◌<◌, if◌then◌else◌, nat_lt, List, [], ◌∷◌, length, Result, Ok, Err}
 use Rattle.std.specs.Option.{option_map_or}
 use Rattle.priority_filter.specs.Decided.{order_fault}
 use Rattle.text_io.specs.declared.reading.TheConstants.{MAX_TEXT}
@@ -46,3 +46,7 @@ written_in text =
 -- order on the interactions.
 abbrev pub meaning : List ℕ → Result PlantText PlantFault
 meaning text = written_in text >>= with_an_order
+
+-- lines without a fault write the plant, and an atom stands in it
+abbrev pub IsWritten : PlantText → Type 0
+IsWritten written = (lines : List (List ℕ)) × (lines_row 1 lines nothing ≡ Ok written) × (0 < length written.atoms)

@@ -27,12 +27,13 @@
 //! - `read`: the text, its lines and its system. `draft`: the plant so far, and its lines. `making`: the system of a draft.
 //! - `kinds`: the kinds of lines. `parts`: an atom, changed by a line. `listed`: a connector with its interactions.
 //! - `names`: the atoms by the names that connectors use. `wires`: the connectors by the names that rules use.
-//! - `reading`: steps that take words. `fault`: what is wrong with a text.
+//! - `reading`: steps that take words. `fault`: what is wrong with a text. `laws`: what follows of the meaning.
 #![tactic(auto)]
 
 mod draft;
 mod fault;
 mod kinds;
+pub mod laws;
 mod listed;
 mod making;
 mod names;

@@ -1,5 +1,5 @@
 //! A system is made of the atoms, connectors and rules of a draft.
-ghost use Rattle.std.specs.Prelude.{◌≡◌, ◌≢◌, ◌⊎◌, map, IfOk, IfErr, OnOk, Ok, Err};
+ghost use Rattle.std.specs.Prelude.{◌≡◌, ◌≢◌, map, IfOk, IfErr, OnOk, Ok, Err};
 ghost use Rattle.petri_atom.specs.Atom.{definition_of};
 ghost use Rattle.step_core.specs.System.{plant_of};
 ghost use Rattle.step_core.specs.Wire.{wire_of};
@@ -7,8 +7,7 @@ ghost use Rattle.atom_lines.specs.Draft.{drafted as atom_drafted};
 ghost use Rattle.plant_text.specs.Parts.{wire_defined};
 ghost use Rattle.plant_text.specs.Draft.{drafted};
 ghost use Rattle.plant_text.specs.Fault.{of_no_line, of_system};
-ghost use Rattle.plant_text.specs.Made.{BreaksARule};
-ghost use Rattle.plant_text.specs.Meaning.{with_an_order};
+ghost use Rattle.plant_text.specs.Meaning.{IsWritten, with_an_order};
 ghost use Rattle.plant_text.specs.Text.{text_of};
 ghost use Rattle.plant_text.specs.declared.fault.Fault.TheVariants as fault;
 
@@ -22,10 +21,11 @@ use step_core::{System, SystemFault, Wire};
 
 /// The system of the atoms, the connectors and the rules of a draft, with the digest of the text that they were read from.
 pub(crate) fn system_of(draft: PlantDraft, digest: [u8; 32]) -> Result<System, PlantFault>
+    requires { IsWritten (drafted draft) }
     ensures made { IfOk result (λ system. text_of (plant_of system) ≡ drafted draft) }
     ensures ordered { OnOk result (with_an_order (drafted draft) ≡ Ok (drafted draft)) }
     ensures digest { IfOk result (λ system. system.digest ≡ digest) }
-    ensures fault { IfErr result (λ told. told ≢ of_no_line fault.Memory → (with_an_order (drafted draft) ≡ Err told) ⊎ ((told ≡ of_no_line fault.Limit) × BreaksARule (drafted draft))) }
+    ensures fault { IfErr result (λ told. told ≢ of_no_line fault.Memory → with_an_order (drafted draft) ≡ Err told) }
 {
     let atoms = make_atoms(draft.alloc, draft.atoms)?;
     let wires = make_wires(draft.alloc, draft.wires)?;
@@ -35,7 +35,7 @@ pub(crate) fn system_of(draft: PlantDraft, digest: [u8; 32]) -> Result<System, P
     }
 }
 
-/// The fault of a text whose atoms and connectors, as they were written, make no plant.
+/// The fault of a text whose parts, as they were written, make no plant. Lines keep all other rules of plants.
 fn system_fault(fault: SystemFault) -> Fault
     ensures { result ≡ of_system fault }
 {

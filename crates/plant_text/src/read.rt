@@ -7,8 +7,7 @@ ghost use Rattle.plant_words.specs.Lines.{lines_of};
 ghost use Rattle.text_io.specs.declared.reading.TheConstants.{MAX_TEXT};
 ghost use Rattle.plant_text.specs.Draft.{drafted};
 ghost use Rattle.plant_text.specs.Fault.{of_no_line};
-ghost use Rattle.plant_text.specs.Made.{IsTold};
-ghost use Rattle.plant_text.specs.Meaning.{meaning, written_in, lines_row, nothing};
+ghost use Rattle.plant_text.specs.Meaning.{IsWritten, meaning, written_in, lines_row, nothing};
 ghost use Rattle.plant_text.specs.Text.{text_of};
 ghost use Rattle.plant_text.specs.declared.fault.Fault.TheVariants as fault;
 
@@ -31,7 +30,7 @@ pub fn read_plant<R: Read>(alloc: Global, reader: &mut R) -> Result<System, Plan
     ensures digest { IfOk result
         (λ system. IfSome (R.remaining reader.old) (λ bytes. system.digest ≡ sha256 bytes)) }
     ensures fault { IfErr result
-        (λ told. told ≢ of_no_line fault.Memory → told ≢ of_no_line fault.Read → IfSome (R.remaining reader.old) (λ bytes. IsTold bytes told)) }
+        (λ told. told ≢ of_no_line fault.Memory → told ≢ of_no_line fault.Read → IfSome (R.remaining reader.old) (λ bytes. meaning bytes ≡ Err told)) }
 {
     let text = read_text(alloc, reader)?;
     plant_of_text(alloc, &text)
@@ -41,7 +40,7 @@ pub fn read_plant<R: Read>(alloc: Global, reader: &mut R) -> Result<System, Plan
 pub fn plant_of_text(alloc: Global, text: &[u8]) -> Result<System, PlantFault>
     ensures plant { IfOk result (λ system. meaning text.now ≡ Ok (text_of (plant_of system))) }
     ensures digest { IfOk result (λ system. system.digest ≡ sha256 text.now) }
-    ensures fault { IfErr result (λ told. told ≢ of_no_line fault.Memory → IsTold text.now told) }
+    ensures fault { IfErr result (λ told. told ≢ of_no_line fault.Memory → meaning text.now ≡ Err told) }
 {
     let draft = read_draft(alloc, text)?;
     system_of(draft, digest_of(text))
@@ -50,6 +49,7 @@ pub fn plant_of_text(alloc: Global, text: &[u8]) -> Result<System, PlantFault>
 /// What the lines of a plant text write.
 fn read_draft(alloc: Global, text: &[u8]) -> Result<PlantDraft, PlantFault>
     ensures draft { IfOk result (λ draft. written_in text.now ≡ Ok (drafted draft)) }
+    ensures written { IfOk result (λ draft. IsWritten (drafted draft)) }
     ensures fault { IfErr result (λ told. told ≢ of_no_line fault.Memory → written_in text.now ≡ Err told) }
 {
     if text.len() > MAX_TEXT {

@@ -28,5 +28,5 @@ returns-clause-fault c =
     let wires = c.in_ok-wires.wires.items in
     let rules = c.deref.result.now in
     rw (c.of_no_line.ensures, c.system_fault.ensures)
-    (told_of_system c.in-Err.fault (plant_by atoms wires rules) _ c.in-Err.ensures.fault
+    (told_of_system c.in-Err.fault (plant_by atoms wires rules) _ c.requires c.in-Err.ensures.fault
     (written_as_drafted atoms wires rules draft.atoms.items draft.wires.items c.in_ok-atoms.ensures c.in_ok-wires.ensures ∙ ap (plant_drafted draft.atoms.items draft.wires.items) c.deref.ensures.value))
