@@ -11,9 +11,11 @@ A case is a folder tests/COMMAND/CASE. The program runs in a fresh copy of it, i
     stderr-has    in place of stderr: each line of it stands in what is told
     status        the exit status; without the file 0
     setting       lines that say what else is so:
-                      standard output closed      the program has no standard output
-                      standard output full        the standard output takes nothing
-                      FILE has COUNT line feeds   the file, too long to be stored, is made
+                      standard output closed              the program has no standard output
+                      standard output full                the standard output takes nothing
+                      FILE begins with COUNT line feeds   so many are put before the file, which is too long to be stored; or `spaces`
+                      FILE ends with COUNT line feeds     so many are put behind it; where there is no such file, it is made
+                      FILE is EXAMPLE without LINE        the file is the example, but for the one line
     any other     a file that the words may name; `about`, if there, says what the case shows
 
 Words on the command line choose cases: `tests/run.py check` runs those whose COMMAND/CASE has `check` in it.
@@ -33,6 +35,8 @@ ROOT = TESTS.parent
 # Where the gate leaves the program that it has proved and built.
 PROGRAM = ROOT / "crates" / "bip_run" / "out" / "bip_run"
 SECONDS = 60
+# What a setting may grow a file by.
+BYTES = {"line feeds": b"\n", "spaces": b" "}
 
 
 def built_program():
@@ -40,6 +44,15 @@ def built_program():
     if not PROGRAM.exists():
         subprocess.run([str(ROOT / "bip_run"), "--help"], stdout=subprocess.DEVNULL, check=True)
     return PROGRAM
+
+
+def without_line(text, line):
+    """The text without its one line that reads so."""
+    lines = text.splitlines(keepends=True)
+    kept = [each for each in lines if each.rstrip() != line]
+    if len(kept) != len(lines) - 1:
+        raise ValueError(f"not one line reads: {line}")
+    return "".join(kept)
 
 
 class Case:
@@ -65,10 +78,15 @@ class Case:
         os.symlink(ROOT / "examples", place / "examples")
         output = "taken"
         for line in self.lines_of("setting"):
-            made = re.fullmatch(r"(\S+) has (\d+) line feeds", line)
+            grown = re.fullmatch(r"(\S+) (begins|ends) with (\d+) (line feeds|spaces)", line)
+            changed = re.fullmatch(r"(\S+) is (examples/\S+) without (.+)", line)
             told = re.fullmatch(r"standard output (closed|full)", line)
-            if made:
-                (place / made[1]).write_bytes(b"\n" * int(made[2]))
+            if grown:
+                more = BYTES[grown[4]] * int(grown[3])
+                own = self.bytes_of(grown[1]) or b""
+                (place / grown[1]).write_bytes(more + own if grown[2] == "begins" else own + more)
+            elif changed:
+                (place / changed[1]).write_text(without_line((ROOT / changed[2]).read_text(), changed[3]))
             elif told:
                 output = told[1]
             else:
