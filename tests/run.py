@@ -13,10 +13,12 @@ A case is a folder tests/COMMAND/CASE. The program runs in a fresh copy of it, i
     setting       lines that say what else is so:
                       standard output closed              the program has no standard output
                       standard output full                the standard output takes nothing
-                      FILE begins with COUNT line feeds   so many are put before the file, which is too long to be stored; or `spaces`
-                      FILE ends with COUNT line feeds     so many are put behind it; where there is no such file, it is made
-                      FILE is EXAMPLE without LINE        the file is the example, but for the one line
+                      FILE begins with COUNT line feeds   the file, too long to be stored, has these before; or `spaces`
+                      FILE ends with COUNT line feeds     the file has these behind, or is made of them
+                      FILE is EXAMPLE without LINE        the file is made: an example, but for one line
     any other     a file that the words may name; `about`, if there, says what the case shows
+
+Each run that examples/README.md shows is a case too, shown/WORDS.
 
 Words on the command line choose cases: `tests/run.py check` runs those whose COMMAND/CASE has `check` in it.
 """
@@ -55,6 +57,12 @@ def without_line(text, line):
     return "".join(kept)
 
 
+def grow(file, end, more):
+    """Puts more bytes before what the file holds, or behind it."""
+    own = file.read_bytes() if file.exists() else b""
+    file.write_bytes(more + own if end == "begins" else own + more)
+
+
 class Case:
     """A folder with what the program is given, and what it must answer."""
 
@@ -72,22 +80,20 @@ class Case:
     def status(self):
         return int((self.bytes_of("status") or b"0").decode())
 
+    def copy_files(self, place):
+        shutil.copytree(self.folder, place, dirs_exist_ok=True)
+
     def make_files(self, place):
         """Fills the folder that the program runs in, and says how its standard output is."""
-        shutil.copytree(self.folder, place, dirs_exist_ok=True)
+        self.copy_files(place)
         os.symlink(ROOT / "examples", place / "examples")
         output = "taken"
         for line in self.lines_of("setting"):
-            grown = re.fullmatch(r"(\S+) (begins|ends) with (\d+) (line feeds|spaces)", line)
-            changed = re.fullmatch(r"(\S+) is (examples/\S+) without (.+)", line)
-            told = re.fullmatch(r"standard output (closed|full)", line)
-            if grown:
-                more = BYTES[grown[4]] * int(grown[3])
-                own = self.bytes_of(grown[1]) or b""
-                (place / grown[1]).write_bytes(more + own if grown[2] == "begins" else own + more)
-            elif changed:
-                (place / changed[1]).write_text(without_line((ROOT / changed[2]).read_text(), changed[3]))
-            elif told:
+            if grown := re.fullmatch(r"(\S+) (begins|ends) with (\d+) (line feeds|spaces)", line):
+                grow(place / grown[1], grown[2], int(grown[3]) * BYTES[grown[4]])
+            elif made := re.fullmatch(r"(\S+) is (examples/\S+) without (.+)", line):
+                (place / made[1]).write_text(without_line((ROOT / made[2]).read_text(), made[3]))
+            elif told := re.fullmatch(r"standard output (closed|full)", line):
                 output = told[1]
             else:
                 raise ValueError(f"{self.name}: no such setting: {line}")
@@ -108,6 +114,25 @@ class Case:
             return ran.returncode, ran.stdout, ran.stderr
 
 
+class Shown(Case):
+    """A run that examples/README.md shows: a block with the command, an empty line, and what is printed."""
+
+    def __init__(self, words, printed):
+        self.name = f"shown/{words}"
+        self.files = {"args": words.replace(" ", "\n").encode(), "stdout": printed.encode()}
+
+    def bytes_of(self, name):
+        return self.files.get(name)
+
+    def copy_files(self, place):
+        pass
+
+
+def shown_runs():
+    page = (ROOT / "examples" / "README.md").read_text()
+    return [Shown(*run) for run in re.findall(r"^```\n\./bip_run (.+)\n\n((?:.+\n)*)```$", page, re.M)]
+
+
 class Answers(unittest.TestCase):
     """Each case is a test of this class, by its name."""
 
@@ -121,7 +146,7 @@ class Answers(unittest.TestCase):
 
     def check_stream(self, case, name, found):
         text = found.decode(errors="replace")
-        if (case.folder / f"{name}-has").exists():
+        if case.bytes_of(f"{name}-has") is not None:
             for line in case.lines_of(f"{name}-has"):
                 self.assertIn(line, text, f"{case.name}: {name}")
         else:
@@ -130,7 +155,7 @@ class Answers(unittest.TestCase):
 
 def cases(words):
     """The cases whose name has one of the words in it; all, where there is no word."""
-    found = [Case(args.parent) for args in sorted(TESTS.glob("*/*/args"))]
+    found = [Case(args.parent) for args in sorted(TESTS.glob("*/*/args"))] + shown_runs()
     return [case for case in found if not words or any(word in case.name for word in words)]
 
 
