@@ -13,6 +13,7 @@ A case is a folder tests/COMMAND/CASE. The program runs in a fresh copy of it, i
     setting       lines that say what else is so:
                       standard output closed              the program has no standard output
                       standard output full                the standard output takes nothing
+                      memory of COUNT KiB                 the program gets no more memory for its data
                       FILE begins with COUNT line feeds   the file, too long to be stored, has these before; or `spaces`
                       FILE ends with COUNT line feeds     the file has these behind, or is made of them
                       FILE is EXAMPLE without LINE        the file is made: an example, but for one line
@@ -37,6 +38,8 @@ ROOT = TESTS.parent
 # Where the gate leaves the program that it has proved and built.
 PROGRAM = ROOT / "crates" / "bip_run" / "out" / "bip_run"
 SECONDS = 60
+# Where a setting leads the standard output.
+OUTPUTS = {"standard output closed": ">&-", "standard output full": ">/dev/full"}
 # What a setting may grow a file by.
 BYTES = {"line feeds": b"\n", "spaces": b" "}
 
@@ -84,30 +87,27 @@ class Case:
         shutil.copytree(self.folder, place, dirs_exist_ok=True)
 
     def make_files(self, place):
-        """Fills the folder that the program runs in, and says how its standard output is."""
+        """Fills the folder that the program runs in, and says by which command of the shell it runs."""
         self.copy_files(place)
         os.symlink(ROOT / "examples", place / "examples")
-        output = "taken"
+        command = 'exec "$0" "$@"'
         for line in self.lines_of("setting"):
             if grown := re.fullmatch(r"(\S+) (begins|ends) with (\d+) (line feeds|spaces)", line):
                 grow(place / grown[1], grown[2], int(grown[3]) * BYTES[grown[4]])
             elif made := re.fullmatch(r"(\S+) is (examples/\S+) without (.+)", line):
                 (place / made[1]).write_text(without_line((ROOT / made[2]).read_text(), made[3]))
-            elif told := re.fullmatch(r"standard output (closed|full)", line):
-                output = told[1]
+            elif given := re.fullmatch(r"memory of (\d+) KiB", line):
+                command = f"ulimit -d {given[1]} && {command}"
+            elif line in OUTPUTS:
+                command = f"{command} {OUTPUTS[line]}"
             else:
                 raise ValueError(f"{self.name}: no such setting: {line}")
-        return output
+        return command
 
     def run(self, program):
         """Runs the program, and gives its status, standard output and standard error."""
         with tempfile.TemporaryDirectory() as folder:
-            output = self.make_files(Path(folder))
-            command = [str(program), *self.lines_of("args")]
-            if output == "closed":
-                command = ["sh", "-c", 'exec "$0" "$@" >&-', *command]
-            elif output == "full":
-                command = ["sh", "-c", 'exec "$0" "$@" >/dev/full', *command]
+            command = ["sh", "-c", self.make_files(Path(folder)), str(program), *self.lines_of("args")]
             ran = subprocess.run(
                 command, input=self.bytes_of("stdin") or b"", capture_output=True, cwd=folder, timeout=SECONDS
             )
