@@ -103,7 +103,7 @@ fn empty_table(alloc: Global, size: usize) -> Result<Vec<InteractionSet>, AllocE
 /// Whether an earlier rule is the same one.
 fn is_repeated(rules: &[Rule], k: usize) -> bool
     requires { k < length rules.now }
-    ensures { IsTrue result → (j : ℕ) × (j < k) × (rule_at rules.now j ≡ rule_at rules.now k) }
+    ensures { IsTrue result ↔ ((j : ℕ) × (j < k) × (rule_at rules.now j ≡ rule_at rules.now k)) }
 {
     for j in 0..k {
         if rules[j] == rules[k] {

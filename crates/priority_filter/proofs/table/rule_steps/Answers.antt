@@ -27,7 +27,7 @@ loop-k-preserved c =
                 (steps_more rules interactions k w.deref_mut.result.now new (subst (StepsBelow rules interactions k) (sym w.deref_mut.ensures.value) c.loop-k.invariant.steps) w.add_rule.ensures);
           }
       | else-not-is_repeated w ↦
-          let earlier = c.is_repeated.ensures w.if-not-is_repeated.false in
+          let earlier = c.is_repeated.ensures.0 w.if-not-is_repeated.false in
           record {
             size = ap vec_len w.rows-is ∙ c.loop-k.invariant.size;
             steps = subst (StepsBelow rules interactions (k + 1)) (sym (ap (λ v. v.items) w.rows-is))
