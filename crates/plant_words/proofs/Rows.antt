@@ -2,7 +2,7 @@
 use Rattle.std.proofs.Common.{◌≡◌, true, false, refl, [], ◌∷◌, codes, ◌++◌, Some, None, pos, negsuc}
 use Rattle.plant_words.specs.Lines.{lines_of, is_legal_line}
 use Rattle.plant_words.specs.Words.{words_of, is_passed_over}
-use Rattle.plant_words.specs.Numbers.{is_numeric, int_in, pick_in, mask_in}
+use Rattle.plant_words.specs.Numbers.{is_numeric, int_in, pick_in}
 use Rattle.plant_words.specs.Names.{name_in}
 use Rattle.plant_words.specs.Splits.{port_in, export_in, named_mask_in}
 
@@ -113,12 +113,6 @@ no_pick_in_the_empty_word = refl
 
 a_pick_has_no_sign : pick_in (codes "-1") ≡ None
 a_pick_has_no_sign = refl
-
-the_greatest_mask : mask_in (codes "065535") ≡ Some 65535
-the_greatest_mask = refl
-
-past_the_greatest_mask : mask_in (codes "65536") ≡ None
-past_the_greatest_mask = refl
 
 -- ---- names and words of several parts
 

@@ -30,13 +30,9 @@ abbrev pub below : ℕ → Option ℕ → Option ℕ
 below bound None = None
 below bound (Some number) = if nat_lt number bound then Some number else None
 
--- a pick: digits alone, of a number within 64 bits
+-- a pick or a mask: digits alone, of a number within 64 bits
 abbrev pub pick_in : List ℕ → Option ℕ
 pick_in word = below (2 ^ 64) (decimal_in word)
-
--- a mask: digits alone, of a number within 16 bits
-abbrev pub mask_in : List ℕ → Option ℕ
-mask_in word = below (2 ^ 16) (decimal_in word)
 
 -- the number that 1 to 19 digits write
 abbrev pub magnitude_in : List ℕ → Option ℕ

@@ -12,13 +12,12 @@
 //!
 //! In contracts, `Lines` is the list of the lines that are left, and `Words` that of the words, so a layer above
 //! goes down a list. What a word is stands in `specs/` as a function on its bytes: `int_in`, `pick_in`,
-//! `mask_in`, `name_in`, `port_in`, `export_in` and `named_mask_in`.
+//! `name_in`, `port_in`, `export_in` and `named_mask_in`.
 //!
 //! | Word | Is | Read by |
 //! |---|---|---|
 //! | `-12`, `007` | a number of the plant: an optional `-` and 1 to 19 digits, within an `i64` | [`read_int`] |
 //! | `12` | digits alone, within a `u64` | [`read_decimal`] |
-//! | `5` | digits alone, within a `u16` | [`read_mask`] |
 //! | `place_2` | a name, which is no reserved word | [`read_name`] |
 //! | `A.p`, `A.p'` | a port in a connector's tree | [`split_port`] |
 //! | `A.n` | an export of an atom | [`split_export`] |
@@ -40,7 +39,7 @@ mod words;
 
 pub use lines::{Lines, is_legal};
 pub use names::read_name;
-pub use numbers::{MAX_DIGITS, is_numeric, read_decimal, read_int, read_mask};
+pub use numbers::{MAX_DIGITS, is_numeric, read_decimal, read_int};
 pub use splits::{PortWord, split_export, split_mask, split_port};
 pub use words::{Words, is_passed_over};
 

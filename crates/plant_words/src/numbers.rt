@@ -1,7 +1,7 @@
 //! Words that are numbers.
 ghost use Rattle.std.specs.Prelude.{◌≡◌};
 ghost use Rattle.std.specs.List.{list_all};
-ghost use Rattle.plant_words.specs.Numbers.{is_digit, has_digits_alone, is_numeric, pick_in, mask_in, magnitude_in, int_in, below};
+ghost use Rattle.plant_words.specs.Numbers.{is_digit, has_digits_alone, is_numeric, pick_in, magnitude_in, int_in, below};
 
 use std::str;
 
@@ -39,13 +39,6 @@ pub fn read_decimal(word: &[u8]) -> Option<u64>
         return None;
     }
     str::from_utf8(word).ok()?.parse().ok()
-}
-
-/// The mask that a word of digits alone writes. `None` for another word, and where the number is past a `u16`.
-pub fn read_mask(word: &[u8]) -> Option<u16>
-    ensures { result ≡ mask_in word.now }
-{
-    u16::try_from(read_decimal(word)?).ok()
 }
 
 /// Whether the word is an optional `-` and digits, however many: only [`read_int`] says whether they write a number of

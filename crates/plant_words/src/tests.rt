@@ -1,7 +1,7 @@
 //! What no clause says: that the clauses mean what they should, on values worked out by hand.
 use crate::lines::{Lines, is_legal};
 use crate::names::read_name;
-use crate::numbers::{is_numeric, read_decimal, read_int, read_mask};
+use crate::numbers::{is_numeric, read_decimal, read_int};
 use crate::splits::{split_export, split_mask, split_port};
 use crate::words::{Words, is_passed_over};
 use std::test::Fail;
@@ -76,7 +76,7 @@ fn numbers_have_up_to_nineteen_digits(rt: HostRuntime) {
 }
 
 #[test]
-fn picks_and_masks_are_digits_alone(rt: HostRuntime) {
+fn decimals_are_digits_alone(rt: HostRuntime) {
     assert_eq!(rt; read_decimal(b"0"), Some(0));
     assert_eq!(rt; read_decimal(b"00018446744073709551615"), Some(u64::MAX));
     assert_eq!(rt; read_decimal(b"18446744073709551616"), None);
@@ -84,9 +84,7 @@ fn picks_and_masks_are_digits_alone(rt: HostRuntime) {
     assert_eq!(rt; read_decimal(b"+1"), None);
     assert_eq!(rt; read_decimal(b"-1"), None);
     assert_eq!(rt; read_decimal(b"1\xff"), None);
-    assert_eq!(rt; read_mask(b"065535"), Some(65535));
-    assert_eq!(rt; read_mask(b"65536"), None);
-    assert_eq!(rt; read_mask(b"0x1"), None);
+    assert_eq!(rt; read_decimal(b"0x1"), None);
 }
 
 #[test]

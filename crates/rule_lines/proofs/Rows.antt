@@ -67,7 +67,7 @@ a_mask_with_a_sign : priority_in connector_named has_interaction (words_of (code
 unfolding connector_named has_interaction
 a_mask_with_a_sign = refl
 
-a_mask_past_the_largest : priority_in connector_named has_interaction (words_of (codes "bc:70000 < tick")) ≡ Err BadNumber
+a_mask_past_the_largest : priority_in connector_named has_interaction (words_of (codes "bc:70000 < tick")) ≡ Err UnknownName
 unfolding connector_named has_interaction
 a_mask_past_the_largest = refl
 

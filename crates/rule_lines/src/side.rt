@@ -5,8 +5,11 @@ ghost use Rattle.rule_lines.specs.Sides.{one_of, side_in};
 use crate::connectors::Connectors;
 use crate::reading::check;
 use atom_lines::LineFault;
-use plant_words::{Words, read_mask, split_mask};
+use plant_words::{Words, read_decimal, split_mask};
 use priority_filter::Side;
+
+/// The greatest number that is a mask.
+const MAX_MASK: u64 = u16::MAX as u64;
 
 /// The side that the next word is.
 pub(crate) fn read_side<C: Connectors>(
@@ -33,7 +36,9 @@ fn read_one<C: Connectors>(name: &[u8], mask: &[u8], connectors: &C) -> Result<S
     let connector = connectors
         .find_connector(name)
         .ok_or(LineFault::UnknownName)?;
-    let mask = read_mask(mask).ok_or(LineFault::BadNumber)?;
+    let number = read_decimal(mask).ok_or(LineFault::BadNumber)?;
+    check(number <= MAX_MASK, LineFault::UnknownName)?;
+    let mask = number as u16;
     check(
         connectors.has_interaction(connector, mask),
         LineFault::UnknownName,

@@ -91,8 +91,10 @@ fn the_first_fault_of_a_priority_is_told(rt: HostRuntime) -> Result<(), Fail> {
         (b"no:x < tick", LineFault::UnknownName),
         (b"bc:x < tick", LineFault::BadNumber),
         (b"bc:-1 < tick", LineFault::BadNumber),
-        (b"bc:70000 < tick", LineFault::BadNumber),
-        (b"tick < bc:65537", LineFault::BadNumber),
+        (b"bc:70000 < tick", LineFault::UnknownName),
+        (b"tick < bc:65537", LineFault::UnknownName),
+        (b"bc:18446744073709551615 < tick", LineFault::UnknownName),
+        (b"bc:18446744073709551616 < tick", LineFault::BadNumber),
     ] {
         assert!(&rt; priority(words) == Err(fault));
     }
