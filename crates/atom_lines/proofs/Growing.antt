@@ -1,7 +1,9 @@
 -- What each line leaves as it is in an atom: its name, and the ports that it has.
-use Rattle.std.proofs.Common.{◌≡◌, refl, sym, subst, ℕ, ℤ, Bool, List, [], ◌∷◌, ◌++◌, append-nil, length, drop, Result, Ok, Err, IfOk}
+use Rattle.std.proofs.Common.{◌≡◌, refl, sym, subst, ℕ, ℤ, Bool, List, [], ◌∷◌, ◌++◌, append-nil, length, drop, Result, Ok}
 use Rattle.std.specs.Prelude.{nat_lt, is_none}
 use Rattle.petri_atom.specs.Definition.{AtomDefinition, PortDefinition, TransitionDefinition}
+use Rattle.petri_atom.specs.declared.parts.Place.{Place}
+use Rattle.petri_atom.specs.declared.parts.Variable.{Variable}
 use Rattle.petri_atom.specs.declared.state.TheConstants.{MAX_PLACES, MAX_VARIABLES}
 use Rattle.petri_atom.specs.declared.parts.TheConstants.{MAX_PORTS, MAX_TRANSITIONS}
 use Rattle.atom_lines.specs.declared.fault.LineFault.{LineFault}
@@ -10,6 +12,7 @@ use Rattle.atom_lines.specs.Lookup.{place_number, variable_number, port_number}
 use Rattle.atom_lines.specs.Reading.{◌>>=◌, check, first_name, mark_in, value_in}
 use Rattle.atom_lines.specs.Rows.{place_row, variable_row, port_row, exports_in, with_place, with_variable, with_port}
 use Rattle.atom_lines.specs.Transitions.{transition_row, transition_in, with_transition}
+use Rattle.atom_lines.proofs.Steps.{led_on, same_end}
 
 -- an atom that has the name and the ports of another, and may have more ports behind them
 pub record Grows (a grown : AtomDefinition) : Type 0 where
@@ -17,60 +20,62 @@ pub record Grows (a grown : AtomDefinition) : Type 0 where
   pub more : List PortDefinition
   pub ports : grown.ports ≡ a.ports ++ more
 
--- what holds behind each step, holds behind all
-behind : {A B : Type 0} (P : B → Type 0) (r : Result A LineFault) (next : A → Result B LineFault) → ((x : A) → IfOk (next x) P) → IfOk (r >>= next) P
-behind P (Ok x) next each = each x
-behind P (Err fault) next each = tt
+-- the atom with one part more
+more_places : (a : AtomDefinition) (place : Place) → Grows a (with_place a place)
+more_places a place = record { name = refl; more = []; ports = sym (append-nil a.ports) }
 
--- the atom with other parts than ports
-same_ports : (a grown : AtomDefinition) → grown.name ≡ a.name → grown.ports ≡ a.ports → Grows a grown
-same_ports a grown name ports = record { name = name; more = []; ports = subst (λ ps. grown.ports ≡ ps) (sym (append-nil a.ports)) ports }
+more_variables : (a : AtomDefinition) (variable : Variable) → Grows a (with_variable a variable)
+more_variables a variable = record { name = refl; more = []; ports = sym (append-nil a.ports) }
 
-place-grows : (words : List (List ℕ)) (a : AtomDefinition) → IfOk (place_row words a) (Grows a)
-place-grows words a =
+more_ports : (a : AtomDefinition) (port : PortDefinition) → Grows a (with_port a port)
+more_ports a port = record { name = refl; more = port ∷ []; ports = refl }
+
+more_transitions : (a : AtomDefinition) (transition : TransitionDefinition) → Grows a (with_transition a transition)
+more_transitions a transition = record { name = refl; more = []; ports = sym (append-nil a.ports) }
+
+-- what a line came to is what it gives
+at_end : (a next grown : AtomDefinition) → ◌≡◌ {A = Result AtomDefinition LineFault} (Ok next) (Ok grown) → Grows a next → Grows a grown
+at_end a next grown told = subst (Grows a) (same_end next grown told)
+
+pub place_grows : (words : List (List ℕ)) (a grown : AtomDefinition) → place_row words a ≡ Ok grown → Grows a grown
+place_grows words a grown told =
     let made : List ℕ → Bool → Result AtomDefinition LineFault = λ name marked. Ok (with_place a (record { name = name; marked = marked })) in
     let marked : List ℕ → Unit {0} → Result AtomDefinition LineFault = λ name new. mark_in (drop 1 words) >>= made name in
     let named : List ℕ → Result AtomDefinition LineFault = λ name. check (is_none (place_number a name)) Twice >>= marked name in
-    behind (Grows a) (check (nat_lt (length a.places) MAX_PLACES) Limit) (λ room. first_name words >>= named) (λ room.
-        behind (Grows a) (first_name words) named (λ name. behind (Grows a) (check (is_none (place_number a name)) Twice) (marked name) (λ new.
-            behind (Grows a) (mark_in (drop 1 words)) (made name) (λ mark. same_ports a (with_place a (record { name = name; marked = mark })) refl refl))))
+    let room = led_on (check (nat_lt (length a.places) MAX_PLACES) Limit) (λ room. first_name words >>= named) grown told in
+    let name = led_on (first_name words) named grown room.2 in
+    let new = led_on (check (is_none (place_number a name.0)) Twice) (marked name.0) grown name.2 in
+    let mark = led_on (mark_in (drop 1 words)) (made name.0) grown new.2 in
+    let place : Place = record { name = name.0; marked = mark.0 } in
+    at_end a (with_place a place) grown mark.2 (more_places a place)
 
-variable-grows : (words : List (List ℕ)) (a : AtomDefinition) → IfOk (variable_row words a) (Grows a)
-variable-grows words a =
+pub variable_grows : (words : List (List ℕ)) (a grown : AtomDefinition) → variable_row words a ≡ Ok grown → Grows a grown
+variable_grows words a grown told =
     let made : List ℕ → ℤ → Result AtomDefinition LineFault = λ name first. Ok (with_variable a (record { name = name; first = first })) in
     let valued : List ℕ → Unit {0} → Result AtomDefinition LineFault = λ name new. value_in (drop 1 words) >>= made name in
     let named : List ℕ → Result AtomDefinition LineFault = λ name. check (is_none (variable_number a name)) Twice >>= valued name in
-    behind (Grows a) (check (nat_lt (length a.variables) MAX_VARIABLES) Limit) (λ room. first_name words >>= named) (λ room.
-        behind (Grows a) (first_name words) named (λ name. behind (Grows a) (check (is_none (variable_number a name)) Twice) (valued name) (λ new.
-            behind (Grows a) (value_in (drop 1 words)) (made name) (λ first. same_ports a (with_variable a (record { name = name; first = first })) refl refl))))
+    let room = led_on (check (nat_lt (length a.variables) MAX_VARIABLES) Limit) (λ room. first_name words >>= named) grown told in
+    let name = led_on (first_name words) named grown room.2 in
+    let new = led_on (check (is_none (variable_number a name.0)) Twice) (valued name.0) grown name.2 in
+    let first = led_on (value_in (drop 1 words)) (made name.0) grown new.2 in
+    let variable : Variable = record { name = name.0; first = first.0 } in
+    at_end a (with_variable a variable) grown first.2 (more_variables a variable)
 
-port-grows : (words : List (List ℕ)) (a : AtomDefinition) → IfOk (port_row words a) (Grows a)
-port-grows words a =
+pub port_grows : (words : List (List ℕ)) (a grown : AtomDefinition) → port_row words a ≡ Ok grown → Grows a grown
+port_grows words a grown told =
     let made : List ℕ → List ℕ → Result AtomDefinition LineFault = λ name exports. Ok (with_port a (record { name = name; exports = exports })) in
     let exported : List ℕ → Unit {0} → Result AtomDefinition LineFault = λ name new. exports_in a [] (drop 1 words) >>= made name in
     let named : List ℕ → Result AtomDefinition LineFault = λ name. check (is_none (port_number a name)) Twice >>= exported name in
-    behind (Grows a) (check (nat_lt (length a.ports) MAX_PORTS) Limit) (λ room. first_name words >>= named) (λ room.
-        behind (Grows a) (first_name words) named (λ name. behind (Grows a) (check (is_none (port_number a name)) Twice) (exported name) (λ new.
-            behind (Grows a) (exports_in a [] (drop 1 words)) (made name) (λ exports.
-                record { name = refl; more = record { name = name; exports = exports } ∷ []; ports = refl }))))
-
-transition-grows : (words : List (List ℕ)) (a : AtomDefinition) → IfOk (transition_row words a) (Grows a)
-transition-grows words a =
-    let made : TransitionDefinition → Result AtomDefinition LineFault = λ transition. Ok (with_transition a transition) in
-    behind (Grows a) (check (nat_lt (length a.transitions) MAX_TRANSITIONS) Limit) (λ room. transition_in a words >>= made) (λ room.
-        behind (Grows a) (transition_in a words) made (λ transition. same_ports a (with_transition a transition) refl refl))
-
-of_row : {A : Type 0} (P : A → Type 0) (r : Result A LineFault) (x : A) → IfOk r P → r ≡ Ok x → P x
-of_row P r x holds is = subst (λ read. IfOk read P) is holds
-
-pub place_grows : (words : List (List ℕ)) (a grown : AtomDefinition) → place_row words a ≡ Ok grown → Grows a grown
-place_grows words a grown = of_row (Grows a) (place_row words a) grown (place-grows words a)
-
-pub variable_grows : (words : List (List ℕ)) (a grown : AtomDefinition) → variable_row words a ≡ Ok grown → Grows a grown
-variable_grows words a grown = of_row (Grows a) (variable_row words a) grown (variable-grows words a)
-
-pub port_grows : (words : List (List ℕ)) (a grown : AtomDefinition) → port_row words a ≡ Ok grown → Grows a grown
-port_grows words a grown = of_row (Grows a) (port_row words a) grown (port-grows words a)
+    let room = led_on (check (nat_lt (length a.ports) MAX_PORTS) Limit) (λ room. first_name words >>= named) grown told in
+    let name = led_on (first_name words) named grown room.2 in
+    let new = led_on (check (is_none (port_number a name.0)) Twice) (exported name.0) grown name.2 in
+    let exports = led_on (exports_in a [] (drop 1 words)) (made name.0) grown new.2 in
+    let port : PortDefinition = record { name = name.0; exports = exports.0 } in
+    at_end a (with_port a port) grown exports.2 (more_ports a port)
 
 pub transition_grows : (words : List (List ℕ)) (a grown : AtomDefinition) → transition_row words a ≡ Ok grown → Grows a grown
-transition_grows words a grown = of_row (Grows a) (transition_row words a) grown (transition-grows words a)
+transition_grows words a grown told =
+    let made : TransitionDefinition → Result AtomDefinition LineFault = λ transition. Ok (with_transition a transition) in
+    let room = led_on (check (nat_lt (length a.transitions) MAX_TRANSITIONS) Limit) (λ room. transition_in a words >>= made) grown told in
+    let transition = led_on (transition_in a words) made grown room.2 in
+    at_end a (with_transition a transition.0) grown transition.2 (more_transitions a transition.0)
