@@ -21,18 +21,22 @@ use Rattle.plant_text.specs.Names.{atom_number, port_at, port_named, export_name
 -- ---- what is named is there
 
 -- a port that is named
-port-known : (atoms : List AtomDefinition) (name : List ℕ) (p : Port) (number : Option ℕ) → option_and_then (port_at atoms name) number ≡ Some p → is_known_port atoms p ≡ true
+port-known : (atoms : List AtomDefinition) (name : List ℕ) (p : Port) (number : Option ℕ) →
+    option_and_then (port_at atoms name) number ≡ Some p → is_known_port atoms p ≡ true
 port-known atoms name p None told = absurd (cc)
 port-known atoms name p (Some n) told = at_atom (slice_get atoms n) refl told
   where
-    at_port : (a : AtomDefinition) → slice_get atoms n ≡ Some a → (found : Option ℕ) → port_number a name ≡ found → option_map (λ port. record { atom = n; port = port }) found ≡ Some p → is_known_port atoms p ≡ true
+    at_port : (a : AtomDefinition) → slice_get atoms n ≡ Some a → (found : Option ℕ) → port_number a name ≡ found →
+        option_map (λ port. record { atom = n; port = port }) found ≡ Some p → is_known_port atoms p ≡ true
     at_port a there None is named = absurd (cc)
     at_port a there (Some k) is named =
         let same : record { atom = n; port = k } ≡ p = cc in
         subst (λ q. is_known_port atoms q ≡ true) same
         (ap (λ o. option_map_or (λ b. nat_lt k (length b.ports)) o false) there ∙ lt-ltb k (length a.ports) (position-within (λ q. is_same_text q.name name) a.ports k is))
 
-    at_atom : (found : Option AtomDefinition) → slice_get atoms n ≡ found → option_and_then (λ a. option_map (λ port. record { atom = n; port = port }) (port_number a name)) found ≡ Some p → is_known_port atoms p ≡ true
+    at_atom : (found : Option AtomDefinition) → slice_get atoms n ≡ found →
+        option_and_then (λ a. option_map (λ port. record { atom = n; port = port }) (port_number a name)) found ≡ Some p →
+        is_known_port atoms p ≡ true
     at_atom None there named = absurd (cc)
     at_atom (Some a) there named = at_port a there (port_number a name) refl named
 
@@ -40,16 +44,19 @@ pub port_known : (atoms : List AtomDefinition) (atom port : List ℕ) (p : Port)
 port_known atoms atom port p told = port-known atoms port p (atom_number atoms atom) told
 
 -- an exported variable that is named
-export-known : (atoms : List AtomDefinition) (port : Port) (name : List ℕ) (k : ℕ) → export_named atoms port name ≡ Some k → is_exported atoms port k ≡ true
+export-known : (atoms : List AtomDefinition) (port : Port) (name : List ℕ) (k : ℕ) → export_named atoms port name ≡ Some k →
+    is_exported atoms port k ≡ true
 export-known atoms port name k told = at_atom (slice_get atoms port.atom) refl told
   where
-    at_atom : (found : Option AtomDefinition) → slice_get atoms port.atom ≡ found → option_and_then (λ a. export_number a port.port name) found ≡ Some k → is_exported atoms port k ≡ true
+    at_atom : (found : Option AtomDefinition) → slice_get atoms port.atom ≡ found →
+        option_and_then (λ a. export_number a port.port name) found ≡ Some k → is_exported atoms port k ≡ true
     at_atom None there named = absurd (cc)
     at_atom (Some a) there named =
         ap (λ o. option_map_or (λ b. nat_lt k (length (exports_of b port.port))) o false) there ∙
         lt-ltb k (length (exports_of a port.port)) (position-within (is_named a.variables name) (exports_of a port.port) k named)
 
-pub variables_known : (atoms : List AtomDefinition) (ports : List Port) → Passes (is_known_export atoms ports) (variable_in (atom_number atoms) (export_named atoms) ports)
+pub variables_known : (atoms : List AtomDefinition) (ports : List Port) →
+    Passes (is_known_export atoms ports) (variable_in (atom_number atoms) (export_named atoms) ports)
 variables_known atoms ports =
     variables_pass (is_known_export atoms ports) (atom_number atoms) (export_named atoms) ports
     (λ leaf port name export there named. ap (λ o. option_map_or (λ p. is_exported atoms p export) o false) there ∙ export-known atoms port name export named)
@@ -62,13 +69,15 @@ pub record Extends (atoms next : List AtomDefinition) : Type 0 where
   pub exports : (p : Port) (e : ℕ) → is_exported atoms p e ≡ true → is_exported next p e ≡ true
 
 -- a test of the one with a number, with more behind
-with_more : {X : Type 0} (test : X → Bool) (xs more : List X) (n : ℕ) → option_map_or test (slice_get xs n) false ≡ true → option_map_or test (slice_get (xs ++ more) n) false ≡ true
+with_more : {X : Type 0} (test : X → Bool) (xs more : List X) (n : ℕ) → option_map_or test (slice_get xs n) false ≡ true →
+    option_map_or test (slice_get (xs ++ more) n) false ≡ true
 with_more test [] more n passes = absurd (false≢true passes)
 with_more test (x ∷ xs) more zero passes = passes
 with_more test (x ∷ xs) more (suc n) passes = with_more test xs more n passes
 
 -- the same, with another last one that passes where the last does
-with_last_changed : {X : Type 0} (test : X → Bool) (front : List X) (x y : X) (n : ℕ) → (test x ≡ true → test y ≡ true) → option_map_or test (slice_get (front ++ x ∷ []) n) false ≡ true → option_map_or test (slice_get (front ++ y ∷ []) n) false ≡ true
+with_last_changed : {X : Type 0} (test : X → Bool) (front : List X) (x y : X) (n : ℕ) → (test x ≡ true → test y ≡ true) →
+    option_map_or test (slice_get (front ++ x ∷ []) n) false ≡ true → option_map_or test (slice_get (front ++ y ∷ []) n) false ≡ true
 with_last_changed test [] x y zero weaker passes = weaker passes
 with_last_changed test [] x y (suc n) weaker passes = absurd (false≢true passes)
 with_last_changed test (z ∷ front) x y zero weaker passes = passes
@@ -82,7 +91,9 @@ extended atoms a = record {
 }
 
 -- the variables that a port exports are the same with more ports behind
-exports-more : (e : ℕ) (ports more : List PortDefinition) (n : ℕ) → nat_lt e (length (option_map_or (λ p. p.exports) (slice_get ports n) [])) ≡ true → nat_lt e (length (option_map_or (λ p. p.exports) (slice_get (ports ++ more) n) [])) ≡ true
+exports-more : (e : ℕ) (ports more : List PortDefinition) (n : ℕ) →
+    nat_lt e (length (option_map_or (λ p. p.exports) (slice_get ports n) [])) ≡ true →
+    nat_lt e (length (option_map_or (λ p. p.exports) (slice_get (ports ++ more) n) [])) ≡ true
 exports-more e [] more n known = let none : e < 0 = ltb-true e 0 known in absurd (omega (arith, none))
 exports-more e (p ∷ ports) more zero known = known
 exports-more e (p ∷ ports) more (suc n) known = exports-more e ports more n known
@@ -104,15 +115,18 @@ extended_last front a grown grows = record {
         subst (λ ps. nat_lt e (length (option_map_or (λ p. p.exports) (slice_get ps n) [])) ≡ true) (sym grows.ports) (exports-more e a.ports grows.more n known)
 
 -- exported variables of leaves
-pub exports_stay : (atoms next : List AtomDefinition) → Extends atoms next → (ports : List Port) (e : Export) → is_known_export atoms ports e ≡ true → is_known_export next ports e ≡ true
+pub exports_stay : (atoms next : List AtomDefinition) → Extends atoms next → (ports : List Port) (e : Export) →
+    is_known_export atoms ports e ≡ true → is_known_export next ports e ≡ true
 exports_stay atoms next extends ports e = at_leaf (slice_get ports e.leaf)
   where
-    at_leaf : (found : Option Port) → option_map_or (λ p. is_exported atoms p e.export) found false ≡ true → option_map_or (λ p. is_exported next p e.export) found false ≡ true
+    at_leaf : (found : Option Port) → option_map_or (λ p. is_exported atoms p e.export) found false ≡ true →
+        option_map_or (λ p. is_exported next p e.export) found false ≡ true
     at_leaf None known = absurd (false≢true known)
     at_leaf (Some p) known = extends.exports p e.export known
 
 -- variables that pass a test pass a weaker one
-pub variables_weaker : {V : Type 0} (f g : V → Bool) → ((v : V) → f v ≡ true → g v ≡ true) → (e : Tree V) → all_variables f e ≡ true → all_variables g e ≡ true
+pub variables_weaker : {V : Type 0} (f g : V → Bool) → ((v : V) → f v ≡ true → g v ≡ true) → (e : Tree V) →
+    all_variables f e ≡ true → all_variables g e ≡ true
 variables_weaker f g weaker (number n) all = refl
 variables_weaker f g weaker (variable v) all = weaker v all
 variables_weaker f g weaker (negation e) all = variables_weaker f g weaker e all

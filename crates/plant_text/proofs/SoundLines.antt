@@ -70,7 +70,8 @@ as_many bound front last changed few =
 -- ---- atoms
 
 -- what holds of the atoms, and of the connectors by them, with other atoms
-with_atoms : (plant : PlantText) (atoms : List AtomDefinition) → SoundText plant → Extends plant.atoms atoms → length atoms ≤ MAX_ATOMS → EachBehind HasNewName [] atoms → SoundText (record plant { atoms = atoms })
+with_atoms : (plant : PlantText) (atoms : List AtomDefinition) → SoundText plant → Extends plant.atoms atoms →
+    length atoms ≤ MAX_ATOMS → EachBehind HasNewName [] atoms → SoundText (record plant { atoms = atoms })
 with_atoms plant atoms sound extends few names = record {
   few_atoms = few;
   few_wires = sound.few_wires;
@@ -104,7 +105,8 @@ part_grows Variable words a grown is = variable_grows words a grown is
 part_grows Port words a grown is = port_grows words a grown is
 part_grows Transition words a grown is = transition_grows words a grown is
 
-last_grown : (plant : PlantText) (front : List AtomDefinition) (a grown : AtomDefinition) → SoundText plant → plant.atoms ≡ front ++ a ∷ [] → Grows a grown → SoundText (record plant { atoms = front ++ grown ∷ [] })
+last_grown : (plant : PlantText) (front : List AtomDefinition) (a grown : AtomDefinition) → SoundText plant →
+    plant.atoms ≡ front ++ a ∷ [] → Grows a grown → SoundText (record plant { atoms = front ++ grown ∷ [] })
 last_grown plant front a grown sound split grows =
     let names = each_before_last HasNewName [] front a (subst (EachBehind HasNewName []) split sound.names) in
     let new : HasNewName front grown = subst (λ name. list_any (λ b. is_same_text b.name name) front ≡ false) (sym grows.name) names.1 in
@@ -113,7 +115,8 @@ last_grown plant front a grown sound split grows =
     (as_many MAX_ATOMS front a grown (subst (λ atoms. length atoms ≤ MAX_ATOMS) split sound.few_atoms))
     (each_and_one HasNewName [] front grown names.0 new)
 
-atom_part_sound : (part : AtomPart) (words : List (List ℕ)) (plant next : PlantText) → SoundText plant → row_of (OfAtom part) words plant ≡ Ok next → SoundText next
+atom_part_sound : (part : AtomPart) (words : List (List ℕ)) (plant next : PlantText) → SoundText plant →
+    row_of (OfAtom part) words plant ≡ Ok next → SoundText next
 atom_part_sound part words plant next sound is =
     let made : List AtomDefinition → Result PlantText Fault = λ atoms. Ok (record plant { atoms = atoms }) in
     let read = led_on (last_changed (atom_part_row part words) plant.atoms) made next is in
@@ -125,7 +128,9 @@ atom_part_sound part words plant next sound is =
 -- ---- connectors
 
 -- with other connectors
-with_wires : (plant : PlantText) (wires : List WireText) → SoundText plant → length wires ≤ MAX_WIRES → length (interactions_of wires) ≤ MAX_INTERACTIONS → EachBehind (SoundBehind plant.atoms) [] wires → SoundText (record plant { wires = wires })
+with_wires : (plant : PlantText) (wires : List WireText) → SoundText plant → length wires ≤ MAX_WIRES →
+    length (interactions_of wires) ≤ MAX_INTERACTIONS → EachBehind (SoundBehind plant.atoms) [] wires →
+    SoundText (record plant { wires = wires })
 with_wires plant wires sound few few_interactions each = record {
   few_atoms = sound.few_atoms;
   few_wires = few;
@@ -145,7 +150,9 @@ connector_sound words plant next sound is =
     (with_wires plant (plant.wires ++ adds.added ∷ []) sound (room_for_one MAX_WIRES plant.wires adds.added adds.room) (omega (arith, more, room))
     (each_and_one (SoundBehind plant.atoms) [] plant.wires adds.added sound.wires adds.sound))
 
-last_kept : (part : WirePart) (words : List (List ℕ)) (plant : PlantText) (front : List WireText) (last changed : WireText) → SoundText plant → plant.wires ≡ front ++ last ∷ [] → wire_part_row part plant.atoms words last ≡ Ok changed → SoundText (record plant { wires = front ++ changed ∷ [] })
+last_kept : (part : WirePart) (words : List (List ℕ)) (plant : PlantText) (front : List WireText) (last changed : WireText) →
+    SoundText plant → plant.wires ≡ front ++ last ∷ [] → wire_part_row part plant.atoms words last ≡ Ok changed →
+    SoundText (record plant { wires = front ++ changed ∷ [] })
 last_kept part words plant front last changed sound split by =
     let behind = each_before_last (SoundBehind plant.atoms) [] front last (subst (EachBehind (SoundBehind plant.atoms) []) split sound.wires) in
     let kept = part_kept part plant.atoms words last changed behind.1.sound by in
@@ -155,7 +162,8 @@ last_kept part words plant front last changed sound split by =
     (subst (λ is. length is ≤ MAX_INTERACTIONS) (ap interactions_of split ∙ sym (same_interactions front last changed kept.tree)) sound.few_interactions)
     (each_and_one (SoundBehind plant.atoms) [] front changed behind.0 (record { name = named; sound = kept.sound }))
 
-wire_part_sound : (part : WirePart) (words : List (List ℕ)) (plant next : PlantText) → SoundText plant → row_of (OfConnector part) words plant ≡ Ok next → SoundText next
+wire_part_sound : (part : WirePart) (words : List (List ℕ)) (plant next : PlantText) → SoundText plant →
+    row_of (OfConnector part) words plant ≡ Ok next → SoundText next
 wire_part_sound part words plant next sound is =
     let made : List WireText → Result PlantText Fault = λ wires. Ok (record plant { wires = wires }) in
     let read = led_on (last_changed (wire_part_row part plant.atoms words) plant.wires) made next is in
@@ -166,7 +174,8 @@ wire_part_sound part words plant next sound is =
 
 -- ---- rules
 
-rule_sound : (kind : RuleKind) (words : List (List ℕ)) (plant next : PlantText) → SoundText plant → rule_row kind words plant ≡ Ok next → SoundText next
+rule_sound : (kind : RuleKind) (words : List (List ℕ)) (plant next : PlantText) → SoundText plant →
+    rule_row kind words plant ≡ Ok next → SoundText next
 rule_sound kind words plant next sound is =
     let made : Rule → Result PlantText Fault = λ rule. Ok (record plant { rules = plant.rules ++ rule ∷ [] }) in
     let room = led_on (check (nat_lt (length plant.rules) MAX_RULES) Limit) (λ _. told (rule_in kind plant.wires words) >>= made) next is in
@@ -212,7 +221,8 @@ told_on_line number (Ok y) x is = cc
 told_on_line number (Err fault) x is = absurd (cc)
 
 -- lines without a fault
-pub lines_sound : (number : ℕ) (lines : List (List ℕ)) (plant next : PlantText) → SoundText plant → lines_row number lines plant ≡ Ok next → SoundText next
+pub lines_sound : (number : ℕ) (lines : List (List ℕ)) (plant next : PlantText) → SoundText plant →
+    lines_row number lines plant ≡ Ok next → SoundText next
 lines_sound number [] plant next sound is = subst SoundText (same_end plant next is) sound
 lines_sound number (line ∷ lines) plant next sound is =
     let first = led_on (on_line number (line_row line plant)) (λ p. lines_row (number + 1) lines p) next is in

@@ -69,7 +69,8 @@ get-seam (x ∷ front) last = get-seam front last
 last_place : {A : Type 0} (front : List A) (last : A) → length (front ++ last ∷ []) - 1 ≡ length front
 last_place front last = let more : length (front ++ last ∷ []) ≡ length front + 1 = length-append front (last ∷ []) in omega (arith, more)
 
-changed_of : {A : Type 0} (row : A → Result A LineFault) (front : List A) (last : A) (next : List A) → last_changed row (front ++ last ∷ []) ≡ Ok next → ChangedLast row (front ++ last ∷ []) next
+changed_of : {A : Type 0} (row : A → Result A LineFault) (front : List A) (last : A) (next : List A) →
+    last_changed row (front ++ last ∷ []) ≡ Ok next → ChangedLast row (front ++ last ∷ []) next
 changed_of {A = A} row front last next is =
     let list : List A = front ++ last ∷ [] in
     let made : A → Result (List A) Fault = λ changed. Ok (with_last list changed) in
@@ -99,47 +100,53 @@ pub EachBehind : {X : Type 0} → (List X → X → Type 0) → List X → List 
 EachBehind P before [] = Unit {0}
 EachBehind P before (x ∷ xs) = P before x × EachBehind P (before ++ x ∷ []) xs
 
--- of none
+-- it holds of no elements
 pub each_of_none : {X : Type 0} (P : List X → X → Type 0) (before : List X) → EachBehind P before []
 unfolding EachBehind
 each_of_none P before = tt
 
--- one more
-pub each_and_one : {X : Type 0} (P : List X → X → Type 0) (before xs : List X) (y : X) → EachBehind P before xs → P (before ++ xs) y → EachBehind P before (xs ++ y ∷ [])
+-- it holds of the elements and one more
+pub each_and_one : {X : Type 0} (P : List X → X → Type 0) (before xs : List X) (y : X) → EachBehind P before xs →
+    P (before ++ xs) y → EachBehind P before (xs ++ y ∷ [])
 unfolding EachBehind
 each_and_one P before [] y each one = (subst (λ b. P b y) (append-nil before) one, tt)
 each_and_one P before (x ∷ xs) y each one =
     (each.0, each_and_one P (before ++ x ∷ []) xs y each.1 (subst (λ b. P b y) (sym (append_assoc before (x ∷ []) xs)) one))
 
--- those before the last, and the last
-pub each_before_last : {X : Type 0} (P : List X → X → Type 0) (before xs : List X) (y : X) → EachBehind P before (xs ++ y ∷ []) → EachBehind P before xs × P (before ++ xs) y
+-- it holds of those before the last, and of the last
+pub each_before_last : {X : Type 0} (P : List X → X → Type 0) (before xs : List X) (y : X) → EachBehind P before (xs ++ y ∷ []) →
+    EachBehind P before xs × P (before ++ xs) y
 unfolding EachBehind
 each_before_last P before [] y each = (tt, subst (λ b. P b y) (sym (append-nil before)) each.0)
 each_before_last P before (x ∷ xs) y each =
     let rest = each_before_last P (before ++ x ∷ []) xs y each.1 in
     ((each.0, rest.0), subst (λ b. P b y) (append_assoc before (x ∷ []) xs) rest.1)
 
--- what is weaker
-pub each_weaker : {X : Type 0} (P Q : List X → X → Type 0) → ((before : List X) (x : X) → P before x → Q before x) → (before xs : List X) → EachBehind P before xs → EachBehind Q before xs
+-- what is weaker holds too
+pub each_weaker : {X : Type 0} (P Q : List X → X → Type 0) → ((before : List X) (x : X) → P before x → Q before x) →
+    (before xs : List X) → EachBehind P before xs → EachBehind Q before xs
 unfolding EachBehind
 each_weaker P Q weaker before [] each = tt
 each_weaker P Q weaker before (x ∷ xs) each = (weaker before x each.0, each_weaker P Q weaker (before ++ x ∷ []) xs each.1)
 
--- a test that each passes
-pub each_passes : {X : Type 0} (P : List X → X → Type 0) (test : X → Bool) → ((before : List X) (x : X) → P before x → test x ≡ true) → (before xs : List X) → EachBehind P before xs → list_all test xs ≡ true
+-- a test that each passes of which it holds
+pub each_passes : {X : Type 0} (P : List X → X → Type 0) (test : X → Bool) →
+    ((before : List X) (x : X) → P before x → test x ≡ true) → (before xs : List X) → EachBehind P before xs → list_all test xs ≡ true
 unfolding EachBehind
 each_passes P test passes before [] each = refl
 each_passes P test passes before (x ∷ xs) each = and_from _ _ (passes before x each.0) (each_passes P test passes (before ++ x ∷ []) xs each.1)
 
--- the same of what a function makes of each
-pub each_mapped : {X Y : Type 0} (P : List Y → Y → Type 0) (v : X → Y) (before xs : List X) → EachBehind P (map v before) (map v xs) → EachBehind (λ b x. P (map v b) (v x)) before xs
+-- it holds of what a function makes of each
+pub each_mapped : {X Y : Type 0} (P : List Y → Y → Type 0) (v : X → Y) (before xs : List X) →
+    EachBehind P (map v before) (map v xs) → EachBehind (λ b x. P (map v b) (v x)) before xs
 unfolding EachBehind
 each_mapped P v before [] each = tt
 each_mapped P v before (x ∷ xs) each =
     (each.0, each_mapped P v (before ++ x ∷ []) xs (subst (λ b. EachBehind P b (map v xs)) (sym (map-append v before (x ∷ []))) each.1))
 
 -- where something holds of each by those before it that lets it tell nothing, nothing is told
-pub none_told : {X F : Type 0} (tell : ℕ → X → Option F) (P : List X → X → Type 0) (all : List X) → ((n : ℕ) (x : X) → P (take n all) x → tell n x ≡ None) →
+pub none_told : {X F : Type 0} (tell : ℕ → X → Option F) (P : List X → X → Type 0) (all : List X) →
+    ((n : ℕ) (x : X) → P (take n all) x → tell n x ≡ None) →
     (before xs : List X) → before ++ xs ≡ all → EachBehind P before xs → first_told tell (length before) xs ≡ None
 unfolding EachBehind
 none_told tell P all none before [] is each = refl

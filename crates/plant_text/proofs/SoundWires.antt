@@ -73,7 +73,8 @@ wire_stays atoms next extends w sound =
       };
     }
 
-pub stays_behind : (atoms next : List AtomDefinition) → Extends atoms next → (before : List WireText) (w : WireText) → SoundBehind atoms before w → SoundBehind next before w
+pub stays_behind : (atoms next : List AtomDefinition) → Extends atoms next → (before : List WireText) (w : WireText) →
+    SoundBehind atoms before w → SoundBehind next before w
 stays_behind atoms next extends before w sound = record { name = sound.name; sound = wire_stays atoms next extends w sound.sound }
 
 -- ---- a part more
@@ -84,7 +85,8 @@ pub record KeepsWire (atoms : List AtomDefinition) (w changed : WireText) : Type
   pub tree : changed.tree ≡ w.tree
   pub sound : SoundWire atoms changed
 
-pub part_kept : (part : WirePart) (atoms : List AtomDefinition) (words : List (List ℕ)) (w changed : WireText) → SoundWire atoms w → wire_part_row part atoms words w ≡ Ok changed → KeepsWire atoms w changed
+pub part_kept : (part : WirePart) (atoms : List AtomDefinition) (words : List (List ℕ)) (w changed : WireText) →
+    SoundWire atoms w → wire_part_row part atoms words w ≡ Ok changed → KeepsWire atoms w changed
 part_kept Guard atoms words w changed sound is =
     let made : List (Tree Export) → Result WireText LineFault = λ guards. Ok (record w { guards = guards }) in
     let guards = led_on (guards_with (named_on atoms w) words w.guards) made changed is in
@@ -167,7 +169,8 @@ connector_added words plant next is =
 -- ---- interactions
 
 -- one tree more has its interactions behind the others
-more_interactions : (k : ℕ) (trees : List (List Token)) (tree : List Token) → length (interactions_from k (trees ++ tree ∷ [])) ≡ length (interactions_from k trees) + length (interactions_in tree)
+more_interactions : (k : ℕ) (trees : List (List Token)) (tree : List Token) →
+    length (interactions_from k (trees ++ tree ∷ [])) ≡ length (interactions_from k trees) + length (interactions_in tree)
 more_interactions k [] tree =
     let one : length (interactions_at k tree) ≡ length (interactions_in tree) = length-map (interactions_in tree) (λ mask. (k, mask)) in
     let all : length (interactions_at k tree ++ []) ≡ length (interactions_at k tree) + 0 = length-append (interactions_at k tree) [] in
@@ -180,12 +183,14 @@ more_interactions k (first ∷ trees) tree =
     length-append (interactions_at k first) (interactions_from (suc k) trees) in
     omega (arith, rest, all, before)
 
-pub interactions_and_more : (wires : List WireText) (w : WireText) → length (interactions_of (wires ++ w ∷ [])) ≡ length (interactions_of wires) + length (interactions_in w.tree)
+pub interactions_and_more : (wires : List WireText) (w : WireText) →
+    length (interactions_of (wires ++ w ∷ [])) ≡ length (interactions_of wires) + length (interactions_in w.tree)
 interactions_and_more wires w =
     ap (λ trees. length (interactions_from 0 trees)) (map-append (λ v. v.tree) wires (w ∷ [])) ∙ more_interactions 0 (trees_of wires) w.tree
 
 -- another last one of the same tree leaves them as they are
-pub same_interactions : (front : List WireText) (last changed : WireText) → changed.tree ≡ last.tree → interactions_of (front ++ changed ∷ []) ≡ interactions_of (front ++ last ∷ [])
+pub same_interactions : (front : List WireText) (last changed : WireText) → changed.tree ≡ last.tree →
+    interactions_of (front ++ changed ∷ []) ≡ interactions_of (front ++ last ∷ [])
 same_interactions front last changed same =
     ap (interactions_from 0)
     (map-append (λ v. v.tree) front (changed ∷ []) ∙ ap (λ tree. trees_of front ++ tree ∷ []) same ∙ sym (map-append (λ v. v.tree) front (last ∷ [])))

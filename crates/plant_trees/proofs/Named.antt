@@ -17,7 +17,8 @@ use Rattle.plant_trees.specs.Shape.{ports_in, fault_in}
 
 -- ---- faults
 
-unless-sound : (tokens read : List Token) (fault : Option TreeFault) → fault_in tokens ≡ fault → unless tokens fault ≡ Ok read → (tokens ≡ read) × (fault_in read ≡ None)
+unless-sound : (tokens read : List Token) (fault : Option TreeFault) → fault_in tokens ≡ fault → unless tokens fault ≡ Ok read →
+    (tokens ≡ read) × (fault_in read ≡ None)
 unless-sound tokens read None none told =
     let same : tokens ≡ read = cc in
     (same, ap fault_in (sym same) ∙ none)
@@ -47,7 +48,8 @@ abbrev PortsPass : (Port → Bool) → Reading → Type 0
 PortsPass test reading = IfOk reading (λ tokens. list_all test (ports_in tokens) ≡ true)
 
 module _ (test : Port → Bool) (named : Names) (passes : (atom port : List ℕ) (p : Port) → named atom port ≡ Some p → test p ≡ true) where
-  at_port : (trigger : Bool) (found : Option Port) → ((p : Port) → found ≡ Some p → test p ≡ true) → IfOk (leaf_of trigger found) (λ token. token_passes test token ≡ true)
+  at_port : (trigger : Bool) (found : Option Port) → ((p : Port) → found ≡ Some p → test p ≡ true) →
+      IfOk (leaf_of trigger found) (λ token. token_passes test token ≡ true)
   at_port trigger None each = tt
   at_port trigger (Some p) each = each p refl
 
@@ -68,11 +70,14 @@ module _ (test : Port → Bool) (named : Names) (passes : (atom port : List ℕ)
   led (Close trigger) (Ok tokens) own all = all
   led token (Err fault) own all = tt
 
-  at_level : (token : Token) (next : Option ℕ) (read : ℕ → Reading) → token_passes test token ≡ true → ((level : ℕ) → PortsPass test (read level)) → PortsPass test (option_map_or (λ n. led_by token (read n)) next (Err Shape))
+  at_level : (token : Token) (next : Option ℕ) (read : ℕ → Reading) → token_passes test token ≡ true →
+      ((level : ℕ) → PortsPass test (read level)) → PortsPass test (option_map_or (λ n. led_by token (read n)) next (Err Shape))
   at_level token None read own all = tt
   at_level token (Some level) read own all = led token (read level) own (all level)
 
-  at_word : (word : Result Token TreeWordsFault) (level : ℕ) (read : ℕ → Reading) → IfOk word (λ token. token_passes test token ≡ true) → ((next : ℕ) → PortsPass test (read next)) → PortsPass test (behind word level read)
+  at_word : (word : Result Token TreeWordsFault) (level : ℕ) (read : ℕ → Reading) →
+      IfOk word (λ token. token_passes test token ≡ true) → ((next : ℕ) → PortsPass test (read next)) →
+      PortsPass test (behind word level read)
   at_word (Err fault) level read own all = tt
   at_word (Ok token) level read own all = at_level token (level_behind token level) read own all
 

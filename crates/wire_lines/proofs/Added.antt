@@ -66,7 +66,8 @@ pub record SoundTransfers (test : Export → Bool) (transfers : List TransferDef
   pub once : has_targets_once transfers ≡ true
 
 -- a target that a line names is none of those before
-target_is_new : (named : Named) (before : List TransferDefinition) (words : List (List ℕ)) (target : Export) → target_in named before words ≡ Ok target → has_target before target ≡ false
+target_is_new : (named : Named) (before : List TransferDefinition) (words : List (List ℕ)) (target : Export) →
+    target_in named before words ≡ Ok target → has_target before target ≡ false
 target_is_new named before words target told =
     let tested : Export → Result Export LineFault = λ variable. check (not (has_target before variable)) Twice >>= λ _. Ok variable in
     let word = led_on (first_word words) (λ word. ok_or (named word) UnknownName >>= tested) target told in
@@ -75,7 +76,8 @@ target_is_new named before words target told =
     let same : variable.0 ≡ target = same_end variable.0 target new.2 in
     subst (λ t. has_target before t ≡ false) same (not-true (has_target before variable.0) (passed (not (has_target before variable.0)) Twice new.0 new.1))
 
-transfer_is_new : (named : Named) (before : List TransferDefinition) (words : List (List ℕ)) (t : TransferDefinition) → transfer_in named before words ≡ Ok t → has_target before t.target ≡ false
+transfer_is_new : (named : Named) (before : List TransferDefinition) (words : List (List ℕ)) (t : TransferDefinition) →
+    transfer_in named before words ≡ Ok t → has_target before t.target ≡ false
 transfer_is_new named before words t told =
     let made : Export → Tree Export → Result TransferDefinition LineFault = λ target value. Ok (record { target = target; value = value }) in
     let valued : Export → Unit {0} → Result TransferDefinition LineFault = λ target assigns. whole_expression named (drop 1 (drop 1 words)) >>= made target in
@@ -91,13 +93,15 @@ same_both_ways : (one other : Export) → is_same_export one other ≡ is_same_e
 same_both_ways one other = grind arith
 
 -- one more transfer, to a target that is new
-once_and_one : (transfers : List TransferDefinition) (t : TransferDefinition) → has_targets_once transfers ≡ true → has_target transfers t.target ≡ false → has_targets_once (transfers ++ t ∷ []) ≡ true
+once_and_one : (transfers : List TransferDefinition) (t : TransferDefinition) → has_targets_once transfers ≡ true →
+    has_target transfers t.target ≡ false → has_targets_once (transfers ++ t ∷ []) ≡ true
 once_and_one transfers t once new =
     ap (is_each_once is_same_export) (map-append (λ u. u.target) transfers (t ∷ [])) ∙
     once_more is_same_export (map (λ u. u.target) transfers) t.target once
     (list_any-map (is_same_export t.target) (λ u. u.target) transfers ∙ (λ i. list_any (λ u. same_both_ways t.target u.target i) transfers) ∙ new)
 
-pub transfers_sound : (test : Export → Bool) (named : Named) → Passes test named → (words : List (List ℕ)) (transfers next : List TransferDefinition) →
+pub transfers_sound : (test : Export → Bool) (named : Named) → Passes test named →
+    (words : List (List ℕ)) (transfers next : List TransferDefinition) →
     SoundTransfers test transfers → transfers_with named words transfers ≡ Ok next → SoundTransfers test next
 transfers_sound test named passing words transfers next sound told =
     let added : TransferDefinition → Result (List TransferDefinition) LineFault = λ t. Ok (transfers ++ t ∷ []) in

@@ -14,11 +14,14 @@ module _ (test : Export → Bool) (atom_named : List ℕ → Option ℕ) (export
   abbrev IsPassed : Option Export → Type 0
   IsPassed found = IfSome found (λ variable. test variable ≡ true)
 
-  at_export : (leaf : ℕ) (found : Option ℕ) → ((export : ℕ) → found ≡ Some export → test (record { leaf = leaf; export = export }) ≡ true) → IsPassed (option_map (λ export. record { leaf = leaf; export = export }) found)
+  at_export : (leaf : ℕ) (found : Option ℕ) →
+      ((export : ℕ) → found ≡ Some export → test (record { leaf = leaf; export = export }) ≡ true) →
+      IsPassed (option_map (λ export. record { leaf = leaf; export = export }) found)
   at_export leaf None passes = tt
   at_export leaf (Some export) passes = passes export refl
 
-  at_port : (name : List ℕ) (leaf : ℕ) (found : Option Port) → slice_get ports leaf ≡ found → IsPassed (option_and_then (λ port. option_map (λ export. record { leaf = leaf; export = export }) (export_named port name)) found)
+  at_port : (name : List ℕ) (leaf : ℕ) (found : Option Port) → slice_get ports leaf ≡ found →
+      IsPassed (option_and_then (λ port. option_map (λ export. record { leaf = leaf; export = export }) (export_named port name)) found)
   at_port name leaf None is = tt
   at_port name leaf (Some port) is = at_export leaf (export_named port name) (λ export there. each leaf port name export is there)
 
