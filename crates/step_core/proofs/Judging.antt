@@ -16,7 +16,7 @@ pub atom-there : (atoms : List Atom) (n : ℕ) (atom : Atom) → n < length atom
 atom-there atoms n atom within here =
     slice_get-map definition_of atoms n ∙ ap (option_map definition_of) (slice_get_read atoms (length atoms) n atom refl within here)
 
-some_state : Local
+pub some_state : Local
 some_state = record { marking = 0; values = [] }
 
 -- what is read of an atom that is there, and of its state, where n is the number k in a machine word

@@ -14,3 +14,4 @@ pub mod StepRows
 mod Refreshing
 pub mod Noting
 pub mod Alive
+mod Untouched

@@ -1,7 +1,7 @@
-use Rattle.std.proofs.Common.{◌≡◌, ◌≢◌, ℕ, ◌+◌, ◌<◌, ◌≤◌, refl, sym, ◌∙◌, ap, List, length, arith, true, false, ◌||◌, ⊎_elim}
+use Rattle.std.proofs.Common.{◌≡◌, ◌≢◌, ℕ, ◌+◌, ◌<◌, ◌≤◌, refl, sym, ◌∙◌, ap, List, length, arith, true, false, ◌||◌, ◌&&◌, not, ⊎_elim}
 use Rattle.std.specs.Cmp.{nat_cmp_total, unsigned_tied}
 use Rattle.std.specs.Ordering.{nat_cmp}
-use Rattle.std.specs.FinSet.{FinSet, contains, empty, insert, contains-empty, contains-insert}
+use Rattle.std.specs.FinSet.{FinSet, contains, empty, insert, remove, contains-empty, contains-insert, contains-remove}
 use Rattle.std.specs.Option.{option_map_or}
 use Rattle.std.proofs.lemmas.Bool.{cases_eq, cases_lt, eq-eqb, ne_eqb}
 use Rattle.std.proofs.lemmas.Option.{slice_get_past}
@@ -16,6 +16,13 @@ put-here s k = contains-insert nat_cmp_total s k k ∙ ap (λ b. b || contains s
 
 pub put-other : (s : FinSet nat_cmp) (k n : ℕ) → n ≢ k → contains (insert s k) n ≡ contains s n
 put-other s k n other = contains-insert nat_cmp_total s k n ∙ ap (λ b. b || contains s n) (unsigned_tied n k ∙ ne_eqb n k other)
+
+-- what was taken out is out, and all else is in where it was
+pub out-here : (s : FinSet nat_cmp) (k : ℕ) → contains (remove s k) k ≡ false
+out-here s k = contains-remove nat_cmp_total s k k ∙ ap (λ b. not b && contains s k) (unsigned_tied k k ∙ eq-eqb k k refl)
+
+pub out-other : (s : FinSet nat_cmp) (k n : ℕ) → n ≢ k → contains (remove s k) n ≡ contains s n
+out-other s k n other = contains-remove nat_cmp_total s k n ∙ ap (λ b. not b && contains s n) (unsigned_tied n k ∙ ne_eqb n k other)
 
 module _ (atoms : List AtomDefinition) (wires : List WireDefinition) (states : List Local) (interactions : List Interaction) where
   -- the set is right up to the number i, and has nothing from there on

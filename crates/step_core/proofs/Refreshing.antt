@@ -22,7 +22,7 @@ still atoms moves d n s none = each (slice_get atoms n)
     each (Some a) = ap (λ o. option_map_or (λ m. fired a m.transition (d n) s) o s) none
 
 -- the state after a choice of an atom that no move is of is its state from before
-unmoved : (plant : PlantDefinition) (old : List Local) (c : ChoiceDefinition) (n : ℕ) (s : Local) → find (λ m. m.atom == n) c.moves ≡ None → slice_get (next plant old c) n ≡ Some s → slice_get old n ≡ Some s
+pub unmoved : (plant : PlantDefinition) (old : List Local) (c : ChoiceDefinition) (n : ℕ) (s : Local) → find (λ m. m.atom == n) c.moves ≡ None → slice_get (next plant old c) n ≡ Some s → slice_get old n ≡ Some s
 unmoved plant old c n s none there =
     let d = transfer plant old c in
     let bound : n < length old = omega (arith, slice_get_within (next plant old c) n s there, length-stepped plant.atoms c.moves d 0 old) in

@@ -15,3 +15,4 @@ pub mod Messages
 pub mod Running
 pub mod Told
 pub mod Possible
+pub mod Touching

@@ -7,6 +7,7 @@ ghost use Rattle.step_core.specs.Fitting.{IsOf};
 ghost use Rattle.step_core.specs.Interaction.{interaction_of};
 ghost use Rattle.step_core.specs.Offers.{AreOffered};
 ghost use Rattle.step_core.specs.Possible.{ArePossible};
+ghost use Rattle.step_core.specs.Touching.{ArePossibleBut};
 ghost use Rattle.step_core.specs.Wire.{wire_of};
 ghost use Rattle.step_core.specs.declared.limits.TheConstants.{MAX_ATOMS};
 
@@ -64,6 +65,32 @@ impl System {
             offered,
         };
         judged.possible(&self.interactions)
+    }
+
+    /// Judges the interactions again that depend on a moved atom; the set is right for all others.
+    pub(crate) fn judge_touched(
+        &self,
+        states: &PlantState,
+        offered: &[TransitionSet],
+        words: &[u64],
+        moved: u64,
+        possible: &mut InteractionSet,
+    )
+        requires of_plant { IsOf (plant_of self.now) states.now }
+        requires rows { length self.now.atoms.items ≤ length offered.now }
+        requires exact { AreOffered (map definition_of self.now.atoms.items) states.now offered.now }
+        requires words { length words.now ≡ length self.now.interactions.items }
+        requires others { ArePossibleBut words.now moved (map definition_of self.now.atoms.items) (map wire_of self.now.wires.items) states.now (map interaction_of self.now.interactions.items) possible.old }
+        ensures { ArePossible (map definition_of self.now.atoms.items) (map wire_of self.now.wires.items) states.now (map interaction_of self.now.interactions.items) possible.new }
+    {
+        let judged = Judged {
+            atoms: &self.atoms,
+            wires: &self.wires,
+            ports: &self.ports,
+            states,
+            offered,
+        };
+        judged.judge_touched(&self.interactions, words, moved, possible);
     }
 
     /// How many choices the state has, by the sets of the transitions that it offers and of its possible interactions.

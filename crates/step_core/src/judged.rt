@@ -10,6 +10,7 @@ ghost use Rattle.step_core.specs.Choice.{is_offered_port, is_unguarded, is_possi
 ghost use Rattle.step_core.specs.Interaction.{interaction_of};
 ghost use Rattle.connector_tree.specs.Tree.{leaves};
 ghost use Rattle.step_core.specs.Possible.{ArePossible};
+ghost use Rattle.step_core.specs.Touching.{ArePossibleBut};
 ghost use Rattle.step_core.specs.Wire.{wire_of};
 ghost use Rattle.step_core.specs.Offers.{AreOffered};
 ghost use Rattle.step_core.specs.declared.choice.Move.{Move};
@@ -174,14 +175,36 @@ impl Judged<'_> {
         possible
     }
 
-    /// Puts the interaction with this number into the set, where it is possible.
+    /// Judges each interaction again whose word has a moved atom; the set is right for all others.
+    pub(crate) fn judge_touched(
+        &self,
+        interactions: &[Interaction],
+        words: &[u64],
+        moved: u64,
+        possible: &mut InteractionSet,
+    )
+        requires few { length interactions.now ≤ MAX_INTERACTIONS }
+        requires rows { length words.now ≡ length interactions.now }
+        requires others { ArePossibleBut words.now moved (map definition_of self.now.atoms.now) (map wire_of self.now.wires.now) self.now.states.now (map interaction_of interactions.now) possible.old }
+        ensures { ArePossible (map definition_of self.now.atoms.now) (map wire_of self.now.wires.now) self.now.states.now (map interaction_of interactions.now) possible.new }
+    {
+        for (number, interaction) in interactions.iter().enumerate() {
+            if words[number] & moved != 0 {
+                self.note(number as u16, interaction, possible);
+            }
+        }
+    }
+
+    /// Puts the interaction with this number into the set where it is possible, and takes it out where it is not.
     fn note(&self, number: u16, interaction: &Interaction, possible: &mut InteractionSet)
         requires { number < MAX_INTERACTIONS }
-        ensures here { contains possible.old number ≡ false → contains possible.new number ≡ is_possible (map definition_of self.now.atoms.now) (map wire_of self.now.wires.now) self.now.states.now (interaction_of interaction.now) }
+        ensures here { contains possible.new number ≡ is_possible (map definition_of self.now.atoms.now) (map wire_of self.now.wires.now) self.now.states.now (interaction_of interaction.now) }
         ensures others { (n : ℕ) → ¬ (n ≡ number) → contains possible.new n ≡ contains possible.old n }
     {
         if self.is_possible(interaction) {
             possible.insert(number);
+        } else {
+            possible.remove(number);
         }
     }
 }

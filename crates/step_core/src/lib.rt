@@ -17,6 +17,7 @@
 //! - `judged`: a state with the offered transitions of its atoms, each judged once. `choices`: how many choices a state has,
 //!   and which.
 //! - `stepper`: a plant that runs: its present state, and what that offers, judged again for the atoms that moved alone.
+//! - `touching`: which atoms an interaction depends on, so that a step judges only the interactions that it can change.
 //! - `values`: exported variables, and guard clauses on them. `transfers`: what a choice delivers. `firing`: the state that it leaves.
 #![tactic(auto)]
 
@@ -34,6 +35,7 @@ mod rules;
 mod state;
 mod stepper;
 mod system;
+mod touching;
 mod transfers;
 mod values;
 mod wire;

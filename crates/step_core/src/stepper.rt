@@ -9,6 +9,7 @@ ghost use Rattle.step_core.specs.Fitting.{IsOf, AllFit};
 ghost use Rattle.step_core.specs.Interaction.{interaction_of};
 ghost use Rattle.step_core.specs.Offers.{AreOffered, AreOfferedBut};
 ghost use Rattle.step_core.specs.Possible.{ArePossible};
+ghost use Rattle.step_core.specs.Touching.{AreTouching};
 ghost use Rattle.step_core.specs.Wire.{wire_of};
 ghost use Rattle.step_core.specs.Step.{initial_states, next};
 ghost use Rattle.step_core.specs.System.{plant_of};
@@ -16,24 +17,27 @@ ghost use Rattle.step_core.specs.System.{plant_of};
 use crate::choice::{Choice, Move};
 use crate::state::PlantState;
 use crate::system::System;
+use crate::touching::{touching_words, word_of_moves};
 use petri_atom::{Atom, TransitionSet};
 use priority_filter::InteractionSet;
 use std::alloc::{AllocError, Global};
 
 /// A plant that runs: a system, its present state, and what that state offers: transitions, and possible interactions.
 ///
-/// It judges each transition once when it is made, and after a step only those of the atoms that moved; each interaction once a
-/// step. All of a step's
-/// questions ([`Stepper::count`], [`Stepper::nth`]) are answered from what is offered. Only making it takes memory.
+/// It judges each transition and each interaction once when it is made, and after a step only the transitions of the atoms
+/// that moved, and the interactions that depend on one of these. All of a step's questions ([`Stepper::count`], [`Stepper::nth`]) are answered from what is offered. Only making it takes memory.
 #[derive(Drop)]
 pub struct Stepper<'s> {
     system: &'s System,
     states: PlantState,
     offered: Vec<TransitionSet>,
+    touching: Vec<u64>,
     possible: InteractionSet,
     ghost of_plant: { IsOf (plant_of system.now) states },
     ghost rows: { length system.now.atoms.items ≤ length offered.items },
     ghost exact: { AreOffered (map definition_of system.now.atoms.items) states offered.items },
+    ghost words: { length touching.items ≡ length system.now.interactions.items },
+    ghost touched: { AreTouching (map wire_of system.now.wires.items) (map interaction_of system.now.interactions.items) touching.items },
     ghost known: { ArePossible (map definition_of system.now.atoms.items) (map wire_of system.now.wires.items) states (map interaction_of system.now.interactions.items) possible },
 }
 
@@ -57,11 +61,13 @@ impl<'s> Stepper<'s> {
         ensures states { IfOk result (λ run. states_in run ≡ states) }
     {
         let offered = offered_rows(alloc, &system.atoms, &states)?;
+        let touching = touching_words(alloc, &system.wires, &system.ports, &system.interactions)?;
         let possible = system.possible_among(&states, &offered);
         Ok(Stepper {
             system,
             states,
             offered,
+            touching,
             possible,
         })
     }
@@ -100,8 +106,8 @@ impl<'s> Stepper<'s> {
             .nth_among(&self.states, &self.offered, &self.possible, place)
     }
 
-    /// Fires the choice: the present state becomes the next one. What is offered is judged again for the atoms that moved,
-    /// and for no other.
+    /// Fires the choice: the present state becomes the next one. What is offered is judged again for the atoms that moved, and
+    /// what is possible for the interactions that depend on one of them.
     pub fn fire(&mut self, choice: &Choice)
         requires { IsAllowed (plant_in self.old) (states_in self.old) (choice_of choice.now) }
         ensures plant { plant_in self.new ≡ plant_in self.old }
@@ -115,7 +121,13 @@ impl<'s> Stepper<'s> {
             choice.moves.as_slice(),
             &mut self.offered,
         );
-        self.possible = self.system.possible_among(&self.states, &self.offered);
+        self.system.judge_touched(
+            &self.states,
+            &self.offered,
+            &self.touching,
+            word_of_moves(choice.moves.as_slice()),
+            &mut self.possible,
+        );
     }
 }
 

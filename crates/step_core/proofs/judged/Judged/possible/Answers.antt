@@ -26,7 +26,7 @@ loop-number-preserved c =
     let item = c.index-interactions-number.result in
     let there = slice_get-map interaction_of all n ∙ ap (option_map interaction_of) (slice_get_read all (length all) n item refl c.loop-number-test.true c.index-interactions-number.is) in
     noted-more atoms wires states (map interaction_of all) n c.loop-number.possible c.note.new.possible c.loop-number.invariant
-    (c.note.ensures.here (c.loop-number.invariant.behind n (omega arith)) ∙ sym (ap (λ o. option_map_or (is_possible atoms wires states) o false) there))
+    (c.note.ensures.here ∙ sym (ap (λ o. option_map_or (is_possible atoms wires states) o false) there))
     c.note.ensures.others
 
 pub returns : goal.returns
