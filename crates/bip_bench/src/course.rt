@@ -1,0 +1,42 @@
+//! A run of random choices.
+ghost use Rattle.std.specs.Prelude.{◌≡◌, ◌≤◌};
+ghost use Rattle.step_core.specs.Running.{plant_in};
+
+use crate::hash::Hash;
+use crate::picks::Picks;
+use run_text::print_states;
+use step_core::Stepper;
+
+/// Fires so many choices, each by the next pick modulo how many there are, and says how many it fired: fewer only where
+/// nothing is possible any more.
+pub(crate) fn fire_steps(run: &mut Stepper<'_>, steps: u64, picks: &mut Picks) -> u64
+    ensures few { result ≤ steps }
+    ensures plant { plant_in run.new ≡ plant_in run.old }
+{
+    for fired in 0..steps {
+        if !fire_step(run, picks) {
+            return fired;
+        }
+    }
+    steps
+}
+
+/// Fires one choice by the next pick, and says whether there was one.
+fn fire_step(run: &mut Stepper<'_>, picks: &mut Picks) -> bool
+    ensures plant { plant_in run.new ≡ plant_in run.old }
+{
+    let count = run.count();
+    if count == 0 {
+        return false;
+    }
+    let choice = run.nth(u128::from(picks.next_pick()) % count);
+    run.fire(&choice);
+    true
+}
+
+/// The hash of the lines of the present state.
+pub(crate) fn hash_of_states(run: &Stepper<'_>) -> u64 {
+    let mut hash = Hash::new();
+    let _ = print_states(run.system(), run.states(), &mut hash);
+    hash.value
+}
