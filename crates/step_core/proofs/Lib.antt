@@ -15,3 +15,4 @@ mod Refreshing
 pub mod Noting
 pub mod Alive
 mod Untouched
+mod Freed

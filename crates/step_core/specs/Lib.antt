@@ -16,3 +16,4 @@ pub mod Running
 pub mod Told
 pub mod Possible
 pub mod Touching
+pub mod Free

@@ -118,6 +118,7 @@ impl System {
             interactions: &self.interactions,
             order: &self.order,
             possible,
+            free: &self.free,
         };
         filtered.count()
     }
@@ -151,6 +152,7 @@ impl System {
             interactions: &self.interactions,
             order: &self.order,
             possible,
+            free: &self.free,
         };
         match filtered.nth(place) {
             Some(choice) => choice,

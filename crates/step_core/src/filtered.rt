@@ -1,12 +1,15 @@
 //! A judged state with its possible interactions, filtered by the order of the plant's priority rules: how many choices it
 //! has, and which they are.
 ghost use Rattle.std.specs.Prelude.{◌≡◌, [], ◌≤◌, ◌<◌, ◌*◌, ◌^◌, Some, List, map, length, slice_get, option_map};
+ghost use Rattle.std.specs.FinSet.{contains};
 ghost use Rattle.petri_atom.specs.Atom.{definition_of};
 ghost use Rattle.connector_tree.specs.declared.tree.TheConstants.{MAX_LEAVES};
 ghost use Rattle.step_core.specs.Choice.{named, is_allowed_at, choices_of, choices_at, choices_among};
 ghost use Rattle.step_core.specs.Interaction.{interaction_of};
 ghost use Rattle.step_core.specs.Made.{plant_by};
+ghost use Rattle.priority_filter.specs.Decided.{is_overruled};
 ghost use Rattle.step_core.specs.Possible.{ArePossible};
+ghost use Rattle.step_core.specs.Free.{AreFree};
 ghost use Rattle.step_core.specs.Chosen.{choice_of};
 ghost use Rattle.step_core.specs.Wire.{wire_of};
 ghost use Rattle.step_core.specs.declared.limits.TheConstants.{MAX_INTERACTIONS};
@@ -23,9 +26,11 @@ pub(crate) struct Filtered<'a> {
     pub(crate) interactions: &'a [Interaction],
     pub(crate) order: &'a Order,
     pub(crate) possible: &'a InteractionSet,
+    pub(crate) free: &'a InteractionSet,
     ghost few: { length interactions.now ≤ MAX_INTERACTIONS },
     ghost ordered: { order.now.interactions ≡ map named (map interaction_of interactions.now) },
     ghost known: { ArePossible (map definition_of judged.atoms.now) (map wire_of judged.wires.now) judged.states.now (map interaction_of interactions.now) possible.now },
+    ghost unruled: { AreFree order.now.rules order.now.interactions free.now },
 }
 
 impl Filtered<'_> {
@@ -33,7 +38,18 @@ impl Filtered<'_> {
     fn is_allowed(&self, number: u16) -> bool
         ensures { result ≡ is_allowed_at (plant_by self.now.judged.atoms.now self.now.judged.wires.now self.now.order.now.rules) self.now.judged.states.now (map interaction_of self.now.interactions.now) number }
     {
-        self.possible.contains(number) & !self.order.is_overruled(number, self.possible)
+        self.possible.contains(number) && !self.is_overruled(number)
+    }
+
+    /// Whether a possible interaction is above the one with this number.
+    fn is_overruled(&self, number: u16) -> bool
+        ensures { result ≡ is_overruled self.now.order.now.rules self.now.order.now.interactions (contains self.now.possible.now) number }
+    {
+        if self.free.contains(number) {
+            false
+        } else {
+            self.order.is_overruled(number, self.possible)
+        }
     }
 
     /// How many choices the interaction with this number has.

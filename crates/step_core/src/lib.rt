@@ -16,6 +16,7 @@
 //! - `state`: a local state for each atom. `choice`: a choice, and the moves that it makes.
 //! - `judged`: a state with the offered transitions of its atoms, each judged once. `choices`: how many choices a state has,
 //!   and which.
+//! - `free`: the interactions that no other can be above.
 //! - `stepper`: a plant that runs: its present state, and what that offers, judged again for the atoms that moved alone.
 //! - `touching`: which atoms an interaction depends on, so that a step judges only the interactions that it can change.
 //! - `values`: exported variables, and guard clauses on them. `transfers`: what a choice delivers. `firing`: the state that it leaves.
@@ -26,6 +27,7 @@ mod choices;
 mod fault;
 mod filtered;
 mod firing;
+mod free;
 mod interaction;
 mod interactions;
 mod judged;

@@ -10,6 +10,7 @@ ghost use Rattle.step_core.specs.Wire.{wire_of};
 ghost use Rattle.step_core.specs.declared.limits.TheConstants.{MAX_ATOMS, MAX_WIRES};
 
 use crate::fault::SystemFault;
+use crate::free::free_interactions;
 use crate::interaction::Interaction;
 use crate::interactions::connector_interactions;
 use crate::limits::MAX_INTERACTIONS;
@@ -47,6 +48,7 @@ impl System {
             return Err(fault);
         }
         let order = Order::new(alloc, rules, &names_of(alloc, &interactions)?)?;
+        let free = free_interactions(&order, interactions.len());
         Ok(System {
             atoms,
             wires,
@@ -54,6 +56,7 @@ impl System {
             ports,
             interactions,
             order,
+            free,
         })
     }
 }

@@ -2,6 +2,7 @@
 ghost use Rattle.std.specs.Prelude.{◌≡◌, ◌≤◌, None, map, length};
 ghost use Rattle.connector_tree.specs.Tree.{leaves};
 ghost use Rattle.step_core.specs.Choice.{named, plant_interactions};
+ghost use Rattle.step_core.specs.Free.{AreFree};
 ghost use Rattle.step_core.specs.Interaction.{interaction_of};
 ghost use Rattle.step_core.specs.Made.{plant_by};
 ghost use Rattle.step_core.specs.Rules.{fault_of};
@@ -10,13 +11,14 @@ use crate::interaction::Interaction;
 use crate::wire::Wire;
 use connector_tree::Port;
 use petri_atom::Atom;
-use priority_filter::Order;
+use priority_filter::{InteractionSet, Order};
 
 /// A plant: its atoms and its wires, each numbered from 0 in the order of their lists, its priority rules, and the digest of
 /// the text that it was read from.
 ///
 /// It keeps each rule of a plant, so that what can be asked of it cannot fail. It has all interactions at hand, the
-/// leaves of each connector, and for each interaction the row of those above it, so that no step takes memory.
+/// leaves of each connector, for each interaction the row of those above it, and which have none above them, so that no step
+/// takes memory.
 #[derive(Debug, Drop)]
 pub struct System {
     pub(crate) atoms: Vec<Atom>,
@@ -25,8 +27,10 @@ pub struct System {
     pub(crate) ports: Vec<Vec<Port>>,
     pub(crate) interactions: Vec<Interaction>,
     pub(crate) order: Order,
+    pub(crate) free: InteractionSet,
     ghost valid: { fault_of (plant_by atoms.items wires.items order.rules) ≡ None },
     ghost leaves: { map (λ list. list.items) ports.items ≡ map (λ w. leaves w.connector) wires.items },
     ghost listed: { map interaction_of interactions.items ≡ plant_interactions (plant_by atoms.items wires.items order.rules) },
     ghost ordered: { order.interactions ≡ map named (map interaction_of interactions.items) },
+    ghost unruled: { AreFree order.rules order.interactions free },
 }

@@ -67,7 +67,7 @@ impl Values<'_> {
 fn applies_to(ports: &[Port], transfer: &Transfer, mask: Mask, atom: u16, export: u8) -> bool
     ensures { result ≡ (applies mask (transfer_of transfer.now) && is_to ports.now atom export transfer.now.target) }
 {
-    applies(transfer, mask) & is_to(ports, transfer.target, atom, export)
+    is_to(ports, transfer.target, atom, export) && applies(transfer, mask)
 }
 
 /// Whether each leaf that the transfer names is in the mask.
