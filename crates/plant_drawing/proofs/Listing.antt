@@ -1,0 +1,22 @@
+-- Printing the elements of a list one by one.
+use Rattle.std.proofs.Common.{◌≡◌, ℕ, ◌+◌, ◌<◌, ◌∙◌, ap, sym, subst, List, ◌++◌, map, length, drop, get_or}
+use Rattle.std.specs.Prelude.{Option, flat_map}
+use Rattle.std.specs.Io.KnownBytes.{Appends}
+use Rattle.std.proofs.lemmas.List.{drop_more, get_or-map, length-map}
+use Rattle.run_text.specs.Line.{numbered}
+use Rattle.run_text.proofs.Leading.{Leads, leads-element, leads-more, leads-same}
+
+-- the next element is told, and those behind it are left
+pub leads-told : {X : Type 0} (say : X → List ℕ) (xs : List X) (i : ℕ) (d : X) (start now next : Option (List ℕ)) (all : List ℕ)
+    → i < length xs → Leads start now (flat_map say (drop i xs)) all → Appends now next (say (get_or xs i d))
+    → Leads start next (flat_map say (drop (i + 1) xs)) all
+leads-told say xs i d start now next all within l p =
+    leads-more _ _ _ _ _ _ (leads-same l (ap (flat_map say) (drop_more xs i d within))) p
+
+-- a numbered element is told as what a function makes of it
+pub leads-mapped : {X D : Type 0} (f : X → D) (say : ℕ → D → List ℕ) (xs : List X) (i : ℕ) (x : X) (start now next : Option (List ℕ)) (all : List ℕ)
+    → i < length xs → x ≡ get_or xs i x → Leads start now (numbered say i (drop i (map f xs))) all → Appends now next (say i (f x))
+    → Leads start next (numbered say (i + 1) (drop (i + 1) (map f xs))) all
+leads-mapped f say xs i x start now next all within here l p =
+    let found : f x ≡ get_or (map f xs) i (f x) = ap f here ∙ sym (get_or-map f xs i x (f x) within) in
+    leads-element say (map f xs) i (f x) start now next all (subst (λ n. i < n) (sym (length-map xs f)) within) found l p

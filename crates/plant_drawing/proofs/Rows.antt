@@ -1,0 +1,110 @@
+-- Worked lines of a drawing, as computed facts of the definitions.
+use Rattle.std.proofs.Common.{◌≡◌, ◌++◌, ◌∷◌, [], ℕ, List, pos, negsuc, true, false, refl, ap, codes}
+use Rattle.std.specs.Prelude.{flat_map}
+use Rattle.std.specs.Fmt.{digits}
+use Rattle.petri_atom.specs.Expression.{Tree, number, variable, negation, operation}
+use Rattle.petri_atom.specs.Definition.{AtomDefinition}
+use Rattle.petri_atom.specs.declared.expression.Operator.TheVariants.{Add, LessOrEqual, And}
+use Rattle.petri_atom.specs.declared.parts.Variable.{Variable}
+use Rattle.connector_tree.specs.declared.tree.Connector.{Connector}
+use Rattle.plant_trees.specs.declared.token.Token.{Token}
+use Rattle.plant_trees.specs.declared.token.Token.TheVariants.{Leaf, Open, Close}
+use Rattle.plant_trees.specs.Connectors.{tokens_of}
+use Rattle.priority_filter.specs.declared.rule.Side.TheVariants.{Whole, One}
+use Rattle.priority_filter.specs.declared.rule.Rule.TheVariants.{Under, Maximal}
+use Rattle.step_core.specs.Plant.{WireDefinition}
+use Rattle.plant_drawing.specs.Expression.{expression_text, variable_name}
+use Rattle.plant_drawing.specs.Atom.{atom_lines, place_line, port_line, transition_lines}
+use Rattle.plant_drawing.specs.Connector.{connector_lines, spaced_word, port_edge}
+use Rattle.plant_drawing.specs.Rule.{rule_line}
+use Rattle.plant_drawing.specs.Drawing.{drawing_of}
+
+-- places
+marked_place : place_line 0 3 (record { name = codes "p"; marked = true }) ≡ codes "    place_0_3 [shape=circle, style=filled, label=\"p\"];\n"
+unfolding digits
+marked_place = refl
+
+unmarked_place : place_line 63 0 (record { name = codes "q"; marked = false }) ≡ codes "    place_63_0 [shape=circle, label=\"q\"];\n"
+unfolding digits
+unmarked_place = refl
+
+-- variables n and m
+abbrev variables : List Variable
+variables = record { name = codes "n"; first = pos 0 } ∷ record { name = codes "m"; first = negsuc 1 } ∷ []
+
+-- ports
+port_of_both : port_line 1 variables 2 (record { name = codes "t"; exports = 1 ∷ 0 ∷ [] }) ≡ codes "    port_1_2 [shape=ellipse, label=\"t m n\"];\n"
+unfolding digits
+port_of_both = refl
+
+port_of_none : port_line 1 variables 0 (record { name = codes "t"; exports = [] }) ≡ codes "    port_1_0 [shape=ellipse, label=\"t\"];\n"
+unfolding digits
+port_of_none = refl
+
+-- an expression in prefix form
+abbrev test : Tree ℕ
+test = operation And (operation LessOrEqual (variable 0) (number (negsuc 2))) (negation (variable 1))
+
+prefix_form : expression_text (variable_name variables) test ≡ codes "&& <= n -3 ! m"
+unfolding digits
+prefix_form = refl
+
+-- an atom with two variables, a port, and a transition from place 0 to places 0 and 1
+sample : AtomDefinition
+sample = record {
+  name = codes "A";
+  places = [];
+  variables = variables;
+  ports = record { name = codes "t"; exports = [] } ∷ [];
+  transitions = [];
+}
+
+guarded : transition_lines 0 sample 4 (record { port = 0; sources = 0 ∷ []; targets = 0 ∷ 1 ∷ []; guard = test; updates = record { variable = 1; value = operation Add (variable 1) (number (pos 1)) } ∷ [] })
+    ≡ codes "    transition_0_4 [shape=box, label=\"t\\nwhen && <= n -3 ! m\\nm := + m 1\"];\n    port_0_0 -> transition_0_4 [style=dotted, arrowhead=none];\n    place_0_0 -> transition_0_4;\n    transition_0_4 -> place_0_0;\n    transition_0_4 -> place_0_1;\n"
+unfolding sample digits
+guarded = refl
+
+-- a guard that is 1 is not told
+unguarded : transition_lines 0 sample 0 (record { port = 0; sources = 1 ∷ []; targets = 0 ∷ []; guard = number (pos 1); updates = [] })
+    ≡ codes "    transition_0_0 [shape=box, label=\"t\"];\n    port_0_0 -> transition_0_0 [style=dotted, arrowhead=none];\n    place_0_1 -> transition_0_0;\n    transition_0_0 -> place_0_0;\n"
+unfolding sample digits
+unguarded = refl
+
+cluster : atom_lines 2 sample ≡ codes "  subgraph cluster_2 {\n    label=\"A\\nn = 0\\nm = -2\";\n    port_2_0 [shape=ellipse, label=\"t\"];\n  }\n"
+unfolding sample digits
+cluster = refl
+
+-- the tokens of `A.t' [ A.t ]'`
+abbrev tokens : List Token
+tokens = Leaf (record { atom = 0; port = 0 }) true ∷ Open ∷ Leaf (record { atom = 0; port = 0 }) false ∷ Close true ∷ []
+
+-- whatever tree writes them
+connector_of_tokens : (connector : Connector) → tokens_of connector ≡ tokens
+    → connector_lines (sample ∷ []) 1 (record { name = codes "c"; connector = connector; guards = []; transfers = [] })
+    ≡ codes "  connector_1 [shape=hexagon, label=\"c\\n A.t' [ A.t ]'\"];\n  connector_1 -> port_0_0 [arrowhead=normal];\n  connector_1 -> port_0_0 [arrowhead=dot];\n"
+unfolding sample digits
+connector_of_tokens connector written =
+    ap (λ ts. codes "  connector_1 [shape=hexagon, label=\"c\\n" ++ flat_map (spaced_word (sample ∷ [])) ts ++ codes "\"];\n" ++ flat_map (port_edge 1) ts) written
+
+-- rules between the connectors low and high
+module _ (connector : Connector) where
+  abbrev wires : List WireDefinition
+  wires = record { name = codes "low"; connector = connector; guards = []; transfers = [] } ∷ record { name = codes "high"; connector = connector; guards = []; transfers = [] } ∷ []
+
+  whole_sides : rule_line wires (Under (Whole 0) (Whole 1)) ≡ codes "  connector_0 -> connector_1 [style=dashed, constraint=false, label=\"low < high\"];\n"
+  unfolding digits
+  whole_sides = refl
+
+  sides_by_masks : rule_line wires (Under (One 1 3) (One 1 255)) ≡ codes "  connector_1 -> connector_1 [style=dashed, constraint=false, label=\"high:3 < high:255\"];\n"
+  unfolding digits
+  sides_by_masks = refl
+
+  maximal : rule_line wires (Maximal 1) ≡ codes "  connector_1 -> connector_1 [style=dashed, label=\"maximal\"];\n"
+  unfolding digits
+  maximal = refl
+
+-- a plant of the atom alone
+without_connectors : drawing_of (record { atoms = sample ∷ []; wires = []; rules = [] })
+    ≡ codes "digraph plant {\n  subgraph cluster_0 {\n    label=\"A\\nn = 0\\nm = -2\";\n    port_0_0 [shape=ellipse, label=\"t\"];\n  }\n}\n"
+unfolding sample digits
+without_connectors = refl

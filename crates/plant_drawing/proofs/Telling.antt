@@ -1,0 +1,55 @@
+-- What is told of each token of a connector, at a port, at a bracket, and over several children.
+use Rattle.std.proofs.Common.{◌≡◌, ℕ, ◌+◌, ◌<◌, Bool, List, [], ◌∷◌, ◌++◌, length, drop, get_or, ap, sym, subst, ◌∙◌, append_assoc, append-nil}
+use Rattle.std.specs.Prelude.{Option, Result, Ok, Err, OnOk, flat_map}
+use Rattle.std.specs.Io.KnownBytes.{Appends}
+use Rattle.std.proofs.KnownBytes.{Appends-trans}
+use Rattle.std.specs.declared.vec.Vec.{Vec}
+use Rattle.std.specs.declared.alloc.Global.{Global}
+use Rattle.std.proofs.lemmas.Grind.{flat_map-append}
+use Rattle.std.proofs.lemmas.List.{drop_more}
+use Rattle.connector_tree.specs.declared.tree.Child.{Child}
+use Rattle.connector_tree.specs.declared.tree.Node.TheVariants as node
+use Rattle.plant_trees.specs.declared.token.Token.{Token}
+use Rattle.plant_trees.specs.declared.token.Token.TheVariants.{Leaf, Open, Close}
+use Rattle.plant_trees.specs.Connectors.{node_tokens, child_tokens, children_tokens}
+use Rattle.plant_trees.proofs.Written.{tokens-leaf, tokens-fusion}
+use Rattle.run_text.proofs.Leading.{Leads, leads-more, leads-same}
+
+-- a port is told once
+pub told-leaf : (say : Token → List ℕ) (atom port : ℕ) (trigger : Bool) → flat_map say (node_tokens (node.Leaf atom port) trigger) ≡ say (Leaf (record { atom = atom; port = port }) trigger)
+told-leaf say atom port trigger = ap (flat_map say) (tokens-leaf atom port trigger) ∙ append-nil (say (Leaf (record { atom = atom; port = port }) trigger))
+
+-- a bracket is told by its begin, its children and its end
+pub told-fusion : (say : Token → List ℕ) (children : Vec Child Global) (trigger : Bool) → flat_map say (node_tokens (node.Fusion children) trigger) ≡ say Open ++ flat_map say (children_tokens children.items) ++ say (Close trigger)
+told-fusion say children trigger =
+    ap (flat_map say) (tokens-fusion children trigger)
+    ∙ ap (λ text. say Open ++ text) (flat_map-append say (children_tokens children.items) (Close trigger ∷ []))
+    ∙ ap (λ text. say Open ++ (flat_map say (children_tokens children.items) ++ text)) (append-nil (say (Close trigger)))
+    ∙ sym (append_assoc (say Open) (flat_map say (children_tokens children.items)) (say (Close trigger)))
+
+-- a child is told, and its siblings are left
+pub leads-child : (say : Token → List ℕ) (children : List Child) (i : ℕ) (child : Child) (start now next : Option (List ℕ)) (all : List ℕ)
+    → i < length children → child ≡ get_or children i child → Leads start now (flat_map say (children_tokens (drop i children))) all
+    → Appends now next (flat_map say (child_tokens child)) → Leads start next (flat_map say (children_tokens (drop (i + 1) children))) all
+leads-child say children i child start now next all within here l p =
+    let later : List Token = children_tokens (drop (i + 1) children) in
+    let told : flat_map say (children_tokens (drop i children)) ≡ flat_map say (child_tokens child) ++ flat_map say later =
+    ap (λ cs. flat_map say (children_tokens cs)) (drop_more children i child within)
+    ∙ flat_map-append say (child_tokens (get_or children i child)) later
+    ∙ ap (λ c. flat_map say (child_tokens c) ++ flat_map say later) (sym here) in
+    leads-more _ _ _ _ _ _ (leads-same l told) p
+
+-- a bracket is printed: its begin, its children and its end
+pub bracket_told : {T E : Type 0} (say : Token → List ℕ) (children : Vec Child Global) (trigger : Bool) (result : Result T E) (start begun told after : Option (List ℕ))
+    → Appends start begun (say Open) → Appends begun told (flat_map say (children_tokens children.items)) → OnOk result (Appends told after (say (Close trigger)))
+    → OnOk result (Appends start after (flat_map say (node_tokens (node.Fusion children) trigger)))
+bracket_told say children trigger (Err fault) start begun told after begins tells ends = tt
+bracket_told say children trigger (Ok done) start begun told after begins tells ends =
+    subst (Appends start after) (sym (told-fusion say children trigger))
+    (Appends-trans start told after (say Open ++ flat_map say (children_tokens children.items)) (say (Close trigger)) (Appends-trans start begun told (say Open) (flat_map say (children_tokens children.items)) begins tells) ends)
+
+-- a text is printed, and behind it what the last call prints
+pub told_last : {T E : Type 0} (result : Result T E) (start now after : Option (List ℕ)) (text last : List ℕ)
+    → Appends start now text → OnOk result (Appends now after last) → OnOk result (Appends start after (text ++ last))
+told_last (Err fault) start now after text last begins ends = tt
+told_last (Ok done) start now after text last begins ends = Appends-trans start now after text last begins ends

@@ -1,0 +1,12 @@
+-- The places from this number on are left.
+use Rattle.std.proofs.Common.{drop}
+use Rattle.run_text.specs.Line.{numbered}
+use Rattle.run_text.proofs.Leading.{Leads}
+use Rattle.plant_drawing.specs.Atom.{place_line}
+use Rattle.plant_drawing.proofs.atom.print_places.Given as goal
+
+abbrev pub invariant-loop-number : goal.invariant-loop-number
+invariant-loop-number g l =
+    Leads (g.W.Write.contents l.initial.output) (g.W.Write.contents l.output)
+    (numbered (place_line l.atom) l.number (drop l.number l.places))
+    (numbered (place_line l.atom) 0 l.places)

@@ -1,0 +1,13 @@
+-- The atoms from this number on are left.
+use Rattle.std.proofs.Common.{drop, map}
+use Rattle.petri_atom.specs.Atom.{definition_of}
+use Rattle.run_text.specs.Line.{numbered}
+use Rattle.run_text.proofs.Leading.{Leads}
+use Rattle.plant_drawing.specs.Atom.{atom_lines}
+use Rattle.plant_drawing.proofs.plant.print_atoms.Given as goal
+
+abbrev pub invariant-loop-number : goal.invariant-loop-number
+invariant-loop-number g l =
+    Leads (g.W.Write.contents l.initial.output) (g.W.Write.contents l.output)
+    (numbered atom_lines l.number (drop l.number (map definition_of l.atoms)))
+    (numbered atom_lines 0 (map definition_of l.atoms))

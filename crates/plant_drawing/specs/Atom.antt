@@ -1,0 +1,103 @@
+-- An atom as a cluster: its variables in the label, and a node for each place, port and transition.
+use Rattle.std.specs.Prelude.{ℕ, Bool, if◌then◌else◌, List, [], ◌++◌, codes, decimal, flat_map, slice_get}
+use Rattle.std.specs.Fmt.{signed_decimal}
+use Rattle.std.specs.Option.{option_map_or}
+use Rattle.petri_atom.specs.Expression.{Tree}
+use Rattle.petri_atom.specs.Definition.{AtomDefinition, PortDefinition, TransitionDefinition, UpdateDefinition}
+use Rattle.petri_atom.specs.declared.parts.Place.{Place}
+use Rattle.petri_atom.specs.declared.parts.Variable.{Variable}
+use Rattle.run_text.specs.Line.{numbered}
+use Rattle.plant_drawing.specs.Node.{part_node}
+use Rattle.plant_drawing.specs.Expression.{variable_name, expression_text, is_one}
+
+-- a variable with its first value, on a line of its own
+abbrev pub variable_text : Variable → List ℕ
+variable_text v = codes "\\n" ++ v.name ++ codes " = " ++ signed_decimal v.first
+
+-- how a place is filled that is marked at first, or is not
+abbrev pub fill_of : Bool → List ℕ
+fill_of marked = if marked then codes "style=filled, " else []
+
+-- the end of a node whose label is a name
+abbrev pub named : List ℕ → List ℕ
+named name = codes "label=\"" ++ name ++ codes "\"];\n"
+
+-- a place is a circle, and a filled one where it is marked at first
+abbrev pub place_line : ℕ → ℕ → Place → List ℕ
+place_line atom k place =
+    codes "    " ++ part_node (codes "place") atom k ++ codes " [shape=circle, " ++
+    fill_of place.marked ++ named place.name
+
+-- a port with the variables that it exports
+abbrev pub port_line : ℕ → List Variable → ℕ → PortDefinition → List ℕ
+port_line atom variables k port =
+    codes "    " ++ part_node (codes "port") atom k ++ codes " [shape=ellipse, label=\"" ++ port.name ++
+    flat_map (λ v. codes " " ++ variable_name variables v) port.exports ++ codes "\"];\n"
+
+-- the name of the port with a number; empty where it is not there
+abbrev pub port_name : List PortDefinition → ℕ → List ℕ
+port_name ports port = option_map_or (λ p. p.name) (slice_get ports port) []
+
+-- a guard, on a line of its own; nothing of one that is 1
+abbrev pub guard_text : List Variable → Tree ℕ → List ℕ
+guard_text variables guard =
+    if is_one guard then [] else codes "\\nwhen " ++ expression_text (variable_name variables) guard
+
+-- an update, on a line of its own
+abbrev pub update_text : List Variable → UpdateDefinition → List ℕ
+update_text variables u =
+    codes "\\n" ++ variable_name variables u.variable ++ codes " := " ++ expression_text (variable_name variables) u.value
+
+-- the name of a transition's port, its guard and its updates
+abbrev pub transition_label : AtomDefinition → TransitionDefinition → List ℕ
+transition_label a t =
+    port_name a.ports t.port ++ guard_text a.variables t.guard ++ flat_map (update_text a.variables) t.updates
+
+-- a transition is a box with its label
+abbrev pub transition_line : ℕ → AtomDefinition → ℕ → TransitionDefinition → List ℕ
+transition_line atom a k t =
+    codes "    " ++ part_node (codes "transition") atom k ++ codes " [shape=box, label=\"" ++ transition_label a t ++ codes "\"];\n"
+
+-- the line from a port to one of its transitions
+abbrev pub firing_edge : ℕ → ℕ → ℕ → List ℕ
+firing_edge atom port k =
+    codes "    " ++ part_node (codes "port") atom port ++ codes " -> " ++ part_node (codes "transition") atom k ++
+    codes " [style=dotted, arrowhead=none];\n"
+
+-- the arrow from a source to its transition
+abbrev pub source_edge : ℕ → ℕ → ℕ → List ℕ
+source_edge atom k place =
+    codes "    " ++ part_node (codes "place") atom place ++ codes " -> " ++ part_node (codes "transition") atom k ++ codes ";\n"
+
+-- the arrow from a transition to its target
+abbrev pub target_edge : ℕ → ℕ → ℕ → List ℕ
+target_edge atom k place =
+    codes "    " ++ part_node (codes "transition") atom k ++ codes " -> " ++ part_node (codes "place") atom place ++ codes ";\n"
+
+-- the edges of a transition
+abbrev pub transition_edges : ℕ → ℕ → TransitionDefinition → List ℕ
+transition_edges atom k t =
+    firing_edge atom t.port k ++ flat_map (source_edge atom k) t.sources ++ flat_map (target_edge atom k) t.targets
+
+-- a transition, and its edges
+abbrev pub transition_lines : ℕ → AtomDefinition → ℕ → TransitionDefinition → List ℕ
+transition_lines atom a k t = transition_line atom a k t ++ transition_edges atom k t
+
+-- the name of an atom, and its variables
+abbrev pub atom_label : AtomDefinition → List ℕ
+atom_label a = a.name ++ flat_map variable_text a.variables
+
+-- the begin of the cluster of the atom with a number
+abbrev pub cluster_head : ℕ → AtomDefinition → List ℕ
+cluster_head atom a =
+    codes "  subgraph cluster_" ++ decimal atom ++ codes " {\n    label=\"" ++ atom_label a ++ codes "\";\n"
+
+-- its places, ports and transitions, in order
+abbrev pub cluster_parts : ℕ → AtomDefinition → List ℕ
+cluster_parts atom a =
+    numbered (place_line atom) 0 a.places ++ numbered (port_line atom a.variables) 0 a.ports ++
+    numbered (transition_lines atom a) 0 a.transitions
+
+-- the cluster of the atom with a number
+abbrev pub atom_lines : ℕ → AtomDefinition → List ℕ
+atom_lines atom a = cluster_head atom a ++ cluster_parts atom a ++ codes "  }\n"

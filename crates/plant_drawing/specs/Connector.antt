@@ -1,0 +1,61 @@
+-- A connector as a node, and an edge to each of its ports.
+use Rattle.std.specs.Prelude.{ℕ, Bool, if◌then◌else◌, List, [], ◌++◌, codes, flat_map, slice_get}
+use Rattle.std.specs.Option.{option_map_or}
+use Rattle.petri_atom.specs.Definition.{AtomDefinition}
+use Rattle.connector_tree.specs.declared.tree.Port.{Port}
+use Rattle.plant_trees.specs.declared.token.Token.{Token}
+use Rattle.plant_trees.specs.declared.token.Token.TheVariants.{Leaf, Open, Close}
+use Rattle.plant_trees.specs.Connectors.{tokens_of}
+use Rattle.step_core.specs.Plant.{WireDefinition}
+use Rattle.plant_drawing.specs.Node.{part_node, connector_node}
+use Rattle.plant_drawing.specs.Atom.{port_name}
+
+-- a port by the names of its atom and its own
+abbrev pub leaf_word : List AtomDefinition → Port → List ℕ
+leaf_word atoms port =
+    option_map_or (λ a. a.name ++ codes "." ++ port_name a.ports port.port) (slice_get atoms port.atom) []
+
+-- the mark of a trigger
+abbrev pub trigger_mark : Bool → List ℕ
+trigger_mark trigger = if trigger then codes "'" else []
+
+-- a word of the connector's tree, as the plant text writes it
+abbrev pub token_word : List AtomDefinition → Token → List ℕ
+token_word atoms (Leaf port trigger) = leaf_word atoms port ++ trigger_mark trigger
+token_word atoms Open = codes "["
+token_word atoms (Close trigger) = codes "]" ++ trigger_mark trigger
+
+-- the same with a space before it
+abbrev pub spaced_word : List AtomDefinition → Token → List ℕ
+spaced_word atoms token = codes " " ++ token_word atoms token
+
+-- how an edge ends at a trigger, and how at a synchron
+abbrev pub end_of_edge : Bool → List ℕ
+end_of_edge trigger = if trigger then codes "normal" else codes "dot"
+
+-- the begin of the edge of a connector to a port of an atom
+abbrev pub arrow_to : ℕ → ℕ → ℕ → List ℕ
+arrow_to number atom port =
+    codes "  " ++ connector_node number ++ codes " -> " ++ part_node (codes "port") atom port
+
+-- the edge of a connector to a port of its tree; brackets have none
+abbrev pub port_edge : ℕ → Token → List ℕ
+port_edge number (Leaf port trigger) =
+    arrow_to number port.atom port.port ++ codes " [arrowhead=" ++ end_of_edge trigger ++ codes "];\n"
+port_edge number Open = []
+port_edge number (Close trigger) = []
+
+-- the name of a connector, and its tree on a second line
+abbrev pub connector_label : List AtomDefinition → WireDefinition → List ℕ
+connector_label atoms wire =
+    wire.name ++ codes "\\n" ++ flat_map (spaced_word atoms) (tokens_of wire.connector)
+
+-- the node of the connector with a number
+abbrev pub connector_line : List AtomDefinition → ℕ → WireDefinition → List ℕ
+connector_line atoms number wire =
+    codes "  " ++ connector_node number ++ codes " [shape=hexagon, label=\"" ++ connector_label atoms wire ++ codes "\"];\n"
+
+-- the connector with a number, and its edges
+abbrev pub connector_lines : List AtomDefinition → ℕ → WireDefinition → List ℕ
+connector_lines atoms number wire =
+    connector_line atoms number wire ++ flat_map (port_edge number) (tokens_of wire.connector)

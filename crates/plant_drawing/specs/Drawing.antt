@@ -1,0 +1,17 @@
+-- The drawing of a plant.
+use Rattle.std.specs.Prelude.{ℕ, List, ◌++◌, codes, flat_map}
+use Rattle.step_core.specs.Plant.{PlantDefinition}
+use Rattle.run_text.specs.Line.{numbered}
+use Rattle.plant_drawing.specs.Atom.{atom_lines}
+use Rattle.plant_drawing.specs.Connector.{connector_lines}
+use Rattle.plant_drawing.specs.Rule.{rule_line}
+
+-- the atoms, the connectors and the priority rules, each in written order
+abbrev pub parts_of : PlantDefinition → List ℕ
+parts_of plant =
+    numbered atom_lines 0 plant.atoms ++ numbered (connector_lines plant.atoms) 0 plant.wires ++
+    flat_map (rule_line plant.wires) plant.rules
+
+-- a directed graph of them
+abbrev pub drawing_of : PlantDefinition → List ℕ
+drawing_of plant = codes "digraph plant {\n" ++ parts_of plant ++ codes "}\n"

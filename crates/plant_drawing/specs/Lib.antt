@@ -1,0 +1,6 @@
+pub mod Node
+pub mod Expression
+pub mod Atom
+pub mod Connector
+pub mod Rule
+pub mod Drawing

@@ -1,0 +1,186 @@
+//! The cluster of an atom.
+ghost use Rattle.std.specs.Prelude.{◌++◌, codes, OnOk, flat_map, map};
+ghost use Rattle.std.specs.Io.KnownBytes.{Appends};
+ghost use Rattle.petri_atom.specs.Atom.{definition_of};
+ghost use Rattle.petri_atom.specs.Parts.{port_of};
+ghost use Rattle.run_text.specs.Line.{numbered};
+ghost use Rattle.plant_drawing.specs.Atom.{atom_label, atom_lines, cluster_head, cluster_parts, fill_of, named, place_line, port_line, transition_lines, variable_text};
+ghost use Rattle.plant_drawing.specs.Expression.{variable_name};
+
+use crate::expression::variable_name;
+use crate::node::print_part;
+use crate::transition::print_transition;
+use petri_atom::{Atom, Name, Place, Port, Variable};
+use std::io::Write;
+use text_io::{WriteFault, print_number, print_signed, print_text};
+
+/// Prints an atom as a cluster with its places, its ports and its transitions.
+pub(crate) fn print_atom<W: Write>(
+    number: u64,
+    atom: &Atom,
+    output: &mut W,
+) -> Result<(), WriteFault>
+    ensures { OnOk result (Appends (W.contents output.old) (W.contents output.new)
+        (atom_lines number (definition_of atom.now))) }
+{
+    print_head(number, atom, output)?;
+    print_parts(number, atom, output)?;
+    print_text(output, b"  }\n")
+}
+
+/// Prints the begin of the cluster of an atom, with its label.
+fn print_head<W: Write>(number: u64, atom: &Atom, output: &mut W) -> Result<(), WriteFault>
+    ensures { OnOk result (Appends (W.contents output.old) (W.contents output.new)
+        (cluster_head number (definition_of atom.now))) }
+{
+    print_text(output, b"  subgraph cluster_")?;
+    print_number(output, number)?;
+    print_text(output, b" {\n    label=\"")?;
+    print_label(atom, output)?;
+    print_text(output, b"\";\n")
+}
+
+/// Prints the name of an atom, and its variables.
+fn print_label<W: Write>(atom: &Atom, output: &mut W) -> Result<(), WriteFault>
+    ensures { OnOk result (Appends (W.contents output.old) (W.contents output.new)
+        (atom_label (definition_of atom.now))) }
+{
+    print_text(output, atom.name().as_bytes())?;
+    print_variables(atom.variables(), output)
+}
+
+/// Prints the places, the ports and the transitions of an atom.
+fn print_parts<W: Write>(number: u64, atom: &Atom, output: &mut W) -> Result<(), WriteFault>
+    ensures { OnOk result (Appends (W.contents output.old) (W.contents output.new)
+        (cluster_parts number (definition_of atom.now))) }
+{
+    print_places(number, atom.places(), output)?;
+    print_ports(number, atom.variables(), atom.ports(), output)?;
+    print_transitions(number, atom, output)
+}
+
+/// Prints variables with their first values, each on a line of its own.
+fn print_variables<W: Write>(variables: &[Variable], output: &mut W) -> Result<(), WriteFault>
+    ensures { OnOk result (Appends (W.contents output.old) (W.contents output.new)
+        (flat_map variable_text variables.now)) }
+{
+    for variable in variables {
+        print_text(output, b"\\n")?;
+        print_text(output, variable.name.as_bytes())?;
+        print_text(output, b" = ")?;
+        print_signed(output, variable.first)?;
+    }
+    Ok(())
+}
+
+/// Prints the places of an atom.
+fn print_places<W: Write>(atom: u64, places: &[Place], output: &mut W) -> Result<(), WriteFault>
+    ensures { OnOk result (Appends (W.contents output.old) (W.contents output.new)
+        (numbered (place_line atom) 0 places.now)) }
+{
+    for (number, place) in places.iter().enumerate() {
+        print_place(atom, number as u64, place, output)?;
+    }
+    Ok(())
+}
+
+/// Prints a place as a circle, filled where it is marked at first.
+fn print_place<W: Write>(
+    atom: u64,
+    number: u64,
+    place: &Place,
+    output: &mut W,
+) -> Result<(), WriteFault>
+    ensures { OnOk result (Appends (W.contents output.old) (W.contents output.new)
+        (place_line atom number place.now)) }
+{
+    print_text(output, b"    ")?;
+    print_part(b"place", atom, number, output)?;
+    print_text(output, b" [shape=circle, ")?;
+    print_fill(place.marked, output)?;
+    print_named(&place.name, output)
+}
+
+/// Prints the end of a node whose label is a name.
+fn print_named<W: Write>(name: &Name, output: &mut W) -> Result<(), WriteFault>
+    ensures { OnOk result (Appends (W.contents output.old) (W.contents output.new)
+        (named name.now)) }
+{
+    print_text(output, b"label=\"")?;
+    print_text(output, name.as_bytes())?;
+    print_text(output, b"\"];\n")
+}
+
+/// Prints how a place is filled that is marked at first; nothing for one that is not.
+fn print_fill<W: Write>(marked: bool, output: &mut W) -> Result<(), WriteFault>
+    ensures { OnOk result (Appends (W.contents output.old) (W.contents output.new)
+        (fill_of marked)) }
+{
+    if marked {
+        print_text(output, b"style=filled, ")
+    } else {
+        Ok(())
+    }
+}
+
+/// Prints the ports of an atom, each with the variables that it exports.
+fn print_ports<W: Write>(
+    atom: u64,
+    variables: &[Variable],
+    ports: &[Port],
+    output: &mut W,
+) -> Result<(), WriteFault>
+    ensures { OnOk result (Appends (W.contents output.old) (W.contents output.new)
+        (numbered (port_line atom variables.now) 0 (map port_of ports.now))) }
+{
+    for (number, port) in ports.iter().enumerate() {
+        print_port(atom, variables, number as u64, port, output)?;
+    }
+    Ok(())
+}
+
+/// Prints a port with the variables that it exports.
+fn print_port<W: Write>(
+    atom: u64,
+    variables: &[Variable],
+    number: u64,
+    port: &Port,
+    output: &mut W,
+) -> Result<(), WriteFault>
+    ensures { OnOk result (Appends (W.contents output.old) (W.contents output.new)
+        (port_line atom variables.now number (port_of port.now))) }
+{
+    print_text(output, b"    ")?;
+    print_part(b"port", atom, number, output)?;
+    print_text(output, b" [shape=ellipse, label=\"")?;
+    print_text(output, port.name.as_bytes())?;
+    print_exports(variables, &port.exports, output)?;
+    print_text(output, b"\"];\n")
+}
+
+/// Prints the names of the variables with these numbers, each with a space before it.
+fn print_exports<W: Write>(
+    variables: &[Variable],
+    exports: &[u8],
+    output: &mut W,
+) -> Result<(), WriteFault>
+    ensures { OnOk result (Appends (W.contents output.old) (W.contents output.new)
+        (flat_map (λ v. codes " " ++ variable_name variables.now v) exports.now)) }
+{
+    for variable in exports {
+        print_text(output, b" ")?;
+        print_text(output, variable_name(variables, *variable))?;
+    }
+    Ok(())
+}
+
+/// Prints the transitions of an atom.
+fn print_transitions<W: Write>(number: u64, atom: &Atom, output: &mut W) -> Result<(), WriteFault>
+    ensures { OnOk result (Appends (W.contents output.old) (W.contents output.new)
+        (numbered (transition_lines number (definition_of atom.now)) 0 (definition_of atom.now).transitions)) }
+{
+    for (transition, made) in atom.transitions().iter().enumerate() {
+        print_transition(number, atom, transition as u64, made, output)?;
+    }
+    Ok(())
+}

@@ -1,0 +1,33 @@
+//! The names of the drawing's nodes.
+ghost use Rattle.std.specs.Prelude.{OnOk};
+ghost use Rattle.std.specs.Io.KnownBytes.{Appends};
+ghost use Rattle.plant_drawing.specs.Node.{connector_node, part_node};
+
+use std::io::Write;
+use text_io::{WriteFault, print_number, print_text};
+
+/// Prints the name of a part of an atom: what it is, the atom's number, and its own.
+pub(crate) fn print_part<W: Write>(
+    kind: &[u8],
+    atom: u64,
+    number: u64,
+    output: &mut W,
+) -> Result<(), WriteFault>
+    ensures { OnOk result (Appends (W.contents output.old) (W.contents output.new)
+        (part_node kind.now atom number)) }
+{
+    print_text(output, kind)?;
+    print_text(output, b"_")?;
+    print_number(output, atom)?;
+    print_text(output, b"_")?;
+    print_number(output, number)
+}
+
+/// Prints the name of the connector with this number.
+pub(crate) fn print_connector<W: Write>(number: u64, output: &mut W) -> Result<(), WriteFault>
+    ensures { OnOk result (Appends (W.contents output.old) (W.contents output.new)
+        (connector_node number)) }
+{
+    print_text(output, b"connector_")?;
+    print_number(output, number)
+}
