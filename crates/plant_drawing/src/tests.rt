@@ -116,17 +116,19 @@ fn simple(alloc: Global, text: &[u8], of_ports: &[&[u8]]) -> Result<Atom, Fail> 
     places.push(place(b"s", true)?)?;
     let mut ports = Vec::new(alloc);
     let mut transitions = Vec::new(alloc);
-    for (number, of_port) in of_ports.iter().enumerate() {
+    let mut number = 0u16;
+    for of_port in of_ports {
         ports.push(port(alloc, of_port, &[])?)?;
         let sources = vec![in alloc; 0u8]?;
         let targets = vec![in alloc; 0u8]?;
         transitions.push(Transition::new(
-            number as u16,
+            number,
             sources,
             targets,
             Expression::Number(1),
             Vec::new(alloc),
         ))?;
+        number = number.wrapping_add(1);
     }
     Ok(Atom::new(
         alloc,
