@@ -20,6 +20,7 @@
 mod faults;
 pub mod laws;
 mod ports;
+mod row;
 mod shape;
 #[cfg(test)]
 mod tests;
@@ -28,6 +29,7 @@ mod walk;
 
 pub use faults::TreeFault;
 pub use ports::leaves;
+pub use row::LeafRow;
 pub use shape::first_fault;
 pub use tree::{Child, Connector, MAX_DEPTH, MAX_LEAVES, Mask, Node, Port};
 pub use walk::interactions;

@@ -1,11 +1,12 @@
-ghost use Rattle.std.specs.Prelude.{◌≡◌, ◌+◌, ◌≤◌, min, nat_lt, IfNone, map, List, ℕ, ◌++◌, [], ◌∷◌, length};
-ghost use Rattle.connector_tree.specs.Tree.{leaves_of, node_leaves, depth_of, node_depth, has_empty_of, node_has_empty};
+ghost use Rattle.std.specs.Prelude.{◌≡◌, ◌+◌, ◌≤◌, ◌==◌, min, nat_lt, IfNone, length};
+ghost use Rattle.std.specs.List.{list_any};
+ghost use Rattle.connector_tree.specs.Tree.{leaves, leaves_of, node_leaves, depth_of, node_depth, has_empty_of, node_has_empty};
 ghost use Rattle.connector_tree.specs.Faults.{fault_of, has_repeat, atoms, IsSound};
 ghost use Rattle.connector_tree.specs.declared.tree.TheConstants.{MAX_LEAVES};
 
 use crate::faults::TreeFault;
-use crate::tree::{Child, Connector, MAX_DEPTH, MAX_LEAVES, Node};
-use std::marker::Model;
+use crate::row::LeafRow;
+use crate::tree::{Child, Connector, MAX_DEPTH, MAX_LEAVES, Node, Port};
 
 /// The first fault of a tree, in the order of their numbers; never `Memory`.
 #[tactic(auto, using(crate::proofs::Sound::sound))]
@@ -19,7 +20,7 @@ pub fn first_fault(connector: &Connector) -> Option<TreeFault>
     if is_deeper(&connector.root, MAX_DEPTH) {
         return Some(TreeFault::TooDeep);
     }
-    if has_same_atom(&connector.root) {
+    if has_same_atom(connector) {
         return Some(TreeFault::SameAtom);
     }
     if has_empty(&connector.root) {
@@ -102,88 +103,34 @@ fn is_node_empty(node: &Node) -> bool
     }
 }
 
-/// The atoms of the leaves seen so far.
-#[derive(Drop)]
-struct Atoms {
-    row: [u16; MAX_LEAVES],
-    len: usize,
-}
-
-impl Model for Atoms {
-    ghost use Rattle.std.specs.Prelude.{◌≤◌, ℕ, List, take};
-    ghost use Rattle.connector_tree.specs.declared.tree.TheConstants.{MAX_LEAVES};
-
-    ghost Value = { List ℕ };
-
-    ghost view = { λ a. take a.len a.row };
-
-    ghost invariant = { λ a. a.len ≤ MAX_LEAVES };
-}
-
-impl Atoms {
-    fn new() -> Atoms
-        ensures { result ≡ [] }
-    {
-        Atoms {
-            row: [0; MAX_LEAVES],
-            len: 0,
-        }
-    }
-
-    fn push(&mut self, atom: u16)
-        requires { length self.old + 1 ≤ MAX_LEAVES }
-        ensures { self.new ≡ self.old ++ atom ∷ [] }
-    {
-        self.row[self.len] = atom;
-        self.len += 1;
-    }
-
-    /// Whether an atom stands twice among them.
-    fn has_repeat(&self) -> bool
-        ensures { result ≡ has_repeat self.now }
-    {
-        repeats(&self.row[..self.len])
-    }
-}
-
-fn repeats(row: &[u16]) -> bool
-    ensures { result ≡ has_repeat row.now }
+/// Whether two of the leaves are of one atom.
+fn has_same_atom(connector: &Connector) -> bool
+    requires { length (leaves connector.now) ≤ MAX_LEAVES }
+    ensures { result ≡ has_repeat (atoms (leaves connector.now)) }
 {
-    for (i, atom) in row.iter().enumerate() {
-        if row[i + 1..].contains(atom) {
+    has_repeat(LeafRow::of(connector).as_slice())
+}
+
+/// Whether two of the ports are of one atom.
+fn has_repeat(ports: &[Port]) -> bool
+    ensures { result ≡ has_repeat (atoms ports.now) }
+{
+    for (number, port) in ports.iter().enumerate() {
+        if has_atom(&ports[number + 1..], port.atom) {
             return true;
         }
     }
     false
 }
 
-/// Whether two of the leaves are of one atom.
-fn has_same_atom(children: &[Child]) -> bool
-    requires { length (leaves_of children.now) ≤ MAX_LEAVES }
-    ensures { result ≡ has_repeat (atoms (leaves_of children.now)) }
+/// Whether one of the ports is of the atom.
+fn has_atom(ports: &[Port], atom: u16) -> bool
+    ensures { result ≡ list_any (λ other. atom == other) (atoms ports.now) }
 {
-    let mut found = Atoms::new();
-    gather(children, &mut found);
-    found.has_repeat()
-}
-
-#[cycle(gather)]
-fn gather(children: &[Child], found: &mut Atoms)
-    requires { length found.old + length (leaves_of children.now) ≤ MAX_LEAVES }
-    ensures { found.new ≡ found.old ++ atoms (leaves_of children.now) }
-{
-    for child in children {
-        gather_node(&child.node, found);
+    for port in ports {
+        if atom == port.atom {
+            return true;
+        }
     }
-}
-
-#[cycle(gather)]
-fn gather_node(node: &Node, found: &mut Atoms)
-    requires { length found.old + length (node_leaves node.now) ≤ MAX_LEAVES }
-    ensures { found.new ≡ found.old ++ atoms (node_leaves node.now) }
-{
-    match node {
-        Node::Leaf { atom, .. } => found.push(*atom),
-        Node::Fusion(children) => gather(children, found),
-    }
+    false
 }

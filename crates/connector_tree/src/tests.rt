@@ -184,9 +184,12 @@ fn leaves_stand_from_left_to_right(rt: HostRuntime) -> Result<(), Fail> {
     let a = rt.alloc();
     let inner = vec![in a; port(5), trigger(port(2))]?;
     let root = vec![in a; port(7), bracket(inner), port(1)]?;
-    let ports = leaves(a, &Connector { root })?;
+    let connector = Connector { root };
+    let ports = leaves(a, &connector)?;
     let want = [7, 5, 2, 1].map(|atom| Port { atom, port: 0 });
     assert_eq!(rt; ports.as_slice(), want.as_slice());
+    let row = LeafRow::of(&connector);
+    assert_eq!(rt; row.as_slice(), want.as_slice());
     Ok(())
 }
 
