@@ -4,6 +4,7 @@ pub mod Combinations
 pub mod Flattened
 pub mod Told
 pub mod RuleFaults
+pub mod TreeRules
 pub mod Delivering
 pub mod Guarding
 pub mod Stepping

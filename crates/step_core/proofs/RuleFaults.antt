@@ -1,4 +1,4 @@
-use Rattle.std.proofs.Common.{◌≡◌, ℕ, suc, refl, sym, ◌∙◌, ap, List, [], ◌∷◌, take, Bool, true, false, cond, not}
+use Rattle.std.proofs.Common.{◌≡◌, ℕ, suc, refl, sym, ◌∙◌, ap, List, [], ◌∷◌, take, length, Bool, true, false, cond, not}
 use Rattle.std.specs.Prelude.{Option, Some, None, option_map}
 use Rattle.std.specs.List.{list_any}
 use Rattle.std.specs.Option.{option_map_or}
@@ -8,7 +8,9 @@ use Rattle.petri_atom.specs.Name.{is_same_text}
 use Rattle.connector_tree.specs.Faults as tree
 use Rattle.connector_tree.specs.declared.faults.TreeFault.{TreeFault}
 use Rattle.step_core.specs.Plant.{WireDefinition, PlantDefinition}
-use Rattle.step_core.specs.Rules.{first_of, first_told, atom_fault, tree_fault, is_within_limits, early_fault, late_fault, fault_of_order, IsFaultOf}
+use Rattle.step_core.specs.Rules.{first_of, first_told, atom_fault, tree_fault, is_within_limits, fault_of_wire, wire_fault, fault_of_wires, fault_of_count, early_fault, first_fault, fault_of_order, fault_of, IsFaultOf}
+use Rattle.step_core.specs.Choice.{plant_interactions}
+use Rattle.step_core.specs.declared.fault.WireFault.{WireFault}
 use Rattle.step_core.specs.declared.fault.SystemFault.{SystemFault}
 use Rattle.step_core.specs.declared.fault.SystemFault.TheVariants.{Limit, BadAtom, BadConnector, BadWire, Order, Memory}
 
@@ -47,11 +49,35 @@ early_fault-rules plant =
       | false ↦ first_of-rules (first_told (atom_fault plant.atoms) 0 plant.atoms) (first_told tree_fault 0 plant.wires) (first_told-rules (atom_fault plant.atoms) (atom_fault-rules plant.atoms) 0 plant.atoms) (first_told-rules tree_fault tree_fault-rules 0 plant.wires)
     ]
 
--- what the early rules tell is the fault of the plant
-pub early-told : (fault : SystemFault) (plant : PlantDefinition) → early_fault plant ≡ Some fault → IsFaultOf fault plant
-early-told Limit plant told = ap (λ o. first_of o (first_of (late_fault plant) (fault_of_order plant))) told
-early-told (BadAtom n) plant told = ap (λ o. first_of o (first_of (late_fault plant) (fault_of_order plant))) told
-early-told (BadConnector k f) plant told = ap (λ o. first_of o (first_of (late_fault plant) (fault_of_order plant))) told
-early-told (BadWire k f) plant told = ap (λ o. first_of o (first_of (late_fault plant) (fault_of_order plant))) told
-early-told (Order f) plant told = ap (λ o. first_of o (first_of (late_fault plant) (fault_of_order plant))) told
-early-told Memory plant told = absurd (false≢true (sym (ap tells_rules told) ∙ early_fault-rules plant))
+wire_fault-rules : (atoms : List AtomDefinition) (wires : List WireDefinition) (k : ℕ) (w : WireDefinition) → tells_rules (wire_fault atoms wires k w) ≡ true
+wire_fault-rules atoms wires k w = each (fault_of_wire atoms (take k wires) w)
+  where
+    each : (o : Option WireFault) → tells_rules (option_map (BadWire k) o) ≡ true
+    each None = refl
+    each (Some fault) = refl
+
+first_fault-rules : (plant : PlantDefinition) → tells_rules (first_fault plant) ≡ true
+first_fault-rules plant =
+    first_of-rules (early_fault plant) (fault_of_wires plant) (early_fault-rules plant)
+    (first_told-rules (wire_fault plant.atoms plant.wires) (wire_fault-rules plant.atoms plant.wires) 0 plant.wires)
+
+-- what the first two of some tell is what all tell
+led : (early wires count order : Option SystemFault) (fault : SystemFault) → first_of early wires ≡ Some fault → first_of early (first_of (first_of wires count) order) ≡ Some fault
+led (Some e) wires count order fault told = told
+led None (Some w) count order fault told = told
+led None None count order fault told = absurd (cc)
+
+-- what the rules tell that are judged without memory is the fault of the plant
+pub first-told : (fault : SystemFault) (plant : PlantDefinition) → first_fault plant ≡ Some fault → IsFaultOf fault plant
+first-told fault plant told = each fault told
+  where
+    all : (f : SystemFault) → first_fault plant ≡ Some f → fault_of plant ≡ Some f
+    all f told = led (early_fault plant) (fault_of_wires plant) (fault_of_count (length (plant_interactions plant))) (fault_of_order plant) f told
+
+    each : (f : SystemFault) → first_fault plant ≡ Some f → IsFaultOf f plant
+    each Limit told = all Limit told
+    each (BadAtom n) told = all (BadAtom n) told
+    each (BadConnector k f) told = all (BadConnector k f) told
+    each (BadWire k f) told = all (BadWire k f) told
+    each (Order f) told = all (Order f) told
+    each Memory told = absurd (false≢true (sym (ap tells_rules told) ∙ first_fault-rules plant))

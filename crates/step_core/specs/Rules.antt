@@ -110,11 +110,13 @@ early_fault plant =
 abbrev pub fault_of_count : ℕ → Option SystemFault
 fault_of_count interactions = if nat_lt MAX_INTERACTIONS interactions then Some Limit else None
 
+-- the same of those about wires
+abbrev pub fault_of_wires : PlantDefinition → Option SystemFault
+fault_of_wires plant = first_told (wire_fault plant.atoms plant.wires) 0 plant.wires
+
 -- the same of those about wires, and about how many interactions there are
 abbrev pub late_fault : PlantDefinition → Option SystemFault
-late_fault plant =
-    first_of (first_told (wire_fault plant.atoms plant.wires) 0 plant.wires)
-    (fault_of_count (length (plant_interactions plant)))
+late_fault plant = first_of (fault_of_wires plant) (fault_of_count (length (plant_interactions plant)))
 
 -- why the priority rules put no order on the interactions, if they put none
 abbrev pub fault_of_order : PlantDefinition → Option SystemFault
@@ -124,7 +126,11 @@ fault_of_order plant = option_map Order (order_fault plant.rules (map named (pla
 abbrev pub fault_of : PlantDefinition → Option SystemFault
 fault_of plant = first_of (early_fault plant) (first_of (late_fault plant) (fault_of_order plant))
 
--- why atoms and wires made no plant: the rule that they break first, or want of memory, which is told only where no limit, name of an atom or tree is at fault
+-- the first rule that is broken of those that are judged without memory: all but the number of interactions and their order
+abbrev pub first_fault : PlantDefinition → Option SystemFault
+first_fault plant = first_of (early_fault plant) (fault_of_wires plant)
+
+-- why atoms and wires made no plant: the rule that they break first, or want of memory, which is told only where no rule is broken that is judged without memory
 abbrev pub IsFaultOf : SystemFault → PlantDefinition → Type 0
-IsFaultOf Memory plant = early_fault plant ≡ None
+IsFaultOf Memory plant = first_fault plant ≡ None
 IsFaultOf fault plant = fault_of plant ≡ Some fault

@@ -5,7 +5,7 @@ ghost use Rattle.connector_tree.specs.Tree.{leaves};
 ghost use Rattle.step_core.specs.Choice.{interactions_from, interactions_of_connector, named, plant_interactions};
 ghost use Rattle.step_core.specs.Interaction.{interaction_of};
 ghost use Rattle.step_core.specs.Made.{plant_by};
-ghost use Rattle.step_core.specs.Rules.{early_fault, late_fault, fault_of, fault_of_count, IsFaultOf};
+ghost use Rattle.step_core.specs.Rules.{first_fault, fault_of, fault_of_count, IsFaultOf};
 ghost use Rattle.step_core.specs.Wire.{wire_of};
 ghost use Rattle.step_core.specs.declared.limits.TheConstants.{MAX_ATOMS, MAX_WIRES};
 
@@ -39,12 +39,12 @@ impl System {
         ensures sound { IfOk result (λ _. fault_of (plant_by atoms.items wires.items rules.now) ≡ None) }
         ensures fault { IfErr result (λ fault. IsFaultOf fault (plant_by atoms.items wires.items rules.now)) }
     {
-        if let Some(fault) = rules::early_fault(&atoms, &wires, rules) {
+        if let Some(fault) = first_fault(&atoms, &wires, rules) {
             return Err(fault);
         }
         let ports = leaves_of_wires(alloc, &wires)?;
         let interactions = interactions_of_wires(alloc, atoms.len() as u16, &wires)?;
-        if let Some(fault) = late_fault(&atoms, &wires, &ports, &interactions) {
+        if let Some(fault) = fault_of_count(interactions.len()) {
             return Err(fault);
         }
         let order = Order::new(alloc, rules, &names_of(alloc, &interactions)?)?;
@@ -111,21 +111,13 @@ fn names_of(alloc: Global, interactions: &[Interaction]) -> Result<Vec<(u16, u16
     Ok(names)
 }
 
-/// The first rule that is broken of those about wires, and about how many interactions there are.
-fn late_fault(
-    atoms: &[Atom],
-    wires: &[Wire],
-    ports: &[Vec<Port>],
-    interactions: &[Interaction],
-) -> Option<SystemFault>
-    requires few { length wires.now ≤ MAX_WIRES }
-    requires ports { map (λ list. list.items) ports.now ≡ map (λ w. leaves w.connector) wires.now }
-    requires listed { map interaction_of interactions.now ≡ plant_interactions (plant_by atoms.now wires.now []) }
-    ensures { result ≡ late_fault (plant_by atoms.now wires.now []) }
+/// The first rule that is broken of those that are judged without memory.
+fn first_fault(atoms: &[Atom], wires: &[Wire], rules: &[Rule]) -> Option<SystemFault>
+    ensures { result ≡ first_fault (plant_by atoms.now wires.now rules.now) }
 {
-    match wire_rules::fault_of_wires(atoms, wires, ports) {
+    match rules::early_fault(atoms, wires, rules) {
         Some(fault) => Some(fault),
-        None => fault_of_count(interactions.len()),
+        None => wire_rules::fault_of_wires(atoms, wires),
     }
 }
 

@@ -6,27 +6,24 @@ ghost use Rattle.petri_atom.specs.Definition.{is_each_once};
 ghost use Rattle.petri_atom.specs.Expression.{tree_of, all_variables};
 ghost use Rattle.petri_atom.specs.Name.{is_same_text};
 ghost use Rattle.connector_tree.specs.Tree.{leaves};
-ghost use Rattle.step_core.specs.Rules.{first_told, is_known_port, is_known_export, is_exported, names_known, is_same_export, first_broken, fault_of_wire, wire_fault};
+ghost use Rattle.step_core.specs.Rules.{first_told, tree_fault, is_known_port, is_known_export, is_exported, names_known, is_same_export, first_broken, fault_of_wire, wire_fault};
 ghost use Rattle.step_core.specs.Wire.{wire_of, transfer_of};
 ghost use Rattle.step_core.specs.declared.limits.TheConstants.{MAX_WIRES};
 
 use crate::fault::{SystemFault, WireFault};
 use crate::wire::{Export, Transfer, Wire};
-use connector_tree::Port;
+use connector_tree::{LeafRow, Port};
 use petri_atom::{Atom, Expression, Name, VariableTest};
 
-/// The first wire that breaks a rule of those that are not about its tree alone; `ports` has the leaves of each.
-pub(crate) fn fault_of_wires(
-    atoms: &[Atom],
-    wires: &[Wire],
-    ports: &[Vec<Port>],
-) -> Option<SystemFault>
+/// The first wire that breaks a rule of those that are not about its tree alone. It takes no memory.
+pub(crate) fn fault_of_wires(atoms: &[Atom], wires: &[Wire]) -> Option<SystemFault>
     requires few { length wires.now ≤ MAX_WIRES }
-    requires ports { map (λ list. list.items) ports.now ≡ map (λ w. leaves w.connector) wires.now }
+    requires trees { first_told tree_fault 0 (map wire_of wires.now) ≡ None }
     ensures { result ≡ first_told (wire_fault (map definition_of atoms.now) (map wire_of wires.now)) 0 (map wire_of wires.now) }
 {
     for (number, wire) in wires.iter().enumerate() {
-        if let Some(fault) = wire_fault(atoms, wires, number, wire, &ports[number]) {
+        let row = LeafRow::of(&wire.connector);
+        if let Some(fault) = wire_fault(atoms, wires, number, wire, row.as_slice()) {
             return Some(fault);
         }
     }

@@ -1,17 +1,26 @@
-use Rattle.std.proofs.Common.{◌∙◌, sym, map}
+use Rattle.std.proofs.Common.{◌∙◌, refl, ap, sym, length, map}
+use Rattle.std.specs.Prelude.{option_map}
+use Rattle.std.proofs.lemmas.Option.{slice_get_read, slice_get-map}
 use Rattle.petri_atom.specs.Atom.{definition_of}
 use Rattle.step_core.specs.Rules.{first_told, wire_fault}
 use Rattle.step_core.specs.Wire.{wire_of}
-use Rattle.connector_tree.specs.Tree.{leaves}
-use Rattle.step_core.proofs.Told.{same_at, told-now, told-later}
+use Rattle.step_core.proofs.Told.{told-now, told-later}
+use Rattle.step_core.proofs.TreeRules.{few_leaves}
 use Rattle.step_core.proofs.wire_rules.fault_of_wires.Goals as goal
+
+pub of-row-requires : goal.of-row-requires
+of-row-requires c =
+    let wires = c.args.wires.now in
+    let n = c.loop-number.number in
+    let w = c.index-wires-number.result in
+    few_leaves (map wire_of wires) c.requires.trees n (wire_of w)
+    (slice_get-map wire_of wires n ∙ ap (option_map wire_of) (slice_get_read wires (length wires) n w refl c.loop-number-test.true c.index-wires-number.is))
 
 pub wire_fault-requires : goal.wire_fault-requires
 wire_fault-requires c = record {
   few = c.requires.few;
   there = c.loop-number-test.true;
-  ports = c.deref.ensures.value ∙
-      same_at (λ list. list.items) (λ w. leaves w.connector) c.args.ports.now c.args.wires.now c.requires.ports c.loop-number.number c.index-ports-number.result c.index-wires-number.result c.loop-number-test.true c.index-ports-number.is c.index-wires-number.is;
+  ports = c.as_slice.ensures ∙ c.of-row.ensures;
 }
 
 pub returns-in-Some : goal.returns-in-Some
