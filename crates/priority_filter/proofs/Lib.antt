@@ -1,4 +1,5 @@
 pub mod DecidedTests
+pub mod FirstMember
 pub mod MemberLaws
 pub mod CommonMembers
 pub mod Chains

@@ -1,5 +1,5 @@
 -- Which interactions a row of words holds.
-use Rattle.std.specs.Prelude.{ℕ, ◌*◌, ◌/◌, ◌%◌, Bool, List, length, filter, nat_eq, slice_index}
+use Rattle.std.specs.Prelude.{◌≡◌, ℕ, ◌*◌, ◌/◌, ◌%◌, ◌<◌, ◌≤◌, Bool, true, false, List, length, filter, nat_eq, slice_index}
 use Rattle.std.specs.List.{range_with_len}
 use Rattle.std.specs.Int.{bit_at}
 use Rattle.std.specs.Ordering.{nat_cmp}
@@ -12,3 +12,7 @@ holds words k = nat_eq (bit_at (slice_index words (k / 64)) (k % 64)) 1
 -- the set of all interactions that the words hold
 unfoldable pub members_of : List ℕ → FinSet nat_cmp
 members_of words = from_list (filter (holds words) (range_with_len 0 (64 * length words)))
+
+-- n is a number of an interaction, passes, and is the first from `from` on that does
+abbrev pub IsFirst : (ℕ → Bool) → ℕ → ℕ → Type 0
+IsFirst has from n = (from ≤ n) × (n < 1024) × (has n ≡ true) × ((m : ℕ) → from ≤ m → m < n → has m ≡ false)

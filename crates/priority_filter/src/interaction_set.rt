@@ -1,9 +1,9 @@
 //! A set of interaction numbers, kept as a row of bits.
-ghost use Rattle.std.specs.Prelude.{◌≡◌, ℕ, ◌<◌, ◌≤◌, ◌↔◌, false, IsTrue, bit_or, slice_index};
+ghost use Rattle.std.specs.Prelude.{◌≡◌, ℕ, ◌/◌, ◌<◌, ◌≤◌, ◌↔◌, true, false, IsTrue, IfSome, IfNone, bit_or, slice_index};
 ghost use Rattle.std.specs.Ordering.{nat_cmp};
 ghost use Rattle.std.specs.FinSet as set;
 ghost use Rattle.std.specs.Coded.{coded_ℕ};
-ghost use Rattle.priority_filter.specs.Members.{holds, members_of};
+ghost use Rattle.priority_filter.specs.Members.{holds, members_of, IsFirst};
 
 use std::marker::Model;
 
@@ -71,14 +71,23 @@ impl InteractionSet {
         self.words = [0; ROW_WORDS];
     }
 
-    pub(crate) fn copy(&self) -> Self
+    /// The least interaction of the set from `from` on, if there is one.
+    pub fn first_from(&self, from: u16) -> Option<u16>
+        ensures found { IfSome result (λ n. (from ≤ n) × (n < INTERACTION_LIMIT) × (set.contains self.now n ≡ true) × ((m : ℕ) → from ≤ m → m < n → set.contains self.now m ≡ false)) }
+        ensures none { IfNone result ((m : ℕ) → from ≤ m → set.contains self.now m ≡ false) }
+    {
+        first_in_words(&self.words, usize::from(from))
+    }
+
+    /// The same interactions in a set of its own.
+    pub fn copy(&self) -> Self
         ensures { result ≡ self.now }
     {
         InteractionSet { words: self.words }
     }
 
     /// Puts in each interaction of the other set.
-    pub(crate) fn union_with(&mut self, other: &InteractionSet)
+    pub fn union_with(&mut self, other: &InteractionSet)
         ensures { self.new ≡ set.union self.old other.now }
     {
         unite(&mut self.words, &other.words);
@@ -99,6 +108,36 @@ impl Default for InteractionSet {
     fn default() -> Self {
         Self::new()
     }
+}
+
+/// The first number from `from` on in the word that has the bit of `from`.
+fn first_in_word(words: &[u64; ROW_WORDS], from: usize) -> Option<u16>
+    requires { from < INTERACTION_LIMIT }
+    ensures found { IfSome result (λ n. IsFirst (holds words.now) from n) }
+    ensures none { IfNone result ((m : ℕ) → from ≤ m → m / 64 ≡ from / 64 → holds words.now m ≡ false) }
+{
+    let rest = words[from / 64] >> (from % 64);
+    if rest == 0 {
+        None
+    } else {
+        Some((from + rest.trailing_zeros() as usize) as u16)
+    }
+}
+
+/// The first number from `from` on, if there is one.
+fn first_in_words(words: &[u64; ROW_WORDS], from: usize) -> Option<u16>
+    ensures found { IfSome result (λ n. IsFirst (holds words.now) from n) }
+    ensures none { IfNone result ((m : ℕ) → from ≤ m → holds words.now m ≡ false) }
+{
+    let mut place = from;
+    while place < INTERACTION_LIMIT {
+        let first = first_in_word(words, place);
+        if first.is_some() {
+            return first;
+        }
+        place = (place / 64 + 1) * 64;
+    }
+    None
 }
 
 /// Sets each bit that is set in the other words.
@@ -147,6 +186,58 @@ mod tests {
             all.clear();
             assert!(rt; !all.contains(512) && !all.contains(number));
         }
+    }
+
+    #[test]
+    fn members_are_gone_over_in_order(rt: HostRuntime) {
+        let members = [0, 1, 63, 64, 127, 640, 1023];
+        let mut set = InteractionSet::new();
+        assert_eq!(rt; set.first_from(0), None);
+        for number in members {
+            set.insert(number);
+        }
+        let mut from = 0;
+        for number in members {
+            assert_eq!(rt; set.first_from(from), Some(number), "from {from}");
+            from = number + 1;
+        }
+        for past in [1024, 1025, 2047, 65535] {
+            assert_eq!(rt; set.first_from(past), None, "from {past}");
+        }
+    }
+
+    #[test]
+    fn a_member_is_the_first_from_itself(rt: HostRuntime) {
+        let mut set = InteractionSet::new();
+        set.insert(5);
+        set.insert(700);
+        for (from, first) in [
+            (4, 5),
+            (5, 5),
+            (6, 700),
+            (63, 700),
+            (64, 700),
+            (699, 700),
+            (700, 700),
+        ] {
+            assert_eq!(rt; set.first_from(from), Some(first), "from {from}");
+        }
+        for from in [701, 703, 704, 1023] {
+            assert_eq!(rt; set.first_from(from), None, "from {from}");
+        }
+    }
+
+    #[test]
+    fn a_copy_and_a_union_hold_both(rt: HostRuntime) {
+        let mut low = InteractionSet::new();
+        low.insert(3);
+        let mut high = low.copy();
+        high.insert(900);
+        assert!(rt; !low.contains(900));
+        low.insert(70);
+        low.union_with(&high);
+        assert!(rt; low.contains(3) && low.contains(70) && low.contains(900));
+        assert!(rt; high.contains(3) && !high.contains(70));
     }
 
     #[test]
