@@ -1,11 +1,15 @@
-use Rattle.std.proofs.Common.{◌≡◌, ℕ, zero, suc, ◌≤◌, ℤ, Bool, true, false, not, ◌&&◌, ◌||◌, ltb, refl, sym, ◌∙◌, ap, List, [], ◌∷◌, length, Option, Some, None, ⊎_elim}
+use Rattle.std.proofs.Common.{◌≡◌, ℕ, zero, suc, ◌≤◌, ℤ, Bool, true, false, not, ◌&&◌, ◌||◌, ltb, refl, sym, ◌∙◌, ap, List, [], ◌∷◌, length, map, Option, Some, None, subst, ⊎_elim}
 use Rattle.std.specs.Prelude.{slice_get, slice_set}
 use Rattle.std.specs.List.{list_all}
 use Rattle.std.specs.Option.{option_map_or}
 use Rattle.std.proofs.lemmas.Bool.{and_parts, and_from, cases_lt, le-ltb, false≢true, false_from_ne_true}
-use Rattle.std.proofs.lemmas.List.{length-set}
+use Rattle.std.proofs.lemmas.List.{length-set, length-map}
 use Rattle.petri_atom.specs.Local.{Local, has, is_in, set_below, moved, delivered_value}
 use Rattle.petri_atom.specs.Definition.{AtomDefinition, TransitionDefinition, UpdateDefinition, Fits, fired, fired_by, exports_of, updated, delivered_to, is_well_formed, is_within_limits, has_each_once, has_known_numbers, has_known_numbers_in, exports_known, has_sources_and_targets, are_below}
+use Rattle.petri_atom.specs.Atom.{definition_of}
+use Rattle.petri_atom.specs.Parts.{port_of}
+use Rattle.petri_atom.specs.Transition.{transition_of}
+use Rattle.petri_atom.specs.declared.atom.Atom.{Atom}
 use Rattle.petri_atom.specs.declared.state.Delivered.{Delivered}
 use Rattle.petri_atom.proofs.Sets.{has-above, set_below-lt, has-set_below}
 use Rattle.petri_atom.proofs.Markings.{list_all-at}
@@ -66,6 +70,11 @@ pub known_ports : (a : AtomDefinition) → is_well_formed a ≡ true → list_al
 known_ports a formed =
     all_weaker _ _
     (λ t known. (and_parts _ _ (and_parts _ _ (and_parts _ _ (and_parts _ _ known).0).0).0).0) a.transitions (known_numbers a formed)
+
+-- so in an atom as it is kept
+pub known_ports_of : (a : Atom) → list_all (λ t. ltb t.port (length a.ports.items)) (map transition_of a.transitions.items) ≡ true
+known_ports_of a =
+    subst (λ n. list_all (λ t. ltb t.port n) (map transition_of a.transitions.items) ≡ true) (length-map a.ports.items port_of) (known_ports (definition_of a) a.well_formed)
 
 -- the targets of a transition whose numbers are known are places
 known_targets : (ports places variables : ℕ) (t : TransitionDefinition) → has_known_numbers_in ports places variables t ≡ true → are_below places t.targets ≡ true

@@ -6,4 +6,5 @@ pub mod Numbers
 pub mod Fitting
 pub mod Sameness
 pub mod Rows
+pub mod PortSets
 pub mod OfferedSets

@@ -3,7 +3,7 @@ use Rattle.std.specs.List.{list_all}
 use Rattle.std.proofs.lemmas.Bool.{and_parts, ltb-true, ne_eqb, cases_lt}
 use Rattle.std.proofs.lemmas.List.{length-append, get_or_append_left, get_or-append_right, get_or_past, get_or-map, length-map}
 use Rattle.petri_atom.specs.Definition.{TransitionDefinition, numbers_from, numbers_of}
-use Rattle.petri_atom.specs.Parts.{index_below}
+use Rattle.petri_atom.specs.Parts.{table_below, index_below}
 
 -- the first that passes a test among those that pass another is the first that passes both
 pub find-filter : {X : Type 0} (p q : X → Bool) (xs : List X) → find p (filter q xs) ≡ find (λ x. p x && q x) xs
@@ -24,30 +24,30 @@ numbers-none ports port n (t ∷ ts) known past =
     ap (λ b. cond b (n ∷ numbers_from (suc n) port ts) (numbers_from (suc n) port ts)) (ne_eqb t.port port (λ same. absurd (omega arith))) ∙
     numbers-none ports port (suc n) ts parts.1 past
 
--- the index has a list for each port
-pub length-index_below : (n : ℕ) (ts : List TransitionDefinition) → length (index_below n ts) ≡ n
-length-index_below zero ts = refl
-length-index_below (suc n) ts =
-    length-append (index_below n ts) (numbers_of n ts ∷ []) ∙ ap (λ k. k + 1) (length-index_below n ts) ∙ omega arith
+-- a table has an entry for each number below its bound
+pub length-table_below : {X : Type 0} (of : ℕ → X) (n : ℕ) → length (table_below of n) ≡ n
+length-table_below of zero = refl
+length-table_below of (suc n) =
+    length-append (table_below of n) (of n ∷ []) ∙ ap (λ k. k + 1) (length-table_below of n) ∙ omega arith
 
--- and it is the list of the port's transitions
-pub get_or-index_below : (n port : ℕ) (ts : List TransitionDefinition) → port < n → get_or (index_below n ts) port [] ≡ numbers_of port ts
-get_or-index_below zero port ts within = absurd (omega arith)
-get_or-index_below (suc n) port ts within =
-    let before : port < n → get_or (index_below n ts ++ numbers_of n ts ∷ []) port [] ≡ numbers_of port ts =
-    λ h. get_or_append_left (index_below n ts) (numbers_of n ts ∷ []) [] port (omega (arith, length-index_below n ts)) ∙ get_or-index_below n port ts h in
-    let last : n ≤ port → get_or (index_below n ts ++ numbers_of n ts ∷ []) port [] ≡ numbers_of port ts =
-    λ h. let here : port - n ≡ 0 = omega arith in
-    let same : n ≡ port = omega arith in
-    get_or-append_right (index_below n ts) (numbers_of n ts ∷ []) n port [] (length-index_below n ts) h ∙
-    ap (λ k. get_or (numbers_of n ts ∷ []) k []) here ∙ ap (λ k. numbers_of k ts) same in
-    ⊎_elim before last (cases_lt port n)
+-- and it is what belongs to the number
+pub get_or-table_below : {X : Type 0} (of : ℕ → X) (none : X) (n i : ℕ) → i < n → get_or (table_below of n) i none ≡ of i
+get_or-table_below of none zero i within = absurd (omega arith)
+get_or-table_below of none (suc n) i within =
+    let before : i < n → get_or (table_below of n ++ of n ∷ []) i none ≡ of i =
+    λ h. get_or_append_left (table_below of n) (of n ∷ []) none i (omega (arith, length-table_below of n)) ∙ get_or-table_below of none n i h in
+    let last : n ≤ i → get_or (table_below of n ++ of n ∷ []) i none ≡ of i =
+    λ h. let here : i - n ≡ 0 = omega arith in
+    let same : n ≡ i = omega arith in
+    get_or-append_right (table_below of n) (of n ∷ []) n i none (length-table_below of n) h ∙
+    ap (λ k. get_or (of n ∷ []) k none) here ∙ ap of same in
+    ⊎_elim before last (cases_lt i n)
 
 -- what stands in the index at any port is the list of the port's transitions, where each transition has a port that is there
 pub index-at : (ports port : ℕ) (ts : List TransitionDefinition) → list_all (λ t. ltb t.port ports) ts ≡ true → get_or (index_below ports ts) port [] ≡ numbers_of port ts
 index-at ports port ts known =
-    ⊎_elim (get_or-index_below ports port ts)
-    (λ past. get_or_past (index_below ports ts) port [] (omega (arith, length-index_below ports ts)) ∙ sym (numbers-none ports port 0 ts known past))
+    ⊎_elim (get_or-table_below (λ k. numbers_of k ts) [] ports port)
+    (λ past. get_or_past (index_below ports ts) port [] (omega (arith, length-table_below (λ k. numbers_of k ts) ports)) ∙ sym (numbers-none ports port 0 ts known past))
     (cases_lt port ports)
 
 -- the same of an index whose lists are kept in something else, by what is kept at a place, and past the last place

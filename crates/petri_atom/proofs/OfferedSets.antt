@@ -1,10 +1,10 @@
-use Rattle.std.proofs.Common.{◌≡◌, ◌==◌, ℕ, suc, arith, ◌≤◌, Bool, true, ◌&&◌, ◌||◌, cond, false, refl, sym, ◌∙◌, ap, List, [], ◌∷◌, length, filter, ⊎_elim}
+use Rattle.std.proofs.Common.{◌≡◌, ℕ, ◌≤◌, Bool, true, ◌&&◌, ◌||◌, cond, false, refl, sym, ◌∙◌, ap, List, [], ◌∷◌, length, filter, ⊎_elim}
 use Rattle.std.specs.List.{list_any}
 use Rattle.std.specs.Option.{option_map_or}
 use Rattle.std.proofs.lemmas.Bool.{and_parts, cases_lt, leb-true}
 use Rattle.std.proofs.lemmas.Option.{slice_get_past}
 use Rattle.petri_atom.specs.Local.{Local, has}
-use Rattle.petri_atom.specs.Definition.{AtomDefinition, TransitionDefinition, numbers_from, offers, offers_number, numbers_of, enabled, offers_port, offered_set, is_well_formed, is_within_limits, has_each_once, has_known_numbers, has_sources_and_targets}
+use Rattle.petri_atom.specs.Definition.{AtomDefinition, offers, offers_number, numbers_of, enabled, offers_port, offered_set, is_well_formed, is_within_limits, has_each_once, has_known_numbers, has_sources_and_targets}
 use Rattle.petri_atom.proofs.Sets.{has-above, set_below-lt, has-set_below}
 
 -- the set of the offered transitions has a number exactly where the transition with it is offered
@@ -44,25 +44,3 @@ module _ (a : AtomDefinition) (s : Local) (set port : ℕ) (numbers : List ℕ) 
 
   pub any-transitions : list_any (has set) numbers ≡ offers_port a s port
   any-transitions = list_any-same (has set) (offers_number a s) in_set numbers ∙ ap (list_any (offers_number a s)) of_port
-
--- a port has no more transitions than its atom
-length-numbers_from : (n port : ℕ) (ts : List TransitionDefinition) → length (numbers_from n port ts) ≤ length ts
-length-numbers_from n port [] = omega arith
-length-numbers_from n port (t ∷ ts) =
-    elim (t.port == port) as (λ b. length (cond b (n ∷ numbers_from (suc n) port ts) (numbers_from (suc n) port ts)) ≤ suc (length ts)) [
-      | true ↦ omega (arith, length-numbers_from (suc n) port ts)
-      | false ↦ omega (arith, length-numbers_from (suc n) port ts)
-    ]
-
-length-kept : {X : Type 0} (f : X → Bool) (xs : List X) → length (filter f xs) ≤ length xs
-length-kept f [] = omega arith
-length-kept f (x ∷ xs) =
-    elim (f x) as (λ b. length (cond b (x ∷ filter f xs) (filter f xs)) ≤ suc (length xs)) [
-      | true ↦ omega (arith, length-kept f xs)
-      | false ↦ omega (arith, length-kept f xs)
-    ]
-
--- so no more of them than an atom may have are in a set
-pub few_among : (a : AtomDefinition) (set port : ℕ) (numbers : List ℕ) → is_well_formed a ≡ true → numbers ≡ numbers_of port a.transitions → length (filter (has set) numbers) ≤ 128
-few_among a set port numbers formed of_port =
-    omega (arith, length-kept (has set) numbers, ap length of_port, length-numbers_from 0 port a.transitions, few_transitions a formed)

@@ -122,6 +122,13 @@ set_below-more w ks p small below e =
     each : (k : ℕ) → k < 64 → has (bit_or w (bit_word p)) k ≡ is_in (ks ++ p ∷ []) k
     each k h = ⊎_elim (here k h) (elsewhere k h) (cases_eq k p)
 
+-- one more number that fails a test leaves its set the same
+pub set_below-skip : (n x : ℕ) (f : ℕ → Bool) → x ≡ set_below n f → f n ≡ false → x ≡ set_below (n + 1) f
+unfolding set_below
+set_below-skip n x f e fails =
+    let none : set_below n f ≡ set_below n f + 0 = omega arith in
+    e ∙ none ∙ ap (λ b. set_below n f + cond b (2 ^ n) 0) (sym fails) ∙ ap (λ k. set_below k f) (sym (add-one n))
+
 -- the set of the numbers up to n that pass a test, from the set of those below n, by a shift and an or in a word of any width
 pub set_below-next : (w : Width) (n x : ℕ) (f : ℕ → Bool) (b : Bool) → n < bits w → x ≡ set_below n f → f n ≡ b → bit_or x (from_bool b * 2 ^ n % 2 ^ bits w) ≡ set_below (n + 1) f
 set_below-next w n x f b below e passes =

@@ -1,4 +1,6 @@
-use Rattle.std.specs.Prelude.{ℕ, zero, suc, List, [], ◌∷◌, ◌++◌, map}
+use Rattle.std.specs.Prelude.{ℕ, zero, suc, Bool, false, List, [], ◌∷◌, ◌++◌, length, map, slice_get, ◌==◌}
+use Rattle.std.specs.Option.{option_map_or}
+use Rattle.petri_atom.specs.Local.{set_below}
 use Rattle.petri_atom.specs.Definition.{PortDefinition, TransitionDefinition, AtomDefinition, numbers_of}
 use Rattle.petri_atom.specs.Transition.{transition_of}
 use Rattle.petri_atom.specs.declared.parts.Place.{Place}
@@ -20,7 +22,23 @@ definition_by name places variables ports transitions = record {
   transitions = map transition_of transitions;
 }
 
+-- what belongs to each number below n, in order
+abbrev pub table_below : {X : Type 0} → (ℕ → X) → ℕ → List X
+table_below of zero = []
+table_below of (suc n) = table_below of n ++ of n ∷ []
+
 -- for each port below n, the numbers of its transitions
 abbrev pub index_below : ℕ → List TransitionDefinition → List (List ℕ)
-index_below zero ts = []
-index_below (suc n) ts = index_below n ts ++ numbers_of n ts ∷ []
+index_below n ts = table_below (λ port. numbers_of port ts) n
+
+-- the transition with a number is of the port
+abbrev pub is_of_port : ℕ → List TransitionDefinition → ℕ → Bool
+is_of_port port ts n = option_map_or (λ t. t.port == port) (slice_get ts n) false
+
+-- the set of the transitions of a port
+abbrev pub set_of_port : ℕ → List TransitionDefinition → ℕ
+set_of_port port ts = set_below (length ts) (is_of_port port ts)
+
+-- for each port below n, the set of its transitions
+abbrev pub sets_below : ℕ → List TransitionDefinition → List ℕ
+sets_below n ts = table_below (λ port. set_of_port port ts) n

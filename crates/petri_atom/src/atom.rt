@@ -1,7 +1,7 @@
 //! Atoms: what they are made of, which transitions a state offers, and what firing one leaves.
 ghost use Rattle.std.specs.Prelude.{◌≡◌, ◌≤◌, ◌↔◌, IsTrue, IfOk, IfErr, ◌&&◌, nat_le, None, map, filter, find, length, slice_get};
 ghost use Rattle.petri_atom.specs.Definition.{is_well_formed, fault_of, numbers_of, IsFaultOf};
-ghost use Rattle.petri_atom.specs.Parts.{port_of, definition_by, index_below};
+ghost use Rattle.petri_atom.specs.Parts.{port_of, definition_by, index_below, set_of_port, sets_below};
 ghost use Rattle.petri_atom.specs.Transition.{transition_of};
 ghost use Rattle.petri_atom.specs.declared.parts.TheConstants.{MAX_PORTS, MAX_TRANSITIONS};
 
@@ -17,7 +17,8 @@ use std::alloc::{AllocError, Global};
 /// An atom: a one-safe Petri net with variables and ports.
 ///
 /// Its places, variables, ports and transitions are numbered from 0 in the order of their lists. It keeps each rule of
-/// an atom, so that what can be asked of it cannot fail. For each port it has a list of the port's transitions.
+/// an atom, so that what can be asked of it cannot fail. For each port it has a list of the port's transitions, and a mask of
+/// their numbers, so that what a set of transitions has of a port is one operation.
 #[derive(Debug, Drop)]
 pub struct Atom {
     name: Name,
@@ -26,8 +27,10 @@ pub struct Atom {
     ports: Vec<Port>,
     transitions: Vec<Transition>,
     by_port: Vec<Vec<u16>>,
+    masks: Vec<u128>,
     ghost well_formed: { IsTrue (is_well_formed (definition_by name places.items variables.items ports.items transitions.items)) },
     ghost indexed: { map (λ numbers. numbers.items) by_port.items ≡ index_below (length ports.items) (map transition_of transitions.items) },
+    ghost masked: { masks.items ≡ sets_below (length ports.items) (map transition_of transitions.items) },
 }
 
 impl Atom {
@@ -51,6 +54,7 @@ impl Atom {
             return Err(fault);
         }
         let by_port = transitions_by_port(alloc, ports.len(), &transitions)?;
+        let masks = masks_by_port(alloc, ports.len(), &transitions)?;
         Ok(Atom {
             name,
             places,
@@ -58,6 +62,7 @@ impl Atom {
             ports,
             transitions,
             by_port,
+            masks,
         })
     }
 
@@ -139,6 +144,16 @@ impl Atom {
         match self.by_port.get(usize::from(port)) {
             Some(numbers) => numbers,
             None => &[],
+        }
+    }
+
+    /// The set of the port's transitions, empty of a port that is not there.
+    pub(crate) fn mask_of(&self, port: u16) -> u128
+        ensures { result ≡ set_of_port port (definition_of self.now).transitions }
+    {
+        match self.masks.get(usize::from(port)) {
+            Some(mask) => *mask,
+            None => 0,
         }
     }
 
@@ -273,4 +288,33 @@ fn transitions_of_port(
         }
     }
     Ok(numbers)
+}
+
+/// For each port below the number, the set of its transitions.
+fn masks_by_port(
+    alloc: Global,
+    ports: usize,
+    transitions: &[Transition],
+) -> Result<Vec<u128>, AllocError>
+    requires ports { ports ≤ MAX_PORTS }
+    requires transitions { length transitions.now ≤ MAX_TRANSITIONS }
+    ensures { IfOk result (λ masks. masks.items ≡ sets_below ports (map transition_of transitions.now)) }
+{
+    let mut masks = Vec::with_capacity(alloc, ports)?;
+    for port in 0..ports {
+        masks.push(mask_of_port(port as u16, transitions))?;
+    }
+    Ok(masks)
+}
+
+/// The set of the port's transitions.
+fn mask_of_port(port: u16, transitions: &[Transition]) -> u128
+    requires { length transitions.now ≤ MAX_TRANSITIONS }
+    ensures { result ≡ set_of_port port (map transition_of transitions.now) }
+{
+    let mut mask = 0;
+    for (number, transition) in transitions.iter().enumerate() {
+        mask |= u128::from(transition.port() == port) << number;
+    }
+    mask
 }

@@ -49,8 +49,10 @@ impl Atom {
         ensures { result ≡ offered_set (definition_of self.now) state.now }
     {
         let mut word = 0;
-        for number in 0..self.transitions().len() {
-            word |= u128::from(self.is_offered(state, number as u16)) << number;
+        for (number, transition) in self.transitions().iter().enumerate() {
+            if transition.is_offered(state) {
+                word |= 1u128 << number;
+            }
         }
         TransitionSet { word }
     }
@@ -60,14 +62,14 @@ impl Atom {
         ensures few { result ≤ MAX_TRANSITIONS }
         ensures count { (state : Local) → offered ≡ offered_set (definition_of self.now) state → result ≡ length (enabled (definition_of self.now) state port) }
     {
-        count_in(self.transitions_of(port), offered)
+        (offered.word & self.mask_of(port)).count_ones() as usize
     }
 
     /// Whether one of the port's transitions is in the set of those that a state offers.
     pub fn offers_among(&self, offered: TransitionSet, port: u16) -> bool
         ensures { (state : Local) → offered ≡ offered_set (definition_of self.now) state → result ≡ offers_port (definition_of self.now) state port }
     {
-        has_one_in(self.transitions_of(port), offered)
+        offered.word & self.mask_of(port) != 0
     }
 
     /// The transition with this place, from 0, among the port's transitions in the set of those that a state offers, by
@@ -77,23 +79,6 @@ impl Atom {
     {
         nth_in(self.transitions_of(port), offered, place)
     }
-}
-
-/// How many of the numbers are in the set.
-fn count_in(numbers: &[u16], set: TransitionSet) -> usize
-    ensures { result ≡ length (filter (has set) numbers.now) }
-{
-    numbers
-        .iter()
-        .filter(|number| set.contains(**number))
-        .count()
-}
-
-/// Whether one of the numbers is in the set.
-fn has_one_in(numbers: &[u16], set: TransitionSet) -> bool
-    ensures { result ≡ list_any (has set) numbers.now }
-{
-    numbers.iter().any(|number| set.contains(*number))
 }
 
 /// The number with this place, from 0, among those that are in the set.

@@ -1,13 +1,22 @@
-use Rattle.std.proofs.Common.{◌∙◌, ap, arith, length}
+use Rattle.std.proofs.Common.{◌<◌, ◌^◌, ◌∙◌, ap, arith}
+use Rattle.std.specs.Prelude.{bit_and}
+use Rattle.std.specs.Int.Count.{ones}
+use Rattle.std.proofs.lemmas.Nat.{and_le_r, ones-le}
 use Rattle.petri_atom.specs.Atom.{definition_of}
-use Rattle.petri_atom.proofs.OfferedSets.{filter-transitions, few_among}
+use Rattle.petri_atom.specs.Definition.{offers_number, offered_set}
+use Rattle.petri_atom.proofs.PortSets.{ones-of_port}
 use Rattle.petri_atom.proofs.atom.Atom.count_among.Goals as goal
 
 pub returns-clause-few : goal.returns-clause-few
 returns-clause-few c =
-    let few = few_among (definition_of c.args.self.now) c.args.offered c.args.port c.transitions_of.result.now c.args.self.now.well_formed c.transitions_of.ensures in
-    omega (arith, c.count_in.ensures, few)
+    let word = c.offered.inside.word in
+    let mask = c.mask_of.result in
+    let small : bit_and word mask < 2 ^ 128 = omega (arith, and_le_r word mask, c.mask_of.type_inv) in
+    ones-le 128 (bit_and word mask) small
 
 pub returns-clause-count : goal.returns-clause-count
 returns-clause-count c state told =
-    c.count_in.ensures ∙ ap length (filter-transitions (definition_of c.args.self.now) state c.args.offered c.args.port c.transitions_of.result.now told c.transitions_of.ensures)
+    let atom = definition_of c.args.self.now in
+    ap (λ w. ones (bit_and w c.mask_of.result)) (c.offered.view_is ∙ told) ∙
+    ap (λ m. ones (bit_and (offered_set atom state) m)) c.mask_of.ensures ∙
+    ones-of_port (offers_number atom state) c.args.port atom.transitions
