@@ -82,7 +82,7 @@ module _ (atoms : List AtomDefinition) (states : List Local) where
           subst (λ n. 1 ≤ n) (sym (length-map (enabled a s p.port) (move_of p.atom))) (some-kept (offers_number a s) (numbers_of p.port a.transitions) ready)
 
   -- where each of the ports is offered there is a row of moves
-  some-rows : (ports : List Port) → list_all (is_offered_port atoms states) ports ≡ true → 1 ≤ length (combinations (map (moves_of atoms states) ports))
+  pub some-rows : (ports : List Port) → list_all (is_offered_port atoms states) ports ≡ true → 1 ≤ length (combinations (map (moves_of atoms states) ports))
   some-rows [] all = omega arith
   some-rows (p ∷ ports) all =
       let parts = and_parts (is_offered_port atoms states p) (list_all (is_offered_port atoms states) ports) all in

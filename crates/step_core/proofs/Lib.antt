@@ -2,6 +2,8 @@ pub mod Ports
 pub mod Judging
 pub mod Combinations
 pub mod Flattened
+pub mod Counted
+mod Offering
 pub mod Told
 pub mod RuleFaults
 pub mod TreeRules

@@ -1,14 +1,8 @@
-use Rattle.std.proofs.Common.{◌≡◌, ◌≢◌, ℕ, ◌+◌, ◌<◌, ◌≤◌, refl, sym, ◌∙◌, ap, List, length, arith, true, false, ◌||◌, ◌&&◌, not, ⊎_elim}
+use Rattle.std.proofs.Common.{◌≡◌, ◌≢◌, ℕ, ◌+◌, ◌<◌, ◌≤◌, refl, sym, ◌∙◌, ap, arith, true, false, ◌||◌, ◌&&◌, not, ⊎_elim}
 use Rattle.std.specs.Cmp.{nat_cmp_total, unsigned_tied}
 use Rattle.std.specs.Ordering.{nat_cmp}
-use Rattle.std.specs.FinSet.{FinSet, contains, empty, insert, remove, contains-empty, contains-insert, contains-remove}
-use Rattle.std.specs.Option.{option_map_or}
+use Rattle.std.specs.FinSet.{FinSet, contains, insert, remove, contains-insert, contains-remove}
 use Rattle.std.proofs.lemmas.Bool.{cases_eq, cases_lt, eq-eqb, ne_eqb}
-use Rattle.std.proofs.lemmas.Option.{slice_get_past}
-use Rattle.petri_atom.specs.Local.{Local}
-use Rattle.petri_atom.specs.Definition.{AtomDefinition}
-use Rattle.step_core.specs.Plant.{WireDefinition}
-use Rattle.step_core.specs.Choice.{Interaction, is_possible, is_possible_at}
 
 -- what was put in is in, and all else is in where it was
 pub put-here : (s : FinSet nat_cmp) (k : ℕ) → contains (insert s k) k ≡ true
@@ -24,32 +18,34 @@ out-here s k = contains-remove nat_cmp_total s k k ∙ ap (λ b. not b && contai
 pub out-other : (s : FinSet nat_cmp) (k n : ℕ) → n ≢ k → contains (remove s k) n ≡ contains s n
 out-other s k n other = contains-remove nat_cmp_total s k n ∙ ap (λ b. not b && contains s n) (unsigned_tied n k ∙ ne_eqb n k other)
 
-module _ (atoms : List AtomDefinition) (wires : List WireDefinition) (states : List Local) (interactions : List Interaction) where
-  -- the set is right up to the number i, and has nothing from there on
-  pub record IsNotedTo (i : ℕ) (set : FinSet nat_cmp) : Type 0 where
-    pub before : (n : ℕ) → n < i → contains set n ≡ is_possible_at atoms wires states interactions n
-    pub behind : (n : ℕ) → i ≤ n → contains set n ≡ false
+-- what is right at each number below a length that a set has not, and is then made right at the numbers of the set, one by one
+module _ {X : Type 0} (right : ℕ → X) (touched : FinSet nat_cmp) (count : ℕ) where
+  abbrev pub IsRightTo : ℕ → (ℕ → X) → Type 0
+  IsRightTo i f = (n : ℕ) → n < i → f n ≡ right n
 
-  -- one interaction more
-  pub noted-more : (i : ℕ) (old new : FinSet nat_cmp) → IsNotedTo i old → contains new i ≡ is_possible_at atoms wires states interactions i → ((n : ℕ) → n ≢ i → contains new n ≡ contains old n) → IsNotedTo (i + 1) new
-  noted-more i old new noted here others = record { before = before; behind = behind }
-    where
-      before : (n : ℕ) → n < i + 1 → contains new n ≡ is_possible_at atoms wires states interactions n
-      before n below = ⊎_elim
-          (λ same. ap (contains new) same ∙ here ∙ ap (is_possible_at atoms wires states interactions) (sym same))
-          (λ other. others n other ∙ noted.before n (omega arith))
-          (cases_eq n i)
+  abbrev pub IsRightBut : (ℕ → X) → Type 0
+  IsRightBut f = (n : ℕ) → (n < count → contains touched n ≡ false) → f n ≡ right n
 
-      behind : (n : ℕ) → i + 1 ≤ n → contains new n ≡ false
-      behind n past = others n (omega arith) ∙ noted.behind n (omega arith)
+  abbrev pub AreNot : ℕ → ℕ → Type 0
+  AreNot i k = (m : ℕ) → i ≤ m → m < k → contains touched m ≡ false
 
-  -- nothing yet
-  pub noted-none : (set : FinSet nat_cmp) → set ≡ empty → IsNotedTo 0 set
-  noted-none set none = record { before = λ n below. absurd (omega arith); behind = λ n past. ap (λ s. contains s n) none ∙ contains-empty nat_cmp n }
+  abbrev pub IsStep : ℕ → (ℕ → X) → (ℕ → X) → Type 0
+  IsStep k old new = (new k ≡ right k) × ((n : ℕ) → n ≢ k → new n ≡ old n)
 
-  -- all of them
-  pub noted-all : (i : ℕ) (set : FinSet nat_cmp) → length interactions ≤ i → IsNotedTo i set → (n : ℕ) → contains set n ≡ is_possible_at atoms wires states interactions n
-  noted-all i set past noted n = ⊎_elim
-      (noted.before n)
-      (λ behind. noted.behind n behind ∙ sym (ap (λ o. option_map_or (is_possible atoms wires states) o false) (slice_get_past interactions n (omega arith))))
-      (cases_lt n i)
+  -- it is right up to the next number of the set, and at it
+  pub right-next : (i k : ℕ) (old new : ℕ → X) → AreNot i k → IsRightTo i old → IsRightBut old → IsStep k old new → IsRightTo (k + 1) new
+  right-next i k old new none before but step n below = ⊎_elim
+      (λ same. ap new same ∙ step.0 ∙ ap right (sym same))
+      (λ other. step.1 n other ∙ ⊎_elim (before n) (λ from. but n (λ _. none n from (omega arith))) (cases_lt n i))
+      (cases_eq n k)
+
+  -- and stays right at all that the set has not
+  pub right-still : (k : ℕ) (old new : ℕ → X) → IsRightBut old → IsStep k old new → IsRightBut new
+  right-still k old new but step n outside = ⊎_elim
+      (λ same. ap new same ∙ step.0 ∙ ap right (sym same))
+      (λ other. step.1 n other ∙ but n outside)
+      (cases_eq n k)
+
+  -- where the set has no more, it is right everywhere
+  pub right-all : (i : ℕ) (f : ℕ → X) → ((m : ℕ) → i ≤ m → contains touched m ≡ false) → IsRightTo i f → IsRightBut f → (n : ℕ) → f n ≡ right n
+  right-all i f none before but n = ⊎_elim (before n) (λ from. but n (λ _. none n from)) (cases_lt n i)

@@ -7,16 +7,17 @@ use Rattle.std.proofs.lemmas.Bool.{and_parts, and_from, cases_lt, cases_eq, fals
 use Rattle.std.proofs.lemmas.Option.{slice_get_past, slice_get-get_or, same_Some, none-some}
 use Rattle.petri_atom.specs.Local.{Local, has}
 use Rattle.petri_atom.specs.Expression.{Tree, is_true, value_of}
-use Rattle.petri_atom.specs.Definition.{AtomDefinition, offers_port, exported_value}
+use Rattle.petri_atom.specs.Definition.{AtomDefinition, enabled, offers_port, exported_value}
 use Rattle.petri_atom.proofs.Sets.{has-and, has-or, has-above}
 use Rattle.connector_tree.specs.Tree.{leaves}
 use Rattle.connector_tree.specs.declared.tree.Port.{Port}
-use Rattle.step_core.specs.Choice.{Interaction, ChoiceDefinition, is_offered_port, is_unguarded, is_possible, is_possible_at}
+use Rattle.step_core.specs.Choice.{Interaction, ChoiceDefinition, is_offered_port, is_unguarded, is_possible, is_possible_at, move_of, moves_of, combinations, choices_of}
 use Rattle.step_core.specs.Exports.{value_at, exported_at, clause_applies, guards_hold}
 use Rattle.step_core.specs.Plant.{WireDefinition, PlantDefinition}
 use Rattle.step_core.specs.Rules.{atom_fault, early_fault, fault_of, fault_of_order, first_of, first_told, is_small_wire, is_within_limits, late_fault, tree_fault}
 use Rattle.step_core.specs.Step.{next, transfer}
 use Rattle.step_core.specs.Touching.{has_atom, has_ports, has_moves, IsTouching, AreTouching}
+use Rattle.step_core.specs.Ways.{ways_at}
 use Rattle.step_core.specs.declared.choice.Move.{Move}
 use Rattle.step_core.specs.declared.limits.TheConstants.{MAX_ATOMS, MAX_RULES, MAX_WIRES}
 use Rattle.step_core.specs.declared.fault.SystemFault.{SystemFault}
@@ -197,6 +198,19 @@ module _ (atoms : List AtomDefinition) (wires : List WireDefinition) (old new : 
           by-guards (g ∷ gs) all =
               ap (λ v. list_all (λ clause. not (clause_applies i.mask clause) || is_true (value_of v clause)) (g ∷ gs)) (λ n e. value-same (leaves w.connector) (all (λ empty. cc)) e n)
 
+  moves-same : (p : Port) → stays p.atom ≡ true → moves_of atoms new p ≡ moves_of atoms old p
+  moves-same p here = ap (λ o. option_map_or (λ a. option_map_or (λ s. map (move_of p.atom) (enabled a s p.port)) o []) (slice_get atoms p.atom) []) (same p.atom here)
+
+  all-moves-same : (ports : List Port) → list_all (λ p. stays p.atom) ports ≡ true → map (moves_of atoms new) ports ≡ map (moves_of atoms old) ports
+  all-moves-same [] here = refl
+  all-moves-same (p ∷ ps) here =
+      let parts = and_parts (stays p.atom) (list_all (λ q. stays q.atom) ps) here in
+      ap (λ moves. moves ∷ map (moves_of atoms new) ps) (moves-same p parts.0) ∙
+      ap (λ rest. moves_of atoms old p ∷ rest) (all-moves-same ps parts.1)
+
+  pub choices-same : (i : Interaction) → list_all (λ p. stays p.atom) i.ports ≡ true → choices_of atoms new i ≡ choices_of atoms old i
+  choices-same i ports = ap (λ lists. map (λ moves. record { connector = i.connector; mask = i.mask; moves = moves }) (combinations lists)) (all-moves-same i.ports ports)
+
   pub possible-same : (i : Interaction) → list_all (λ p. stays p.atom) i.ports ≡ true → ((w : WireDefinition) → slice_get wires i.connector ≡ Some w → w.guards ≢ [] → list_all (λ p. stays p.atom) (leaves w.connector) ≡ true) → is_possible atoms wires new i ≡ is_possible atoms wires old i
   possible-same i ports read =
       ap (λ b. b && is_unguarded atoms wires new i) (ports-same i.ports ports) ∙
@@ -225,6 +239,17 @@ untouched plant old c interactions words moved n all few small touching none = e
         possible-same plant.atoms plant.wires old (next plant old c) (λ k. not (has moved k)) (λ k stays. still plant old c moved all few k (not-true (has moved k) stays)) i
         (apart-all word moved small none i.ports parts.0)
         (λ w known guarded. apart-all word moved small none (leaves w.connector) (parts.1 w known guarded))
+
+-- and has as many choices, where nothing forbids it
+pub untouched-ways : (plant : PlantDefinition) (old : List Local) (c : ChoiceDefinition) (interactions : List Interaction) (words : List ℕ) (moved n : ℕ) → has_moves moved c.moves ≡ true → length old ≤ 64 → moved < 2 ^ 64 → AreTouching plant.wires interactions words → bit_and (slice_index_or words n 0) moved ≡ 0 → ways_at plant.atoms (next plant old c) interactions n ≡ ways_at plant.atoms old interactions n
+untouched-ways plant old c interactions words moved n all few small touching none = each (slice_get interactions n) refl
+  where
+    each : (o : Option Interaction) → slice_get interactions n ≡ o → option_map_or (λ i. length (choices_of plant.atoms (next plant old c) i)) o 0 ≡ option_map_or (λ i. length (choices_of plant.atoms old i)) o 0
+    each None there = refl
+    each (Some i) there =
+        let word = slice_index_or words n 0 in
+        ap length (choices-same plant.atoms plant.wires old (next plant old c) (λ k. not (has moved k)) (λ k stays. still plant old c moved all few k (not-true (has moved k) stays)) i
+        (apart-all word moved small none i.ports (touching n i there).0))
 
 -- a plant that keeps its rules has no more atoms than one may have
 pub few-atoms : (plant : PlantDefinition) → fault_of plant ≡ None → length plant.atoms ≤ 64

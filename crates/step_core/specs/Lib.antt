@@ -17,3 +17,5 @@ pub mod Told
 pub mod Possible
 pub mod Touching
 pub mod Free
+pub mod Ways
+pub mod Judgement

@@ -1,14 +1,13 @@
 -- Which atoms an interaction depends on, as the bits of a word.
-use Rattle.std.specs.Prelude.{◌≡◌, ◌≢◌, ℕ, Bool, true, ◌||◌, List, [], Some, slice_get, slice_index_or, nat_le, bit_and}
+use Rattle.std.specs.Prelude.{◌≡◌, ◌≢◌, ℕ, Bool, true, false, ◌||◌, List, [], Some, slice_get, slice_index_or, nat_le, bit_and}
 use Rattle.std.specs.Ordering.{nat_cmp}
 use Rattle.std.specs.FinSet.{FinSet, contains}
 use Rattle.std.specs.List.{list_all}
-use Rattle.petri_atom.specs.Local.{Local, has}
-use Rattle.petri_atom.specs.Definition.{AtomDefinition}
+use Rattle.petri_atom.specs.Local.{has}
 use Rattle.connector_tree.specs.Tree.{leaves}
 use Rattle.connector_tree.specs.declared.tree.Port.{Port}
 use Rattle.step_core.specs.Plant.{WireDefinition}
-use Rattle.step_core.specs.Choice.{Interaction, is_possible_at}
+use Rattle.step_core.specs.Choice.{Interaction}
 use Rattle.step_core.specs.declared.choice.Move.{Move}
 use Rattle.step_core.specs.declared.limits.TheConstants.{MAX_ATOMS}
 
@@ -38,7 +37,7 @@ abbrev pub AreTouching : List WireDefinition → List Interaction → List ℕ �
 AreTouching wires interactions words =
     (n : ℕ) (i : Interaction) → slice_get interactions n ≡ Some i → IsTouching wires i (slice_index_or words n 0)
 
--- the set is right at each number whose word has none of the moved atoms
-abbrev pub ArePossibleBut : List ℕ → ℕ → List AtomDefinition → List WireDefinition → List Local → List Interaction → FinSet nat_cmp → Type 0
-ArePossibleBut words moved atoms wires states interactions set =
-    (n : ℕ) → bit_and (slice_index_or words n 0) moved ≡ 0 → contains set n ≡ is_possible_at atoms wires states interactions n
+-- the set has each interaction whose word has one of the moved atoms
+abbrev pub AreTouched : List ℕ → ℕ → FinSet nat_cmp → Type 0
+AreTouched words moved touched =
+    (n : ℕ) → contains touched n ≡ false → bit_and (slice_index_or words n 0) moved ≡ 0

@@ -1,20 +1,24 @@
 //! The choices of a global state: how many there are, and which.
-ghost use Rattle.std.specs.Prelude.{◌≡◌, ◌↔◌, ◌<◌, ◌≤◌, Some, map, length, slice_get};
+ghost use Rattle.std.specs.Prelude.{◌≡◌, ◌↔◌, ◌<◌, ◌≤◌, Some, map, length, slice_get, slice_index_or, option_map};
+ghost use Rattle.std.specs.FinSet.{empty};
 ghost use Rattle.petri_atom.specs.Atom.{definition_of};
-ghost use Rattle.step_core.specs.Choice.{choices, IsAllowed, IsStuck};
+ghost use Rattle.step_core.specs.Choice.{Interaction, choices, choices_of, choices_among, IsAllowed, IsStuck};
 ghost use Rattle.step_core.specs.Chosen.{choice_of};
 ghost use Rattle.step_core.specs.Fitting.{IsOf};
 ghost use Rattle.step_core.specs.Interaction.{interaction_of};
+ghost use Rattle.step_core.specs.Judgement.{IsJudgement};
 ghost use Rattle.step_core.specs.Offers.{AreOffered};
-ghost use Rattle.step_core.specs.Possible.{ArePossible};
-ghost use Rattle.step_core.specs.Touching.{ArePossibleBut};
+ghost use Rattle.step_core.specs.Possible.{ArePossible, ArePossibleBut, AreAllowed};
+ghost use Rattle.step_core.specs.Ways.{AreWays, AreWaysBut};
 ghost use Rattle.step_core.specs.Wire.{wire_of};
 ghost use Rattle.step_core.specs.declared.limits.TheConstants.{MAX_ATOMS};
 
 use crate::choice::Choice;
 use crate::filtered::Filtered;
+use crate::free::numbers_below;
 use crate::judged::Judged;
-use crate::limits::MAX_ATOMS;
+use crate::judgement::{Judgement, no_ways};
+use crate::limits::{MAX_ATOMS, MAX_INTERACTIONS};
 use crate::state::PlantState;
 use crate::system::System;
 use petri_atom::{Atom, TransitionSet};
@@ -29,9 +33,7 @@ impl System {
         ensures count { result ≡ length (choices (plant_of self.now) states.now) }
         ensures stuck { (result ≡ 0) ↔ IsStuck (plant_of self.now) states.now }
     {
-        let offered = offered_sets(&self.atoms, states);
-        let possible = self.possible_among(states, &offered);
-        self.count_among(states, &offered, &possible)
+        self.judge(states).total
     }
 
     /// The choice of the state with this place, from 0, in the order of the choices.
@@ -41,70 +43,73 @@ impl System {
         ensures entry { slice_get (choices (plant_of self.now) states.now) place ≡ Some (choice_of result) }
         ensures allowed { IsAllowed (plant_of self.now) states.now (choice_of result) }
     {
+        let judgement = self.judge(states);
+        self.nth_among(states, &judgement, place)
+    }
+
+    /// What the state offers, judged in full.
+    pub(crate) fn judge(&self, states: &PlantState) -> Judgement
+        requires { IsOf (plant_of self.now) states.now }
+        ensures { IsJudgement (plant_of self.now) (map interaction_of self.now.interactions.items) states.now result }
+    {
         let offered = offered_sets(&self.atoms, states);
-        let possible = self.possible_among(states, &offered);
-        self.nth_among(states, &offered, &possible, place)
-    }
-
-    /// The possible interactions of the state, by the sets of the transitions that it offers.
-    pub(crate) fn possible_among(
-        &self,
-        states: &PlantState,
-        offered: &[TransitionSet],
-    ) -> InteractionSet
-        requires of_plant { IsOf (plant_of self.now) states.now }
-        requires rows { length self.now.atoms.items ≤ length offered.now }
-        requires exact { AreOffered (map definition_of self.now.atoms.items) states.now offered.now }
-        ensures { ArePossible (map definition_of self.now.atoms.items) (map wire_of self.now.wires.items) states.now (map interaction_of self.now.interactions.items) result }
-    {
-        let judged = Judged {
-            atoms: &self.atoms,
-            wires: &self.wires,
-            ports: &self.ports,
-            states,
+        let mut possible = InteractionSet::new();
+        let mut ways = no_ways();
+        let all = numbers_below(self.interactions.len());
+        self.judge_touched(states, &offered, &all, &mut possible, &mut ways);
+        let mut allowed = InteractionSet::new();
+        let total = self.allow(states, &offered, &possible, &ways, &mut allowed);
+        Judgement {
             offered,
-        };
-        judged.possible(&self.interactions)
+            possible,
+            ways,
+            allowed,
+            total,
+        }
     }
 
-    /// Judges the interactions again that depend on a moved atom; the set is right for all others.
-    pub(crate) fn judge_touched(
-        &self,
-        states: &PlantState,
-        offered: &[TransitionSet],
-        words: &[u64],
-        moved: u64,
-        possible: &mut InteractionSet,
-    )
-        requires of_plant { IsOf (plant_of self.now) states.now }
-        requires rows { length self.now.atoms.items ≤ length offered.now }
-        requires exact { AreOffered (map definition_of self.now.atoms.items) states.now offered.now }
-        requires words { length words.now ≡ length self.now.interactions.items }
-        requires others { ArePossibleBut words.now moved (map definition_of self.now.atoms.items) (map wire_of self.now.wires.items) states.now (map interaction_of self.now.interactions.items) possible.old }
-        ensures { ArePossible (map definition_of self.now.atoms.items) (map wire_of self.now.wires.items) states.now (map interaction_of self.now.interactions.items) possible.new }
-    {
-        let judged = Judged {
-            atoms: &self.atoms,
-            wires: &self.wires,
-            ports: &self.ports,
-            states,
-            offered,
-        };
-        judged.judge_touched(&self.interactions, words, moved, possible);
-    }
-
-    /// How many choices the state has, by the sets of the transitions that it offers and of its possible interactions.
-    pub(crate) fn count_among<'x>(
+    /// Judges the interactions of the set `touched`; what is possible, and the numbers of choices, are right for all others.
+    pub(crate) fn judge_touched<'x>(
         &'x self,
         states: &'x PlantState,
-        offered: &'x [TransitionSet],
+        offered: &'x [TransitionSet; MAX_ATOMS],
+        touched: &InteractionSet,
+        possible: &mut InteractionSet,
+        ways: &mut [u64; MAX_INTERACTIONS],
+    )
+        requires of_plant { IsOf (plant_of self.now) states.now }
+        requires exact { AreOffered (map definition_of self.now.atoms.items) states.now offered.now }
+        requires others { ArePossibleBut touched.now (map definition_of self.now.atoms.items) (map wire_of self.now.wires.items) states.now (map interaction_of self.now.interactions.items) possible.old }
+        requires other_ways { AreWaysBut touched.now (map definition_of self.now.atoms.items) states.now (map interaction_of self.now.interactions.items) ways.old }
+        ensures possible { ArePossible (map definition_of self.now.atoms.items) (map wire_of self.now.wires.items) states.now (map interaction_of self.now.interactions.items) possible.new }
+        ensures ways { AreWays (map definition_of self.now.atoms.items) states.now (map interaction_of self.now.interactions.items) ways.new }
+    {
+        let judged = Judged {
+            atoms: &self.atoms,
+            wires: &self.wires,
+            ports: &self.ports,
+            states,
+            offered,
+        };
+        judged.judge_touched(&self.interactions, touched, possible, ways);
+    }
+
+    /// Puts the allowed interactions into the set, where it is empty, and says how many choices these have in all.
+    pub(crate) fn allow<'x>(
+        &'x self,
+        states: &'x PlantState,
+        offered: &'x [TransitionSet; MAX_ATOMS],
         possible: &'x InteractionSet,
+        ways: &'x [u64; MAX_INTERACTIONS],
+        allowed: &mut InteractionSet,
     ) -> u128
         requires of_plant { IsOf (plant_of self.now) states.now }
-        requires rows { length self.now.atoms.items ≤ length offered.now }
         requires exact { AreOffered (map definition_of self.now.atoms.items) states.now offered.now }
         requires known { ArePossible (map definition_of self.now.atoms.items) (map wire_of self.now.wires.items) states.now (map interaction_of self.now.interactions.items) possible.now }
-        ensures { result ≡ length (choices (plant_of self.now) states.now) }
+        requires counted { AreWays (map definition_of self.now.atoms.items) states.now (map interaction_of self.now.interactions.items) ways.now }
+        requires none { allowed.old ≡ empty }
+        ensures allowed { AreAllowed (plant_of self.now) states.now (map interaction_of self.now.interactions.items) allowed.new }
+        ensures total { result ≡ length (choices_among (plant_of self.now) states.now (map interaction_of self.now.interactions.items)) }
     {
         let judged = Judged {
             atoms: &self.atoms,
@@ -117,46 +122,81 @@ impl System {
             judged,
             interactions: &self.interactions,
             order: &self.order,
-            possible,
             free: &self.free,
+            possible,
+            ways,
         };
-        filtered.count()
+        filtered.allow(allowed)
     }
 
-    /// The choice of the state with this place, by the sets of the transitions that it offers and of its possible
-    /// interactions.
-    pub(crate) fn nth_among<'x>(
-        &'x self,
-        states: &'x PlantState,
-        offered: &'x [TransitionSet],
-        possible: &'x InteractionSet,
+    /// The choice of the state with this place, by what the state offers.
+    pub(crate) fn nth_among(
+        &self,
+        states: &PlantState,
+        judgement: &Judgement,
         place: u128,
     ) -> Choice
         requires of_plant { IsOf (plant_of self.now) states.now }
-        requires rows { length self.now.atoms.items ≤ length offered.now }
-        requires exact { AreOffered (map definition_of self.now.atoms.items) states.now offered.now }
-        requires known { ArePossible (map definition_of self.now.atoms.items) (map wire_of self.now.wires.items) states.now (map interaction_of self.now.interactions.items) possible.now }
+        requires judged { IsJudgement (plant_of self.now) (map interaction_of self.now.interactions.items) states.now judgement.now }
         requires place { place < length (choices (plant_of self.now) states.now) }
         ensures entry { slice_get (choices (plant_of self.now) states.now) place ≡ Some (choice_of result) }
         ensures allowed { IsAllowed (plant_of self.now) states.now (choice_of result) }
     {
+        match self.find_choice(states, judgement, place) {
+            Some(choice) => choice,
+            None => unreachable!(),
+        }
+    }
+
+    /// The choice of the state with this place, if there is one: a walk over the allowed interactions.
+    fn find_choice(&self, states: &PlantState, judgement: &Judgement, place: u128) -> Option<Choice>
+        requires of_plant { IsOf (plant_of self.now) states.now }
+        requires judged { IsJudgement (plant_of self.now) (map interaction_of self.now.interactions.items) states.now judgement.now }
+        ensures { option_map choice_of result ≡ slice_get (choices_among (plant_of self.now) states.now (map interaction_of self.now.interactions.items)) place }
+    {
+        let mut left = place;
+        let mut from = 0;
+        while let Some(number) = judgement.allowed.first_from(from) {
+            let ways = u128::from(judgement.ways[usize::from(number)]);
+            if left < ways {
+                return Some(self.choice_at(states, judgement, number, left as u64));
+            }
+            left -= ways;
+            from = number + 1;
+        }
+        None
+    }
+
+    /// The choice with this place among those of the interaction with this number.
+    fn choice_at(
+        &self,
+        states: &PlantState,
+        judgement: &Judgement,
+        number: u16,
+        place: u64,
+    ) -> Choice
+        requires of_plant { IsOf (plant_of self.now) states.now }
+        requires judged { IsJudgement (plant_of self.now) (map interaction_of self.now.interactions.items) states.now judgement.now }
+        requires number { number < length self.now.interactions.items }
+        requires place { place < slice_index_or judgement.now.ways number 0 }
+        ensures { (i : Interaction) → slice_get (map interaction_of self.now.interactions.items) number ≡ Some i → slice_get (choices_of (map definition_of self.now.atoms.items) states.now i) place ≡ Some (choice_of result) }
+    {
         let judged = Judged {
             atoms: &self.atoms,
             wires: &self.wires,
             ports: &self.ports,
             states,
-            offered,
+            offered: &judgement.offered,
         };
-        let filtered = Filtered {
-            judged,
-            interactions: &self.interactions,
-            order: &self.order,
-            possible,
-            free: &self.free,
-        };
-        match filtered.nth(place) {
-            Some(choice) => choice,
-            None => unreachable!(),
+        let interaction = &self.interactions[usize::from(number)];
+        Choice {
+            connector: interaction.connector,
+            mask: interaction.mask,
+            moves: judged.nth_row(
+                &interaction.ports,
+                judgement.ways[usize::from(number)],
+                place,
+            ),
         }
     }
 }

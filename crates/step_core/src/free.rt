@@ -23,7 +23,7 @@ pub(crate) fn free_interactions(order: &Order, count: usize) -> InteractionSet
 }
 
 /// All numbers below the count.
-fn numbers_below(count: usize) -> InteractionSet
+pub(crate) fn numbers_below(count: usize) -> InteractionSet
     requires { count ≤ MAX_INTERACTIONS }
     ensures { (n : ℕ) → n < count → contains result n ≡ true }
 {

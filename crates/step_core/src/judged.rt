@@ -1,16 +1,15 @@
 //! A global state with the offered transitions of its atoms, each judged once: which interactions are possible in it, and how
 //! their participants can move.
-ghost use Rattle.std.specs.Prelude.{◌≡◌, ℕ, false, [], ◌≤◌, ◌<◌, ◌+◌, ◌*◌, ◌^◌, ◌++◌, Some, None, List, map, length, get_or, slice_get, flat_map, option_map};
+ghost use Rattle.std.specs.Prelude.{◌≡◌, ℕ, false, [], ◌≤◌, ◌<◌, ◌+◌, ◌*◌, ◌^◌, ◌++◌, Some, None, List, map, length, get_or, slice_get, slice_index_or, flat_map, option_map};
 ghost use Rattle.std.specs.FinSet.{contains};
-ghost use Rattle.std.specs.List.{list_all};
 ghost use Rattle.petri_atom.specs.Atom.{definition_of};
 ghost use Rattle.petri_atom.specs.declared.parts.TheConstants.{MAX_TRANSITIONS};
 ghost use Rattle.connector_tree.specs.declared.tree.TheConstants.{MAX_LEAVES};
-ghost use Rattle.step_core.specs.Choice.{is_offered_port, is_unguarded, is_possible, move_of, moves_of, combinations};
+ghost use Rattle.step_core.specs.Choice.{is_unguarded, is_possible, move_of, moves_of, combinations, choices_of};
 ghost use Rattle.step_core.specs.Interaction.{interaction_of};
 ghost use Rattle.connector_tree.specs.Tree.{leaves};
-ghost use Rattle.step_core.specs.Possible.{ArePossible};
-ghost use Rattle.step_core.specs.Touching.{ArePossibleBut};
+ghost use Rattle.step_core.specs.Possible.{ArePossible, ArePossibleBut};
+ghost use Rattle.step_core.specs.Ways.{AreWays, AreWaysBut};
 ghost use Rattle.step_core.specs.Wire.{wire_of};
 ghost use Rattle.step_core.specs.Offers.{AreOffered};
 ghost use Rattle.step_core.specs.declared.choice.Move.{Move};
@@ -18,6 +17,7 @@ ghost use Rattle.step_core.specs.declared.limits.TheConstants.{MAX_INTERACTIONS}
 
 use crate::choice::{Move, Moves};
 use crate::interaction::Interaction;
+use crate::limits::MAX_INTERACTIONS;
 use crate::state::PlantState;
 use crate::values::Values;
 use crate::wire::Wire;
@@ -40,17 +40,6 @@ pub(crate) struct Judged<'a> {
 }
 
 impl Judged<'_> {
-    /// Whether the state of the port's atom offers one of the port's transitions.
-    fn offers(&self, port: &Port) -> bool
-        ensures { result ≡ is_offered_port (map definition_of self.now.atoms.now) self.now.states.now port.now }
-    {
-        let number = usize::from(port.atom);
-        match self.atoms.get(number) {
-            Some(atom) => atom.offers_among(self.offered[number], port.port),
-            None => false,
-        }
-    }
-
     /// How many moves the atom of the port can make.
     fn move_count(&self, port: &Port) -> usize
         ensures few { result ≤ MAX_TRANSITIONS }
@@ -75,20 +64,6 @@ impl Judged<'_> {
         }
     }
 
-    /// Whether the interaction is possible.
-    fn is_possible(&self, interaction: &Interaction) -> bool
-        ensures { result ≡ is_possible (map definition_of self.now.atoms.now) (map wire_of self.now.wires.now) self.now.states.now (interaction_of interaction.now) }
-    {
-        self.offers_each(&interaction.ports) && self.is_unguarded(interaction)
-    }
-
-    /// Whether each of the ports has an offered transition.
-    fn offers_each(&self, ports: &[Port]) -> bool
-        ensures { result ≡ list_all (is_offered_port (map definition_of self.now.atoms.now) self.now.states.now) ports.now }
-    {
-        ports.iter().all(|port| self.offers(port))
-    }
-
     /// Whether no guard clause of its connector that applies forbids the interaction.
     fn is_unguarded(&self, interaction: &Interaction) -> bool
         ensures { result ≡ is_unguarded (map definition_of self.now.atoms.now) (map wire_of self.now.wires.now) self.now.states.now (interaction_of interaction.now) }
@@ -108,20 +83,20 @@ impl Judged<'_> {
     }
 
     /// How many rows of one move for each port there are.
-    pub(crate) fn row_count(&self, ports: &[Port]) -> u128
+    fn row_count(&self, ports: &[Port]) -> u64
         requires { length ports.now ≤ MAX_LEAVES }
         ensures few { result ≤ 2 ^ (7 * length ports.now) }
         ensures count { result ≡ length (combinations (map (moves_of (map definition_of self.now.atoms.now) self.now.states.now) ports.now)) }
     {
         match ports {
             [] => 1,
-            [first, later @ ..] => self.move_count(first) as u128 * self.row_count(later),
+            [first, later @ ..] => self.move_count(first) as u64 * self.row_count(later),
         }
     }
 
     /// Adds the row with this place, from 0, of one move for each port, of which the last varies fastest; `total` is how
     /// many rows there are.
-    fn push_row(&self, ports: &[Port], total: u128, place: u128, moves: &mut Moves)
+    fn push_row(&self, ports: &[Port], total: u64, place: u64, moves: &mut Moves)
         requires room { length moves.old + length ports.now ≤ MAX_LEAVES }
         requires total { total ≡ length (combinations (map (moves_of (map definition_of self.now.atoms.now) self.now.states.now) ports.now)) }
         requires place { place < total }
@@ -130,7 +105,7 @@ impl Judged<'_> {
         match ports {
             [] => {}
             [first, later @ ..] => {
-                let below = total / self.move_count(first) as u128;
+                let below = total / self.move_count(first) as u64;
                 moves.push(self.nth_move(first, (place / below) as usize));
                 self.push_row(later, below, place % below, moves);
             }
@@ -152,7 +127,7 @@ impl Judged<'_> {
     }
 
     /// The row with this place, from 0, of one move for each port, of which there are `total`.
-    pub(crate) fn nth_row(&self, ports: &[Port], total: u128, place: u128) -> Moves
+    pub(crate) fn nth_row(&self, ports: &[Port], total: u64, place: u64) -> Moves
         requires few { length ports.now ≤ MAX_LEAVES }
         requires total { total ≡ length (combinations (map (moves_of (map definition_of self.now.atoms.now) self.now.states.now) ports.now)) }
         requires place { place < total }
@@ -163,45 +138,48 @@ impl Judged<'_> {
         moves
     }
 
-    /// The interactions of the list that are possible, by their numbers in it.
-    pub(crate) fn possible(&self, interactions: &[Interaction]) -> InteractionSet
-        requires { length interactions.now ≤ MAX_INTERACTIONS }
-        ensures { ArePossible (map definition_of self.now.atoms.now) (map wire_of self.now.wires.now) self.now.states.now (map interaction_of interactions.now) result }
-    {
-        let mut possible = InteractionSet::new();
-        for (number, interaction) in interactions.iter().enumerate() {
-            self.note(number as u16, interaction, &mut possible);
-        }
-        possible
-    }
-
-    /// Judges each interaction again whose word has a moved atom; the set is right for all others.
+    /// Judges the interactions of the set `touched`, by their numbers in the list; what is possible, and the numbers of
+    /// choices, are right for all others.
     pub(crate) fn judge_touched(
         &self,
         interactions: &[Interaction],
-        words: &[u64],
-        moved: u64,
+        touched: &InteractionSet,
         possible: &mut InteractionSet,
+        ways: &mut [u64; MAX_INTERACTIONS],
     )
         requires few { length interactions.now ≤ MAX_INTERACTIONS }
-        requires rows { length words.now ≡ length interactions.now }
-        requires others { ArePossibleBut words.now moved (map definition_of self.now.atoms.now) (map wire_of self.now.wires.now) self.now.states.now (map interaction_of interactions.now) possible.old }
-        ensures { ArePossible (map definition_of self.now.atoms.now) (map wire_of self.now.wires.now) self.now.states.now (map interaction_of interactions.now) possible.new }
+        requires others { ArePossibleBut touched.now (map definition_of self.now.atoms.now) (map wire_of self.now.wires.now) self.now.states.now (map interaction_of interactions.now) possible.old }
+        requires other_ways { AreWaysBut touched.now (map definition_of self.now.atoms.now) self.now.states.now (map interaction_of interactions.now) ways.old }
+        ensures possible { ArePossible (map definition_of self.now.atoms.now) (map wire_of self.now.wires.now) self.now.states.now (map interaction_of interactions.now) possible.new }
+        ensures ways { AreWays (map definition_of self.now.atoms.now) self.now.states.now (map interaction_of interactions.now) ways.new }
     {
-        for (number, interaction) in interactions.iter().enumerate() {
-            if words[number] & moved != 0 {
-                self.note(number as u16, interaction, possible);
+        let mut from = 0;
+        while let Some(number) = touched.first_from(from) {
+            if let Some(interaction) = interactions.get(usize::from(number)) {
+                self.note(number, interaction, possible, ways);
             }
+            from = number + 1;
         }
     }
 
-    /// Puts the interaction with this number into the set where it is possible, and takes it out where it is not.
-    fn note(&self, number: u16, interaction: &Interaction, possible: &mut InteractionSet)
+    /// Notes how many choices the interaction with this number has, and whether it is possible: one pass over its ports, and
+    /// its guards where each of these can move.
+    fn note(
+        &self,
+        number: u16,
+        interaction: &Interaction,
+        possible: &mut InteractionSet,
+        ways: &mut [u64; MAX_INTERACTIONS],
+    )
         requires { number < MAX_INTERACTIONS }
-        ensures here { contains possible.new number ≡ is_possible (map definition_of self.now.atoms.now) (map wire_of self.now.wires.now) self.now.states.now (interaction_of interaction.now) }
+        ensures possible { contains possible.new number ≡ is_possible (map definition_of self.now.atoms.now) (map wire_of self.now.wires.now) self.now.states.now (interaction_of interaction.now) }
         ensures others { (n : ℕ) → ¬ (n ≡ number) → contains possible.new n ≡ contains possible.old n }
+        ensures ways { slice_index_or ways.new number 0 ≡ length (choices_of (map definition_of self.now.atoms.now) self.now.states.now (interaction_of interaction.now)) }
+        ensures other_ways { (n : ℕ) → ¬ (n ≡ number) → slice_index_or ways.new n 0 ≡ slice_index_or ways.old n 0 }
     {
-        if self.is_possible(interaction) {
+        let count = self.row_count(&interaction.ports);
+        ways[usize::from(number)] = count;
+        if count > 0 && self.is_unguarded(interaction) {
             possible.insert(number);
         } else {
             possible.remove(number);

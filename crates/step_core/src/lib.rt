@@ -31,6 +31,7 @@ mod free;
 mod interaction;
 mod interactions;
 mod judged;
+mod judgement;
 mod limits;
 mod making;
 mod rules;

@@ -7,19 +7,21 @@ ghost use Rattle.step_core.specs.Choice.{choices, IsAllowed, IsStuck};
 ghost use Rattle.step_core.specs.Chosen.{choice_of};
 ghost use Rattle.step_core.specs.Fitting.{IsOf, AllFit};
 ghost use Rattle.step_core.specs.Interaction.{interaction_of};
+ghost use Rattle.step_core.specs.Judgement.{IsJudgement};
 ghost use Rattle.step_core.specs.Offers.{AreOffered, AreOfferedBut};
-ghost use Rattle.step_core.specs.Possible.{ArePossible};
 ghost use Rattle.step_core.specs.Touching.{AreTouching};
 ghost use Rattle.step_core.specs.Wire.{wire_of};
+ghost use Rattle.step_core.specs.declared.limits.TheConstants.{MAX_ATOMS};
 ghost use Rattle.step_core.specs.Step.{initial_states, next};
 ghost use Rattle.step_core.specs.System.{plant_of};
 
 use crate::choice::{Choice, Move};
+use crate::judgement::Judgement;
+use crate::limits::MAX_ATOMS;
 use crate::state::PlantState;
 use crate::system::System;
-use crate::touching::{touching_words, word_of_moves};
+use crate::touching::{touched_by, touching_words, word_of_moves};
 use petri_atom::{Atom, TransitionSet};
-use priority_filter::InteractionSet;
 use std::alloc::{AllocError, Global};
 
 /// A plant that runs: a system, its present state, and what that state offers: transitions, and possible interactions.
@@ -30,15 +32,12 @@ use std::alloc::{AllocError, Global};
 pub struct Stepper<'s> {
     system: &'s System,
     states: PlantState,
-    offered: Vec<TransitionSet>,
     touching: Vec<u64>,
-    possible: InteractionSet,
+    judgement: Judgement,
     ghost of_plant: { IsOf (plant_of system.now) states },
-    ghost rows: { length system.now.atoms.items ≤ length offered.items },
-    ghost exact: { AreOffered (map definition_of system.now.atoms.items) states offered.items },
     ghost words: { length touching.items ≡ length system.now.interactions.items },
     ghost touched: { AreTouching (map wire_of system.now.wires.items) (map interaction_of system.now.interactions.items) touching.items },
-    ghost known: { ArePossible (map definition_of system.now.atoms.items) (map wire_of system.now.wires.items) states (map interaction_of system.now.interactions.items) possible },
+    ghost judged: { IsJudgement (plant_of system.now) (map interaction_of system.now.interactions.items) states judgement },
 }
 
 impl<'s> Stepper<'s> {
@@ -60,15 +59,13 @@ impl<'s> Stepper<'s> {
         ensures plant { IfOk result (λ run. plant_in run ≡ plant_of system.now) }
         ensures states { IfOk result (λ run. states_in run ≡ states) }
     {
-        let offered = offered_rows(alloc, &system.atoms, &states)?;
         let touching = touching_words(alloc, &system.wires, &system.ports, &system.interactions)?;
-        let possible = system.possible_among(&states, &offered);
+        let judgement = system.judge(&states);
         Ok(Stepper {
             system,
             states,
-            offered,
             touching,
-            possible,
+            judgement,
         })
     }
 
@@ -92,8 +89,7 @@ impl<'s> Stepper<'s> {
         ensures count { result ≡ length (choices (plant_in self.now) (states_in self.now)) }
         ensures stuck { (result ≡ 0) ↔ IsStuck (plant_in self.now) (states_in self.now) }
     {
-        self.system
-            .count_among(&self.states, &self.offered, &self.possible)
+        self.judgement.total
     }
 
     /// The choice of the present state with this place, from 0, in the order of the choices.
@@ -102,8 +98,7 @@ impl<'s> Stepper<'s> {
         ensures entry { slice_get (choices (plant_in self.now) (states_in self.now)) place ≡ Some (choice_of result) }
         ensures allowed { IsAllowed (plant_in self.now) (states_in self.now) (choice_of result) }
     {
-        self.system
-            .nth_among(&self.states, &self.offered, &self.possible, place)
+        self.system.nth_among(&self.states, &self.judgement, place)
     }
 
     /// Fires the choice: the present state becomes the next one. What is offered is judged again for the atoms that moved, and
@@ -119,42 +114,38 @@ impl<'s> Stepper<'s> {
             &self.system.atoms,
             &self.states,
             choice.moves.as_slice(),
-            &mut self.offered,
+            &mut self.judgement.offered,
         );
+        let touched = touched_by(&self.touching, word_of_moves(choice.moves.as_slice()));
         self.system.judge_touched(
             &self.states,
-            &self.offered,
-            &self.touching,
-            word_of_moves(choice.moves.as_slice()),
-            &mut self.possible,
+            &self.judgement.offered,
+            &touched,
+            &mut self.judgement.possible,
+            &mut self.judgement.ways,
+        );
+        self.judgement.allowed.clear();
+        self.judgement.total = self.system.allow(
+            &self.states,
+            &self.judgement.offered,
+            &self.judgement.possible,
+            &self.judgement.ways,
+            &mut self.judgement.allowed,
         );
     }
-}
-
-/// The sets of the transitions that the states offer, by the numbers of their atoms.
-fn offered_rows(
-    alloc: Global,
-    atoms: &[Atom],
-    states: &PlantState,
-) -> Result<Vec<TransitionSet>, AllocError>
-    requires { length states.now ≡ length atoms.now }
-    ensures rows { IfOk result (λ rows. length rows.items ≡ length atoms.now) }
-    ensures exact { IfOk result (λ rows. AreOffered (map definition_of atoms.now) states.now rows.items) }
-{
-    let mut rows = Vec::with_capacity(alloc, atoms.len())?;
-    for (number, atom) in atoms.iter().enumerate() {
-        rows.push(atom.offered(&states.states[number]))?;
-    }
-    Ok(rows)
 }
 
 /// Judges the transitions of the atoms of the moves again; those of all other atoms are known.
-fn judge_moved(atoms: &[Atom], states: &PlantState, moves: &[Move], offered: &mut [TransitionSet])
+fn judge_moved(
+    atoms: &[Atom],
+    states: &PlantState,
+    moves: &[Move],
+    offered: &mut [TransitionSet; MAX_ATOMS],
+)
     requires as_many { length states.now ≡ length atoms.now }
-    requires rows { length atoms.now ≤ length offered.old }
+    requires few { length atoms.now ≤ MAX_ATOMS }
     requires others { AreOfferedBut moves.now (map definition_of atoms.now) states.now offered.old }
-    ensures rows { length offered.new ≡ length offered.old }
-    ensures exact { AreOffered (map definition_of atoms.now) states.now offered.new }
+    ensures { AreOffered (map definition_of atoms.now) states.now offered.new }
 {
     for step in moves {
         judge_atom(atoms, states, step.atom, offered);
@@ -162,10 +153,14 @@ fn judge_moved(atoms: &[Atom], states: &PlantState, moves: &[Move], offered: &mu
 }
 
 /// Judges the transitions of the atom with this number again, if there is one.
-fn judge_atom(atoms: &[Atom], states: &PlantState, number: u16, offered: &mut [TransitionSet])
+fn judge_atom(
+    atoms: &[Atom],
+    states: &PlantState,
+    number: u16,
+    offered: &mut [TransitionSet; MAX_ATOMS],
+)
     requires as_many { length states.now ≡ length atoms.now }
-    requires rows { length atoms.now ≤ length offered.old }
-    ensures rows { length offered.new ≡ length offered.old }
+    requires few { length atoms.now ≤ MAX_ATOMS }
     ensures again { (a : AtomDefinition) (s : Local) → slice_get (map definition_of atoms.now) number ≡ Some a → slice_get states.now number ≡ Some s → slice_index_or offered.new number 0 ≡ offered_set a s }
     ensures others { (n : ℕ) → ¬ (n ≡ number) → slice_index_or offered.new n 0 ≡ slice_index_or offered.old n 0 }
 {

@@ -2,14 +2,16 @@
 ghost use Rattle.std.specs.Prelude.{◌≡◌, ◌≤◌, true, IfOk, map, length};
 ghost use Rattle.connector_tree.specs.Tree.{leaves};
 ghost use Rattle.step_core.specs.Interaction.{interaction_of};
-ghost use Rattle.step_core.specs.Touching.{has_atom, has_ports, has_moves, IsGuardWord, IsTouching, AreTouching};
+ghost use Rattle.step_core.specs.Touching.{has_atom, has_ports, has_moves, IsGuardWord, IsTouching, AreTouching, AreTouched};
 ghost use Rattle.step_core.specs.Wire.{wire_of};
+ghost use Rattle.step_core.specs.declared.limits.TheConstants.{MAX_INTERACTIONS};
 
 use crate::choice::Move;
 use crate::interaction::Interaction;
 use crate::limits::MAX_ATOMS;
 use crate::wire::Wire;
 use connector_tree::Port;
+use priority_filter::InteractionSet;
 use std::alloc::{AllocError, Global};
 
 /// The bit of the atom; none of a number that no atom of a plant can have.
@@ -87,4 +89,18 @@ pub(crate) fn touching_words(
         words.push(word_of_interaction(wires, ports, interaction))?;
     }
     Ok(words)
+}
+
+/// The interactions whose word has a moved atom, by the places of their words.
+pub(crate) fn touched_by(words: &[u64], moved: u64) -> InteractionSet
+    requires { length words.now ≤ MAX_INTERACTIONS }
+    ensures { AreTouched words.now moved result }
+{
+    let mut touched = InteractionSet::new();
+    for number in 0..words.len() {
+        if words[number] & moved != 0 {
+            touched.insert(number as u16);
+        }
+    }
+    touched
 }

@@ -1,4 +1,4 @@
-use Rattle.std.proofs.Common.{◌+◌, ◌∙◌, subst, map, drop, get_or}
+use Rattle.std.proofs.Common.{◌+◌, subst, map, drop, get_or}
 use Rattle.std.proofs.lemmas.List.{drop_more}
 use Rattle.petri_atom.specs.Atom.{definition_of}
 use Rattle.step_core.specs.Offers.{AreOfferedBut}
@@ -13,7 +13,5 @@ loop-step-preserved c =
     let atoms = map definition_of c.args.atoms.now in
     let none : Move = record { atom = 0; transition = 0 } in
     let move = get_or moves index none in
-    let again : AreOfferedBut (drop (index + 1) moves) atoms c.args.states.now c.judge_atom.new.offered =
     after-one move (drop (index + 1) moves) atoms c.args.states.now c.loop-step.offered c.judge_atom.new.offered c.judge_atom.ensures.again c.judge_atom.ensures.others
-    (subst (λ left. AreOfferedBut left atoms c.args.states.now c.loop-step.offered) (drop_more moves index none c.loop-step-test.true) c.loop-step.invariant.0) in
-    (again, c.judge_atom.ensures.rows ∙ c.loop-step.invariant.1)
+    (subst (λ left. AreOfferedBut left atoms c.args.states.now c.loop-step.offered) (drop_more moves index none c.loop-step-test.true) c.loop-step.invariant)

@@ -20,14 +20,6 @@ nonzero_div-place t c =
     let none : Port = record { atom = 0; port = 0 } in
     below-positive moves c.args.ports.now none c.in-len1-up.len_at_least c.args.total c.move_count.result c.args.place c.requires.total c.move_count.ensures.count c.requires.place
 
-pub overflow_cast-place : goal.overflow_cast-place
-overflow_cast-place t c =
-    let judged = c.args.self.now in
-    let moves = moves_of (map definition_of judged.atoms.now) judged.states.now in
-    let none : Port = record { atom = 0; port = 0 } in
-    let within = first-within moves c.args.ports.now none c.in-len1-up.len_at_least c.args.total c.move_count.result c.args.place c.requires.total c.move_count.ensures.count c.requires.place in
-    omega (arith, within, c.move_count.ensures.count, c.move_count.ensures.few)
-
 pub nth_move-requires : goal.nth_move-requires
 nth_move-requires t c =
     let judged = c.args.self.now in

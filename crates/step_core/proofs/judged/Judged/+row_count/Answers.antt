@@ -1,8 +1,17 @@
-use Rattle.std.proofs.Common.{map, length, take, drop, ◌-◌}
+use Rattle.std.proofs.Common.{◌≤◌, ◌*◌, ◌^◌, map, length, take, drop, ◌-◌, arith, le_trans, pow_mono}
 use Rattle.petri_atom.specs.Atom.{definition_of}
 use Rattle.step_core.specs.Choice.{moves_of}
 use Rattle.step_core.proofs.Combinations.{product-bound, length-later, count-by-first}
 use Rattle.step_core.proofs.judged.Judged.+row_count.Goals as goal
+
+-- at most 7 bits for each of 8 ports
+pub overflow_mul-result : goal.overflow_mul-result
+overflow_mul-result t c =
+    let ports = c.args.ports.now in
+    let few = product-bound c.move_count.result c.row_count.result (length (take (length ports - 1) (drop 1 ports))) (length ports) c.move_count.ensures.few c.row_count.ensures.few (length-later ports c.in-len1-up.len_at_least) in
+    let bits : 7 * length ports ≤ 56 = omega (arith, c.requires) in
+    let bound : c.move_count.result * c.row_count.result ≤ 2 ^ 56 = le_trans few (pow_mono bits) in
+    omega arith
 
 pub returns-in-len1-up-clause-few : goal.returns-in-len1-up-clause-few
 returns-in-len1-up-clause-few t c =

@@ -1,9 +1,10 @@
-use Rattle.std.proofs.Common.{◌≡◌, ◌<◌, ℕ, map}
+use Rattle.std.proofs.Common.{◌≡◌, ◌<◌, ◌≤◌, ◌-◌, ℕ, map, get_or}
 use Rattle.std.specs.FinSet.{contains}
 use Rattle.petri_atom.specs.Atom.{definition_of}
 use Rattle.step_core.specs.Choice.{is_possible_at}
 use Rattle.step_core.specs.Interaction.{interaction_of}
-use Rattle.step_core.specs.Touching.{ArePossibleBut}
+use Rattle.step_core.specs.Possible.{ArePossibleBut}
+use Rattle.step_core.specs.Ways.{ways_at, AreWaysBut}
 use Rattle.step_core.specs.Wire.{wire_of}
 use Rattle.step_core.proofs.judged.Judged.judge_touched.Given as goal
 
@@ -11,6 +12,13 @@ abbrev pub invariant-loop-number : goal.invariant-loop-number
 invariant-loop-number l =
     let atoms = map definition_of l.self.atoms.now in
     let wires = map wire_of l.self.wires.now in
+    let states = l.self.states.now in
     let all = map interaction_of l.interactions in
-    ((n : ℕ) → n < l.number → contains l.possible n ≡ is_possible_at atoms wires l.self.states.now all n) ×
-    ArePossibleBut l.words l.moved atoms wires l.self.states.now all l.possible
+    (l.from ≤ 1024) ×
+    ((n : ℕ) → n < l.from → contains l.possible n ≡ is_possible_at atoms wires states all n) ×
+    ((n : ℕ) → n < l.from → get_or l.ways n 0 ≡ ways_at atoms states all n) ×
+    ArePossibleBut l.touched atoms wires states all l.possible ×
+    AreWaysBut l.touched atoms states all l.ways
+
+abbrev pub decreases-loop-number : goal.decreases-loop-number
+decreases-loop-number l = 1024 - l.from

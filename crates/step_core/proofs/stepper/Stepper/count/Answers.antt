@@ -1,8 +1,18 @@
+use Rattle.std.proofs.Common.{◌∙◌, ap, length}
+use Rattle.step_core.specs.Choice.{choices_among}
 use Rattle.step_core.specs.System.{plant_of}
 use Rattle.step_core.proofs.Alive.{none-where-stuck}
 use Rattle.step_core.proofs.stepper.Stepper.count.Goals as goal
 
+pub returns-clause-count : goal.returns-clause-count
+returns-clause-count c =
+    let run = c.args.self.now in
+    let plant = plant_of run.system.now in
+    run.judged.total ∙ ap (λ all. length (choices_among plant run.states all)) run.system.now.listed
+
 pub returns-clause-stuck : goal.returns-clause-stuck
 returns-clause-stuck c =
     let run = c.args.self.now in
-    none-where-stuck (plant_of run.system.now) run.states run.system.now.valid c.count_among.result c.count_among.ensures
+    let plant = plant_of run.system.now in
+    none-where-stuck plant run.states run.system.now.valid run.judgement.total
+    (run.judged.total ∙ ap (λ all. length (choices_among plant run.states all)) run.system.now.listed)

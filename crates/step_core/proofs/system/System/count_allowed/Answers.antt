@@ -1,7 +1,16 @@
+use Rattle.std.proofs.Common.{◌∙◌, ap, length}
+use Rattle.step_core.specs.Choice.{choices_among}
 use Rattle.step_core.specs.System.{plant_of}
 use Rattle.step_core.proofs.Alive.{none-where-stuck}
 use Rattle.step_core.proofs.system.System.count_allowed.Goals as goal
 
+pub returns-clause-count : goal.returns-clause-count
+returns-clause-count c =
+    let system = c.args.self.now in
+    c.judge.ensures.total ∙ ap (λ all. length (choices_among (plant_of system) c.args.states.now all)) system.listed
+
 pub returns-clause-stuck : goal.returns-clause-stuck
 returns-clause-stuck c =
-    none-where-stuck (plant_of c.args.self.now) c.args.states.now c.args.self.now.valid c.count_among.result c.count_among.ensures
+    let system = c.args.self.now in
+    none-where-stuck (plant_of system) c.args.states.now system.valid c.judge.result.total
+    (c.judge.ensures.total ∙ ap (λ all. length (choices_among (plant_of system) c.args.states.now all)) system.listed)
