@@ -7,4 +7,5 @@ pub mod Fitting
 pub mod Sameness
 pub mod Rows
 pub mod PortSets
+pub mod Members
 pub mod OfferedSets

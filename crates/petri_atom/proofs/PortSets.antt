@@ -35,7 +35,7 @@ numbers-filter test n port (t ∷ ts) same =
     ap (λ r. cond (test n) (n ∷ r) r) rest
 
 -- what passes a test among what passes another passes both
-filter-filter : {X : Type 0} (p q : X → Bool) (xs : List X) → filter p (filter q xs) ≡ filter (λ x. p x && q x) xs
+pub filter-filter : {X : Type 0} (p q : X → Bool) (xs : List X) → filter p (filter q xs) ≡ filter (λ x. p x && q x) xs
 filter-filter p q [] = refl
 filter-filter p q (x ∷ xs) =
     let rest = filter-filter p q xs in
@@ -83,7 +83,7 @@ ones-set_below (suc n) f =
         ap ones e ∙ none
 
 -- the numbers in both of two sets
-set_below-both : (n : ℕ) (f g : ℕ → Bool) → bit_and (set_below n f) (set_below n g) ≡ set_below n (λ k. f k && g k)
+pub set_below-both : (n : ℕ) (f g : ℕ → Bool) → bit_and (set_below n f) (set_below n g) ≡ set_below n (λ k. f k && g k)
 set_below-both n f g =
     set_below-is n _ (λ k. f k && g k) (and_lt n _ _ (set_below-lt n f) (set_below-lt n g))
     (λ k h. has-and _ _ k ∙ ap (λ b. b && has (set_below n g) k) (has-set_below n f k h) ∙ ap (λ b. f k && b) (has-set_below n g k h))
@@ -95,7 +95,7 @@ empty-ones w =
     (λ some. ne_eqb w 0 some ∙ sym (ne_eqb (ones w) 0 (λ none. some (zero_from_ones w none)))) (cases_eq w 0)
 
 -- a port's transitions are the numbers of its set
-numbers-set : (port : ℕ) (ts : List TransitionDefinition) → numbers_of port ts ≡ filter (is_of_port port ts) (range_with_len 0 (length ts))
+pub numbers-set : (port : ℕ) (ts : List TransitionDefinition) → numbers_of port ts ≡ filter (is_of_port port ts) (range_with_len 0 (length ts))
 numbers-set port ts =
     numbers-filter (is_of_port port ts) 0 port ts (λ i. ap (is_of_port port ts) (let e : 0 + i ≡ i = omega arith in e))
 

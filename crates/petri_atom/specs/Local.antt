@@ -1,7 +1,7 @@
-use Rattle.std.specs.Prelude.{◌≡◌, ℕ, zero, suc, ◌+◌, ◌^◌, ◌≤◌, ℤ, pos, Bool, cond, not, ◌&&◌, ◌||◌, List, slice_index_or, slice_get, ◌==◌, nat_lt, Option, None, if◌then◌else◌, length, map, unwrap_or, is_some}
+use Rattle.std.specs.Prelude.{◌≡◌, ℕ, zero, suc, ◌+◌, ◌^◌, ◌≤◌, ℤ, pos, Bool, cond, not, ◌&&◌, ◌||◌, List, slice_index_or, slice_get, ◌==◌, nat_lt, Option, None, if◌then◌else◌, length, filter, map, unwrap_or, is_some}
 use Rattle.petri_atom.specs.declared.state.Delivered.{Delivered}
 use Rattle.std.specs.Int.{bit_at}
-use Rattle.std.specs.List.{list_all, list_any}
+use Rattle.std.specs.List.{list_all, list_any, range_with_len}
 use Rattle.petri_atom.specs.declared.state.TheConstants.{MAX_PLACES}
 
 -- a local state: the set of marked places, as the number whose bit k says that place k is marked, and the variables' values
@@ -21,6 +21,10 @@ is_in ks k = list_any (λ j. j == k) ks
 unfoldable pub set_below : ℕ → (ℕ → Bool) → ℕ
 set_below zero test = 0
 set_below (suc n) test = set_below n test + cond (test n) (2 ^ n) 0
+
+-- the numbers below a bound that are in a set, rising
+unfoldable pub numbers_below : ℕ → ℕ → List ℕ
+numbers_below n set = filter (has set) (range_with_len 0 n)
 
 -- the numbers are places that a marking has room for
 abbrev pub are_places : List ℕ → Bool

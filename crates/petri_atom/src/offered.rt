@@ -1,7 +1,6 @@
 //! The offered transitions of a state as one set, so that each transition is judged once in a step.
-ghost use Rattle.std.specs.Prelude.{◌≡◌, ◌≤◌, length, slice_get, filter};
-ghost use Rattle.std.specs.List.{list_any};
-ghost use Rattle.petri_atom.specs.Local.{Local, has};
+ghost use Rattle.std.specs.Prelude.{◌≡◌, ◌≤◌, length, slice_get};
+ghost use Rattle.petri_atom.specs.Local.{Local, has, numbers_below};
 ghost use Rattle.petri_atom.specs.Definition.{enabled, offered_set, offers_port};
 ghost use Rattle.petri_atom.specs.declared.parts.TheConstants.{MAX_TRANSITIONS};
 
@@ -77,22 +76,24 @@ impl Atom {
     pub fn nth_among(&self, offered: TransitionSet, port: u16, place: usize) -> Option<u16>
         ensures { (state : Local) → offered ≡ offered_set (definition_of self.now) state → result ≡ slice_get (enabled (definition_of self.now) state port) place }
     {
-        nth_in(self.transitions_of(port), offered, place)
+        nth_in(offered.word & self.mask_of(port), place)
     }
 }
 
-/// The number with this place, from 0, among those that are in the set.
-fn nth_in(numbers: &[u16], set: TransitionSet, place: usize) -> Option<u16>
-    ensures { result ≡ slice_get (filter (has set) numbers.now) place }
+/// The number with this place, from 0, among those in the set, by rising number.
+fn nth_in(set: u128, place: usize) -> Option<u16>
+    ensures { result ≡ slice_get (numbers_below MAX_TRANSITIONS set) place }
 {
-    let mut left = place;
-    for number in numbers {
-        if set.contains(*number) {
-            if left == 0 {
-                return Some(*number);
-            }
-            left -= 1;
+    let mut left = set;
+    for _ in 0..place {
+        if left == 0 {
+            return None;
         }
+        left &= left - 1;
     }
-    None
+    if left == 0 {
+        None
+    } else {
+        Some(left.trailing_zeros() as u16)
+    }
 }

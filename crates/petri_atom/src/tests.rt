@@ -322,6 +322,34 @@ fn transitions_of_two_ports_are_kept_apart(rt: HostRuntime) -> Result<(), Fail> 
     }
     assert_eq!(rt; net.enabled_count(&state, 0), 2);
     assert_eq!(rt; net.nth_enabled(&state, 0, 1), Some(4));
+    let offered = net.offered(&state);
+    for (port, count, second) in [(0, 2, Some(4)), (1, 2, Some(3)), (2, 0, None)] {
+        assert_eq!(rt; net.count_among(offered, port), count, "port {port}");
+        assert_eq!(rt; net.offers_among(offered, port), 0 < count, "port {port}");
+        assert_eq!(rt; net.nth_among(offered, port, 1), second, "port {port}");
+    }
+    Ok(())
+}
+
+#[test]
+fn the_last_of_as_many_transitions_as_an_atom_may_have(rt: HostRuntime) -> Result<(), Fail> {
+    let alloc = rt.alloc();
+    let mut transitions = Vec::new(alloc);
+    for number in 0..128 {
+        transitions.push(moving(alloc, 0, 0, Expression::Number(number % 2))?)?;
+    }
+    let net = atom(alloc, (true, false), 0, transitions)?;
+    let offered = net.offered(&net.initial());
+    assert_eq!(rt; net.count_among(offered, 0), 64);
+    for (place, number) in [
+        (0, Some(1)),
+        (31, Some(63)),
+        (32, Some(65)),
+        (63, Some(127)),
+        (64, None),
+    ] {
+        assert_eq!(rt; net.nth_among(offered, 0, place), number, "place {place}");
+    }
     Ok(())
 }
 
