@@ -8,8 +8,10 @@ pub mod Told
 pub mod RuleFaults
 pub mod TreeRules
 pub mod Delivering
+pub mod ValueRows
 pub mod Guarding
 pub mod Stepping
+pub mod OwnAtoms
 pub mod FiringOfAll
 pub mod Initial
 pub mod Rows

@@ -1,5 +1,5 @@
-use Rattle.std.proofs.Common.{◌≡◌, ℕ, zero, suc, ◌+◌, ◌<◌, refl, sym, ◌∙◌, ap, List, [], ◌∷◌, ◌++◌, length, map, take, drop, get_or, set, arith, Bool, true, false, cond, ◌&&◌}
-use Rattle.std.specs.Prelude.{Option, Some, None, slice_get, find, filter, flat_map}
+use Rattle.std.proofs.Common.{◌≡◌, ℕ, zero, suc, ◌+◌, ◌<◌, refl, ◌∙◌, ap, List, [], ◌∷◌, ◌++◌, length, map, get_or, arith, Bool, true, false, cond, ◌&&◌}
+use Rattle.std.specs.Prelude.{Option, Some, None, slice_get, filter, flat_map}
 use Rattle.std.specs.List.{list_all}
 use Rattle.std.specs.Option.{option_map_or}
 use Rattle.std.proofs.lemmas.Bool.{and_parts, and_from}
@@ -24,45 +24,15 @@ stepped-at atoms moves d n (suc i) (s ∷ states) x within =
     let e : suc n + i ≡ n + suc i = omega arith in
     stepped-at atoms moves d (suc n) i states x (omega arith) ∙ ap (λ k. stepped atoms moves d k (get_or states i x)) e
 
--- a list of which the first i elements are those of another
-module _ {X : Type 0} where
-  pub mixed-here : (xs bs : List X) (i : ℕ) (x : X) → i < length bs → length xs ≡ length bs → get_or (take i xs ++ drop i bs) i x ≡ get_or bs i x
-  mixed-here [] [] i x within long = absurd (omega arith)
-  mixed-here [] (b ∷ bs) i x within long = absurd (omega arith)
-  mixed-here (a ∷ xs) [] i x within long = absurd (omega arith)
-  mixed-here (a ∷ xs) (b ∷ bs) zero x within long = refl
-  mixed-here (a ∷ xs) (b ∷ bs) (suc i) x within long = mixed-here xs bs i x (omega arith) (omega arith)
-
-  -- one more of them
-  pub mixed-next : (xs bs : List X) (i : ℕ) (x y : X) → i < length bs → length xs ≡ length bs → y ≡ get_or xs i x → set (take i xs ++ drop i bs) i y ≡ take (i + 1) xs ++ drop (i + 1) bs
-  mixed-next xs bs i x y within long same = let e : suc i ≡ i + 1 = omega arith in
-      each xs bs i within long same ∙ ap (λ n. take n xs ++ drop n bs) e
-    where
-      each : (cs ds : List X) (j : ℕ) → j < length ds → length cs ≡ length ds → y ≡ get_or cs j x → set (take j cs ++ drop j ds) j y ≡ take (suc j) cs ++ drop (suc j) ds
-      each [] [] j within long same = absurd (omega arith)
-      each [] (d ∷ ds) j within long same = absurd (omega arith)
-      each (c ∷ cs) [] j within long same = absurd (omega arith)
-      each (c ∷ cs) (d ∷ ds) zero within long same = ap (λ z. z ∷ ds) same
-      each (c ∷ cs) (d ∷ ds) (suc j) within long same = ap (λ zs. c ∷ zs) (each cs ds j (omega arith) (omega arith) same)
-
--- what is found is what was looked for
-pub found-is : {X : Type 0} (p : X → Bool) (xs : List X) (x : X) → find p xs ≡ Some x → p x ≡ true
-found-is p [] x found = absurd (cc)
-found-is p (y ∷ ys) x found = each (λ later. found-is p ys x later) (p y) refl found
-  where
-    each : (find p ys ≡ Some x → p x ≡ true) → (b : Bool) → p y ≡ b → cond b (Some y) (find p ys) ≡ Some x → p x ≡ true
-    each more true told here = let same : y ≡ x = cc in ap p (sym same) ∙ told
-    each more false told later = more later
-
 -- tests of lists that are made of others
 module _ {X : Type 0} (f : X → Bool) where
-  all-append : (xs ys : List X) → list_all f xs ≡ true → list_all f ys ≡ true → list_all f (xs ++ ys) ≡ true
+  pub all-append : (xs ys : List X) → list_all f xs ≡ true → list_all f ys ≡ true → list_all f (xs ++ ys) ≡ true
   all-append [] ys all more = more
   all-append (x ∷ xs) ys all more =
       let parts = and_parts (f x) (list_all f xs) all in
       and_from (f x) (list_all f (xs ++ ys)) parts.0 (all-append xs ys parts.1 more)
 
-  all-map : {Y : Type 0} (h : Y → X) (ys : List Y) → list_all (λ y. f (h y)) ys ≡ true → list_all f (map h ys) ≡ true
+  pub all-map : {Y : Type 0} (h : Y → X) (ys : List Y) → list_all (λ y. f (h y)) ys ≡ true → list_all f (map h ys) ≡ true
   all-map h [] all = refl
   all-map h (y ∷ ys) all =
       let parts = and_parts (f (h y)) (list_all (λ z. f (h z)) ys) all in
@@ -86,17 +56,6 @@ module _ {X : Type 0} (f : X → Bool) where
   all-at [] k d all within = absurd (omega arith)
   all-at (x ∷ xs) zero d all within = (and_parts (f x) (list_all f xs) all).0
   all-at (x ∷ xs) (suc k) d all within = all-at xs k d (and_parts (f x) (list_all f xs) all).1 (omega arith)
-
-  -- what is found in a list whose elements all pass passes
-  pub found-passes : (p : X → Bool) (xs : List X) (x : X) → find p xs ≡ Some x → list_all f xs ≡ true → f x ≡ true
-  found-passes p [] x found all = absurd (cc)
-  found-passes p (y ∷ ys) x found all =
-      let parts = and_parts (f y) (list_all f ys) all in
-      each parts.0 (λ later. found-passes p ys x later parts.1) (p y) found
-    where
-      each : f y ≡ true → (find p ys ≡ Some x → f x ≡ true) → (b : Bool) → cond b (Some y) (find p ys) ≡ Some x → f x ≡ true
-      each passes more true here = let same : y ≡ x = cc in ap f (sym same) ∙ passes
-      each passes more false later = more later
 
   -- each row of one element from each list has elements that pass, if all do
   all-rows : (xs : List X) (rest : List (List X)) → list_all f xs ≡ true → list_all (list_all f) rest ≡ true → list_all (list_all f) (flat_map (λ x. map (λ row. x ∷ row) rest) xs) ≡ true
@@ -123,6 +82,10 @@ module _ {X : Type 0} (f : X → Bool) where
   all-combinations (xs ∷ rest) all =
       let parts = and_parts (list_all f xs) (list_all (list_all f) rest) all in
       all-rows xs (combinations rest) parts.0 (all-combinations rest parts.1)
+
+-- what stands where there is no move
+abbrev pub no_move : Move
+no_move = record { atom = 0; transition = 0 }
 
 -- a move that its atom's state offers
 abbrev pub is_offered_move : List AtomDefinition → List Local → Move → Bool

@@ -1,5 +1,6 @@
 use Rattle.std.proofs.Common.{◌≡◌, add-one, ◌+◌, drop, ℕ, refl, sym, ◌∙◌, ap, List, [], ◌∷◌, map, take, get_or, length, ◌<◌, arith, Bool, ◌||◌, ◌&&◌}
 use Rattle.std.specs.List.{list_any}
+use Rattle.std.specs.Option.{option_or}
 use Rattle.std.proofs.lemmas.List.{take-map, length-map, drop_more}
 use Rattle.std.proofs.lemmas.Option.{same_Some, slice_get_read, slice_get-map}
 use Rattle.std.specs.Prelude.{Option, Some, None, option_map, slice_get}
@@ -52,3 +53,8 @@ module _ {X Y F : Type 0} (tell : ℕ → Y → Option F) (v : X → Y) (xs : Li
   -- or nothing
   pub told-later : tell i (v x) ≡ None → first_told tell (i + 1) (map v (drop (i + 1) xs)) ≡ all
   told-later told = ap (λ o. first_of o (first_told tell (i + 1) (map v (drop (i + 1) xs)))) (sym told) ∙ from-here
+
+-- an option, or else nothing
+pub or_none : {X : Type 0} (o : Option X) → option_or o None ≡ o
+or_none None = refl
+or_none (Some x) = refl

@@ -1,5 +1,5 @@
 -- What the early rules of a plant say of each of its wires.
-use Rattle.std.proofs.Common.{◌≡◌, refl, subst, ℕ, zero, suc, ◌≤◌, List, [], ◌∷◌, length, Bool, true, false, cond, not}
+use Rattle.std.proofs.Common.{◌≡◌, refl, subst, ℕ, zero, suc, ◌≤◌, List, [], ◌∷◌, length, true, false, cond, not}
 use Rattle.std.specs.Prelude.{Option, Some, None, option_map, slice_get}
 use Rattle.std.proofs.lemmas.Option.{same_Some}
 use Rattle.connector_tree.specs.Faults as tree
@@ -9,19 +9,18 @@ use Rattle.connector_tree.specs.declared.tree.TheConstants.{MAX_LEAVES}
 use Rattle.connector_tree.proofs.Sound.{sound}
 use Rattle.step_core.specs.Plant.{WireDefinition, PlantDefinition}
 use Rattle.step_core.specs.Rules.{first_of, first_told, atom_fault, tree_fault, is_within_limits, early_fault}
-use Rattle.step_core.specs.declared.fault.SystemFault.{SystemFault}
 use Rattle.step_core.specs.declared.fault.SystemFault.TheVariants.{Limit, BadConnector}
 
 -- where the first of two tells nothing and neither does the second, the second tells nothing
-second_none : {F : Type 0} (a b : Option F) → first_of a b ≡ None → b ≡ None
+pub second_none : {F : Type 0} (a b : Option F) → first_of a b ≡ None → b ≡ None
 second_none None b none = none
 second_none (Some f) b none = absurd (cc)
 
-first_none : {F : Type 0} (a b : Option F) → first_of a b ≡ None → a ≡ None
+pub first_none : {F : Type 0} (a b : Option F) → first_of a b ≡ None → a ≡ None
 first_none None b none = refl
 first_none (Some f) b none = none
 
-tree_none : (k : ℕ) (o : Option TreeFault) → option_map (BadConnector k) o ≡ None → o ≡ None
+pub tree_none : (k : ℕ) (o : Option TreeFault) → option_map (BadConnector k) o ≡ None → o ≡ None
 tree_none k None none = refl
 tree_none k (Some f) none = absurd (cc)
 

@@ -7,7 +7,7 @@ use super::{atom, connector, export, name, wire, wire_with_transfer};
 use crate::choice::{Choice, Move};
 use crate::state::PlantState;
 use crate::system::System;
-use crate::wire::{Export, Wire};
+use crate::wire::{Export, Transfer, Wire};
 use petri_atom::{Delivered, Expression, Operator};
 use std::alloc::Global;
 use std::test::Fail;
@@ -187,6 +187,68 @@ fn a_plant_lends_what_it_was_made_of(rt: HostRuntime) -> Result<(), Fail> {
     let states = PlantState::init(alloc, &system)?;
     assert_eq!(rt; states.len(), 2);
     assert!(rt; !states.is_empty());
+    Ok(())
+}
+
+/// A wire over port 0 of two atoms with a transfer to each: to the first leaf and to the second.
+fn exchange(
+    alloc: Global,
+    text: &[u8],
+    atoms: &[u16],
+    first: Expression<Export>,
+    second: Expression<Export>,
+) -> Result<Wire, Fail> {
+    let mut made = wire(alloc, text, atoms)?;
+    made.transfers.push(Transfer {
+        target: export(0),
+        value: first,
+    })?;
+    made.transfers.push(Transfer {
+        target: export(1),
+        value: second,
+    })?;
+    Ok(made)
+}
+
+#[test]
+fn each_participant_gets_its_own_value(rt: HostRuntime) -> Result<(), Fail> {
+    let alloc = rt.alloc();
+    let mut atoms = Vec::new(alloc);
+    for text in [b"A", b"B", b"C"] {
+        atoms.push(atom(alloc, text, true, false, &[100])?)?;
+    }
+    let mut wires = Vec::new(alloc);
+    // The first leaf is of C, whose move is the second one.
+    let deal = exchange(
+        alloc,
+        b"deal",
+        &[2, 0],
+        Expression::Number(7),
+        Expression::Number(5),
+    )?;
+    wires.push(deal)?;
+    let swap = exchange(
+        alloc,
+        b"swap",
+        &[0, 2],
+        Expression::Variable(export(1)),
+        Expression::Variable(export(0)),
+    )?;
+    wires.push(swap)?;
+    let system = System::new(alloc, atoms, wires, &[], [0; 32])?;
+    let mut states = PlantState::init(alloc, &system)?;
+    let fired = fire(&system, &mut states, 0)?;
+    assert!(rt; is(&fired.choice, 0, 3, &[(0, 0), (2, 0)]));
+    assert_eq!(rt; fired.delivered, [one(5), NOTHING]);
+    for (number, value) in [(0, 5), (1, 0), (2, 7)] {
+        assert_eq!(rt; of_atom(&states, number), Some((value, 1)), "atom {number} dealt to");
+    }
+    let fired = fire(&system, &mut states, 1)?;
+    assert!(rt; is(&fired.choice, 1, 3, &[(0, 0), (2, 0)]));
+    assert_eq!(rt; fired.delivered, [one(7), NOTHING]);
+    for (number, value) in [(0, 7), (1, 0), (2, 5)] {
+        assert_eq!(rt; of_atom(&states, number), Some((value, 1)), "atom {number} swapped");
+    }
     Ok(())
 }
 

@@ -1,66 +1,99 @@
-use Rattle.std.proofs.Common.{◌==◌, ◌<◌, ◌∙◌, sym, ap, subst, arith, length}
-use Rattle.std.specs.Prelude.{find}
-use Rattle.std.proofs.lemmas.List.{length-map}
+use Rattle.std.proofs.Common.{◌≡◌, ◌<◌, ◌∙◌, sym, ap, subst, arith, length, map, take, get_or, set, []}
+use Rattle.std.specs.Prelude.{Some, slice_get}
+use Rattle.std.proofs.lemmas.List.{length-map, take_all}
+use Rattle.std.proofs.lemmas.Option.{slice_get-get_or, get_or_from_slice_get}
 use Rattle.petri_atom.specs.Atom.{definition_of}
+use Rattle.petri_atom.specs.Definition.{fired}
 use Rattle.step_core.specs.Chosen.{choice_of}
 use Rattle.step_core.specs.Fitting.{AllFit}
-use Rattle.step_core.specs.Delivery.{AreDelivered}
-use Rattle.step_core.specs.Step.{moved_by, transfer}
+use Rattle.step_core.specs.Step.{transfer, stepped_from}
 use Rattle.step_core.specs.System.{plant_of}
-use Rattle.step_core.proofs.FiringOfAll.{items-length, all-fired, offered-here, fired-here, fits-here}
+use Rattle.step_core.proofs.FiringOfAll.{none-fired, offered-at, atom-within, offered-here, fired-here, fits-here}
+use Rattle.step_core.proofs.Judging.{atom-there}
+use Rattle.step_core.proofs.OwnAtoms.{no-earlier}
+use Rattle.step_core.proofs.Stepping.{no_move, length-stepped}
 use Rattle.step_core.proofs.system.System.next.Goals as goal
+
+pub loop-place-init : goal.loop-place-init
+loop-place-init c = (
+  c.states.view_is ∙ sym (none-fired (map definition_of c.args.self.now.atoms.items) (transfer (plant_of c.args.self.now) c.args.states.now (choice_of c.args.choice.now)) 0 c.args.states.now),
+  λ all. subst (AllFit (plant_of c.args.self.now)) (sym c.states.view_is) all,
+)
+
+pub index-requires : goal.index-requires
+index-requires c =
+    let system = c.args.self.now in
+    let moves = c.as_slice-moves.result.now in
+    let m = get_or moves c.loop-place.place no_move in
+    let offered = offered-at (plant_of system) c.args.states.now (choice_of c.args.choice.now) moves c.loop-place.place c.as_slice-moves.ensures.moves c.requires.allowed c.loop-place-test.true in
+    let within : m.atom < length (map definition_of system.atoms.items) = atom-within (map definition_of system.atoms.items) c.args.states.now m offered in
+    omega (arith, c.from-number.ensures, length-map system.atoms.items definition_of, system.atoms.ok.0)
 
 pub index_mut-requires : goal.index_mut-requires
 index_mut-requires c =
     let system = c.args.self.now in
-    let choice = choice_of c.args.choice.now in
-    let old = c.args.states.now in
-    let n = c.loop-number.number in
-    let items = c.loop-number.states-inside.states.items in
-    omega (arith, items-length system.atoms.items system.wires.items system.order.rules old choice c.requires.of_plant n items c.loop-number.invariant.0, c.loop-number.states-inside.states.ok.0, c.loop-number-test.true, system.atoms.ok.0, c.len-number-end.ensures)
+    let moves = c.as_slice-moves.result.now in
+    let m = get_or moves c.loop-place.place no_move in
+    let offered = offered-at (plant_of system) c.args.states.now (choice_of c.args.choice.now) moves c.loop-place.place c.as_slice-moves.ensures.moves c.requires.allowed c.loop-place-test.true in
+    let within : m.atom < length (map definition_of system.atoms.items) = atom-within (map definition_of system.atoms.items) c.args.states.now m offered in
+    let long : length c.loop-place.states-inside.states.items ≡ length c.args.states.now = ap length c.loop-place.invariant.0 ∙ length-stepped (map definition_of system.atoms.items) (take c.loop-place.place moves) (transfer (plant_of system) c.args.states.now (choice_of c.args.choice.now)) 0 c.args.states.now in
+    omega (arith, c.from-number.ensures, c.requires.of_plant, c.loop-place.states-inside.states.ok.0)
 
-pub fire-requires-clause-offered : goal.fire-requires-clause-offered
-fire-requires-clause-offered c m found =
+pub apply-requires : goal.apply-requires
+apply-requires c =
     let system = c.args.self.now in
-    let choice = choice_of c.args.choice.now in
     let old = c.args.states.now in
-    let n = c.loop-number.number in
-    let items = c.loop-number.states-inside.states.items in
-    let within : n < length system.atoms.items = omega (arith, c.loop-number-test.true, system.atoms.ok.0, c.len-number-end.ensures) in
-    offered-here system.atoms.items system.wires.items system.order.rules old choice c.requires.of_plant n items c.loop-number.invariant.0 c.index.result.now within c.index.ensures c.index_mut.result.now c.index_mut.ensures.value c.requires.allowed m (ap (find (λ k. k.atom == n)) (sym c.as_slice.ensures.moves) ∙ found)
+    let choice = choice_of c.args.choice.now in
+    let gets = transfer (plant_of system) old choice in
+    let moves = c.as_slice-moves.result.now in
+    let k = c.loop-place.place in
+    let n = c.from-number.result in
+    let m = get_or moves k no_move in
+    let offered = offered-at (plant_of system) old choice moves k c.as_slice-moves.ensures.moves c.requires.allowed c.loop-place-test.true in
+    let within : n < length system.atoms.items = omega (arith, atom-within (map definition_of system.atoms.items) old m offered, c.from-number.ensures, length-map system.atoms.items definition_of) in
+    let fresh = no-earlier (plant_of system) old choice system.valid c.requires.allowed moves c.as_slice-moves.ensures.moves k no_move c.loop-place-test.true n c.from-number.ensures in
+    let now = c.index_mut.result.now in
+    let read = c.index_mut.ensures.value ∙ ap (λ xs. get_or xs n now) c.loop-place.invariant.0 in
+    offered-here system.atoms.items old moves gets c.requires.of_plant k n c.loop-place-test.true c.from-number.ensures fresh c.index.result.now within c.index.ensures now read offered
 
-pub loop-number-preserved : goal.loop-number-preserved
-loop-number-preserved c =
+pub loop-place-preserved : goal.loop-place-preserved
+loop-place-preserved c =
     let system = c.args.self.now in
-    let choice = choice_of c.args.choice.now in
     let old = c.args.states.now in
-    let n = c.loop-number.number in
-    let items = c.loop-number.states-inside.states.items in
-    let within : n < length system.atoms.items = omega (arith, c.loop-number-test.true, system.atoms.ok.0, c.len-number-end.ensures) in
-    let d = transfer (plant_of system) old choice in
-    let delivered = subst (λ moves. AreDelivered moves d c.deliveries-delivered.result) (sym c.as_slice.ensures.moves) c.deliveries-delivered.ensures in
-    let moved = c.fire.ensures.moved d delivered ∙ ap (λ moves. moved_by (definition_of c.index.result.now) moves (d n) n c.index_mut.result.now) c.as_slice.ensures.moves in (
-      fired-here system.atoms.items system.wires.items system.order.rules old choice c.requires.of_plant n items c.loop-number.invariant.0 c.index.result.now within c.index.ensures c.index_mut.result.now c.index_mut.ensures.value c.fire.new.state moved,
-      λ all. fits-here system.atoms.items system.wires.items system.order.rules old choice c.requires.of_plant n items c.loop-number.invariant.0 c.index.result.now within c.index.ensures c.index_mut.result.now c.index_mut.ensures.value c.fire.new.state c.fire.ensures.fits (c.loop-number.invariant.1 all),
+    let choice = choice_of c.args.choice.now in
+    let gets = transfer (plant_of system) old choice in
+    let moves = c.as_slice-moves.result.now in
+    let k = c.loop-place.place in
+    let n = c.from-number.result in
+    let m = get_or moves k no_move in
+    let offered = offered-at (plant_of system) old choice moves k c.as_slice-moves.ensures.moves c.requires.allowed c.loop-place-test.true in
+    let within : n < length system.atoms.items = omega (arith, atom-within (map definition_of system.atoms.items) old m offered, c.from-number.ensures, length-map system.atoms.items definition_of) in
+    let fresh = no-earlier (plant_of system) old choice system.valid c.requires.allowed moves c.as_slice-moves.ensures.moves k no_move c.loop-place-test.true n c.from-number.ensures in
+    let now = c.index_mut.result.now in
+    let new = c.apply.new.state in
+    let items = c.loop-place.states-inside.states.items in
+    let read = c.index_mut.ensures.value ∙ ap (λ xs. get_or xs n now) c.loop-place.invariant.0 in
+    let its : slice_get moves k ≡ Some m = slice_get-get_or moves k no_move c.loop-place-test.true in
+    let delivered = get_or_from_slice_get c.deliveries-delivered.result k (gets m.atom) (record { mask = 0; values = [] }) (c.deliveries-delivered.ensures k m (ap (λ ms. slice_get ms k) (sym c.as_slice-moves.ensures.moves) ∙ its)) in
+    let told : new ≡ fired (definition_of c.index.result.now) m.transition (gets n) now =
+    c.apply.ensures.fired ∙ ap (λ d. fired (definition_of c.index.result.now) m.transition d now) (delivered ∙ ap gets (sym c.from-number.ensures)) in
+    let long : length items ≡ length old = ap length c.loop-place.invariant.0 ∙ length-stepped (map definition_of system.atoms.items) (take k moves) gets 0 old in
+    let placed : n < length items = omega (arith, within, c.requires.of_plant, length-map system.atoms.items definition_of) in (
+      ap (λ xs. set xs n new) c.loop-place.invariant.0 ∙
+          fired-here system.atoms.items old moves gets c.requires.of_plant k n c.loop-place-test.true c.from-number.ensures fresh c.index.result.now within c.index.ensures now read new told,
+      λ all. fits-here (plant_of system) items n (definition_of c.index.result.now) now new (atom-there system.atoms.items n c.index.result.now within c.index.ensures) placed c.index_mut.ensures.value c.apply.ensures.fits (c.loop-place.invariant.1 all),
     )
-
-pub loop-number-init : goal.loop-number-init
-loop-number-init c = (c.states.view_is, λ all. subst (AllFit (plant_of c.args.self.now)) (sym c.states.view_is) all)
-
-pub returns-clause-next : goal.returns-clause-next
-returns-clause-next c =
-    let system = c.args.self.now in
-    let choice = choice_of c.args.choice.now in
-    let old = c.args.states.now in
-    let n = c.loop-number.number in
-    let items = c.loop-number.states-inside.states.items in
-    all-fired system.atoms.items system.wires.items system.order.rules old choice c.requires.of_plant n items c.loop-number.invariant.0 (omega (arith, c.loop-number-test.false, system.atoms.ok.0, c.len-number-end.ensures))
-
-pub returns-clause-fits : goal.returns-clause-fits
-returns-clause-fits c = c.loop-number.invariant.1
 
 pub returns-clause-of_plant : goal.returns-clause-of_plant
 returns-clause-of_plant c =
     let system = c.args.self.now in
-    items-length system.atoms.items system.wires.items system.order.rules c.args.states.now (choice_of c.args.choice.now) c.requires.of_plant c.loop-number.number c.loop-number.states-inside.states.items c.loop-number.invariant.0 ∙
-    sym (length-map system.atoms.items definition_of)
+    ap length c.loop-place.invariant.0 ∙
+    length-stepped (map definition_of system.atoms.items) (take c.loop-place.place c.as_slice-moves.result.now) (transfer (plant_of system) c.args.states.now (choice_of c.args.choice.now)) 0 c.args.states.now ∙
+    c.requires.of_plant
+
+pub returns-clause-next : goal.returns-clause-next
+returns-clause-next c =
+    let system = c.args.self.now in
+    let gets = transfer (plant_of system) c.args.states.now (choice_of c.args.choice.now) in
+    c.loop-place.invariant.0 ∙
+    ap (λ ms. stepped_from (map definition_of system.atoms.items) ms gets 0 c.args.states.now) (take_all c.loop-place.place c.as_slice-moves.result.now c.loop-place-test.false ∙ c.as_slice-moves.ensures.moves)

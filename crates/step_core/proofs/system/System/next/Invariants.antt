@@ -1,11 +1,13 @@
-use Rattle.std.proofs.Common.{◌≡◌, ◌++◌, take, drop}
+use Rattle.std.proofs.Common.{◌≡◌, map, take}
+use Rattle.petri_atom.specs.Atom.{definition_of}
 use Rattle.step_core.specs.Chosen.{choice_of}
 use Rattle.step_core.specs.Fitting.{AllFit}
-use Rattle.step_core.specs.Step.{next}
+use Rattle.step_core.specs.Step.{stepped_from, transfer}
 use Rattle.step_core.specs.System.{plant_of}
 use Rattle.step_core.proofs.system.System.next.Given as goal
 
-abbrev pub invariant-loop-number : goal.invariant-loop-number
-invariant-loop-number l =
-    (l.states-inside.states.items ≡ take l.number (next (plant_of l.self) l.fn.states (choice_of l.choice)) ++ drop l.number l.fn.states) ×
+-- the moves so far are made
+abbrev pub invariant-loop-place : goal.invariant-loop-place
+invariant-loop-place l =
+    (l.states-inside.states.items ≡ stepped_from (map definition_of l.self.atoms.items) (take l.place l.moves) (transfer (plant_of l.self) l.fn.states (choice_of l.choice)) 0 l.fn.states) ×
     (AllFit (plant_of l.self) l.fn.states → AllFit (plant_of l.self) l.states-inside.states.items)
