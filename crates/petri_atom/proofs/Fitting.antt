@@ -2,7 +2,7 @@ use Rattle.std.proofs.Common.{◌≡◌, ℕ, zero, suc, ◌≤◌, ℤ, Bool, t
 use Rattle.std.specs.Prelude.{slice_get, slice_set}
 use Rattle.std.specs.List.{list_all}
 use Rattle.std.specs.Option.{option_map_or}
-use Rattle.std.proofs.lemmas.Bool.{and_parts, and_from, cases_lt, le-ltb, false≢true, false_from_ne_true}
+use Rattle.std.proofs.lemmas.Bool.{leb-true, and_parts, and_from, cases_lt, le-ltb, false≢true, false_from_ne_true}
 use Rattle.std.proofs.lemmas.List.{length-set, length-map}
 use Rattle.petri_atom.specs.Local.{Local, has, is_in, set_below, moved, delivered_value}
 use Rattle.petri_atom.specs.Definition.{AtomDefinition, TransitionDefinition, UpdateDefinition, Fits, fired, fired_by, exports_of, updated, delivered_to, is_well_formed, is_within_limits, has_each_once, has_known_numbers, has_known_numbers_in, exports_known, has_sources_and_targets, are_below}
@@ -57,6 +57,14 @@ all_weaker f g weaker [] all = refl
 all_weaker f g weaker (x ∷ xs) all =
     let parts = and_parts (f x) (list_all f xs) all in
     and_from (g x) (list_all g xs) (weaker x parts.0) (all_weaker f g weaker xs parts.1)
+
+-- a well-formed atom keeps the limit of transitions
+pub few_transitions : (a : AtomDefinition) → is_well_formed a ≡ true → length a.transitions ≤ 128
+few_transitions a formed =
+    let known = and_parts (is_within_limits a && has_each_once a && has_known_numbers a) (has_sources_and_targets a) formed in
+    let once = and_parts (is_within_limits a && has_each_once a) (has_known_numbers a) known.0 in
+    let limits = and_parts (is_within_limits a) (has_each_once a) once.0 in
+    leb-true (length a.transitions) 128 (and_parts _ _ (and_parts _ _ (and_parts _ _ limits.0).0).0).1
 
 -- each number in the transitions of a well-formed atom is known
 pub known_numbers : (a : AtomDefinition) → is_well_formed a ≡ true → list_all (has_known_numbers_in (length a.ports) (length a.places) (length a.variables)) a.transitions ≡ true

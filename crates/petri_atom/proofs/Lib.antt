@@ -8,4 +8,3 @@ pub mod Sameness
 pub mod Rows
 pub mod PortSets
 pub mod Members
-pub mod OfferedSets

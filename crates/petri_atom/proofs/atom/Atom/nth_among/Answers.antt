@@ -3,7 +3,7 @@ use Rattle.std.specs.Prelude.{bit_and, slice_get}
 use Rattle.petri_atom.specs.Atom.{definition_of}
 use Rattle.petri_atom.specs.Definition.{offers_number, offered_set}
 use Rattle.petri_atom.specs.Local.{numbers_below}
-use Rattle.petri_atom.proofs.OfferedSets.{few_transitions}
+use Rattle.petri_atom.proofs.Fitting.{few_transitions}
 use Rattle.petri_atom.proofs.Members.{numbers_below-of_port}
 use Rattle.petri_atom.proofs.atom.Atom.nth_among.Goals as goal
 

@@ -8,7 +8,7 @@ use Rattle.petri_atom.specs.Atom.{definition_of}
 use Rattle.petri_atom.specs.Transition.{transition_of}
 use Rattle.petri_atom.specs.Definition.{offers, offers_number}
 use Rattle.petri_atom.proofs.Sets.{set_below-zero, set_below-next, set_below-skip}
-use Rattle.petri_atom.proofs.OfferedSets.{few_transitions}
+use Rattle.petri_atom.proofs.Fitting.{few_transitions}
 use Rattle.petri_atom.proofs.atom.Atom.offered.Goals as goal
 use Rattle.petri_atom.proofs.atom.Atom.offered.Goals.{then-is_offered, else-is_offered}
 
