@@ -20,4 +20,5 @@ mod Refreshing
 pub mod Noting
 pub mod Alive
 mod Untouched
+mod Touched
 mod Freed

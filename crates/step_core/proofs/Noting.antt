@@ -1,4 +1,4 @@
-use Rattle.std.proofs.Common.{◌≡◌, ◌≢◌, ℕ, ◌+◌, ◌<◌, ◌≤◌, refl, sym, ◌∙◌, ap, arith, true, false, ◌||◌, ◌&&◌, not, ⊎_elim}
+use Rattle.std.proofs.Common.{◌≡◌, ◌≢◌, ℕ, Bool, ◌+◌, ◌<◌, ◌≤◌, refl, sym, ◌∙◌, ap, arith, true, false, ◌||◌, ◌&&◌, not, ⊎_elim}
 use Rattle.std.specs.Cmp.{nat_cmp_total, unsigned_tied}
 use Rattle.std.specs.Ordering.{nat_cmp}
 use Rattle.std.specs.FinSet.{FinSet, contains, insert, remove, contains-insert, contains-remove}
@@ -18,34 +18,34 @@ out-here s k = contains-remove nat_cmp_total s k k ∙ ap (λ b. not b && contai
 pub out-other : (s : FinSet nat_cmp) (k n : ℕ) → n ≢ k → contains (remove s k) n ≡ contains s n
 out-other s k n other = contains-remove nat_cmp_total s k n ∙ ap (λ b. not b && contains s n) (unsigned_tied n k ∙ ne_eqb n k other)
 
--- what is right at each number below a length that a set has not, and is then made right at the numbers of the set, one by one
-module _ {X : Type 0} (right : ℕ → X) (touched : FinSet nat_cmp) (count : ℕ) where
+-- what is right at each number below a count that a test does not pass, and is then made right at those that it passes, one by one
+module _ {X : Type 0} (right : ℕ → X) (touched : ℕ → Bool) (count : ℕ) where
   abbrev pub IsRightTo : ℕ → (ℕ → X) → Type 0
   IsRightTo i f = (n : ℕ) → n < i → f n ≡ right n
 
   abbrev pub IsRightBut : (ℕ → X) → Type 0
-  IsRightBut f = (n : ℕ) → (n < count → contains touched n ≡ false) → f n ≡ right n
+  IsRightBut f = (n : ℕ) → (n < count → touched n ≡ false) → f n ≡ right n
 
   abbrev pub AreNot : ℕ → ℕ → Type 0
-  AreNot i k = (m : ℕ) → i ≤ m → m < k → contains touched m ≡ false
+  AreNot i k = (m : ℕ) → i ≤ m → m < k → touched m ≡ false
 
   abbrev pub IsStep : ℕ → (ℕ → X) → (ℕ → X) → Type 0
   IsStep k old new = (new k ≡ right k) × ((n : ℕ) → n ≢ k → new n ≡ old n)
 
-  -- it is right up to the next number of the set, and at it
+  -- it is right up to the next number that passes, and at it
   pub right-next : (i k : ℕ) (old new : ℕ → X) → AreNot i k → IsRightTo i old → IsRightBut old → IsStep k old new → IsRightTo (k + 1) new
   right-next i k old new none before but step n below = ⊎_elim
       (λ same. ap new same ∙ step.0 ∙ ap right (sym same))
       (λ other. step.1 n other ∙ ⊎_elim (before n) (λ from. but n (λ _. none n from (omega arith))) (cases_lt n i))
       (cases_eq n k)
 
-  -- and stays right at all that the set has not
+  -- and stays right at all that does not
   pub right-still : (k : ℕ) (old new : ℕ → X) → IsRightBut old → IsStep k old new → IsRightBut new
   right-still k old new but step n outside = ⊎_elim
       (λ same. ap new same ∙ step.0 ∙ ap right (sym same))
       (λ other. step.1 n other ∙ but n outside)
       (cases_eq n k)
 
-  -- where the set has no more, it is right everywhere
-  pub right-all : (i : ℕ) (f : ℕ → X) → ((m : ℕ) → i ≤ m → contains touched m ≡ false) → IsRightTo i f → IsRightBut f → (n : ℕ) → f n ≡ right n
+  -- where nothing more passes, it is right everywhere
+  pub right-all : (i : ℕ) (f : ℕ → X) → ((m : ℕ) → i ≤ m → touched m ≡ false) → IsRightTo i f → IsRightBut f → (n : ℕ) → f n ≡ right n
   right-all i f none before but n = ⊎_elim (before n) (λ from. but n (λ _. none n from)) (cases_lt n i)

@@ -1,7 +1,5 @@
 -- How many choices each interaction has, where nothing forbids it.
-use Rattle.std.specs.Prelude.{◌≡◌, ℕ, ◌<◌, List, false, length, slice_get, slice_index_or}
-use Rattle.std.specs.Ordering.{nat_cmp}
-use Rattle.std.specs.FinSet.{FinSet, contains}
+use Rattle.std.specs.Prelude.{◌≡◌, ℕ, Bool, ◌<◌, List, false, length, slice_get, slice_index_or}
 use Rattle.std.specs.Option.{option_map_or}
 use Rattle.petri_atom.specs.Local.{Local}
 use Rattle.petri_atom.specs.Definition.{AtomDefinition}
@@ -16,7 +14,7 @@ abbrev pub AreWays : List AtomDefinition → List Local → List Interaction →
 AreWays atoms states interactions ways =
     (n : ℕ) → slice_index_or ways n 0 ≡ ways_at atoms states interactions n
 
--- the row has these numbers of each interaction that is not in the set
-abbrev pub AreWaysBut : FinSet nat_cmp → List AtomDefinition → List Local → List Interaction → List ℕ → Type 0
+-- the row has these numbers of each interaction that a test does not pass
+abbrev pub AreWaysBut : (ℕ → Bool) → List AtomDefinition → List Local → List Interaction → List ℕ → Type 0
 AreWaysBut touched atoms states interactions ways =
-    (n : ℕ) → (n < length interactions → contains touched n ≡ false) → slice_index_or ways n 0 ≡ ways_at atoms states interactions n
+    (n : ℕ) → (n < length interactions → touched n ≡ false) → slice_index_or ways n 0 ≡ ways_at atoms states interactions n

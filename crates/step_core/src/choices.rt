@@ -1,19 +1,22 @@
 //! The choices of a global state: how many there are, and which.
-ghost use Rattle.std.specs.Prelude.{◌≡◌, ◌↔◌, ◌<◌, ◌≤◌, Some, map, length, slice_get, slice_index_or, option_map};
-ghost use Rattle.std.specs.FinSet.{empty};
+ghost use Rattle.std.specs.Prelude.{◌≡◌, ◌↔◌, ℕ, ◌<◌, ◌≤◌, Some, map, length, slice_get, slice_index_or, option_map};
+ghost use Rattle.std.specs.FinSet.{contains, empty};
 ghost use Rattle.petri_atom.specs.Atom.{definition_of};
+ghost use Rattle.petri_atom.specs.Local.{Local};
+ghost use Rattle.petri_atom.specs.Definition.{AtomDefinition, offered_set};
 ghost use Rattle.step_core.specs.Choice.{Interaction, choices, choices_of, choices_among, IsAllowed, IsStuck};
 ghost use Rattle.step_core.specs.Chosen.{choice_of};
 ghost use Rattle.step_core.specs.Fitting.{IsOf};
 ghost use Rattle.step_core.specs.Interaction.{interaction_of};
 ghost use Rattle.step_core.specs.Judgement.{IsJudgement};
-ghost use Rattle.step_core.specs.Offers.{AreOffered};
+ghost use Rattle.step_core.specs.Offers.{AreOffered, AreOfferedBut};
 ghost use Rattle.step_core.specs.Possible.{ArePossible, ArePossibleBut, AreAllowed};
+ghost use Rattle.step_core.specs.Touching.{is_touched};
 ghost use Rattle.step_core.specs.Ways.{AreWays, AreWaysBut};
 ghost use Rattle.step_core.specs.Wire.{wire_of};
 ghost use Rattle.step_core.specs.declared.limits.TheConstants.{MAX_ATOMS};
 
-use crate::choice::Choice;
+use crate::choice::{Choice, Move};
 use crate::filtered::Filtered;
 use crate::free::numbers_below;
 use crate::judged::Judged;
@@ -21,6 +24,7 @@ use crate::judgement::{Judgement, no_ways};
 use crate::limits::{MAX_ATOMS, MAX_INTERACTIONS};
 use crate::state::PlantState;
 use crate::system::System;
+use crate::touching::touched_by;
 use petri_atom::{Atom, TransitionSet};
 use priority_filter::InteractionSet;
 
@@ -68,8 +72,42 @@ impl System {
         }
     }
 
+    /// Judges again what depends on the atom of one of the moves, by the rows of the interactions that depend on each atom;
+    /// what is judged of all else is right.
+    pub(crate) fn judge_again(
+        &self,
+        states: &PlantState,
+        rows: &[InteractionSet],
+        moves: &[Move],
+        judgement: &mut Judgement,
+    )
+        requires of_plant { IsOf (plant_of self.now) states.now }
+        requires offered { AreOfferedBut moves.now (map definition_of self.now.atoms.items) states.now judgement.old.offered }
+        requires possible { ArePossibleBut (is_touched rows.now moves.now) (map definition_of self.now.atoms.items) (map wire_of self.now.wires.items) states.now (map interaction_of self.now.interactions.items) judgement.old.possible }
+        requires ways { AreWaysBut (is_touched rows.now moves.now) (map definition_of self.now.atoms.items) states.now (map interaction_of self.now.interactions.items) judgement.old.ways }
+        ensures { IsJudgement (plant_of self.now) (map interaction_of self.now.interactions.items) states.now judgement.new }
+    {
+        judge_moved(&self.atoms, states, moves, &mut judgement.offered);
+        let touched = touched_by(rows, moves);
+        self.judge_touched(
+            states,
+            &judgement.offered,
+            &touched,
+            &mut judgement.possible,
+            &mut judgement.ways,
+        );
+        judgement.allowed.clear();
+        judgement.total = self.allow(
+            states,
+            &judgement.offered,
+            &judgement.possible,
+            &judgement.ways,
+            &mut judgement.allowed,
+        );
+    }
+
     /// Judges the interactions of the set `touched`; what is possible, and the numbers of choices, are right for all others.
-    pub(crate) fn judge_touched<'x>(
+    fn judge_touched<'x>(
         &'x self,
         states: &'x PlantState,
         offered: &'x [TransitionSet; MAX_ATOMS],
@@ -79,8 +117,8 @@ impl System {
     )
         requires of_plant { IsOf (plant_of self.now) states.now }
         requires exact { AreOffered (map definition_of self.now.atoms.items) states.now offered.now }
-        requires others { ArePossibleBut touched.now (map definition_of self.now.atoms.items) (map wire_of self.now.wires.items) states.now (map interaction_of self.now.interactions.items) possible.old }
-        requires other_ways { AreWaysBut touched.now (map definition_of self.now.atoms.items) states.now (map interaction_of self.now.interactions.items) ways.old }
+        requires others { ArePossibleBut (contains touched.now) (map definition_of self.now.atoms.items) (map wire_of self.now.wires.items) states.now (map interaction_of self.now.interactions.items) possible.old }
+        requires other_ways { AreWaysBut (contains touched.now) (map definition_of self.now.atoms.items) states.now (map interaction_of self.now.interactions.items) ways.old }
         ensures possible { ArePossible (map definition_of self.now.atoms.items) (map wire_of self.now.wires.items) states.now (map interaction_of self.now.interactions.items) possible.new }
         ensures ways { AreWays (map definition_of self.now.atoms.items) states.now (map interaction_of self.now.interactions.items) ways.new }
     {
@@ -95,7 +133,7 @@ impl System {
     }
 
     /// Puts the allowed interactions into the set, where it is empty, and says how many choices these have in all.
-    pub(crate) fn allow<'x>(
+    fn allow<'x>(
         &'x self,
         states: &'x PlantState,
         offered: &'x [TransitionSet; MAX_ATOMS],
@@ -212,4 +250,39 @@ fn offered_sets(atoms: &[Atom], states: &PlantState) -> [TransitionSet; MAX_ATOM
         sets[number] = atoms[number].offered(&states.states[number]);
     }
     sets
+}
+
+/// Judges the transitions of the atoms of the moves again; those of all other atoms are known.
+fn judge_moved(
+    atoms: &[Atom],
+    states: &PlantState,
+    moves: &[Move],
+    offered: &mut [TransitionSet; MAX_ATOMS],
+)
+    requires as_many { length states.now ≡ length atoms.now }
+    requires few { length atoms.now ≤ MAX_ATOMS }
+    requires others { AreOfferedBut moves.now (map definition_of atoms.now) states.now offered.old }
+    ensures { AreOffered (map definition_of atoms.now) states.now offered.new }
+{
+    for step in moves {
+        judge_atom(atoms, states, step.atom, offered);
+    }
+}
+
+/// Judges the transitions of the atom with this number again, if there is one.
+fn judge_atom(
+    atoms: &[Atom],
+    states: &PlantState,
+    number: u16,
+    offered: &mut [TransitionSet; MAX_ATOMS],
+)
+    requires as_many { length states.now ≡ length atoms.now }
+    requires few { length atoms.now ≤ MAX_ATOMS }
+    ensures again { (a : AtomDefinition) (s : Local) → slice_get (map definition_of atoms.now) number ≡ Some a → slice_get states.now number ≡ Some s → slice_index_or offered.new number 0 ≡ offered_set a s }
+    ensures others { (n : ℕ) → ¬ (n ≡ number) → slice_index_or offered.new n 0 ≡ slice_index_or offered.old n 0 }
+{
+    let index = usize::from(number);
+    if let Some(atom) = atoms.get(index) {
+        offered[index] = atom.offered(&states.states[index]);
+    }
 }

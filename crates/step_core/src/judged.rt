@@ -148,8 +148,8 @@ impl Judged<'_> {
         ways: &mut [u64; MAX_INTERACTIONS],
     )
         requires few { length interactions.now ≤ MAX_INTERACTIONS }
-        requires others { ArePossibleBut touched.now (map definition_of self.now.atoms.now) (map wire_of self.now.wires.now) self.now.states.now (map interaction_of interactions.now) possible.old }
-        requires other_ways { AreWaysBut touched.now (map definition_of self.now.atoms.now) self.now.states.now (map interaction_of interactions.now) ways.old }
+        requires others { ArePossibleBut (contains touched.now) (map definition_of self.now.atoms.now) (map wire_of self.now.wires.now) self.now.states.now (map interaction_of interactions.now) possible.old }
+        requires other_ways { AreWaysBut (contains touched.now) (map definition_of self.now.atoms.now) self.now.states.now (map interaction_of interactions.now) ways.old }
         ensures possible { ArePossible (map definition_of self.now.atoms.now) (map wire_of self.now.wires.now) self.now.states.now (map interaction_of interactions.now) possible.new }
         ensures ways { AreWays (map definition_of self.now.atoms.now) self.now.states.now (map interaction_of interactions.now) ways.new }
     {

@@ -23,7 +23,7 @@ loop-number-preserved c =
     let old = c.loop-number in
     let new = c.match-get in
     let count = length all in
-    let touched = c.args.touched.now in
+    let touched = contains c.args.touched.now in
     let n = c.in-Some.number in
     let possible = is_possible_at atoms wires states all in
     let ways = ways_at atoms states all in
@@ -71,11 +71,11 @@ returns-clause-possible c =
     let judged = c.args.self.now in
     let all = map interaction_of c.args.interactions.now in
     let now = c.loop-number in
-    right-all (is_possible_at (map definition_of judged.atoms.now) (map wire_of judged.wires.now) judged.states.now all) c.args.touched.now (length all) now.from (contains now.possible) c.in_default.ensures.none now.invariant.1 now.invariant.3
+    right-all (is_possible_at (map definition_of judged.atoms.now) (map wire_of judged.wires.now) judged.states.now all) (contains c.args.touched.now) (length all) now.from (contains now.possible) c.in_default.ensures.none now.invariant.1 now.invariant.3
 
 pub returns-clause-ways : goal.returns-clause-ways
 returns-clause-ways c =
     let judged = c.args.self.now in
     let all = map interaction_of c.args.interactions.now in
     let now = c.loop-number in
-    right-all (ways_at (map definition_of judged.atoms.now) judged.states.now all) c.args.touched.now (length all) now.from (λ k. get_or now.ways k 0) c.in_default.ensures.none now.invariant.2 now.invariant.4
+    right-all (ways_at (map definition_of judged.atoms.now) judged.states.now all) (contains c.args.touched.now) (length all) now.from (λ k. get_or now.ways k 0) c.in_default.ensures.none now.invariant.2 now.invariant.4

@@ -17,8 +17,8 @@ invariant-loop-number l =
     (l.from ≤ 1024) ×
     ((n : ℕ) → n < l.from → contains l.possible n ≡ is_possible_at atoms wires states all n) ×
     ((n : ℕ) → n < l.from → get_or l.ways n 0 ≡ ways_at atoms states all n) ×
-    ArePossibleBut l.touched atoms wires states all l.possible ×
-    AreWaysBut l.touched atoms states all l.ways
+    ArePossibleBut (contains l.touched) atoms wires states all l.possible ×
+    AreWaysBut (contains l.touched) atoms states all l.ways
 
 abbrev pub decreases-loop-number : goal.decreases-loop-number
 decreases-loop-number l = 1024 - l.from

@@ -4,7 +4,7 @@ use Rattle.petri_atom.specs.Atom.{definition_of}
 use Rattle.step_core.specs.Offers.{AreOfferedBut}
 use Rattle.step_core.specs.declared.choice.Move.{Move}
 use Rattle.step_core.proofs.Refreshing.{after-one}
-use Rattle.step_core.proofs.stepper.judge_moved.Goals as goal
+use Rattle.step_core.proofs.choices.judge_moved.Goals as goal
 
 pub loop-step-preserved : goal.loop-step-preserved
 loop-step-preserved c =

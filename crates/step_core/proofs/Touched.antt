@@ -1,0 +1,88 @@
+-- Rows of interactions by atom: what puts an interaction in keeps what is in, and what the rows of some moves hold.
+use Rattle.std.proofs.Common.{◌≡◌, ◌≢◌, ℕ, ◌+◌, ◌<◌, refl, sym, ◌∙◌, ap, List, [], ◌∷◌, length, get_or, set, take, arith, true, false, Bool, ◌||◌, ⊎_elim}
+use Rattle.std.specs.Prelude.{Some, slice_get}
+use Rattle.std.specs.Ordering.{nat_cmp}
+use Rattle.std.specs.FinSet.{FinSet, contains, empty, insert}
+use Rattle.std.specs.List.{list_all, list_any}
+use Rattle.std.specs.Option.{option_map_or}
+use Rattle.std.proofs.lemmas.Bool.{and_parts, and_from, cases_eq, cases_lt}
+use Rattle.std.proofs.lemmas.List.Folds.{list_all-append, list_any-append}
+use Rattle.std.proofs.lemmas.List.{take_more, length-set, get_or-set_same, get_or-set_other}
+use Rattle.std.proofs.lemmas.Option.{slice_get-get_or, slice_get_past}
+use Rattle.connector_tree.specs.Tree.{leaves}
+use Rattle.connector_tree.specs.declared.tree.Port.{Port}
+use Rattle.step_core.specs.Plant.{WireDefinition}
+use Rattle.step_core.specs.Choice.{Interaction}
+use Rattle.step_core.specs.Touching.{is_noted, are_noted, KeepsNoted, IsNoted, is_in_row, is_touched}
+use Rattle.step_core.specs.declared.choice.Move.{Move}
+use Rattle.step_core.proofs.Noting.{put-here, put-other}
+
+module _ (rows : List (FinSet nat_cmp)) (k x : ℕ) (d : FinSet nat_cmp) (within : k < length rows) where
+  abbrev row : FinSet nat_cmp
+  row = get_or rows k d
+
+  abbrev more : List (FinSet nat_cmp)
+  more = set rows k (insert row x)
+
+  at-k : slice_get more k ≡ Some (insert row x)
+  at-k =
+      let inside : k < length more = omega (arith, length-set rows k (insert row x)) in
+      slice_get-get_or more k empty inside ∙ ap Some (get_or-set_same rows k (insert row x) empty within)
+
+  -- the interaction is in the row
+  pub row-noted : is_noted more x k ≡ true
+  row-noted = ap (λ o. option_map_or (λ r. contains r x) o true) at-k ∙ put-here row x
+
+  elsewhere : (a : ℕ) → a ≢ k → slice_get more a ≡ slice_get rows a
+  elsewhere a other = ⊎_elim
+      (λ inside. slice_get-get_or more a empty (omega (arith, length-set rows k (insert row x))) ∙ ap Some (get_or-set_other rows k a (insert row x) empty other) ∙ sym (slice_get-get_or rows a empty inside))
+      (λ past. slice_get_past more a (omega (arith, length-set rows k (insert row x))) ∙ sym (slice_get_past rows a past))
+      (cases_lt a (length rows))
+
+  -- and what was in a row is in it
+  pub row-keeps : KeepsNoted rows more
+  row-keeps n a was = ⊎_elim same_row (λ other. ap (λ o. option_map_or (λ r. contains r n) o true) (elsewhere a other) ∙ was) (cases_eq a k)
+    where
+      in-row : a ≡ k → contains row n ≡ true
+      in-row same =
+          let there : slice_get rows k ≡ Some row = slice_get-get_or rows k d within in
+          sym (ap (λ o. option_map_or (λ r. contains r n) o true) (ap (slice_get rows) same ∙ there)) ∙ was
+
+      same_row : a ≡ k → is_noted more n a ≡ true
+      same_row same =
+          ap (λ o. option_map_or (λ r. contains r n) o true) (ap (slice_get more) same ∙ at-k) ∙
+          ⊎_elim (λ it. ap (contains (insert row x)) it ∙ put-here row x) (λ other. put-other row x n other ∙ in-row same) (cases_eq n x)
+
+module _ (old new : List (FinSet nat_cmp)) (keeps : KeepsNoted old new) where
+  -- so do ports, and interactions
+  pub ports-kept : (n : ℕ) (ports : List Port) → are_noted old n ports ≡ true → are_noted new n ports ≡ true
+  ports-kept n [] noted = refl
+  ports-kept n (p ∷ ps) noted =
+      let parts = and_parts (is_noted old n p.atom) (are_noted old n ps) noted in
+      and_from (is_noted new n p.atom) (are_noted new n ps) (keeps n p.atom parts.0) (ports-kept n ps parts.1)
+
+  pub noted-kept : (wires : List WireDefinition) (i : Interaction) (n : ℕ) → IsNoted wires i old n → IsNoted wires i new n
+  noted-kept wires i n noted = (ports-kept n i.ports noted.0, λ w known guarded. ports-kept n (leaves w.connector) (noted.1 w known guarded))
+
+-- one port more
+pub noted-next : (rows : List (FinSet nat_cmp)) (n : ℕ) (ports : List Port) (i : ℕ) (d : Port) → i < length ports → are_noted rows n (take i ports) ≡ true → is_noted rows n ((get_or ports i d).atom) ≡ true → are_noted rows n (take (i + 1) ports) ≡ true
+noted-next rows n ports i d within before here =
+    let noted : Port → Bool = λ p. is_noted rows n p.atom in
+    ap (list_all noted) (take_more ports i d within) ∙ list_all-append noted (take i ports) (get_or ports i d ∷ []) ∙
+    and_from (list_all noted (take i ports)) (list_all noted (get_or ports i d ∷ [])) before (and_from (noted (get_or ports i d)) true here refl)
+
+or-false : (b : Bool) → (b || false) ≡ b
+or-false true = refl
+or-false false = refl
+
+-- one move more
+pub touched-next : (rows : List (FinSet nat_cmp)) (n : ℕ) (moves : List Move) (i : ℕ) (d : Move) → i < length moves → is_touched rows (take (i + 1) moves) n ≡ (is_touched rows (take i moves) n || is_in_row rows n ((get_or moves i d).atom))
+touched-next rows n moves i d within =
+    let touches : Move → Bool = λ m. is_in_row rows n m.atom in
+    ap (list_any touches) (take_more moves i d within) ∙ list_any-append touches (take i moves) (get_or moves i d ∷ []) ∙
+    ap (λ b. list_any touches (take i moves) || b) (or-false (touches (get_or moves i d)))
+
+-- one that touches nothing
+pub touched-same : (rows : List (FinSet nat_cmp)) (n : ℕ) (moves : List Move) (i : ℕ) (d : Move) → i < length moves → is_in_row rows n ((get_or moves i d).atom) ≡ false → is_touched rows (take (i + 1) moves) n ≡ is_touched rows (take i moves) n
+touched-same rows n moves i d within none =
+    touched-next rows n moves i d within ∙ ap (λ b. is_touched rows (take i moves) n || b) none ∙ or-false (is_touched rows (take i moves) n)
