@@ -1,10 +1,12 @@
 -- Printing step by step what a text has left.
 use Rattle.std.proofs.Common.{◌≡◌, ℕ, ◌+◌, ◌<◌, ◌∙◌, sym, ap, subst, List, ◌++◌, length, drop, get_or}
-use Rattle.std.specs.Prelude.{Option}
+use Rattle.std.specs.Prelude.{Option, Result, Ok, Err, OnOk, flat_map}
 use Rattle.std.specs.Io.KnownBytes.{Appends}
 use Rattle.std.proofs.KnownBytes.{Appends-trans}
 use Rattle.std.proofs.lemmas.List.{drop_more}
 use Rattle.run_text.specs.Line.{numbered}
+use Rattle.run_text.specs.Word.{after_words, separated_after}
+use Rattle.run_text.proofs.Separating.{after-append, separated-append}
 
 -- a writer that goes on to take what is left of a text has taken all of it
 pub record Leads (start now : Option (List ℕ)) (left all : List ℕ) : Type 0 where
@@ -29,3 +31,32 @@ pub leads-element : {X : Type 0} (say : ℕ → X → List ℕ) (xs : List X) (i
     → i < length xs → x ≡ get_or xs i x → Leads start now (numbered say i (drop i xs)) all → Appends now next (say i x)
     → Leads start next (numbered say (i + 1) (drop (i + 1) xs)) all
 leads-element say xs i x start now next all within here l p = leads-more _ _ _ _ _ _ (leads-same l (numbered-left say xs i x within here)) p
+
+-- a text is printed, and behind it what the last call prints
+pub told-last : {T E : Type 0} (result : Result T E) (start now after : Option (List ℕ)) (text last : List ℕ)
+    → Appends start now text → OnOk result (Appends now after last) → OnOk result (Appends start after (text ++ last))
+told-last (Err fault) start now after text last begins ends = tt
+told-last (Ok done) start now after text last begins ends = Appends-trans start now after text last begins ends
+
+-- the words of a numbered element are printed, and those of the elements behind it are left
+pub leads-numbered : {X : Type 0} (words : ℕ → X → List (List ℕ)) (xs : List X) (i : ℕ) (x : X) (before between : List ℕ) (start now next : Option (List ℕ)) (all : List ℕ)
+    → i < length xs → x ≡ get_or xs i x → Leads start now (separated_after before between (numbered words i (drop i xs))) all
+    → Appends now next (separated_after before between (words i x))
+    → Leads start next (separated_after (after_words before between (words i x)) between (numbered words (i + 1) (drop (i + 1) xs))) all
+leads-numbered words xs i x before between start now next all within here l p =
+    leads-more _ _ _ _ _ _ (leads-same l (ap (separated_after before between) (numbered-left words xs i x within here) ∙ separated-append before between (words i x) _)) p
+
+-- what stands before the next word, behind those of a numbered element
+pub after-numbered : {X : Type 0} (words : ℕ → X → List (List ℕ)) (xs : List X) (i : ℕ) (x : X) (before between : List ℕ)
+    → i < length xs → x ≡ get_or xs i x
+    → after_words (after_words before between (words i x)) between (numbered words (i + 1) (drop (i + 1) xs)) ≡ after_words before between (numbered words i (drop i xs))
+after-numbered words xs i x before between within here =
+    sym (ap (after_words before between) (numbered-left words xs i x within here) ∙ after-append before between (words i x) _)
+
+-- the words of an element are printed, and those of the elements behind it are left
+pub leads-words : {X : Type 0} (words : X → List (List ℕ)) (xs : List X) (i : ℕ) (d : X) (before between : List ℕ) (start now next : Option (List ℕ)) (all : List ℕ)
+    → i < length xs → Leads start now (separated_after before between (flat_map words (drop i xs))) all
+    → Appends now next (separated_after before between (words (get_or xs i d)))
+    → Leads start next (separated_after (after_words before between (words (get_or xs i d))) between (flat_map words (drop (i + 1) xs))) all
+leads-words words xs i d before between start now next all within l p =
+    leads-more _ _ _ _ _ _ (leads-same l (ap (λ ys. separated_after before between (flat_map words ys)) (drop_more xs i d within) ∙ separated-append before between (words (get_or xs i d)) _)) p

@@ -1,4 +1,5 @@
 pub mod Leading
+pub mod Separating
 pub mod Running
 mod Rows
 mod RunRows

@@ -8,14 +8,15 @@ use Rattle.petri_atom.specs.declared.parts.Place.{Place}
 use Rattle.petri_atom.specs.declared.parts.Variable.{Variable}
 use Rattle.connector_tree.specs.declared.tree.Connector.{Connector}
 use Rattle.step_core.specs.Plant.{PlantDefinition}
-use Rattle.run_text.specs.Line.{spaced, participant, fired_line, state_line}
+use Rattle.run_text.specs.Line.{participant, fired_line, state_line}
+use Rattle.run_text.specs.Word.{separated_by}
 use Rattle.run_text.specs.Trace.{trace_text}
 
 -- no word, and two
-no_words : spaced [] ≡ []
+no_words : separated_by (codes " ") [] ≡ []
 no_words = refl
 
-two_words : spaced (codes "p" ∷ codes "q" ∷ []) ≡ codes "p q"
+two_words : separated_by (codes " ") (codes "p" ∷ codes "q" ∷ []) ≡ codes "p q"
 two_words = refl
 
 abbrev place : List ℕ → Place

@@ -16,6 +16,7 @@ use Rattle.step_core.specs.Choice.{ChoiceDefinition, interaction_by, plant_inter
 use Rattle.priority_filter.specs.Decided.{is_overruled, is_below}
 use Rattle.step_core.specs.Step.{delivered_by, next, stepped_from}
 use Rattle.step_core.specs.declared.choice.Move.{Move}
+use Rattle.run_text.specs.declared.format.Format.TheVariants.{Lines}
 use Rattle.run_text.specs.Line.{fired_line, states_text}
 use Rattle.run_text.specs.Trace.{picked, trace_from, trace_text}
 
@@ -63,12 +64,12 @@ sent = record { connector = 1; mask = 3; moves = move 0 ∷ move 1 ∷ [] }
 
 -- a pick's line, and what follows it
 fires : (plant : PlantDefinition) (states after : List Local) (k pick : ℕ) (picks : List ℕ) (c : ChoiceDefinition) (line rest : List ℕ)
-    → picked plant states pick ≡ Some c → next plant states c ≡ after → fired_line plant k c ++ codes "\n" ≡ line → trace_from plant after (k + 1) picks ≡ rest
-    → trace_from plant states k (pick ∷ picks) ≡ line ++ rest
+    → picked plant states pick ≡ Some c → next plant states c ≡ after → fired_line plant k c ++ codes "\n" ≡ line → trace_from Lines plant after (k + 1) picks ≡ rest
+    → trace_from Lines plant states k (pick ∷ picks) ≡ line ++ rest
 fires plant states after k pick picks c line rest taken moves said follows =
-    ap (λ found. option_map_or (λ d. fired_line plant k d ++ codes "\n" ++ trace_from plant (next plant states d) (k + 1) picks) found (codes "stuck\n" ++ states_text plant states)) taken ∙
-    ap (λ s. fired_line plant k c ++ codes "\n" ++ trace_from plant s (k + 1) picks) moves ∙
-    ap (λ text. text ++ trace_from plant after (k + 1) picks) said ∙ ap (λ text. line ++ text) follows
+    ap (λ found. option_map_or (λ d. fired_line plant k d ++ codes "\n" ++ trace_from Lines plant (next plant states d) (k + 1) picks) found (codes "stuck\n" ++ states_text plant states)) taken ∙
+    ap (λ s. fired_line plant k c ++ codes "\n" ++ trace_from Lines plant s (k + 1) picks) moves ∙
+    ap (λ text. text ++ trace_from Lines plant after (k + 1) picks) said ∙ ap (λ text. line ++ text) follows
 
 -- whatever trees the connectors `tick A.t` and `send A.t B.u` are, with their leaves and interactions
 module _ (tick send : Connector) (tick_leaves : leaves tick ≡ port_of 0 ∷ []) (tick_masks : interactions_of tick ≡ 1 ∷ []) (send_leaves : leaves send ≡ port_of 0 ∷ port_of 1 ∷ []) (send_masks : interactions_of send ≡ 3 ∷ []) where

@@ -9,18 +9,19 @@ use Rattle.petri_atom.specs.Local.{Local}
 use Rattle.step_core.specs.Plant.{PlantDefinition}
 use Rattle.step_core.specs.Choice.{ChoiceDefinition}
 use Rattle.step_core.specs.Step.{next}
-use Rattle.run_text.specs.Line.{fired_line, states_text}
+use Rattle.run_text.specs.declared.format.Format.{Format}
+use Rattle.run_text.specs.Format.{end_text, step_text, stuck_text}
 use Rattle.run_text.specs.Trace.{picked, trace_from}
 use Rattle.run_text.proofs.Leading.{Leads, leads-more, leads-same}
 
 -- the line of the choice that a pick takes is printed, and the run goes on from the state after it
-pub leads-fired : (plant : PlantDefinition) (states : List Local) (number : ℕ) (picks : List ℕ) (i : ℕ) (c : ChoiceDefinition) (start before line after : Option (List ℕ)) (all : List ℕ)
-    → i < length picks → picked plant states (get_or picks i 0) ≡ Some c → Leads start before (trace_from plant states number (drop i picks)) all
-    → Appends before line (fired_line plant number c) → Appends line after (codes "\n")
-    → Leads start after (trace_from plant (next plant states c) (number + 1) (drop (i + 1) picks)) all
-leads-fired plant states number picks i c start before line after all within taken l fired ended =
-    let later : ChoiceDefinition → List ℕ = λ d. trace_from plant (next plant states d) (number + 1) (drop (i + 1) picks) in
-    let left : trace_from plant states number (drop i picks) ≡ (fired_line plant number c ++ codes "\n") ++ later c =
-    ap (trace_from plant states number) (drop_more picks i 0 within) ∙
-    ap (λ found. option_map_or (λ d. fired_line plant number d ++ codes "\n" ++ later d) found (codes "stuck\n" ++ states_text plant states)) taken in
+pub leads-fired : (format : Format) (plant : PlantDefinition) (states : List Local) (number : ℕ) (picks : List ℕ) (i : ℕ) (c : ChoiceDefinition) (start before line after : Option (List ℕ)) (all : List ℕ)
+    → i < length picks → picked plant states (get_or picks i 0) ≡ Some c → Leads start before (trace_from format plant states number (drop i picks)) all
+    → Appends before line (step_text format plant states number c) → Appends line after (codes "\n")
+    → Leads start after (trace_from format plant (next plant states c) (number + 1) (drop (i + 1) picks)) all
+leads-fired format plant states number picks i c start before line after all within taken l fired ended =
+    let later : ChoiceDefinition → List ℕ = λ d. trace_from format plant (next plant states d) (number + 1) (drop (i + 1) picks) in
+    let left : trace_from format plant states number (drop i picks) ≡ (step_text format plant states number c ++ codes "\n") ++ later c =
+    ap (trace_from format plant states number) (drop_more picks i 0 within) ∙
+    ap (λ found. option_map_or (λ d. step_text format plant states number d ++ codes "\n" ++ later d) found (stuck_text format ++ end_text format plant states)) taken in
     leads-more _ _ _ _ _ _ (leads-same l left) (Appends-trans before line after _ _ fired ended)

@@ -9,20 +9,14 @@ use Rattle.petri_atom.specs.declared.parts.Variable.{Variable}
 use Rattle.step_core.specs.Plant.{PlantDefinition}
 use Rattle.step_core.specs.Choice.{ChoiceDefinition}
 use Rattle.step_core.specs.declared.choice.Move.{Move}
+use Rattle.run_text.specs.declared.format.Format.{Format}
+use Rattle.run_text.specs.declared.format.Format.TheVariants.{Lines}
+use Rattle.run_text.specs.Word.{separated_by, between_text, name_text, assigned_text}
 
 -- what is said of each element of a list, the elements numbered from n, one after another
 abbrev pub numbered : {X Y : Type 0} → (ℕ → X → List Y) → ℕ → List X → List Y
 numbered say n [] = []
 numbered say n (x ∷ xs) = say n x ++ numbered say (n + 1) xs
-
--- words with one space between two, and this before the first
-abbrev pub spaced_after : List ℕ → List (List ℕ) → List ℕ
-spaced_after before [] = []
-spaced_after before (word ∷ words) = before ++ word ++ spaced_after (codes " ") words
-
--- words with one space between two
-abbrev pub spaced : List (List ℕ) → List ℕ
-spaced words = spaced_after [] words
 
 -- the name of the connector with a number
 abbrev pub wire_name : PlantDefinition → ℕ → List ℕ
@@ -46,12 +40,24 @@ fired_line plant number c =
     flat_map (λ m. codes " " ++ participant plant.atoms m) c.moves
 
 -- the name of the place with number k, where it is marked
-abbrev pub marked_name : ℕ → ℕ → Place → List (List ℕ)
-marked_name marking k place = if has marking k then place.name ∷ [] else []
+abbrev pub marked_name : Format → ℕ → ℕ → Place → List (List ℕ)
+marked_name format marking k place = if has marking k then name_text format place.name ∷ [] else []
 
 -- the names of the marked places, in the order of the places
-abbrev pub marked_names : ℕ → List Place → List (List ℕ)
-marked_names marking places = numbered (marked_name marking) 0 places
+abbrev pub marked_names : Format → ℕ → List Place → List (List ℕ)
+marked_names format marking places = numbered (marked_name format marking) 0 places
+
+-- the same as one text
+abbrev pub places_text : Format → ℕ → List Place → List ℕ
+places_text format marking places = separated_by (between_text format) (marked_names format marking places)
+
+-- the variable with number k and its value
+abbrev pub value_word : Format → List ℤ → ℕ → Variable → List (List ℕ)
+value_word format values k variable = assigned_text format variable.name (value_in values k) ∷ []
+
+-- the variables with their values, in the order of the variables
+abbrev pub value_words : Format → List ℤ → List Variable → List (List ℕ)
+value_words format values variables = numbered (value_word format values) 0 variables
 
 -- the variable with number k and its value, with a space before them
 abbrev pub value_text : List ℤ → ℕ → Variable → List ℕ
@@ -64,13 +70,17 @@ values_text values variables = numbered (value_text values) 0 variables
 -- an atom in a state: its name, its marked places, and its variables with their values
 abbrev pub state_line : AtomDefinition → Local → List ℕ
 state_line a state =
-    codes "state " ++ a.name ++ codes " [" ++ spaced (marked_names state.marking a.places) ++ codes "]" ++
+    codes "state " ++ a.name ++ codes " [" ++ places_text Lines state.marking a.places ++ codes "]" ++
     values_text state.values a.variables
 
--- the line of the atom with number n in its state
-abbrev pub state_text : List Local → ℕ → AtomDefinition → List ℕ
-state_text states n a = option_map_or (λ state. state_line a state ++ codes "\n") (slice_get states n) []
+-- the line of the atom with number n in its state, by what is said of an atom in a state
+abbrev pub state_text : (AtomDefinition → Local → List ℕ) → List Local → ℕ → AtomDefinition → List ℕ
+state_text say states n a = option_map_or (λ state. say a state ++ codes "\n") (slice_get states n) []
 
 -- a line for each atom of a plant, in order
+abbrev pub states_said : (AtomDefinition → Local → List ℕ) → PlantDefinition → List Local → List ℕ
+states_said say plant states = numbered (state_text say states) 0 plant.atoms
+
+-- the fixed lines of the states
 abbrev pub states_text : PlantDefinition → List Local → List ℕ
-states_text plant states = numbered (state_text states) 0 plant.atoms
+states_text plant states = states_said state_line plant states

@@ -1,11 +1,12 @@
 //! The line of a fired interaction.
-ghost use Rattle.std.specs.Prelude.{◌≡◌, ◌++◌, [], codes, decimal, flat_map, map, slice_get, OnOk};
+ghost use Rattle.std.specs.Prelude.{◌≡◌, ◌++◌, [], codes, decimal, map, slice_get, OnOk};
 ghost use Rattle.std.specs.Io.KnownBytes.{Appends};
 ghost use Rattle.std.specs.Option.{option_map_or};
 ghost use Rattle.petri_atom.specs.Atom.{definition_of};
 ghost use Rattle.step_core.specs.Chosen.{choice_of};
 ghost use Rattle.step_core.specs.System.{plant_of};
 ghost use Rattle.run_text.specs.Line.{fired_line, participant, port_name, wire_name};
+ghost use Rattle.run_text.specs.Word.{separated_after};
 
 use petri_atom::Atom;
 use std::io::Write;
@@ -26,17 +27,24 @@ pub fn print_choice<W: Write>(
     print_number(output, number)?;
     print_text(output, b" ")?;
     print_text(output, wire_name(system, choice.connector))?;
-    print_moves(system.atoms(), choice.moves.as_slice(), output)
+    print_moves(system.atoms(), choice.moves.as_slice(), b" ", output)
 }
 
-/// Prints the participants of a choice, each with a space before it.
-fn print_moves<W: Write>(atoms: &[Atom], moves: &[Move], output: &mut W) -> Result<(), WriteFault>
+/// Prints the participants of a choice, with a space between two, and `before` before the first.
+pub(crate) fn print_moves<W: Write>(
+    atoms: &[Atom],
+    moves: &[Move],
+    before: &[u8],
+    output: &mut W,
+) -> Result<(), WriteFault>
     ensures { OnOk result (Appends (W.contents output.old) (W.contents output.new)
-        (flat_map (λ m. codes " " ++ participant (map definition_of atoms.now) m) moves.now)) }
+        (separated_after before.now (codes " ") (map (participant (map definition_of atoms.now)) moves.now))) }
 {
+    let mut between = before;
     for step in moves {
-        print_text(output, b" ")?;
+        print_text(output, between)?;
         print_move(atoms, *step, output)?;
+        between = b" ";
     }
     Ok(())
 }
@@ -65,7 +73,7 @@ fn print_of_atom<W: Write>(atom: &Atom, transition: u16, output: &mut W) -> Resu
 }
 
 /// The name of the connector with this number; empty where it is not there.
-fn wire_name(system: &System, connector: u16) -> &[u8]
+pub(crate) fn wire_name(system: &System, connector: u16) -> &[u8]
     ensures { result.now ≡ wire_name (plant_of system.now) connector }
 {
     match system.wires().get(usize::from(connector)) {
@@ -75,7 +83,7 @@ fn wire_name(system: &System, connector: u16) -> &[u8]
 }
 
 /// The name of the port that the transition fires; empty where the transition is not there.
-fn port_name(atom: &Atom, transition: u16) -> &[u8]
+pub(crate) fn port_name(atom: &Atom, transition: u16) -> &[u8]
     ensures { result.now ≡ port_name (definition_of atom.now) transition }
 {
     match atom.transitions().get(usize::from(transition)) {

@@ -13,15 +13,21 @@
 //! Memory is taken only for the first states of a plant, before anything is printed.
 #![tactic(auto)]
 
+mod csv;
+mod delivered;
 mod fault;
 mod fired;
+mod format;
+mod jsonl;
 mod states;
 mod trace;
+mod word;
 
 pub use fault::TraceFault;
 pub use fired::print_choice;
+pub use format::Format;
 pub use states::print_states;
-pub use trace::trace_to;
+pub use trace::{trace_as, trace_to};
 
 #[cfg(test)]
 mod tests;

@@ -1,16 +1,22 @@
 //! The lines of the states of a plant's atoms.
-ghost use Rattle.std.specs.Prelude.{◌≡◌, ◌++◌, codes, OnOk};
+ghost use Rattle.std.specs.Prelude.{◌≡◌, OnOk};
 ghost use Rattle.std.specs.Io.KnownBytes.{Appends};
 ghost use Rattle.petri_atom.specs.Atom.{definition_of};
 ghost use Rattle.petri_atom.specs.Local.{has, value_in};
 ghost use Rattle.step_core.specs.Fitting.{IsOf};
 ghost use Rattle.step_core.specs.System.{plant_of};
-ghost use Rattle.run_text.specs.Line.{marked_names, spaced, state_line, states_text, values_text};
+ghost use Rattle.run_text.specs.Format.{atom_text, end_text};
+ghost use Rattle.run_text.specs.Line.{places_text, state_line, states_text, value_words};
+ghost use Rattle.run_text.specs.Word.{between_text, separated_after};
 
+use crate::csv::print_state_row;
+use crate::format::Format;
+use crate::jsonl::print_state_object;
+use crate::word::{print_assigned, print_name};
 use petri_atom::{Atom, AtomState, MAX_PLACES, Place, Variable};
 use std::io::Write;
 use step_core::{PlantState, System};
-use text_io::{WriteFault, end_line, print_signed, print_text};
+use text_io::{WriteFault, end_line, print_text};
 
 /// Prints a line for the state of each atom, in the order of the atoms: `state`, the atom's name, its marked places in
 /// brackets, and its variables, each as `NAME=VALUE`.
@@ -23,14 +29,45 @@ pub fn print_states<W: Write>(
     ensures { OnOk result (Appends (W.contents output.old) (W.contents output.new)
         (states_text (plant_of system.now) states.now)) }
 {
+    print_end(Format::Lines, system, states, output)
+}
+
+/// Prints a line for the state of each atom, in the order of the atoms.
+pub(crate) fn print_end<W: Write>(
+    format: Format,
+    system: &System,
+    states: &PlantState,
+    output: &mut W,
+) -> Result<(), WriteFault>
+    requires { IsOf (plant_of system.now) states.now }
+    ensures { OnOk result (Appends (W.contents output.old) (W.contents output.new)
+        (end_text format (plant_of system.now) states.now)) }
+{
     for (number, atom) in system.atoms().iter().enumerate() {
-        print_state(atom, states.state(number as u16), output)?;
+        print_atom(format, atom, states.state(number as u16), output)?;
         end_line(output)?;
     }
     Ok(())
 }
 
 /// Prints the line of an atom in a state, without its end.
+fn print_atom<W: Write>(
+    format: Format,
+    atom: &Atom,
+    state: &AtomState,
+    output: &mut W,
+) -> Result<(), WriteFault>
+    ensures { OnOk result (Appends (W.contents output.old) (W.contents output.new)
+        (atom_text format (definition_of atom.now) state.now)) }
+{
+    match format {
+        Format::Lines => print_state(atom, state, output),
+        Format::Csv => print_state_row(atom, state, output),
+        Format::Jsonl => print_state_object(atom, state, output),
+    }
+}
+
+/// Prints the fixed line of an atom in a state, without its end.
 fn print_state<W: Write>(atom: &Atom, state: &AtomState, output: &mut W) -> Result<(), WriteFault>
     ensures { OnOk result (Appends (W.contents output.old) (W.contents output.new)
         (state_line (definition_of atom.now) state.now)) }
@@ -38,22 +75,33 @@ fn print_state<W: Write>(atom: &Atom, state: &AtomState, output: &mut W) -> Resu
     print_text(output, b"state ")?;
     print_text(output, atom.name().as_bytes())?;
     print_text(output, b" [")?;
-    print_places(atom.places(), state.places(), output)?;
+    print_places(Format::Lines, atom.places(), state.places(), output)?;
     print_text(output, b"]")?;
-    print_values(atom.variables(), state.values(), output)
+    print_values(
+        Format::Lines,
+        atom.variables(),
+        state.values(),
+        b" ",
+        output,
+    )
 }
 
-/// Prints the names of the marked places, with one space between two.
-fn print_places<W: Write>(places: &[Place], marking: u64, output: &mut W) -> Result<(), WriteFault>
+/// Prints the names of the marked places.
+pub(crate) fn print_places<W: Write>(
+    format: Format,
+    places: &[Place],
+    marking: u64,
+    output: &mut W,
+) -> Result<(), WriteFault>
     ensures { OnOk result (Appends (W.contents output.old) (W.contents output.new)
-        (spaced (marked_names marking places.now))) }
+        (places_text format marking places.now)) }
 {
     let mut between: &[u8] = b"";
     for (number, place) in places.iter().enumerate() {
         if is_marked(marking, number) {
             print_text(output, between)?;
-            print_text(output, place.name.as_bytes())?;
-            between = b" ";
+            print_name(format, place.name.as_bytes(), output)?;
+            between = format.between();
         }
     }
     Ok(())
@@ -66,20 +114,27 @@ fn is_marked(marking: u64, place: usize) -> bool
     place < MAX_PLACES && (marking >> place) & 1 == 1
 }
 
-/// Prints the variables with their values, each with a space before it.
-fn print_values<W: Write>(
+/// Prints the variables with their values, with `before` before the first.
+pub(crate) fn print_values<W: Write>(
+    format: Format,
     variables: &[Variable],
     values: &[i64],
+    before: &[u8],
     output: &mut W,
 ) -> Result<(), WriteFault>
     ensures { OnOk result (Appends (W.contents output.old) (W.contents output.new)
-        (values_text values.now variables.now)) }
+        (separated_after before.now (between_text format) (value_words format values.now variables.now))) }
 {
+    let mut between = before;
     for (number, variable) in variables.iter().enumerate() {
-        print_text(output, b" ")?;
-        print_text(output, variable.name.as_bytes())?;
-        print_text(output, b"=")?;
-        print_signed(output, value_at(values, number))?;
+        print_text(output, between)?;
+        print_assigned(
+            format,
+            variable.name.as_bytes(),
+            value_at(values, number),
+            output,
+        )?;
+        between = format.between();
     }
     Ok(())
 }

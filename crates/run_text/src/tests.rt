@@ -1,5 +1,6 @@
 //! What no clause says: that the clauses mean what they should, on runs worked out by hand.
 mod faults;
+mod formats;
 mod runs;
 
 use connector_tree::{Child, Connector, Node};
@@ -11,7 +12,7 @@ use std::test::Fail;
 use step_core::{Export, System, Transfer, Wire};
 
 /// How many bytes a page has room for.
-const PAGE: usize = 256;
+const PAGE: usize = 1024;
 
 /// Takes so many bytes at a write, and no more than so many in all: an error comes where it is asked for more.
 #[derive(Drop)]

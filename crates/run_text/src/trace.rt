@@ -5,19 +5,23 @@ ghost use Rattle.step_core.specs.Choice.{IsAllowed};
 ghost use Rattle.step_core.specs.Chosen.{choice_of};
 ghost use Rattle.step_core.specs.Running.{plant_in, states_in};
 ghost use Rattle.step_core.specs.System.{plant_of};
-ghost use Rattle.run_text.specs.Trace.{picked, trace_from, trace_text};
+ghost use Rattle.run_text.specs.Format.{step_text};
+ghost use Rattle.run_text.specs.Trace.{picked, trace_from, trace_in, trace_text};
 ghost use Rattle.run_text.specs.declared.fault.TraceFault.TheVariants.{Memory};
 
+use crate::csv::print_step_row;
 use crate::fault::TraceFault;
 use crate::fired::print_choice;
-use crate::states::print_states;
+use crate::format::Format;
+use crate::jsonl::print_step_object;
+use crate::states::print_end;
 use std::alloc::Global;
 use std::io::Write;
 use step_core::{Choice, Stepper, System};
 use text_io::{WriteFault, end_line, print_text};
 
-/// Prints the run of a plant from its first states on: for each pick the line of the interaction that it fires, and then the
-/// line of each atom's state.
+/// Prints the run of a plant from its first states on in the fixed lines, as [`trace_as`] does with [`Format::Lines`]: for each
+/// pick the line of the interaction that it fires, and then the line of each atom's state.
 ///
 /// A pick takes the entry of the state's choices at the pick modulo their number. Where there is no choice the line
 /// `stuck` is printed, and the picks that follow are passed over.
@@ -31,8 +35,27 @@ pub fn trace_to<W: Write>(
         (trace_text (plant_of system.now) picks.now)) }
     ensures nothing_written { result ≡ Err Memory → output.new ≡ output.old }
 {
+    trace_as(alloc, system, picks, Format::Lines, output)
+}
+
+/// Prints the run of a plant from its first states on in a format: what stands before the run, for each pick the line of the
+/// interaction that it fires, and then the line of each atom's state.
+///
+/// Picks are taken as [`trace_to`] takes them, whatever the format.
+pub fn trace_as<W: Write>(
+    alloc: Global,
+    system: &System,
+    picks: &[u64],
+    format: Format,
+    output: &mut W,
+) -> Result<(), TraceFault>
+    ensures trace { OnOk result (Appends (W.contents output.old) (W.contents output.new)
+        (trace_in format (plant_of system.now) picks.now)) }
+    ensures nothing_written { result ≡ Err Memory → output.new ≡ output.old }
+{
     let mut run = Stepper::first(alloc, system)?;
-    print_run(&mut run, picks, output)?;
+    print_text(output, format.head())?;
+    print_run(&mut run, picks, format, output)?;
     Ok(())
 }
 
@@ -40,25 +63,45 @@ pub fn trace_to<W: Write>(
 fn print_run<W: Write>(
     run: &mut Stepper<'_>,
     picks: &[u64],
+    format: Format,
     output: &mut W,
 ) -> Result<(), WriteFault>
     ensures { OnOk result (Appends (W.contents output.old) (W.contents output.new)
-        (trace_from (plant_in run.old) (states_in run.old) 1 picks.now)) }
+        (trace_from format (plant_in run.old) (states_in run.old) 1 picks.now)) }
 {
     for (fired, pick) in picks.iter().enumerate() {
         match picked(run, *pick) {
             Some(choice) => {
-                print_choice(fired as u64 + 1, run.system(), &choice, output)?;
+                print_step(format, fired as u64 + 1, run, &choice, output)?;
                 end_line(output)?;
                 run.fire(&choice);
             }
             None => {
-                print_text(output, b"stuck\n")?;
+                print_text(output, format.stuck())?;
                 break;
             }
         }
     }
-    print_states(run.system(), run.states(), output)
+    print_end(format, run.system(), run.states(), output)
+}
+
+/// Prints the line of a choice that is fired from the present state, without its end.
+fn print_step<W: Write>(
+    format: Format,
+    number: u64,
+    run: &Stepper<'_>,
+    choice: &Choice,
+    output: &mut W,
+) -> Result<(), WriteFault>
+    ensures { OnOk result (Appends (W.contents output.old) (W.contents output.new)
+        (step_text format (plant_in run.now) (states_in run.now) number (choice_of choice.now))) }
+{
+    let system = run.system();
+    match format {
+        Format::Lines => print_choice(number, system, choice, output),
+        Format::Csv => print_step_row(number, system, run.states(), choice, output),
+        Format::Jsonl => print_step_object(number, system, run.states(), choice, output),
+    }
 }
 
 /// The choice that the pick takes; `None` where the present state has no choice.

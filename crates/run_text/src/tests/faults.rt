@@ -1,26 +1,47 @@
 //! Writers that fail, and want of memory.
 use super::{PAGE, Page, counting};
-use crate::{TraceFault, print_choice, print_states, trace_to};
+use crate::{Format, TraceFault, print_choice, print_states, trace_as};
 use std::test::Fail;
 use step_core::PlantState;
 
 /// The run of the counting plant by the picks 0 and 1.
-const LINES: &[u8; 64] = b"1 tick A.t/0\n2 send A.t/0 B.u/0\nstate A [s] n=2\nstate B [s] m=1\n";
+const LINES: &str = "1 tick A.t/0\n2 send A.t/0 B.u/0\nstate A [s] n=2\nstate B [s] m=1\n";
+
+/// The same as rows.
+const ROWS: &str =
+    "kind,number,name,parts,values\nstep,1,tick,A.t/0,\nstep,2,send,A.t/0 B.u/0,B.m=1\nstate,,A,s,n=2\nstate,,B,s,m=1\n";
+
+/// The same as objects.
+const OBJECTS: &str =
+    "{\"kind\":\"step\",\"number\":1,\"connector\":\"tick\",\"participants\":[{\"atom\":\"A\",\"port\":\"t\",\"transition\":0,\"delivered\":{}}]}\n\
+    {\"kind\":\"step\",\"number\":2,\"connector\":\"send\",\"participants\":[{\"atom\":\"A\",\"port\":\"t\",\"transition\":0,\"delivered\":{}},{\"atom\":\"B\",\"port\":\"u\",\"transition\":0,\"delivered\":{\"m\":1}}]}\n\
+    {\"kind\":\"state\",\"atom\":\"A\",\"places\":[\"s\"],\"variables\":{\"n\":2}}\n\
+    {\"kind\":\"state\",\"atom\":\"B\",\"places\":[\"s\"],\"variables\":{\"m\":1}}\n";
+
+/// Each format with the run in it.
+const RUNS: [(Format, &str); 3] = [
+    (Format::Lines, LINES),
+    (Format::Csv, ROWS),
+    (Format::Jsonl, OBJECTS),
+];
 
 #[test]
 fn a_failure_at_any_byte_is_told(rt: HostRuntime) -> Result<(), Fail> {
     let alloc = rt.alloc();
     let system = counting(alloc, 0)?;
-    for step in [1, 3, PAGE] {
-        for room in 0..LINES.len() {
-            let mut page = Page::new(step, room);
-            let answer = trace_to(alloc, &system, &[0, 1], &mut page);
-            assert!(rt; answer == Err(TraceFault::Write), "{room} by {step}");
-            assert!(rt; page.is(&LINES[..room]), "{room} by {step}");
+    for (format, text) in RUNS {
+        let text = text.as_bytes();
+        for step in [1, 3, PAGE] {
+            for room in 0..text.len() {
+                let mut page = Page::new(step, room);
+                let answer = trace_as(alloc, &system, &[0, 1], format, &mut page);
+                assert!(rt; answer == Err(TraceFault::Write), "{room} by {step}");
+                assert!(rt; page.is(&text[..room]), "{room} by {step}");
+            }
+            let mut page = Page::new(step, text.len());
+            trace_as(alloc, &system, &[0, 1], format, &mut page)?;
+            assert!(rt; page.is(text), "by {step}");
         }
-        let mut page = Page::new(step, LINES.len());
-        trace_to(alloc, &system, &[0, 1], &mut page)?;
-        assert!(rt; page.is(LINES), "by {step}");
     }
     Ok(())
 }
@@ -30,12 +51,14 @@ fn a_failure_at_any_byte_is_told(rt: HostRuntime) -> Result<(), Fail> {
 fn want_of_memory_is_told_before_anything_is_written(rt: HostRuntime) -> Result<(), Fail> {
     let alloc = rt.alloc();
     let system = counting(alloc, 0)?;
-    let mut page = Page::new(PAGE, PAGE);
-    match trace_to(alloc, &system, &[0, 1], &mut page) {
-        Ok(()) => assert!(rt; page.is(LINES)),
-        Err(fault) => {
-            assert!(rt; fault == TraceFault::Memory);
-            assert!(rt; page.is(b""));
+    for (format, text) in RUNS {
+        let mut page = Page::new(PAGE, PAGE);
+        match trace_as(alloc, &system, &[0, 1], format, &mut page) {
+            Ok(()) => assert!(rt; page.is(text.as_bytes())),
+            Err(fault) => {
+                assert!(rt; fault == TraceFault::Memory);
+                assert!(rt; page.is(b""));
+            }
         }
     }
     Ok(())

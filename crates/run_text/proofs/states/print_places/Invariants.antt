@@ -1,11 +1,12 @@
 -- The marked places from this number on are left.
 use Rattle.std.proofs.Common.{drop}
-use Rattle.run_text.specs.Line.{marked_name, marked_names, numbered, spaced, spaced_after}
+use Rattle.run_text.specs.Line.{marked_name, numbered, places_text}
+use Rattle.run_text.specs.Word.{between_text, separated_after}
 use Rattle.run_text.proofs.Leading.{Leads}
 use Rattle.run_text.proofs.states.print_places.Given as goal
 
 abbrev pub invariant-loop-number : goal.invariant-loop-number
 invariant-loop-number g l =
     Leads (g.W.Write.contents l.initial.output) (g.W.Write.contents l.output)
-    (spaced_after l.between (numbered (marked_name l.marking) l.number (drop l.number l.places)))
-    (spaced (marked_names l.marking l.places))
+    (separated_after l.between (between_text l.format) (numbered (marked_name l.format l.marking) l.number (drop l.number l.places)))
+    (places_text l.format l.marking l.places)

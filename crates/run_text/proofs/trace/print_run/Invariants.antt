@@ -9,6 +9,6 @@ abbrev pub invariant-loop-fired : goal.invariant-loop-fired
 invariant-loop-fired g l = record {
   plant : plant_in l.run ≡ plant_in l.initial.run;
   left : Leads (g.W.Write.contents l.initial.output) (g.W.Write.contents l.output)
-      (trace_from (plant_in l.run) (states_in l.run) (l.fired + 1) (drop l.fired l.picks))
-      (trace_from (plant_in l.initial.run) (states_in l.initial.run) 1 l.picks);
+      (trace_from l.format (plant_in l.run) (states_in l.run) (l.fired + 1) (drop l.fired l.picks))
+      (trace_from l.format (plant_in l.initial.run) (states_in l.initial.run) 1 l.picks);
 }

@@ -1,12 +1,13 @@
 -- The atoms from this number on are left.
 use Rattle.std.proofs.Common.{drop}
 use Rattle.step_core.specs.System.{plant_of}
-use Rattle.run_text.specs.Line.{numbered, state_text, states_text}
+use Rattle.run_text.specs.Format.{atom_text, end_text}
+use Rattle.run_text.specs.Line.{numbered, state_text}
 use Rattle.run_text.proofs.Leading.{Leads}
-use Rattle.run_text.proofs.states.print_states.Given as goal
+use Rattle.run_text.proofs.states.print_end.Given as goal
 
 abbrev pub invariant-loop-number : goal.invariant-loop-number
 invariant-loop-number g l =
     Leads (g.W.Write.contents l.initial.output) (g.W.Write.contents l.output)
-    (numbered (state_text l.states) l.number (drop l.number (plant_of l.system).atoms))
-    (states_text (plant_of l.system) l.states)
+    (numbered (state_text (atom_text l.format) l.states) l.number (drop l.number (plant_of l.system).atoms))
+    (end_text l.format (plant_of l.system) l.states)

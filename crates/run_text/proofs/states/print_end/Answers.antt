@@ -5,9 +5,10 @@ use Rattle.std.proofs.KnownBytes.{Appends-trans}
 use Rattle.std.proofs.lemmas.List.{get_or-map, length-map}
 use Rattle.petri_atom.specs.Atom.{definition_of}
 use Rattle.step_core.specs.System.{plant_of}
-use Rattle.run_text.specs.Line.{state_line, state_text}
+use Rattle.run_text.specs.Format.{atom_text}
+use Rattle.run_text.specs.Line.{state_text}
 use Rattle.run_text.proofs.Leading.{leads-element}
-use Rattle.run_text.proofs.states.print_states.Goals as goal
+use Rattle.run_text.proofs.states.print_end.Goals as goal
 
 pub loop-number-preserved : goal.loop-number-preserved
 loop-number-preserved g c =
@@ -21,9 +22,9 @@ loop-number-preserved g c =
     let within : i < length atoms = omega arith in
     let here : definition_of atom ≡ get_or (plant_of c.args.system.now).atoms i (definition_of atom) =
     ap definition_of c.atom-item.is ∙ sym (get_or-map definition_of atoms i atom (definition_of atom) within) ∙ ap (λ xs. get_or xs i (definition_of atom)) known in
-    let line : Appends now next (state_line (definition_of atom) c.state.result.now ++ codes "\n") =
-    Appends-trans _ _ _ _ _ (c.in_ok-print_state.ensures) (c.in_ok-end_line.ensures) in
-    let piece : Appends now next (state_text c.args.states.now i (definition_of atom)) =
-    subst (λ found. Appends now next (option_map_or (λ state. state_line (definition_of atom) state ++ codes "\n") found [])) (sym c.state.ensures) line in
-    leads-element (state_text c.args.states.now) (plant_of c.args.system.now).atoms i (definition_of atom) start now next _
+    let line : Appends now next (atom_text c.args.format (definition_of atom) c.state.result.now ++ codes "\n") =
+    Appends-trans _ _ _ _ _ (c.in_ok-print_atom.ensures) (c.in_ok-end_line.ensures) in
+    let piece : Appends now next (state_text (atom_text c.args.format) c.args.states.now i (definition_of atom)) =
+    subst (λ found. Appends now next (option_map_or (λ state. atom_text c.args.format (definition_of atom) state ++ codes "\n") found [])) (sym c.state.ensures) line in
+    leads-element (state_text (atom_text c.args.format) c.args.states.now) (plant_of c.args.system.now).atoms i (definition_of atom) start now next _
     (subst (λ n. i < n) (sym (length-map atoms definition_of) ∙ ap length known) within) here c.loop-number.invariant piece

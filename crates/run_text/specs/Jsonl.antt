@@ -1,0 +1,38 @@
+-- The objects of a run, one on each line.
+use Rattle.std.specs.Prelude.{ℕ, List, [], ◌++◌, map, slice_get, codes, decimal}
+use Rattle.std.specs.Option.{option_map_or}
+use Rattle.petri_atom.specs.Local.{Local}
+use Rattle.petri_atom.specs.Definition.{AtomDefinition}
+use Rattle.petri_atom.specs.declared.state.Delivered.{Delivered}
+use Rattle.step_core.specs.Plant.{PlantDefinition}
+use Rattle.step_core.specs.Choice.{ChoiceDefinition}
+use Rattle.step_core.specs.Step.{transfer}
+use Rattle.step_core.specs.declared.choice.Move.{Move}
+use Rattle.run_text.specs.declared.format.Format.TheVariants.{Jsonl}
+use Rattle.run_text.specs.Word.{quoted, separated_by}
+use Rattle.run_text.specs.Line.{places_text, port_name, value_words, wire_name}
+use Rattle.run_text.specs.Delivered.{delivered_words}
+
+-- a participant: its atom, the port that its transition fires, the transition's number, and the values that were delivered to it
+abbrev pub atom_object : AtomDefinition → ℕ → Delivered → List ℕ
+atom_object a transition d =
+    codes "{\"atom\":" ++ quoted a.name ++ codes ",\"port\":" ++ quoted (port_name a transition) ++
+    codes ",\"transition\":" ++ decimal transition ++ codes ",\"delivered\":{" ++
+    separated_by (codes ",") (delivered_words Jsonl a transition d) ++ codes "}}"
+
+-- the same of a move of a choice, on the states from before the firing
+abbrev pub participant_object : PlantDefinition → List Local → ChoiceDefinition → Move → List ℕ
+participant_object plant states c m =
+    option_map_or (λ a. atom_object a m.transition (transfer plant states c m.atom)) (slice_get plant.atoms m.atom) []
+
+-- a fired interaction: its number, its connector's name, and its participants
+abbrev pub step_object : PlantDefinition → List Local → ℕ → ChoiceDefinition → List ℕ
+step_object plant states number c =
+    codes "{\"kind\":\"step\",\"number\":" ++ decimal number ++ codes ",\"connector\":" ++ quoted (wire_name plant c.connector) ++
+    codes ",\"participants\":[" ++ separated_by (codes ",") (map (participant_object plant states c) c.moves) ++ codes "]}"
+
+-- an atom in a state: its name, its marked places, and its variables with their values
+abbrev pub state_object : AtomDefinition → Local → List ℕ
+state_object a state =
+    codes "{\"kind\":\"state\",\"atom\":" ++ quoted a.name ++ codes ",\"places\":[" ++ places_text Jsonl state.marking a.places ++
+    codes "],\"variables\":{" ++ separated_by (codes ",") (value_words Jsonl state.values a.variables) ++ codes "}}"
