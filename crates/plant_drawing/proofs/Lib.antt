@@ -1,3 +1,4 @@
 pub mod Listing
+pub mod Seeking
 pub mod Telling
 mod Rows

@@ -7,6 +7,7 @@ use Rattle.petri_atom.specs.Definition.{AtomDefinition}
 use Rattle.petri_atom.specs.declared.expression.Operator.TheVariants.{Add, LessOrEqual, And}
 use Rattle.petri_atom.specs.declared.parts.Variable.{Variable}
 use Rattle.connector_tree.specs.declared.tree.Connector.{Connector}
+use Rattle.connector_tree.specs.declared.tree.Port.{Port}
 use Rattle.plant_trees.specs.declared.token.Token.{Token}
 use Rattle.plant_trees.specs.declared.token.Token.TheVariants.{Leaf, Open, Close}
 use Rattle.plant_trees.specs.Connectors.{tokens_of}
@@ -15,16 +16,17 @@ use Rattle.priority_filter.specs.declared.rule.Rule.TheVariants.{Under, Maximal}
 use Rattle.step_core.specs.Plant.{WireDefinition}
 use Rattle.plant_drawing.specs.Expression.{expression_text, variable_name}
 use Rattle.plant_drawing.specs.Atom.{atom_lines, place_line, port_line, transition_lines}
-use Rattle.plant_drawing.specs.Connector.{connector_lines, spaced_word, port_edge}
+use Rattle.plant_drawing.specs.Connector.{connector_lines, guard_line, spaced_word, port_edge, transfer_line}
+use Rattle.plant_drawing.specs.Export.{export_name}
 use Rattle.plant_drawing.specs.Rule.{rule_line}
 use Rattle.plant_drawing.specs.Drawing.{drawing_of}
 
 -- places
-marked_place : place_line 0 3 (record { name = codes "p"; marked = true }) ≡ codes "    place_0_3 [shape=circle, style=filled, label=\"p\"];\n"
+marked_place : place_line 0 3 (record { name = codes "p"; marked = true }) ≡ codes "    place_0_3 [shape=circle, margin=0.03, style=filled, label=\"p\"];\n"
 unfolding digits
 marked_place = refl
 
-unmarked_place : place_line 63 0 (record { name = codes "q"; marked = false }) ≡ codes "    place_63_0 [shape=circle, label=\"q\"];\n"
+unmarked_place : place_line 63 0 (record { name = codes "q"; marked = false }) ≡ codes "    place_63_0 [shape=circle, margin=0.03, label=\"q\"];\n"
 unfolding digits
 unmarked_place = refl
 
@@ -81,30 +83,61 @@ tokens = Leaf (record { atom = 0; port = 0 }) true ∷ Open ∷ Leaf (record { a
 -- whatever tree writes them
 connector_of_tokens : (connector : Connector) → tokens_of connector ≡ tokens
     → connector_lines (sample ∷ []) 1 (record { name = codes "c"; connector = connector; guards = []; transfers = [] })
-    ≡ codes "  connector_1 [shape=hexagon, label=\"c\\n A.t' [ A.t ]'\"];\n  connector_1 -> port_0_0 [arrowhead=normal];\n  connector_1 -> port_0_0 [arrowhead=dot];\n"
+    ≡ codes "  connector_1 [shape=box, style=\"rounded,filled\", fillcolor=lightyellow, label=\"c\\n A.t' [ A.t ]' \"];\n  connector_1 -> port_0_0 [arrowhead=normal];\n  connector_1 -> port_0_0 [arrowhead=dot];\n"
 unfolding sample digits
 connector_of_tokens connector written =
-    ap (λ ts. codes "  connector_1 [shape=hexagon, label=\"c\\n" ++ flat_map (spaced_word (sample ∷ [])) ts ++ codes "\"];\n" ++ flat_map (port_edge 1) ts) written
+    ap (λ ts. codes "  connector_1 [shape=box, style=\"rounded,filled\", fillcolor=lightyellow, label=\"c\\n" ++ (flat_map (spaced_word (sample ∷ [])) ts ++ codes " " ++ [] ++ []) ++ codes "\"];\n" ++ flat_map (port_edge 1) ts) written
+
+-- an atom B whose port u exports m and then n
+exporter : AtomDefinition
+exporter = record {
+  name = codes "B";
+  places = [];
+  variables = variables;
+  ports = record { name = codes "u"; exports = 1 ∷ 0 ∷ [] } ∷ [];
+  transitions = [];
+}
+
+-- leaf 0 is a port of A, and leaf 1 is B.u
+abbrev leaf_ports : List Port
+leaf_ports = record { atom = 0; port = 0 } ∷ record { atom = 1; port = 0 } ∷ []
+
+first_export : export_name (sample ∷ exporter ∷ []) leaf_ports (record { leaf = 1; export = 0 }) ≡ codes "B.m"
+unfolding sample exporter
+first_export = refl
+
+second_export : export_name (sample ∷ exporter ∷ []) leaf_ports (record { leaf = 1; export = 1 }) ≡ codes "B.n"
+unfolding sample exporter
+second_export = refl
+
+-- a guard clause and a transfer
+clause : guard_line (sample ∷ exporter ∷ []) leaf_ports (operation LessOrEqual (variable (record { leaf = 1; export = 1 })) (number (pos 2))) ≡ codes "\\nguard <= B.n 2"
+unfolding sample exporter digits
+clause = refl
+
+transfer : transfer_line (sample ∷ exporter ∷ []) leaf_ports (record { target = record { leaf = 1; export = 0 }; value = operation Add (variable (record { leaf = 1; export = 1 })) (number (negsuc 0)) }) ≡ codes "\\nB.m := + B.n -1"
+unfolding sample exporter digits
+transfer = refl
 
 -- rules between the connectors low and high
 module _ (connector : Connector) where
   abbrev wires : List WireDefinition
   wires = record { name = codes "low"; connector = connector; guards = []; transfers = [] } ∷ record { name = codes "high"; connector = connector; guards = []; transfers = [] } ∷ []
 
-  whole_sides : rule_line wires (Under (Whole 0) (Whole 1)) ≡ codes "  connector_0 -> connector_1 [style=dashed, constraint=false, label=\"low < high\"];\n"
+  whole_sides : rule_line wires (Under (Whole 0) (Whole 1)) ≡ codes "  connector_0 -> connector_1 [style=dashed, color=firebrick, fontcolor=firebrick, label=\" low < high\"];\n"
   unfolding digits
   whole_sides = refl
 
-  sides_by_masks : rule_line wires (Under (One 1 3) (One 1 255)) ≡ codes "  connector_1 -> connector_1 [style=dashed, constraint=false, label=\"high:3 < high:255\"];\n"
+  sides_by_masks : rule_line wires (Under (One 1 3) (One 1 255)) ≡ codes "  connector_1 -> connector_1 [style=dashed, color=firebrick, fontcolor=firebrick, label=\" high:3 < high:255\"];\n"
   unfolding digits
   sides_by_masks = refl
 
-  maximal : rule_line wires (Maximal 1) ≡ codes "  connector_1 -> connector_1 [style=dashed, label=\"maximal\"];\n"
+  maximal : rule_line wires (Maximal 1) ≡ codes "  connector_1 -> connector_1 [style=dashed, color=firebrick, fontcolor=firebrick, label=\" maximal\"];\n"
   unfolding digits
   maximal = refl
 
 -- a plant of the atom alone
 without_connectors : drawing_of (record { atoms = sample ∷ []; wires = []; rules = [] })
-    ≡ codes "digraph plant {\n  subgraph cluster_0 {\n    label=\"A\\nn = 0\\nm = -2\";\n    port_0_0 [shape=ellipse, label=\"t\"];\n  }\n}\n"
+    ≡ codes "digraph plant {\n  fontname=\"Helvetica\";\n  labelloc=b;\n  nodesep=0.4;\n  ranksep=0.6;\n  node [fontname=\"Helvetica\"];\n  edge [fontname=\"Helvetica\", fontsize=11];\n  subgraph cluster_0 {\n    label=\"A\\nn = 0\\nm = -2\";\n    port_0_0 [shape=ellipse, label=\"t\"];\n  }\n}\n"
 unfolding sample digits
 without_connectors = refl

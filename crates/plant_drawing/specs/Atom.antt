@@ -25,7 +25,7 @@ named name = codes "label=\"" ++ name ++ codes "\"];\n"
 -- a place is a circle, and a filled one where it is marked at first
 abbrev pub place_line : ℕ → ℕ → Place → List ℕ
 place_line atom k place =
-    codes "    " ++ part_node (codes "place") atom k ++ codes " [shape=circle, " ++
+    codes "    " ++ part_node (codes "place") atom k ++ codes " [shape=circle, margin=0.03, " ++
     fill_of place.marked ++ named place.name
 
 -- a port with the variables that it exports

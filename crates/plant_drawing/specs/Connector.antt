@@ -2,13 +2,18 @@
 use Rattle.std.specs.Prelude.{ℕ, Bool, if◌then◌else◌, List, [], ◌++◌, codes, flat_map, slice_get}
 use Rattle.std.specs.Option.{option_map_or}
 use Rattle.petri_atom.specs.Definition.{AtomDefinition}
+use Rattle.petri_atom.specs.Expression.{Tree}
+use Rattle.connector_tree.specs.Tree.{leaves}
 use Rattle.connector_tree.specs.declared.tree.Port.{Port}
 use Rattle.plant_trees.specs.declared.token.Token.{Token}
 use Rattle.plant_trees.specs.declared.token.Token.TheVariants.{Leaf, Open, Close}
 use Rattle.plant_trees.specs.Connectors.{tokens_of}
-use Rattle.step_core.specs.Plant.{WireDefinition}
+use Rattle.step_core.specs.Plant.{TransferDefinition, WireDefinition}
+use Rattle.step_core.specs.declared.wire.Export.{Export}
 use Rattle.plant_drawing.specs.Node.{part_node, connector_node}
+use Rattle.plant_drawing.specs.Expression.{expression_text}
 use Rattle.plant_drawing.specs.Atom.{port_name}
+use Rattle.plant_drawing.specs.Export.{export_name}
 
 -- a port by the names of its atom and its own
 abbrev pub leaf_word : List AtomDefinition → Port → List ℕ
@@ -45,15 +50,30 @@ port_edge number (Leaf port trigger) =
 port_edge number Open = []
 port_edge number (Close trigger) = []
 
--- the name of a connector, and its tree on a second line
+-- a guard clause, on a line of its own
+abbrev pub guard_line : List AtomDefinition → List Port → Tree Export → List ℕ
+guard_line atoms ports guard = codes "\\nguard " ++ expression_text (export_name atoms ports) guard
+
+-- a transfer, on a line of its own: what it sets, and to what
+abbrev pub transfer_line : List AtomDefinition → List Port → TransferDefinition → List ℕ
+transfer_line atoms ports t =
+    codes "\\n" ++ export_name atoms ports t.target ++ codes " := " ++ expression_text (export_name atoms ports) t.value
+
+-- the tree of a connector: its words, with a space before each, and one behind the last
+abbrev pub tree_text : List AtomDefinition → WireDefinition → List ℕ
+tree_text atoms wire = flat_map (spaced_word atoms) (tokens_of wire.connector) ++ codes " "
+
+-- the name of a connector, and on lines of their own its tree, its guard clauses and its transfers
 abbrev pub connector_label : List AtomDefinition → WireDefinition → List ℕ
 connector_label atoms wire =
-    wire.name ++ codes "\\n" ++ flat_map (spaced_word atoms) (tokens_of wire.connector)
+    wire.name ++ codes "\\n" ++ tree_text atoms wire ++
+    flat_map (guard_line atoms (leaves wire.connector)) wire.guards ++
+    flat_map (transfer_line atoms (leaves wire.connector)) wire.transfers
 
 -- the node of the connector with a number
 abbrev pub connector_line : List AtomDefinition → ℕ → WireDefinition → List ℕ
 connector_line atoms number wire =
-    codes "  " ++ connector_node number ++ codes " [shape=hexagon, label=\"" ++ connector_label atoms wire ++ codes "\"];\n"
+    codes "  " ++ connector_node number ++ codes " [shape=box, style=\"rounded,filled\", fillcolor=lightyellow, label=\"" ++ connector_label atoms wire ++ codes "\"];\n"
 
 -- the connector with a number, and its edges
 abbrev pub connector_lines : List AtomDefinition → ℕ → WireDefinition → List ℕ

@@ -12,6 +12,11 @@ parts_of plant =
     numbered atom_lines 0 plant.atoms ++ numbered (connector_lines plant.atoms) 0 plant.wires ++
     flat_map (rule_line plant.wires) plant.rules
 
+-- how the graph is laid out: in one font, with some room between the nodes, and the label of an atom below its parts
+abbrev pub style : List ℕ
+style =
+    codes "  fontname=\"Helvetica\";\n  labelloc=b;\n  nodesep=0.4;\n  ranksep=0.6;\n  node [fontname=\"Helvetica\"];\n  edge [fontname=\"Helvetica\", fontsize=11];\n"
+
 -- a directed graph of them
 abbrev pub drawing_of : PlantDefinition → List ℕ
-drawing_of plant = codes "digraph plant {\n" ++ parts_of plant ++ codes "}\n"
+drawing_of plant = codes "digraph plant {\n" ++ style ++ parts_of plant ++ codes "}\n"

@@ -30,13 +30,17 @@ arrow from to = codes "  " ++ connector_node from ++ codes " -> " ++ connector_n
 abbrev pub sides_text : List WireDefinition → Side → Side → List ℕ
 sides_text wires left right = side_word wires left ++ codes " < " ++ side_word wires right
 
+-- how the edge of a rule is drawn, and the begin of its label
+abbrev pub rule_style : List ℕ
+rule_style = codes " [style=dashed, color=firebrick, fontcolor=firebrick, label=\" "
+
 -- the loop of a connector that is to be maximal
 abbrev pub maximal_line : ℕ → List ℕ
-maximal_line connector = arrow connector connector ++ codes " [style=dashed, label=\"maximal\"];\n"
+maximal_line connector = arrow connector connector ++ rule_style ++ codes "maximal\"];\n"
 
 -- a rule's edge, with the rule itself on it
 abbrev pub rule_line : List WireDefinition → Rule → List ℕ
 rule_line wires (Under left right) =
-    arrow (side_connector left) (side_connector right) ++ codes " [style=dashed, constraint=false, label=\"" ++
+    arrow (side_connector left) (side_connector right) ++ rule_style ++
     sides_text wires left right ++ codes "\"];\n"
 rule_line wires (Maximal connector) = maximal_line connector

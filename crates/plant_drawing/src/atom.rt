@@ -7,7 +7,7 @@ ghost use Rattle.run_text.specs.Line.{numbered};
 ghost use Rattle.plant_drawing.specs.Atom.{atom_label, atom_lines, cluster_head, cluster_parts, fill_of, named, place_line, port_line, transition_lines, variable_text};
 ghost use Rattle.plant_drawing.specs.Expression.{variable_name};
 
-use crate::expression::variable_name;
+use crate::names::variable_name;
 use crate::node::print_part;
 use crate::transition::print_transition;
 use petri_atom::{Atom, Name, Place, Port, Variable};
@@ -96,7 +96,7 @@ fn print_place<W: Write>(
 {
     print_text(output, b"    ")?;
     print_part(b"place", atom, number, output)?;
-    print_text(output, b" [shape=circle, ")?;
+    print_text(output, b" [shape=circle, margin=0.03, ")?;
     print_fill(place.marked, output)?;
     print_named(&place.name, output)
 }

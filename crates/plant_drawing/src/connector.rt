@@ -4,10 +4,13 @@ ghost use Rattle.std.specs.Io.KnownBytes.{Appends};
 ghost use Rattle.petri_atom.specs.Atom.{definition_of};
 ghost use Rattle.plant_trees.specs.declared.token.Token.TheVariants.{Leaf};
 ghost use Rattle.plant_trees.specs.Connectors.{children_tokens, node_tokens};
+ghost use Rattle.connector_tree.specs.Tree.{leaves};
 ghost use Rattle.step_core.specs.Wire.{wire_of};
 ghost use Rattle.plant_drawing.specs.Atom.{port_name};
-ghost use Rattle.plant_drawing.specs.Connector.{arrow_to, connector_label, connector_line, connector_lines, end_of_edge, leaf_word, port_edge, spaced_word, trigger_mark};
+ghost use Rattle.plant_drawing.specs.Connector.{arrow_to, connector_label, connector_line, connector_lines, end_of_edge, guard_line, leaf_word, port_edge, spaced_word, transfer_line, tree_text, trigger_mark};
 
+use crate::clauses::{print_guards, print_transfers};
+use crate::names::Exports;
 use crate::node::{print_connector, print_part};
 use crate::transition::port_name;
 use connector_tree::{Child, Node, Port};
@@ -26,12 +29,12 @@ pub(crate) fn print_wire<W: Write>(
     ensures { OnOk result (Appends (W.contents output.old) (W.contents output.new)
         (connector_lines (map definition_of atoms.now) number (wire_of wire.now))) }
 {
-    print_hexagon(atoms, number, wire, output)?;
+    print_connector_line(atoms, number, wire, output)?;
     print_edges(number, &wire.connector.root, output)
 }
 
 /// Prints the node of a connector.
-fn print_hexagon<W: Write>(
+fn print_connector_line<W: Write>(
     atoms: &[Atom],
     number: u64,
     wire: &Wire,
@@ -42,19 +45,46 @@ fn print_hexagon<W: Write>(
 {
     print_text(output, b"  ")?;
     print_connector(number, output)?;
-    print_text(output, b" [shape=hexagon, label=\"")?;
+    print_text(
+        output,
+        b" [shape=box, style=\"rounded,filled\", fillcolor=lightyellow, label=\"",
+    )?;
     print_label(atoms, wire, output)?;
     print_text(output, b"\"];\n")
 }
 
-/// Prints the name of a connector, and its tree on a second line.
+/// Prints the name of a connector, and on lines of their own its tree, its guard clauses and its transfers.
 fn print_label<W: Write>(atoms: &[Atom], wire: &Wire, output: &mut W) -> Result<(), WriteFault>
     ensures { OnOk result (Appends (W.contents output.old) (W.contents output.new)
         (connector_label (map definition_of atoms.now) (wire_of wire.now))) }
 {
     print_text(output, wire.name.as_bytes())?;
     print_text(output, b"\\n")?;
-    print_words(atoms, &wire.connector.root, output)
+    print_tree(atoms, wire, output)?;
+    print_clauses(atoms, wire, output)
+}
+
+/// Prints the tree of a connector: its words, with a space before each, and one behind the last.
+fn print_tree<W: Write>(atoms: &[Atom], wire: &Wire, output: &mut W) -> Result<(), WriteFault>
+    ensures { OnOk result (Appends (W.contents output.old) (W.contents output.new)
+        (tree_text (map definition_of atoms.now) (wire_of wire.now))) }
+{
+    print_words(atoms, &wire.connector.root, output)?;
+    print_text(output, b" ")
+}
+
+/// Prints the guard clauses of a connector, and then its transfers.
+fn print_clauses<W: Write>(atoms: &[Atom], wire: &Wire, output: &mut W) -> Result<(), WriteFault>
+    ensures { OnOk result (Appends (W.contents output.old) (W.contents output.new)
+        (flat_map (guard_line (map definition_of atoms.now) (leaves wire.now.connector)) (wire_of wire.now).guards ++
+        flat_map (transfer_line (map definition_of atoms.now) (leaves wire.now.connector)) (wire_of wire.now).transfers)) }
+{
+    let exports = Exports {
+        atoms,
+        connector: &wire.connector,
+    };
+    print_guards(&exports, &wire.guards, output)?;
+    print_transfers(&exports, &wire.transfers, output)
 }
 
 /// Prints the words of several children of a tree, each with a space before it.

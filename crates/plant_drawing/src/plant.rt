@@ -7,7 +7,7 @@ ghost use Rattle.step_core.specs.Wire.{wire_of};
 ghost use Rattle.run_text.specs.Line.{numbered};
 ghost use Rattle.plant_drawing.specs.Atom.{atom_lines};
 ghost use Rattle.plant_drawing.specs.Connector.{connector_lines};
-ghost use Rattle.plant_drawing.specs.Drawing.{drawing_of, parts_of};
+ghost use Rattle.plant_drawing.specs.Drawing.{drawing_of, parts_of, style};
 
 use crate::atom::print_atom;
 use crate::connector::print_wire;
@@ -23,8 +23,25 @@ pub fn draw_to<W: Write>(system: &System, output: &mut W) -> Result<(), WriteFau
         (drawing_of (plant_of system.now))) }
 {
     print_text(output, b"digraph plant {\n")?;
+    print_style(output)?;
     print_parts(system, output)?;
     print_text(output, b"}\n")
+}
+
+/// Prints how the graph is laid out: in one font, with some room between the nodes, and the label of an atom below its parts.
+fn print_style<W: Write>(output: &mut W) -> Result<(), WriteFault>
+    ensures { OnOk result (Appends (W.contents output.old) (W.contents output.new) style) }
+{
+    print_text(
+        output,
+        b"  fontname=\"Helvetica\";
+  labelloc=b;
+  nodesep=0.4;
+  ranksep=0.6;
+  node [fontname=\"Helvetica\"];
+  edge [fontname=\"Helvetica\", fontsize=11];
+",
+    )
 }
 
 /// Prints the atoms, the connectors and the priority rules of a plant.

@@ -3,7 +3,7 @@ ghost use Rattle.std.specs.Prelude.{◌≡◌, OnOk, flat_map, map};
 ghost use Rattle.std.specs.Io.KnownBytes.{Appends};
 ghost use Rattle.step_core.specs.Wire.{wire_of};
 ghost use Rattle.priority_filter.specs.declared.rule.Rule.TheVariants.{Under};
-ghost use Rattle.plant_drawing.specs.Rule.{arrow, maximal_line, rule_line, side_connector, side_word, sides_text, wire_name};
+ghost use Rattle.plant_drawing.specs.Rule.{arrow, maximal_line, rule_line, rule_style, side_connector, side_word, sides_text, wire_name};
 
 use crate::node::print_connector;
 use priority_filter::{Rule, Side};
@@ -48,7 +48,7 @@ fn print_under<W: Write>(
         (rule_line (map wire_of wires.now) (Under left right))) }
 {
     print_between(left, right, output)?;
-    print_text(output, b" [style=dashed, constraint=false, label=\"")?;
+    print_style(output)?;
     print_sides(wires, left, right, output)?;
     print_text(output, b"\"];\n")
 }
@@ -74,7 +74,18 @@ fn print_maximal<W: Write>(connector: u64, output: &mut W) -> Result<(), WriteFa
         (maximal_line connector)) }
 {
     print_arrow(connector, connector, output)?;
-    print_text(output, b" [style=dashed, label=\"maximal\"];\n")
+    print_style(output)?;
+    print_text(output, b"maximal\"];\n")
+}
+
+/// Prints how the edge of a rule is drawn, and the begin of its label.
+fn print_style<W: Write>(output: &mut W) -> Result<(), WriteFault>
+    ensures { OnOk result (Appends (W.contents output.old) (W.contents output.new) rule_style) }
+{
+    print_text(
+        output,
+        b" [style=dashed, color=firebrick, fontcolor=firebrick, label=\" ",
+    )
 }
 
 /// Prints the begin of the edge from the connector of a side to that of another.

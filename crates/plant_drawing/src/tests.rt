@@ -83,12 +83,12 @@ fn port(alloc: Global, text: &[u8], exports: &[u8]) -> Result<Port, Fail> {
 }
 
 /// An operator with two operands.
-fn apply(
+fn apply<V: Drop>(
     alloc: Global,
     operator: Operator,
-    left: Expression<u8>,
-    right: Expression<u8>,
-) -> Result<Expression<u8>, Fail> {
+    left: Expression<V>,
+    right: Expression<V>,
+) -> Result<Expression<V>, Fail> {
     Ok(Expression::Apply(operator, Box::new(alloc, left)?, Box::new(alloc, right)?))
 }
 
@@ -108,6 +108,29 @@ fn wire(alloc: Global, text: &[u8], root: Vec<Child>) -> Result<Wire, Fail> {
         guards: Vec::new(alloc),
         transfers: Vec::new(alloc),
     })
+}
+
+/// An atom with a marked place `s`, variables of these names, and a port `p` that exports those with these numbers, with a
+/// transition from `s` to `s`.
+fn holder(
+    alloc: Global,
+    text: &[u8],
+    of_variables: &[&[u8]],
+    exports: &[u8],
+) -> Result<Atom, Fail> {
+    let mut places = Vec::new(alloc);
+    places.push(place(b"s", true)?)?;
+    let mut variables = Vec::new(alloc);
+    for of_variable in of_variables {
+        variables.push(variable(of_variable, 0)?)?;
+    }
+    let mut ports = Vec::new(alloc);
+    ports.push(port(alloc, b"p", exports)?)?;
+    let mut transitions = Vec::new(alloc);
+    let sources = vec![in alloc; 0u8]?;
+    let targets = vec![in alloc; 0u8]?;
+    transitions.push(Transition::new(0, sources, targets, Expression::Number(1), Vec::new(alloc)))?;
+    Ok(Atom::new(alloc, name(text)?, places, variables, ports, transitions)?)
 }
 
 /// An atom with a marked place `s`, and for each name a port with a transition from `s` to `s`.

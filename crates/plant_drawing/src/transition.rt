@@ -8,7 +8,8 @@ ghost use Rattle.petri_atom.specs.Transition.{transition_of};
 ghost use Rattle.petri_atom.specs.Update.{update_of};
 ghost use Rattle.plant_drawing.specs.Atom.{firing_edge, guard_text, port_name, source_edge, target_edge, transition_edges, transition_label, transition_line, transition_lines, update_text};
 
-use crate::expression::{is_one, print_expression, variable_name};
+use crate::expression::{is_one, print_expression};
+use crate::names::{Variables, variable_name};
 use crate::node::print_part;
 use petri_atom::{Atom, Expression, Port, Transition, Update, Variable};
 use std::io::Write;
@@ -95,7 +96,7 @@ fn print_guard<W: Write>(
         return Ok(());
     }
     print_text(output, b"\\nwhen ")?;
-    print_expression(guard, variables, output)
+    print_expression(guard, &Variables { variables }, output)
 }
 
 /// Prints updates, each on a line of its own.
@@ -125,7 +126,7 @@ fn print_update<W: Write>(
     print_text(output, b"\\n")?;
     print_text(output, variable_name(variables, update.variable))?;
     print_text(output, b" := ")?;
-    print_expression(&update.value, variables, output)
+    print_expression(&update.value, &Variables { variables }, output)
 }
 
 /// Prints the dotted line from a port to one of its transitions.

@@ -1,12 +1,12 @@
 //! Drawings of small plants.
-use super::{PAGE, Page, apply, leaf, name, place, port, simple, variable, wire};
+use super::{PAGE, Page, apply, holder, leaf, name, place, port, simple, variable, wire};
 use crate::draw_to;
 use connector_tree::{Child, Node};
 use petri_atom::{Atom, Expression, Operator, Transition, Update};
 use priority_filter::{Rule, Side};
 use std::alloc::Global;
 use std::test::Fail;
-use step_core::System;
+use step_core::{Export, System, Transfer, Wire};
 
 /// Whether the drawing of the plant is this text.
 fn draws(system: &System, text: &[u8]) -> Result<bool, Fail> {
@@ -64,10 +64,16 @@ fn an_atom_is_a_cluster_of_all_its_parts(rt: HostRuntime) -> Result<(), Fail> {
     atoms.push(rich(alloc)?)?;
     let system = System::new(alloc, atoms, Vec::new(alloc), &[], [0; 32])?;
     let drawing = b"digraph plant {
+  fontname=\"Helvetica\";
+  labelloc=b;
+  nodesep=0.4;
+  ranksep=0.6;
+  node [fontname=\"Helvetica\"];
+  edge [fontname=\"Helvetica\", fontsize=11];
   subgraph cluster_0 {
     label=\"A\\nn = 0\\nm = -9223372036854775808\";
-    place_0_0 [shape=circle, style=filled, label=\"p\"];
-    place_0_1 [shape=circle, label=\"q\"];
+    place_0_0 [shape=circle, margin=0.03, style=filled, label=\"p\"];
+    place_0_1 [shape=circle, margin=0.03, label=\"q\"];
     port_0_0 [shape=ellipse, label=\"back\"];
     port_0_1 [shape=ellipse, label=\"go m n\"];
     transition_0_0 [shape=box, label=\"go\\nwhen < n 10\\nm := ! n\\nn := + n -1\"];
@@ -129,9 +135,15 @@ fn a_connector_is_joined_to_its_ports_and_a_rule_to_its_sides(rt: HostRuntime) -
     ];
     let system = joined(alloc, &rules)?;
     let drawing = b"digraph plant {
+  fontname=\"Helvetica\";
+  labelloc=b;
+  nodesep=0.4;
+  ranksep=0.6;
+  node [fontname=\"Helvetica\"];
+  edge [fontname=\"Helvetica\", fontsize=11];
   subgraph cluster_0 {
     label=\"A\";
-    place_0_0 [shape=circle, style=filled, label=\"s\"];
+    place_0_0 [shape=circle, margin=0.03, style=filled, label=\"s\"];
     port_0_0 [shape=ellipse, label=\"p\"];
     transition_0_0 [shape=box, label=\"p\"];
     port_0_0 -> transition_0_0 [style=dotted, arrowhead=none];
@@ -140,7 +152,7 @@ fn a_connector_is_joined_to_its_ports_and_a_rule_to_its_sides(rt: HostRuntime) -
   }
   subgraph cluster_1 {
     label=\"B\";
-    place_1_0 [shape=circle, style=filled, label=\"s\"];
+    place_1_0 [shape=circle, margin=0.03, style=filled, label=\"s\"];
     port_1_0 [shape=ellipse, label=\"p\"];
     transition_1_0 [shape=box, label=\"p\"];
     port_1_0 -> transition_1_0 [style=dotted, arrowhead=none];
@@ -149,7 +161,7 @@ fn a_connector_is_joined_to_its_ports_and_a_rule_to_its_sides(rt: HostRuntime) -
   }
   subgraph cluster_2 {
     label=\"C\";
-    place_2_0 [shape=circle, style=filled, label=\"s\"];
+    place_2_0 [shape=circle, margin=0.03, style=filled, label=\"s\"];
     port_2_0 [shape=ellipse, label=\"p\"];
     port_2_1 [shape=ellipse, label=\"q\"];
     transition_2_0 [shape=box, label=\"p\"];
@@ -161,15 +173,89 @@ fn a_connector_is_joined_to_its_ports_and_a_rule_to_its_sides(rt: HostRuntime) -
     place_2_0 -> transition_2_1;
     transition_2_1 -> place_2_0;
   }
-  connector_0 [shape=hexagon, label=\"both\\n [ A.p' [ B.p ] ]' C.q\"];
+  connector_0 [shape=box, style=\"rounded,filled\", fillcolor=lightyellow, label=\"both\\n [ A.p' [ B.p ] ]' C.q \"];
   connector_0 -> port_0_0 [arrowhead=normal];
   connector_0 -> port_1_0 [arrowhead=dot];
   connector_0 -> port_2_1 [arrowhead=dot];
-  connector_1 [shape=hexagon, label=\"one\\n C.p\"];
+  connector_1 [shape=box, style=\"rounded,filled\", fillcolor=lightyellow, label=\"one\\n C.p \"];
   connector_1 -> port_2_0 [arrowhead=dot];
-  connector_0 -> connector_1 [style=dashed, constraint=false, label=\"both < one\"];
-  connector_0 -> connector_0 [style=dashed, constraint=false, label=\"both:1 < both:7\"];
-  connector_0 -> connector_0 [style=dashed, label=\"maximal\"];
+  connector_0 -> connector_1 [style=dashed, color=firebrick, fontcolor=firebrick, label=\" both < one\"];
+  connector_0 -> connector_0 [style=dashed, color=firebrick, fontcolor=firebrick, label=\" both:1 < both:7\"];
+  connector_0 -> connector_0 [style=dashed, color=firebrick, fontcolor=firebrick, label=\" maximal\"];
+}
+";
+    assert!(rt; draws(&system, drawing)?);
+    Ok(())
+}
+
+/// A variable that a leaf exports, by both numbers.
+fn export(leaf: u8, export: u8) -> Expression<Export> {
+    Expression::Variable(Export { leaf, export })
+}
+
+/// The connector `c [ B.p ]' A.p` with the clauses `guard < B.k 3` and `guard ! A.m` and the transfers `move A.n := + B.k A.m`
+/// and `move B.k := 0`, where A.p exports m and then n, and B.p exports k.
+fn guarded(alloc: Global) -> Result<Wire, Fail> {
+    let mut inner = Vec::new(alloc);
+    inner.push(leaf(1, 0, false))?;
+    let mut root = Vec::new(alloc);
+    root.push(Child {
+        trigger: true,
+        node: Node::Fusion(inner),
+    })?;
+    root.push(leaf(0, 0, false))?;
+    let mut made = wire(alloc, b"c", root)?;
+    made.guards.push(apply(alloc, Operator::Less, export(0, 0), Expression::Number(3))?)?;
+    made.guards
+        .push(Expression::Not(Box::new(alloc, export(1, 0))?))?;
+    made.transfers.push(Transfer {
+        target: Export { leaf: 1, export: 1 },
+        value: apply(alloc, Operator::Add, export(0, 0), export(1, 0))?,
+    })?;
+    made.transfers.push(Transfer {
+        target: Export { leaf: 0, export: 0 },
+        value: Expression::Number(0),
+    })?;
+    Ok(made)
+}
+
+#[test]
+fn guards_and_transfers_name_variables_by_their_atoms(rt: HostRuntime) -> Result<(), Fail> {
+    let alloc = rt.alloc();
+    let mut atoms = Vec::new(alloc);
+    atoms.push(holder(alloc, b"A", &[b"n", b"m"], &[1, 0])?)?;
+    atoms.push(holder(alloc, b"B", &[b"k"], &[0])?)?;
+    let mut wires = Vec::new(alloc);
+    wires.push(guarded(alloc)?)?;
+    let system = System::new(alloc, atoms, wires, &[], [0; 32])?;
+    let drawing = b"digraph plant {
+  fontname=\"Helvetica\";
+  labelloc=b;
+  nodesep=0.4;
+  ranksep=0.6;
+  node [fontname=\"Helvetica\"];
+  edge [fontname=\"Helvetica\", fontsize=11];
+  subgraph cluster_0 {
+    label=\"A\\nn = 0\\nm = 0\";
+    place_0_0 [shape=circle, margin=0.03, style=filled, label=\"s\"];
+    port_0_0 [shape=ellipse, label=\"p m n\"];
+    transition_0_0 [shape=box, label=\"p\"];
+    port_0_0 -> transition_0_0 [style=dotted, arrowhead=none];
+    place_0_0 -> transition_0_0;
+    transition_0_0 -> place_0_0;
+  }
+  subgraph cluster_1 {
+    label=\"B\\nk = 0\";
+    place_1_0 [shape=circle, margin=0.03, style=filled, label=\"s\"];
+    port_1_0 [shape=ellipse, label=\"p k\"];
+    transition_1_0 [shape=box, label=\"p\"];
+    port_1_0 -> transition_1_0 [style=dotted, arrowhead=none];
+    place_1_0 -> transition_1_0;
+    transition_1_0 -> place_1_0;
+  }
+  connector_0 [shape=box, style=\"rounded,filled\", fillcolor=lightyellow, label=\"c\\n [ B.p ]' A.p \\nguard < B.k 3\\nguard ! A.m\\nA.n := + B.k A.m\\nB.k := 0\"];
+  connector_0 -> port_1_0 [arrowhead=dot];
+  connector_0 -> port_0_0 [arrowhead=dot];
 }
 ";
     assert!(rt; draws(&system, drawing)?);

@@ -8,16 +8,22 @@ use text_io::WriteFault;
 
 /// The drawing of an atom A with a port p, and a connector c of it.
 const DRAWING: &[u8] = b"digraph plant {
+  fontname=\"Helvetica\";
+  labelloc=b;
+  nodesep=0.4;
+  ranksep=0.6;
+  node [fontname=\"Helvetica\"];
+  edge [fontname=\"Helvetica\", fontsize=11];
   subgraph cluster_0 {
     label=\"A\";
-    place_0_0 [shape=circle, style=filled, label=\"s\"];
+    place_0_0 [shape=circle, margin=0.03, style=filled, label=\"s\"];
     port_0_0 [shape=ellipse, label=\"p\"];
     transition_0_0 [shape=box, label=\"p\"];
     port_0_0 -> transition_0_0 [style=dotted, arrowhead=none];
     place_0_0 -> transition_0_0;
     transition_0_0 -> place_0_0;
   }
-  connector_0 [shape=hexagon, label=\"c\\n A.p\"];
+  connector_0 [shape=box, style=\"rounded,filled\", fillcolor=lightyellow, label=\"c\\n A.p \"];
   connector_0 -> port_0_0 [arrowhead=dot];
 }
 ";

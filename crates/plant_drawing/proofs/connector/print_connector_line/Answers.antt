@@ -1,6 +1,6 @@
 use Rattle.std.proofs.KnownBytes.{Appends-trans}
 use Rattle.plant_drawing.proofs.Telling.{told_last}
-use Rattle.plant_drawing.proofs.connector.print_hexagon.Goals as goal
+use Rattle.plant_drawing.proofs.connector.print_connector_line.Goals as goal
 
 pub returns : goal.returns
 returns g c =

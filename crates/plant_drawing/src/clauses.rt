@@ -1,0 +1,73 @@
+//! The guards and the transfers of a connector, each on a line of the connector's label.
+ghost use Rattle.std.specs.Prelude.{OnOk, flat_map, map};
+ghost use Rattle.std.specs.Io.KnownBytes.{Appends};
+ghost use Rattle.petri_atom.specs.Atom.{definition_of};
+ghost use Rattle.petri_atom.specs.Expression.{tree_of};
+ghost use Rattle.connector_tree.specs.Tree.{leaves};
+ghost use Rattle.step_core.specs.Wire.{transfer_of};
+ghost use Rattle.plant_drawing.specs.Connector.{guard_line, transfer_line};
+
+use crate::expression::print_expression;
+use crate::names::{Exports, Names};
+use petri_atom::Expression;
+use std::io::Write;
+use step_core::{Export, Transfer};
+use text_io::{WriteFault, print_text};
+
+/// Prints guard clauses, each on a line of its own.
+pub(crate) fn print_guards<W: Write>(
+    exports: &Exports<'_>,
+    guards: &[Expression<Export>],
+    output: &mut W,
+) -> Result<(), WriteFault>
+    ensures { OnOk result (Appends (W.contents output.old) (W.contents output.new)
+        (flat_map (guard_line (map definition_of exports.now.atoms.now) (leaves exports.now.connector.now)) (map tree_of guards.now))) }
+{
+    for guard in guards {
+        print_guard(exports, guard, output)?;
+    }
+    Ok(())
+}
+
+/// Prints a guard clause on a line of its own.
+fn print_guard<W: Write>(
+    exports: &Exports<'_>,
+    guard: &Expression<Export>,
+    output: &mut W,
+) -> Result<(), WriteFault>
+    ensures { OnOk result (Appends (W.contents output.old) (W.contents output.new)
+        (guard_line (map definition_of exports.now.atoms.now) (leaves exports.now.connector.now) (tree_of guard.now))) }
+{
+    print_text(output, b"\\nguard ")?;
+    print_expression(guard, exports, output)
+}
+
+/// Prints transfers, each on a line of its own.
+pub(crate) fn print_transfers<W: Write>(
+    exports: &Exports<'_>,
+    transfers: &[Transfer],
+    output: &mut W,
+) -> Result<(), WriteFault>
+    ensures { OnOk result (Appends (W.contents output.old) (W.contents output.new)
+        (flat_map (transfer_line (map definition_of exports.now.atoms.now) (leaves exports.now.connector.now)) (map transfer_of transfers.now))) }
+{
+    for transfer in transfers {
+        print_transfer(exports, transfer, output)?;
+    }
+    Ok(())
+}
+
+/// Prints a transfer on a line of its own.
+fn print_transfer<W: Write>(
+    exports: &Exports<'_>,
+    transfer: &Transfer,
+    output: &mut W,
+) -> Result<(), WriteFault>
+    ensures { OnOk result (Appends (W.contents output.old) (W.contents output.new)
+        (transfer_line (map definition_of exports.now.atoms.now) (leaves exports.now.connector.now) (transfer_of transfer.now))) }
+{
+    print_text(output, b"\\n")?;
+    exports.print_name(&transfer.target, output)?;
+    print_text(output, b" := ")?;
+    print_expression(&transfer.value, exports, output)
+}
