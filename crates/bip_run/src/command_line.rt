@@ -5,7 +5,7 @@ use clap::error::ErrorKind;
 use clap::{Arg, ArgAction, ArgMatches, Command, Error};
 use std::alloc::{AllocError, Global};
 
-const ABOUT: &str = "Reads the text of a plant, and says what stands in it or runs it.
+const ABOUT: &str = "Reads the text of a plant, and says what stands in it, draws it or runs it.
 
 A plant is atoms (machines with places, variables and ports), connectors (which ports
 move together, under which guards, and what data passes between them) and priorities
@@ -63,6 +63,26 @@ Exit status:
   2  the words of the command line were not understood
   3  a file ('file PATH'), the memory ('memory') or the standard output failed";
 
+const DRAW_BRIEF: &str = "Draws a plant, as a graph for Graphviz's dot";
+
+const DRAW_ABOUT: &str = "Draws a plant, as a graph for Graphviz's dot.
+
+Prints the text of a directed graph. Each atom is a frame with its places, its ports and
+its transitions; a place that is marked at first is filled. Each connector is a rounded
+box with its tree, its guards and its transfers, joined to its ports: by an arrow to a
+trigger, and by a line that ends in a dot to any other. A priority is a dashed arrow from
+the lower connector to the higher.";
+
+const DRAW_AFTER: &str = "Example:
+  bip_run draw examples/sample.plant | dot -Tsvg -o sample.svg
+makes a picture of the plant. The program dot is part of Graphviz.
+
+Exit status:
+  0  the graph is printed
+  1  the text is no plant; the standard error has 'plant line L: fault K NAME'
+  2  the words of the command line were not understood
+  3  a file ('file PATH'), the memory ('memory') or the standard output failed";
+
 const PLANT: &str = "PLANT";
 
 const PICK: &str = "PICK";
@@ -71,6 +91,8 @@ const CHECK: &str = "check";
 
 const TRACE: &str = "trace";
 
+const DRAW: &str = "draw";
+
 /// What the words of the command line ask for, the program's own name first; or the answer to print in its place.
 pub(crate) fn read_request<'a>(alloc: Global, words: &'a [String]) -> Result<Request<'a>, Error> {
     let mut program = program(alloc)?;
@@ -78,6 +100,7 @@ pub(crate) fn read_request<'a>(alloc: Global, words: &'a [String]) -> Result<Req
     match matches.subcommand() {
         Some((CHECK, found)) => check_request(&mut program, found),
         Some((TRACE, found)) => trace_request(alloc, &mut program, found),
+        Some((DRAW, found)) => draw_request(&mut program, found),
         _ => Err(program.error(ErrorKind::MissingSubcommand, "a command is missing")?),
     }
 }
@@ -110,6 +133,17 @@ fn trace_request<'a>(
     }
 }
 
+/// The request to draw a plant.
+fn draw_request<'a>(
+    program: &mut Command<'a>,
+    found: &ArgMatches<'a>,
+) -> Result<Request<'a>, Error> {
+    Ok(Request {
+        task: Task::Draw,
+        plant: plant_given(program, found)?,
+    })
+}
+
 /// The word that says where the plant text stands.
 fn plant_given<'a>(program: &mut Command<'a>, found: &ArgMatches<'a>) -> Result<&'a str, Error> {
     match found.get_str(PLANT) {
@@ -134,7 +168,8 @@ fn program<'a>(alloc: Global) -> Result<Command<'a>, AllocError> {
         .subcommand_required(true)
         .arg_required_else_help(true)
         .subcommand(check_command(alloc)?)?
-        .subcommand(trace_command(alloc)?)
+        .subcommand(trace_command(alloc)?)?
+        .subcommand(draw_command(alloc)?)
 }
 
 /// The command that counts the parts of a plant.
@@ -154,6 +189,15 @@ fn trace_command<'a>(alloc: Global) -> Result<Command<'a>, AllocError> {
         .after_help(TRACE_AFTER)
         .arg(plant_argument(alloc))?
         .arg(pick_argument(alloc))
+}
+
+/// The command that draws a plant.
+fn draw_command<'a>(alloc: Global) -> Result<Command<'a>, AllocError> {
+    Command::new(alloc, DRAW)
+        .about(DRAW_BRIEF)
+        .long_about(DRAW_ABOUT)
+        .after_help(DRAW_AFTER)
+        .arg(plant_argument(alloc))
 }
 
 /// The argument that says where the plant text stands.

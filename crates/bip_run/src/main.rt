@@ -1,4 +1,4 @@
-//! The program: it reads a plant text and says what stands in it, or runs it.
+//! The program: it reads a plant text and says what stands in it, draws it, or runs it.
 //!
 //! `main` only wires: it reads the command line, opens the plant and the standard output, and ends with the status of what
 //! came of it. What a task prints of a plant, what is told where it ends early, and which status the program then ends with

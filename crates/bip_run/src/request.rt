@@ -7,6 +7,8 @@ pub(crate) enum Task {
     Check,
     /// It is run from its first state, by these picks.
     Trace(Vec<u64>),
+    /// It is drawn as a graph.
+    Draw,
 }
 
 /// A task, and the plant that it is done with.

@@ -10,6 +10,7 @@ ghost use Rattle.bip_run.specs.declared.stop.Stop.TheVariants.{Plant};
 use crate::counts::print_counts;
 use crate::request::Task;
 use crate::stop::Stop;
+use plant_drawing::draw_to;
 use plant_text::read_plant;
 use run_text::trace_to;
 use std::alloc::Global;
@@ -47,6 +48,7 @@ fn print_task<W: Write>(
     match task {
         Task::Check => print_counts(system, output)?,
         Task::Trace(picks) => trace_to(alloc, system, picks, output)?,
+        Task::Draw => draw_to(system, output)?,
     }
     Ok(())
 }

@@ -13,8 +13,24 @@ const SAMPLE: &[u8] =
 
 const COUNTS: &[u8] = b"atoms 2 connectors 2 interactions 2 rules 0\n";
 
+/// The text of a plant with an empty atom, and its drawing.
+const LONE: &[u8] = b"atom A\n";
+
+const DRAWING: &[u8] = b"digraph plant {
+  fontname=\"Helvetica\";
+  labelloc=b;
+  nodesep=0.4;
+  ranksep=0.6;
+  node [fontname=\"Helvetica\"];
+  edge [fontname=\"Helvetica\", fontsize=11];
+  subgraph cluster_0 {
+    label=\"A\";
+  }
+}
+";
+
 /// How many bytes a page has room for.
-const PAGE: usize = 64;
+const PAGE: usize = 256;
 
 /// Takes no more than so many bytes: an error comes where it is asked for more.
 #[derive(Drop)]
@@ -82,6 +98,27 @@ fn the_sample_is_counted(rt: HostRuntime) -> Result<(), Fail> {
     assert!(&rt; ended == Ok(()) || exit_status(&ended) == 3);
     assert!(&rt; ended != Ok(()) || page.is(COUNTS));
     Ok(())
+}
+
+#[test]
+fn an_atom_without_parts_is_drawn(rt: HostRuntime) -> Result<(), Fail> {
+    let mut page = Page::new(PAGE);
+    let mut text = LONE;
+    let ended = perform(rt.alloc(), &Task::Draw, &mut text, &mut page);
+    assert!(&rt; ended == Ok(()) || exit_status(&ended) == 3);
+    assert!(&rt; ended != Ok(()) || page.is(DRAWING));
+    Ok(())
+}
+
+#[test]
+fn a_drawing_that_fails_at_any_byte_is_told(rt: HostRuntime) {
+    for room in 0..DRAWING.len() {
+        let mut page = Page::new(room);
+        let mut text = LONE;
+        let ended = perform(rt.alloc(), &Task::Draw, &mut text, &mut page);
+        assert!(&rt; ended == Err(Stop::Unwritten), "{room}");
+        assert!(&rt; exit_status(&ended) == 3, "{room}");
+    }
 }
 
 #[test]
