@@ -6,7 +6,7 @@ use Rattle.step_core.specs.Plant.{PlantDefinition}
 use Rattle.plant_text.specs.Text.{text_of}
 use Rattle.plant_text.specs.Meaning.{meaning}
 use Rattle.plant_drawing.specs.Drawing.{drawing_of}
-use Rattle.run_text.specs.Trace.{trace_text}
+use Rattle.run_text.specs.Trace.{trace_in}
 use Rattle.bip_run.specs.declared.request.Task.{Task}
 use Rattle.bip_run.specs.declared.request.Task.TheVariants.{Check, Trace, Draw}
 
@@ -23,7 +23,7 @@ counts_line plant =
 -- what a task prints of a plant
 abbrev pub printed_of : Task → PlantDefinition → List ℕ
 printed_of Check plant = counts_line plant
-printed_of (Trace picks) plant = trace_text plant picks.items
+printed_of (Trace picks format) plant = trace_in format plant picks.items
 printed_of Draw plant = drawing_of plant
 
 -- the bytes are the text of a plant, and what the task says of it was appended

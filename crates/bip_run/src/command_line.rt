@@ -1,8 +1,11 @@
 //! The command line: its words, judged by `clap`, and its help.
+use crate::formats::format_named;
 use crate::picks::{PickFault, read_picks};
 use crate::request::{Request, Task};
+use clap::builder::ValueParser;
 use clap::error::ErrorKind;
 use clap::{Arg, ArgAction, ArgMatches, Command, Error};
+use run_text::Format;
 use std::alloc::{AllocError, Global};
 
 const ABOUT: &str = "Reads the text of a plant, and says what stands in it, draws it or runs it.
@@ -47,7 +50,11 @@ Prints a line for each pick: the number of the interaction that it fires, its co
 and each participant as ATOM.PORT/TRANSITION. A pick takes the entry of the state's
 choices at the pick modulo their number. Where nothing is possible the line 'stuck' is
 printed, and the picks that follow are passed over. At the end there is a line for each
-atom: its marked places, and its variables with their values.";
+atom: its marked places, and its variables with their values.
+
+With --format csv the run is a table, with a row for each of these and a first row that
+names the columns; with --format jsonl it is a JSON object on each line. Both tell the
+values that each firing delivered, too.";
 
 const TRACE_AFTER: &str = "Example:
   bip_run trace examples/sample.plant 0 1
@@ -56,6 +63,12 @@ prints
   2 send A.t/0 B.u/0
   state A [s] n=2
   state B [s] m=1
+and with --format csv
+  kind,number,name,parts,values
+  step,1,tick,A.t/0,
+  step,2,send,A.t/0 B.u/0,B.m=1
+  state,,A,s,n=2
+  state,,B,s,m=1
 
 Exit status:
   0  the run is printed, also one that is stuck
@@ -86,6 +99,13 @@ Exit status:
 const PLANT: &str = "PLANT";
 
 const PICK: &str = "PICK";
+
+const FORMAT: &str = "format";
+
+const LINES: &str = "lines";
+
+/// The formats in which a run is printed, as `format_named` knows them.
+const FORMATS: &[&str] = &[LINES, "csv", "jsonl"];
 
 const CHECK: &str = "check";
 
@@ -125,7 +145,7 @@ fn trace_request<'a>(
     let plant = plant_given(program, found)?;
     match read_picks(alloc, found.get_strs(PICK).unwrap_or(&[])) {
         Ok(picks) => Ok(Request {
-            task: Task::Trace(picks),
+            task: Task::Trace(picks, format_given(found)),
             plant,
         }),
         Err(PickFault::NoPick(word)) => Err(no_pick(alloc, program, word)?),
@@ -142,6 +162,11 @@ fn draw_request<'a>(
         task: Task::Draw,
         plant: plant_given(program, found)?,
     })
+}
+
+/// The format in which a run is to be printed.
+fn format_given(found: &ArgMatches<'_>) -> Format {
+    format_named(found.get_str(FORMAT).unwrap_or(LINES))
 }
 
 /// The word that says where the plant text stands.
@@ -187,6 +212,7 @@ fn trace_command<'a>(alloc: Global) -> Result<Command<'a>, AllocError> {
         .about(TRACE_BRIEF)
         .long_about(TRACE_ABOUT)
         .after_help(TRACE_AFTER)
+        .arg(format_argument(alloc))?
         .arg(plant_argument(alloc))?
         .arg(pick_argument(alloc))
 }
@@ -205,6 +231,16 @@ fn plant_argument<'a>(alloc: Global) -> Arg<'a> {
     Arg::new(alloc, PLANT).required(true).help(
         "The file with the text of the plant, or - for the standard input",
     )
+}
+
+/// The option that says in which format a run is printed.
+fn format_argument<'a>(alloc: Global) -> Arg<'a> {
+    Arg::new(alloc, FORMAT)
+        .long(FORMAT)
+        .value_name("FORMAT")
+        .value_parser(ValueParser::Names(FORMATS))
+        .default_value(LINES)
+        .help("How the run is printed")
 }
 
 /// The argument of the picks.

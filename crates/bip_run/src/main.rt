@@ -5,13 +5,14 @@
 //! are definitions in `specs/`, and the functions that the contracts tie to them know nothing of the process:
 //!
 //! - `command_line`: the words, judged by `clap`; the result is a [`request::Request`].
-//! - `picks`: the words of a run's picks.
+//! - `picks`: the words of a run's picks. `formats`: the words for the formats of a run.
 //! - `task`: what is done with a plant text, from a reader to a writer.
 //! - `stop`: why the program ends early, what it tells then, and its exit status.
 #![tactic(auto)]
 
 mod command_line;
 mod counts;
+mod formats;
 mod picks;
 mod process;
 mod request;

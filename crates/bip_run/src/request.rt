@@ -1,12 +1,13 @@
 //! What the command line asks for.
+use run_text::Format;
 
 /// What is to be done with a plant.
 #[derive(Debug, Drop, PartialEq, Eq)]
 pub(crate) enum Task {
     /// Its parts are counted.
     Check,
-    /// It is run from its first state, by these picks.
-    Trace(Vec<u64>),
+    /// It is run from its first state, by these picks, and the run is printed in this format.
+    Trace(Vec<u64>, Format),
     /// It is drawn as a graph.
     Draw,
 }

@@ -12,7 +12,7 @@ use crate::request::Task;
 use crate::stop::Stop;
 use plant_drawing::draw_to;
 use plant_text::read_plant;
-use run_text::trace_to;
+use run_text::trace_as;
 use std::alloc::Global;
 use std::io::{Read, Write};
 use step_core::System;
@@ -47,7 +47,7 @@ fn print_task<W: Write>(
 {
     match task {
         Task::Check => print_counts(system, output)?,
-        Task::Trace(picks) => trace_to(alloc, system, picks, output)?,
+        Task::Trace(picks, format) => trace_as(alloc, system, picks, *format, output)?,
         Task::Draw => draw_to(system, output)?,
     }
     Ok(())

@@ -1,9 +1,11 @@
 //! What no clause says: that a task succeeds where nothing fails, and what is told of readers, writers and memory that fail.
+use crate::formats::format_named;
 use crate::picks::{PickFault, read_picks};
 use crate::request::Task;
 use crate::stop::{Stop, Told, exit_status};
 use crate::task::perform;
 use plant_text::{Fault, PlantFault};
+use run_text::Format;
 use std::io;
 use std::io::{ErrorKind, Read, Write};
 use std::test::Fail;
@@ -12,6 +14,14 @@ const SAMPLE: &[u8] =
     b"atom A\nplace s init\nvar n 0\nport t n\ntrans t from s to s do n := + n 1\natom B\nplace s init\nvar m 0\nport u m\ntrans u from s to s\nconnector tick A.t\nconnector send A.t B.u\nmove B.m := A.n\n";
 
 const COUNTS: &[u8] = b"atoms 2 connectors 2 interactions 2 rules 0\n";
+
+/// The run of the sample by the picks 0 and 1, as a table.
+const TABLE: &[u8] = b"kind,number,name,parts,values
+step,1,tick,A.t/0,
+step,2,send,A.t/0 B.u/0,B.m=1
+state,,A,s,n=2
+state,,B,s,m=1
+";
 
 /// The text of a plant with an empty atom, and its drawing.
 const LONE: &[u8] = b"atom A\n";
@@ -98,6 +108,31 @@ fn the_sample_is_counted(rt: HostRuntime) -> Result<(), Fail> {
     assert!(&rt; ended == Ok(()) || exit_status(&ended) == 3);
     assert!(&rt; ended != Ok(()) || page.is(COUNTS));
     Ok(())
+}
+
+#[test]
+fn a_run_is_printed_in_its_format(rt: HostRuntime) -> Result<(), Fail> {
+    let picks = vec![in rt.alloc(); 0, 1]?;
+    let mut page = Page::new(PAGE);
+    let mut text = SAMPLE;
+    let task = Task::Trace(picks, Format::Csv);
+    let ended = perform(rt.alloc(), &task, &mut text, &mut page);
+    assert!(&rt; ended == Ok(()) || exit_status(&ended) == 3);
+    assert!(&rt; ended != Ok(()) || page.is(TABLE));
+    Ok(())
+}
+
+#[test]
+fn formats_have_words(rt: HostRuntime) {
+    for (word, format) in [
+        ("lines", Format::Lines),
+        ("csv", Format::Csv),
+        ("jsonl", Format::Jsonl),
+        ("CSV", Format::Lines),
+        ("", Format::Lines),
+    ] {
+        assert!(&rt; format_named(word) == format, "{word}");
+    }
 }
 
 #[test]
