@@ -1,8 +1,9 @@
 -- Worked lines, as computed facts of the definitions.
 use Rattle.std.proofs.Common.{◌≡◌, ℕ, ◌∷◌, [], List, pos, negsuc, true, refl, codes, ◌^◌, ◌-◌}
 use Rattle.std.specs.Fmt.{digits}
+use Rattle.std.specs.Prelude.{None, Some}
 use Rattle.petri_atom.specs.Expression.{number}
-use Rattle.petri_atom.specs.Local.{set_below}
+use Rattle.petri_atom.specs.Local.{delivered_of, set_below}
 use Rattle.petri_atom.specs.Definition.{AtomDefinition}
 use Rattle.petri_atom.specs.declared.parts.Place.{Place}
 use Rattle.petri_atom.specs.declared.parts.Variable.{Variable}
@@ -10,7 +11,11 @@ use Rattle.connector_tree.specs.declared.tree.Connector.{Connector}
 use Rattle.step_core.specs.Plant.{PlantDefinition}
 use Rattle.run_text.specs.Line.{participant, fired_line, state_line}
 use Rattle.run_text.specs.Word.{separated_by}
-use Rattle.run_text.specs.Trace.{trace_text}
+use Rattle.run_text.specs.Csv.{state_row}
+use Rattle.run_text.specs.Delivered.{delivered_words}
+use Rattle.run_text.specs.Jsonl.{atom_object, state_object}
+use Rattle.run_text.specs.Trace.{trace_in, trace_text}
+use Rattle.run_text.specs.declared.format.Format.TheVariants.{Csv, Jsonl}
 
 -- no word, and two
 no_words : separated_by (codes " ") [] ≡ []
@@ -72,3 +77,38 @@ stuck_at_once = refl
 no_picks : trace_text alone [] ≡ codes "state W [p q r] n=0 m=0\n"
 unfolding wide digits set_below
 no_picks = refl
+
+-- the same as rows and as objects, with what stands before the run
+rows_stuck_at_once : trace_in Csv alone (3 ∷ 0 ∷ []) ≡ codes "kind,number,name,parts,values\nstuck,,,,\nstate,,W,p q r,n=0 m=0\n"
+unfolding wide digits set_below
+rows_stuck_at_once = refl
+
+objects_stuck_at_once : trace_in Jsonl alone (3 ∷ 0 ∷ []) ≡ codes "{\"kind\":\"stuck\"}\n{\"kind\":\"state\",\"atom\":\"W\",\"places\":[\"p\",\"q\",\"r\"],\"variables\":{\"n\":0,\"m\":0}}\n"
+unfolding wide digits set_below
+objects_stuck_at_once = refl
+
+-- its states in a row and in an object
+ends_in_a_row : state_row wide (record { marking = 5; values = pos 10 ∷ negsuc 1 ∷ [] }) ≡ codes "state,,W,p r,n=10 m=-2"
+unfolding wide digits
+ends_in_a_row = refl
+
+nothing_in_an_object : state_object (record { name = codes "E"; places = place (codes "p") ∷ []; variables = []; ports = []; transitions = [] }) (record { marking = 0; values = [] }) ≡ codes "{\"kind\":\"state\",\"atom\":\"E\",\"places\":[],\"variables\":{}}"
+nothing_in_an_object = refl
+
+-- an atom whose port exports its two variables the other way round, with 7 delivered to the first exported one alone, and with 7 and -8
+turned : AtomDefinition
+turned = record {
+  name = codes "T";
+  places = [];
+  variables = variable (codes "n") ∷ variable (codes "m") ∷ [];
+  ports = record { name = codes "a"; exports = 1 ∷ 0 ∷ [] } ∷ [];
+  transitions = record { port = 0; sources = []; targets = []; guard = number (pos 1); updates = [] } ∷ [];
+}
+
+one_delivered : delivered_words Csv turned 0 (delivered_of (Some (pos 7) ∷ None ∷ None ∷ None ∷ [])) ≡ codes "T.m=7" ∷ []
+unfolding turned digits set_below
+one_delivered = refl
+
+two_delivered : atom_object turned 0 (delivered_of (Some (pos 7) ∷ Some (negsuc 7) ∷ None ∷ None ∷ [])) ≡ codes "{\"atom\":\"T\",\"port\":\"a\",\"transition\":0,\"delivered\":{\"m\":7,\"n\":-8}}"
+unfolding turned digits set_below
+two_delivered = refl

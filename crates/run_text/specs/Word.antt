@@ -1,5 +1,5 @@
 -- The words of a run, and what stands between them, in each format.
-use Rattle.std.specs.Prelude.{ℕ, ◌+◌, ℤ, List, [], ◌∷◌, ◌++◌, codes}
+use Rattle.std.specs.Prelude.{ℕ, ℤ, List, [], ◌∷◌, ◌++◌, codes}
 use Rattle.std.specs.Fmt.{signed_decimal}
 use Rattle.run_text.specs.declared.format.Format.{Format}
 use Rattle.run_text.specs.declared.format.Format.TheVariants.{Lines, Csv, Jsonl}

@@ -1,13 +1,17 @@
 //! The run of a plant, printed.
 //!
 //! A run is printed line by line: a line for each interaction that is fired, and at the end a line for the state of each
-//! atom. `specs/Line.antt` defines the lines, and `specs/Trace.antt` the text of a run as a fold of the model's choices and
-//! steps. Contracts say that exactly this text was appended to a writer, where its type says which bytes it took; they
+//! atom. The lines are the fixed ones (`specs/Line.antt`), rows of five columns (`specs/Csv.antt`) or JSON objects
+//! (`specs/Jsonl.antt`); `specs/Trace.antt` defines the text of a run in each [`Format`], as one fold of the model's choices
+//! and steps. Contracts say that exactly this text was appended to a writer, where its type says which bytes it took; they
 //! say nothing of when a writer fails.
 //!
+//! - `trace`: [`trace_as`] fires what a list of picks chooses, and prints it in a format; [`trace_to`] prints the fixed lines.
 //! - `fired`: [`print_choice`] prints a fired interaction, as `2 send A.t/0 B.u/0`.
-//! - `states`: [`print_states`] prints the states, as `state A [s] n=4`.
-//! - `trace`: [`trace_to`] fires what a list of picks chooses, and prints it.
+//! - `states`: [`print_states`] prints the states, as `state A [s] n=4`, and the lines of the states in each format.
+//! - `csv` and `jsonl`: the rows, and the objects.
+//! - `delivered`: the values that a firing delivers, as words.
+//! - `format` and `word`: the formats, and what in a line differs by them alone.
 //! - `fault`: why a trace was not written to its end.
 //!
 //! Memory is taken only for the first states of a plant, before anything is printed.
