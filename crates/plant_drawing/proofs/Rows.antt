@@ -124,15 +124,15 @@ module _ (connector : Connector) where
   abbrev wires : List WireDefinition
   wires = record { name = codes "low"; connector = connector; guards = []; transfers = [] } ∷ record { name = codes "high"; connector = connector; guards = []; transfers = [] } ∷ []
 
-  whole_sides : rule_line wires (Under (Whole 0) (Whole 1)) ≡ codes "  connector_0 -> connector_1 [style=dashed, color=firebrick, fontcolor=firebrick, label=\" low < high\"];\n"
+  whole_sides : rule_line wires (Under (Whole 0) (Whole 1)) ≡ codes "  connector_0 -> connector_1 [style=dashed, color=firebrick, fontcolor=firebrick, label=\" low < high \"];\n"
   unfolding digits
   whole_sides = refl
 
-  sides_by_masks : rule_line wires (Under (One 1 3) (One 1 255)) ≡ codes "  connector_1 -> connector_1 [style=dashed, color=firebrick, fontcolor=firebrick, label=\" high:3 < high:255\"];\n"
+  sides_by_masks : rule_line wires (Under (One 1 3) (One 1 255)) ≡ codes "  connector_1 -> connector_1 [style=dashed, color=firebrick, fontcolor=firebrick, label=\" high:3 < high:255 \"];\n"
   unfolding digits
   sides_by_masks = refl
 
-  maximal : rule_line wires (Maximal 1) ≡ codes "  connector_1 -> connector_1 [style=dashed, color=firebrick, fontcolor=firebrick, label=\" maximal\"];\n"
+  maximal : rule_line wires (Maximal 1) ≡ codes "  connector_1 -> connector_1 [style=dashed, color=firebrick, fontcolor=firebrick, label=\" maximal \"];\n"
   unfolding digits
   maximal = refl
 

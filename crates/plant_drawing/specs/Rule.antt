@@ -36,11 +36,11 @@ rule_style = codes " [style=dashed, color=firebrick, fontcolor=firebrick, label=
 
 -- the loop of a connector that is to be maximal
 abbrev pub maximal_line : ℕ → List ℕ
-maximal_line connector = arrow connector connector ++ rule_style ++ codes "maximal\"];\n"
+maximal_line connector = arrow connector connector ++ rule_style ++ codes "maximal \"];\n"
 
 -- a rule's edge, with the rule itself on it
 abbrev pub rule_line : List WireDefinition → Rule → List ℕ
 rule_line wires (Under left right) =
     arrow (side_connector left) (side_connector right) ++ rule_style ++
-    sides_text wires left right ++ codes "\"];\n"
+    sides_text wires left right ++ codes " \"];\n"
 rule_line wires (Maximal connector) = maximal_line connector

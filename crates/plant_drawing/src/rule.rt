@@ -50,7 +50,7 @@ fn print_under<W: Write>(
     print_between(left, right, output)?;
     print_style(output)?;
     print_sides(wires, left, right, output)?;
-    print_text(output, b"\"];\n")
+    print_text(output, b" \"];\n")
 }
 
 /// Prints the sides of a rule, the lower first.
@@ -75,7 +75,7 @@ fn print_maximal<W: Write>(connector: u64, output: &mut W) -> Result<(), WriteFa
 {
     print_arrow(connector, connector, output)?;
     print_style(output)?;
-    print_text(output, b"maximal\"];\n")
+    print_text(output, b"maximal \"];\n")
 }
 
 /// Prints how the edge of a rule is drawn, and the begin of its label.

@@ -179,9 +179,9 @@ fn a_connector_is_joined_to_its_ports_and_a_rule_to_its_sides(rt: HostRuntime) -
   connector_0 -> port_2_1 [arrowhead=dot];
   connector_1 [shape=box, style=\"rounded,filled\", fillcolor=lightyellow, label=\"one\\n C.p \"];
   connector_1 -> port_2_0 [arrowhead=dot];
-  connector_0 -> connector_1 [style=dashed, color=firebrick, fontcolor=firebrick, label=\" both < one\"];
-  connector_0 -> connector_0 [style=dashed, color=firebrick, fontcolor=firebrick, label=\" both:1 < both:7\"];
-  connector_0 -> connector_0 [style=dashed, color=firebrick, fontcolor=firebrick, label=\" maximal\"];
+  connector_0 -> connector_1 [style=dashed, color=firebrick, fontcolor=firebrick, label=\" both < one \"];
+  connector_0 -> connector_0 [style=dashed, color=firebrick, fontcolor=firebrick, label=\" both:1 < both:7 \"];
+  connector_0 -> connector_0 [style=dashed, color=firebrick, fontcolor=firebrick, label=\" maximal \"];
 }
 ";
     assert!(rt; draws(&system, drawing)?);
