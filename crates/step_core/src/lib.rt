@@ -14,11 +14,12 @@
 //!   tests. `fault`: which of them is broken.
 //! - `interaction`, `interactions`: the interactions of a connector, each with its ports in rising order of their atoms.
 //! - `state`: a local state for each atom. `choice`: a choice, and the moves that it makes.
-//! - `judged`: a state with the offered transitions of its atoms, each judged once. `choices`: how many choices a state has,
-//!   and which.
+//! - `judgement`: what a state offers, as it is kept. `judged`: a state with the offered transitions of its atoms, by which
+//!   interactions are judged. `filtered`: which of these are allowed. `choices`: how a judgement is made, and made again behind a
+//!   step; how many choices a state has, and which.
 //! - `free`: the interactions that no other can be above.
-//! - `stepper`: a plant that runs: its present state, and what that offers, judged again for the atoms that moved alone.
-//! - `touching`: which atoms an interaction depends on, so that a step judges only the interactions that it can change.
+//! - `stepper`: a plant that runs: its present state, and what that offers, judged again for what a step can change alone.
+//! - `touching`: which interactions depend on an atom, so that a step judges only the interactions that it can change.
 //! - `values`: exported variables, and guard clauses on them. `transfers`: what a choice delivers. `firing`: the state that it leaves.
 #![tactic(auto)]
 
