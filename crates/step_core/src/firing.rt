@@ -26,7 +26,11 @@ impl System {
         for place in 0..moves.len() {
             let step = moves[place];
             let number = usize::from(step.atom);
-            self.atoms[number].apply(&mut states.states[number], step.transition, &delivered[place]);
+            self.atoms[number].apply(
+                &mut states.states[number],
+                step.transition,
+                &delivered[place],
+            );
         }
     }
 }

@@ -46,11 +46,7 @@ impl System {
     }
 
     /// What the choice delivers to the atom of each of its moves, by the places of the moves.
-    pub(crate) fn deliveries(
-        &self,
-        states: &PlantState,
-        choice: &Choice,
-    ) -> [Delivered; MAX_LEAVES]
+    pub(crate) fn deliveries(&self, states: &PlantState, choice: &Choice) -> [Delivered; MAX_LEAVES]
         requires { IsOf (plant_of self.now) states.now }
         ensures { AreDelivered choice.now.moves (transfer (plant_of self.now) states.now (choice_of choice.now)) result }
     {

@@ -241,13 +241,21 @@ fn each_participant_gets_its_own_value(rt: HostRuntime) -> Result<(), Fail> {
     assert!(rt; is(&fired.choice, 0, 3, &[(0, 0), (2, 0)]));
     assert_eq!(rt; fired.delivered, [one(5), NOTHING]);
     for (number, value) in [(0, 5), (1, 0), (2, 7)] {
-        assert_eq!(rt; of_atom(&states, number), Some((value, 1)), "atom {number} dealt to");
+        assert_eq!(rt;
+            of_atom(&states, number),
+            Some((value, 1)),
+            "atom {number} dealt to"
+        );
     }
     let fired = fire(&system, &mut states, 1)?;
     assert!(rt; is(&fired.choice, 1, 3, &[(0, 0), (2, 0)]));
     assert_eq!(rt; fired.delivered, [one(7), NOTHING]);
     for (number, value) in [(0, 7), (1, 0), (2, 5)] {
-        assert_eq!(rt; of_atom(&states, number), Some((value, 1)), "atom {number} swapped");
+        assert_eq!(rt;
+            of_atom(&states, number),
+            Some((value, 1)),
+            "atom {number} swapped"
+        );
     }
     Ok(())
 }

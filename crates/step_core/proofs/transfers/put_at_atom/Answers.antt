@@ -24,12 +24,12 @@ loop-place-preserved c =
     let place = c.loop-place.place in
     elim c.if-atom-moves.branch [
       | then-atom-moves w ↦
-        let within : place < length now = omega (arith, ap length w.values-is, length-set now place w.with_value.result, c.if-atom-moves.array_long, c.requires, c.loop-place-test.true) in
-        subst (IsPut moves c.args.atom c.args.export value old (place + 1)) (sym w.values-is)
-        (put-here moves c.args.atom c.args.export value old place now c.loop-place.invariant (get_or moves place no_move).atom (λ m there. atom_at moves place m there) w.if-atom-moves.true within w.with_value.result w.with_value.ensures)
+          let within : place < length now = omega (arith, ap length w.values-is, length-set now place w.with_value.result, c.if-atom-moves.array_long, c.requires, c.loop-place-test.true) in
+          subst (IsPut moves c.args.atom c.args.export value old (place + 1)) (sym w.values-is)
+          (put-here moves c.args.atom c.args.export value old place now c.loop-place.invariant (get_or moves place no_move).atom (λ m there. atom_at moves place m there) w.if-atom-moves.true within w.with_value.result w.with_value.ensures)
       | else-atom-moves w ↦
-        subst (IsPut moves c.args.atom c.args.export value old (place + 1)) (sym w.values-is)
-        (put-past moves c.args.atom c.args.export value old place now c.loop-place.invariant (get_or moves place no_move).atom (λ m there. atom_at moves place m there) w.if-atom-moves.false)
+          subst (IsPut moves c.args.atom c.args.export value old (place + 1)) (sym w.values-is)
+          (put-past moves c.args.atom c.args.export value old place now c.loop-place.invariant (get_or moves place no_move).atom (λ m there. atom_at moves place m there) w.if-atom-moves.false)
     ]
 
 pub returns : goal.returns
