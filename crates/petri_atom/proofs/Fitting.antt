@@ -66,6 +66,14 @@ few_transitions a formed =
     let limits = and_parts (is_within_limits a) (has_each_once a) once.0 in
     leb-true (length a.transitions) 128 (and_parts _ _ (and_parts _ _ (and_parts _ _ limits.0).0).0).1
 
+-- and the limit of ports
+pub few_ports : (a : AtomDefinition) → is_well_formed a ≡ true → length a.ports ≤ 32
+few_ports a formed =
+    let known = and_parts (is_within_limits a && has_each_once a && has_known_numbers a) (has_sources_and_targets a) formed in
+    let once = and_parts (is_within_limits a && has_each_once a) (has_known_numbers a) known.0 in
+    let limits = and_parts (is_within_limits a) (has_each_once a) once.0 in
+    leb-true (length a.ports) 32 (and_parts _ _ (and_parts _ _ (and_parts _ _ (and_parts _ _ limits.0).0).0).0).1
+
 -- each number in the transitions of a well-formed atom is known
 pub known_numbers : (a : AtomDefinition) → is_well_formed a ≡ true → list_all (has_known_numbers_in (length a.ports) (length a.places) (length a.variables)) a.transitions ≡ true
 known_numbers a formed =

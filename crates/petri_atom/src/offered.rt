@@ -1,10 +1,11 @@
 //! The offered transitions of a state as one set, so that each transition is judged once in a step.
-ghost use Rattle.std.specs.Prelude.{◌≡◌, ◌≤◌, length, slice_get};
+ghost use Rattle.std.specs.Prelude.{◌≡◌, ℕ, ◌≤◌, length, slice_get, slice_index_or};
 ghost use Rattle.petri_atom.specs.Local.{Local, has, numbers_below};
 ghost use Rattle.petri_atom.specs.Definition.{enabled, offered_set, offers_port};
-ghost use Rattle.petri_atom.specs.declared.parts.TheConstants.{MAX_TRANSITIONS};
+ghost use Rattle.petri_atom.specs.declared.parts.TheConstants.{MAX_PORTS, MAX_TRANSITIONS};
 
 use crate::atom::Atom;
+use crate::parts::MAX_PORTS;
 use crate::state::AtomState;
 use std::marker::Model;
 
@@ -62,6 +63,20 @@ impl Atom {
         ensures count { (state : Local) → offered ≡ offered_set (definition_of self.now) state → result ≡ length (enabled (definition_of self.now) state port) }
     {
         (offered.word & self.mask_of(port)).count_ones() as usize
+    }
+
+    /// How many transitions of each port are in the set of those that a state offers, by the ports' numbers; 0 past the last port.
+    pub fn counts_among(&self, offered: TransitionSet) -> [u8; MAX_PORTS]
+        ensures counts { (state : Local) → offered ≡ offered_set (definition_of self.now) state → (port : ℕ) → slice_index_or result port 0 ≡ length (enabled (definition_of self.now) state port) }
+        ensures past { (port : ℕ) → length (definition_of self.now).ports ≤ port → slice_index_or result port 0 ≡ 0 }
+        ensures few { (port : ℕ) → slice_index_or result port 0 ≤ MAX_TRANSITIONS }
+        ensures ports { length (definition_of self.now).ports ≤ MAX_PORTS }
+    {
+        let mut counts = [0; MAX_PORTS];
+        for port in 0..self.ports().len() {
+            counts[port] = self.count_among(offered, port as u16) as u8;
+        }
+        counts
     }
 
     /// Whether one of the port's transitions is in the set of those that a state offers.

@@ -1,15 +1,17 @@
-use Rattle.std.proofs.Common.{◌≡◌, ℕ, ◌<◌, ◌≤◌, refl, sym, ◌∙◌, ap, List, [], length, map, get_or, arith}
-use Rattle.std.specs.Prelude.{Some, None, slice_get, option_map}
+use Rattle.std.proofs.Common.{◌≡◌, ℕ, ◌<◌, ◌≤◌, refl, sym, ◌∙◌, ap, List, [], ◌∷◌, length, map, get_or, arith, ⊎_elim}
+use Rattle.std.specs.Prelude.{Option, Some, None, slice_get, option_map}
 use Rattle.std.specs.Option.{option_map_or}
-use Rattle.std.proofs.lemmas.List.{length-map, get_or_default}
-use Rattle.std.proofs.lemmas.Option.{slice_get-map, slice_get_read, slice_get_past, slice_get-get_or}
+use Rattle.std.proofs.lemmas.Bool.{cases_lt}
+use Rattle.std.proofs.lemmas.List.{length-map}
+use Rattle.std.proofs.lemmas.Option.{slice_get-map, slice_get_read, slice_get_past, slice_get_within, slice_get-get_or, none-some}
 use Rattle.petri_atom.specs.Local.{Local}
 use Rattle.petri_atom.specs.Atom.{definition_of}
-use Rattle.petri_atom.specs.Definition.{AtomDefinition}
+use Rattle.petri_atom.specs.Definition.{AtomDefinition, enabled}
 use Rattle.petri_atom.specs.declared.atom.Atom.{Atom}
-use Rattle.petri_atom.specs.Definition.{offered_set}
 use Rattle.step_core.specs.Plant.{of_atom}
-use Rattle.step_core.specs.Offers.{AreOffered}
+use Rattle.connector_tree.specs.declared.tree.Port.{Port}
+use Rattle.step_core.specs.Choice.{move_of, moves_of}
+use Rattle.step_core.specs.Offers.{count_at, AreOffered, AreCounted}
 
 -- an atom of a plant with a number, as it was written
 pub atom-there : (atoms : List Atom) (n : ℕ) (atom : Atom) → n < length atoms → atom ≡ get_or atoms n atom → slice_get (map definition_of atoms) n ≡ Some (definition_of atom)
@@ -37,7 +39,22 @@ module _ {X Y : Type 0} (atoms : List Atom) (states : List Local) (n k : ℕ) (s
       default ∙ sym (ap (λ o. f (option_map_or (λ a. option_map_or (λ s. read a s) (slice_get states n) nothing) o nothing)) none) ∙
       ap (λ m. f (of_atom (map definition_of atoms) states m read nothing)) same
 
--- the set of an atom that is there is that of its offered transitions
-pub judged-set : (atoms : List Atom) (states : List Local) (sets : List ℕ) (n : ℕ) (atom : Atom) (set : ℕ) → AreOffered (map definition_of atoms) states sets → length atoms ≤ length sets → n < length atoms → atom ≡ get_or atoms n atom → (s : Local) → slice_get states n ≡ Some s → get_or sets n set ≡ offered_set (definition_of atom) s
-judged-set atoms states sets n atom set exact rows within here s known =
-    get_or_default sets n set 0 (omega arith) ∙ exact n (definition_of atom) s (atom-there atoms n atom within here) known
+-- a list has nothing at a number past its end alone
+past-none : {X : Type 0} (xs : List X) (n : ℕ) → slice_get xs n ≡ None → length xs ≤ n
+past-none xs n none = ⊎_elim
+    (λ within. elim xs as (λ ys. slice_get ys n ≡ None → n < length ys → length ys ≤ n) [
+      | [] ↦ λ _ below. absurd (omega arith)
+      | y ∷ ys ↦ λ missing below. absurd (none-some (get_or (y ∷ ys) n y) (sym missing ∙ slice_get-get_or (y ∷ ys) n y below))
+    ] none within)
+    (λ past. past)
+    (cases_lt n (length xs))
+
+-- what is kept for a port is how many moves its atom can make
+pub counted-moves : (atoms : List AtomDefinition) (states : List Local) (sets : List ℕ) (counts : List (List ℕ)) → length states ≡ length atoms → AreOffered atoms states sets → AreCounted atoms sets counts → (p : Port) → count_at counts p.atom p.port ≡ length (moves_of atoms states p)
+counted-moves atoms states sets counts as_many exact counted p = each (slice_get atoms p.atom) refl (slice_get states p.atom) refl
+  where
+    each : (o : Option AtomDefinition) → slice_get atoms p.atom ≡ o → (w : Option Local) → slice_get states p.atom ≡ w → count_at counts p.atom p.port ≡ length (option_map_or (λ a. option_map_or (λ s. map (move_of p.atom) (enabled a s p.port)) w []) o [])
+    each None none w there = counted.past_atoms p.atom p.port (past-none atoms p.atom none)
+    each (Some a) known None none = absurd (omega (arith, as_many, slice_get_within atoms p.atom a known, past-none states p.atom none))
+    each (Some a) known (Some s) there =
+        counted.at_ports p.atom a s p.port known (exact p.atom a s known there) ∙ sym (length-map (enabled a s p.port) (move_of p.atom))

@@ -21,4 +21,6 @@ pub mod Noting
 pub mod Alive
 mod Untouched
 mod Touched
+mod Recounted
+mod Unchanged
 mod Freed

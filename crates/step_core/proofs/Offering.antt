@@ -1,5 +1,5 @@
 -- There is a row of moves exactly where each port is offered.
-use Rattle.std.proofs.Common.{◌≡◌, ℕ, suc, zero, ◌*◌, ◌<◌, ◌≤◌, refl, ◌∙◌, ap, subst, List, [], ◌∷◌, length, map, filter, arith, Bool, true, false, cond, ◌||◌, ◌&&◌, inl, inr}
+use Rattle.std.proofs.Common.{◌≡◌, ℕ, suc, zero, ◌*◌, ◌<◌, ◌≤◌, refl, sym, ◌∙◌, ap, subst, List, [], ◌∷◌, length, map, filter, arith, Bool, true, false, cond, ◌||◌, ◌&&◌, inl, inr}
 use Rattle.std.specs.Prelude.{◌⊎◌, Option, Some, None, slice_get}
 use Rattle.std.specs.List.{list_all, list_any}
 use Rattle.std.specs.Option.{option_map_or}
@@ -65,3 +65,11 @@ module _ (atoms : List AtomDefinition) (states : List Local) where
         never : (b : Bool) → (b && false) ≡ false
         never true = refl
         never false = refl
+
+    -- so where it has rows, its guards say whether it is possible
+    pub possible-is : 0 < count → is_possible atoms wires states i ≡ unguarded
+    possible-is some = each unguarded refl
+      where
+        each : (b : Bool) → unguarded ≡ b → is_possible atoms wires states i ≡ unguarded
+        each true free = possible-told some free ∙ sym free
+        each false guarded = not-possible (inr guarded) ∙ sym guarded

@@ -1,8 +1,8 @@
 use Rattle.std.proofs.Common.{◌≡◌, ◌≢◌, ℕ, ◌==◌, ◌<◌, refl, sym, ◌∙◌, ap, List, ◌∷◌, length, get_or, arith, false, cond, ⊎_elim, slice_index_or}
 use Rattle.std.specs.Prelude.{Option, Some, None, slice_get, find}
 use Rattle.std.specs.Option.{option_map_or}
-use Rattle.std.proofs.lemmas.Bool.{cases_eq, ne_eqb}
-use Rattle.std.proofs.lemmas.Option.{slice_get-get_or, slice_get_within, get_or_from_slice_get}
+use Rattle.std.proofs.lemmas.Bool.{cases_eq, cases_lt, ne_eqb}
+use Rattle.std.proofs.lemmas.Option.{slice_get-get_or, slice_get_past, slice_get_within, get_or_from_slice_get}
 use Rattle.petri_atom.specs.Local.{Local}
 use Rattle.petri_atom.specs.Definition.{AtomDefinition, fired, offered_set}
 use Rattle.petri_atom.specs.declared.state.Delivered.{Delivered}
@@ -11,6 +11,7 @@ use Rattle.step_core.specs.Offers.{AreOffered, AreOfferedBut}
 use Rattle.step_core.specs.Plant.{PlantDefinition}
 use Rattle.step_core.specs.Step.{next, transfer, moved_by, stepped}
 use Rattle.step_core.specs.declared.choice.Move.{Move}
+use Rattle.step_core.proofs.Judging.{some_state}
 use Rattle.step_core.proofs.Stepping.{length-stepped, stepped-at}
 
 -- an atom that no move is of keeps its state
@@ -22,16 +23,28 @@ still atoms moves d n s none = each (slice_get atoms n)
     each (Some a) = ap (λ o. option_map_or (λ m. fired a m.transition (d n) s) o s) none
 
 -- the state after a choice of an atom that no move is of is its state from before
-pub unmoved : (plant : PlantDefinition) (old : List Local) (c : ChoiceDefinition) (n : ℕ) (s : Local) → find (λ m. m.atom == n) c.moves ≡ None → slice_get (next plant old c) n ≡ Some s → slice_get old n ≡ Some s
+unmoved : (plant : PlantDefinition) (old : List Local) (c : ChoiceDefinition) (n : ℕ) (s : Local) → find (λ m. m.atom == n) c.moves ≡ None → slice_get (next plant old c) n ≡ Some s → slice_get old n ≡ Some s
 unmoved plant old c n s none there =
     let d = transfer plant old c in
     let bound : n < length old = omega (arith, slice_get_within (next plant old c) n s there, length-stepped plant.atoms c.moves d 0 old) in
     let value = sym (get_or_from_slice_get (next plant old c) n s s there) ∙ stepped-at plant.atoms c.moves d 0 n old s bound ∙ ap (λ k. stepped plant.atoms c.moves d k (get_or old n s)) (omega arith) ∙ still plant.atoms c.moves d n (get_or old n s) none in
     slice_get-get_or old n s bound ∙ ap Some (sym value)
 
--- what was offered before a choice is offered after it by the atoms that no move is of
-pub offered-after : (plant : PlantDefinition) (old : List Local) (c : ChoiceDefinition) (sets : List ℕ) → AreOffered plant.atoms old sets → AreOfferedBut c.moves plant.atoms (next plant old c) sets
-offered-after plant old c sets exact n a s none known there = exact n a s known (unmoved plant old c n s none there)
+-- so each such atom has the state that it had, if it has one
+pub stays : (plant : PlantDefinition) (old : List Local) (c : ChoiceDefinition) (n : ℕ) → find (λ m. m.atom == n) c.moves ≡ None → slice_get (next plant old c) n ≡ slice_get old n
+stays plant old c n none =
+    let new = next plant old c in
+    let long : length new ≡ length old = length-stepped plant.atoms c.moves (transfer plant old c) 0 old in
+    ⊎_elim
+    (λ within.
+    let there = slice_get-get_or new n some_state (omega (arith, long)) in
+    there ∙ sym (unmoved plant old c n (get_or new n some_state) none there))
+    (λ past. slice_get_past new n (omega (arith, long)) ∙ sym (slice_get_past old n past))
+    (cases_lt n (length old))
+
+-- what was offered where the atoms that no move is of were as they are is what these offer
+pub offered-still : (atoms : List AtomDefinition) (moves : List Move) (before after : List Local) (sets : List ℕ) → ((n : ℕ) → find (λ m. m.atom == n) moves ≡ None → slice_get after n ≡ slice_get before n) → AreOffered atoms before sets → AreOfferedBut moves atoms after sets
+offered-still atoms moves before after sets same exact n a s none known there = exact n a s known (sym (same n none) ∙ there)
 
 -- once the atom of the first move is judged again, and the sets of all others stay, that move is done
 pub after-one : (m : Move) (rest : List Move) (atoms : List AtomDefinition) (states : List Local) (old new : List ℕ) →

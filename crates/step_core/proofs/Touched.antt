@@ -1,19 +1,20 @@
--- Rows of interactions by atom: what puts an interaction in keeps what is in, and what the rows of some moves hold.
-use Rattle.std.proofs.Common.{◌≡◌, ◌≢◌, ℕ, ◌+◌, ◌<◌, refl, sym, ◌∙◌, ap, List, [], ◌∷◌, length, get_or, set, take, arith, true, false, Bool, ◌||◌, ⊎_elim}
+-- Rows of interactions: what puts an interaction in keeps what is in, and what the rows of some moves hold.
+use Rattle.std.proofs.Common.{◌≡◌, ◌≢◌, ℕ, ◌+◌, ◌<◌, refl, sym, ◌∙◌, ap, List, [], ◌∷◌, length, get_or, set, take, arith, true, false, Bool, ⊎_elim}
 use Rattle.std.specs.Prelude.{Some, slice_get}
+use Rattle.std.specs.Cmp.{nat_cmp_total}
 use Rattle.std.specs.Ordering.{nat_cmp}
-use Rattle.std.specs.FinSet.{FinSet, contains, empty, insert}
+use Rattle.std.specs.FinSet.{FinSet, contains, empty, insert, union, contains-union}
 use Rattle.std.specs.List.{list_all, list_any}
 use Rattle.std.specs.Option.{option_map_or}
-use Rattle.std.proofs.lemmas.Bool.{and_parts, and_from, cases_eq, cases_lt}
+use Rattle.std.proofs.lemmas.Bool.{and_parts, and_from, or_parts, or_from, cases_eq, cases_lt}
 use Rattle.std.proofs.lemmas.List.Folds.{list_all-append, list_any-append}
 use Rattle.std.proofs.lemmas.List.{take_more, length-set, get_or-set_same, get_or-set_other}
-use Rattle.std.proofs.lemmas.Option.{slice_get-get_or, slice_get_past}
+use Rattle.std.proofs.lemmas.Option.{slice_get-get_or, slice_get_past, slice_get_read}
 use Rattle.connector_tree.specs.Tree.{leaves}
 use Rattle.connector_tree.specs.declared.tree.Port.{Port}
 use Rattle.step_core.specs.Plant.{WireDefinition}
 use Rattle.step_core.specs.Choice.{Interaction}
-use Rattle.step_core.specs.Touching.{is_noted, are_noted, KeepsNoted, IsNoted, is_in_row, is_touched}
+use Rattle.step_core.specs.Touching.{row_of_guards, at_port, at_guards, is_noted, are_noted, KeepsNoted, IsNoted, is_in_row, is_read_by}
 use Rattle.step_core.specs.declared.choice.Move.{Move}
 use Rattle.step_core.proofs.Noting.{put-here, put-other}
 
@@ -55,34 +56,44 @@ module _ (rows : List (FinSet nat_cmp)) (k x : ℕ) (d : FinSet nat_cmp) (within
 
 module _ (old new : List (FinSet nat_cmp)) (keeps : KeepsNoted old new) where
   -- so do ports, and interactions
-  pub ports-kept : (n : ℕ) (ports : List Port) → are_noted old n ports ≡ true → are_noted new n ports ≡ true
-  ports-kept n [] noted = refl
-  ports-kept n (p ∷ ps) noted =
-      let parts = and_parts (is_noted old n p.atom) (are_noted old n ps) noted in
-      and_from (is_noted new n p.atom) (are_noted new n ps) (keeps n p.atom parts.0) (ports-kept n ps parts.1)
+  pub ports-kept : (n : ℕ) (at : Port → ℕ) (ports : List Port) → are_noted old n at ports ≡ true → are_noted new n at ports ≡ true
+  ports-kept n at [] noted = refl
+  ports-kept n at (p ∷ ps) noted =
+      let parts = and_parts (is_noted old n (at p)) (are_noted old n at ps) noted in
+      and_from (is_noted new n (at p)) (are_noted new n at ps) (keeps n (at p) parts.0) (ports-kept n at ps parts.1)
 
   pub noted-kept : (wires : List WireDefinition) (i : Interaction) (n : ℕ) → IsNoted wires i old n → IsNoted wires i new n
-  noted-kept wires i n noted = (ports-kept n i.ports noted.0, λ w known guarded. ports-kept n (leaves w.connector) (noted.1 w known guarded))
+  noted-kept wires i n noted = (ports-kept n at_port i.ports noted.0, λ w known guarded. ports-kept n at_guards (leaves w.connector) (noted.1 w known guarded))
 
 -- one port more
-pub noted-next : (rows : List (FinSet nat_cmp)) (n : ℕ) (ports : List Port) (i : ℕ) (d : Port) → i < length ports → are_noted rows n (take i ports) ≡ true → is_noted rows n ((get_or ports i d).atom) ≡ true → are_noted rows n (take (i + 1) ports) ≡ true
-noted-next rows n ports i d within before here =
-    let noted : Port → Bool = λ p. is_noted rows n p.atom in
+pub noted-next : (rows : List (FinSet nat_cmp)) (n : ℕ) (at : Port → ℕ) (ports : List Port) (i : ℕ) (d : Port) → i < length ports → are_noted rows n at (take i ports) ≡ true → is_noted rows n (at (get_or ports i d)) ≡ true → are_noted rows n at (take (i + 1) ports) ≡ true
+noted-next rows n at ports i d within before here =
+    let noted : Port → Bool = λ p. is_noted rows n (at p) in
     ap (list_all noted) (take_more ports i d within) ∙ list_all-append noted (take i ports) (get_or ports i d ∷ []) ∙
     and_from (list_all noted (take i ports)) (list_all noted (get_or ports i d ∷ [])) before (and_from (noted (get_or ports i d)) true here refl)
 
-or-false : (b : Bool) → (b || false) ≡ b
-or-false true = refl
-or-false false = refl
-
 -- one move more
-pub touched-next : (rows : List (FinSet nat_cmp)) (n : ℕ) (moves : List Move) (i : ℕ) (d : Move) → i < length moves → is_touched rows (take (i + 1) moves) n ≡ (is_touched rows (take i moves) n || is_in_row rows n ((get_or moves i d).atom))
-touched-next rows n moves i d within =
-    let touches : Move → Bool = λ m. is_in_row rows n m.atom in
-    ap (list_any touches) (take_more moves i d within) ∙ list_any-append touches (take i moves) (get_or moves i d ∷ []) ∙
-    ap (λ b. list_any touches (take i moves) || b) (or-false (touches (get_or moves i d)))
+pub read-next : (rows : List (FinSet nat_cmp)) (n : ℕ) (moves : List Move) (i : ℕ) (d : Move) → i < length moves → is_read_by rows (take i moves) n ≡ false → is_in_row rows n (row_of_guards ((get_or moves i d).atom)) ≡ false → is_read_by rows (take (i + 1) moves) n ≡ false
+read-next rows n moves i d within before here =
+    let reads : Move → Bool = λ m. is_in_row rows n (row_of_guards m.atom) in
+    ap (list_any reads) (take_more moves i d within) ∙ list_any-append reads (take i moves) (get_or moves i d ∷ []) ∙
+    or_from (list_any reads (take i moves)) (list_any reads (get_or moves i d ∷ [])) before (or_from (reads (get_or moves i d)) false here refl)
 
--- one that touches nothing
-pub touched-same : (rows : List (FinSet nat_cmp)) (n : ℕ) (moves : List Move) (i : ℕ) (d : Move) → i < length moves → is_in_row rows n ((get_or moves i d).atom) ≡ false → is_touched rows (take (i + 1) moves) n ≡ is_touched rows (take i moves) n
-touched-same rows n moves i d within none =
-    touched-next rows n moves i d within ∙ ap (λ b. is_touched rows (take i moves) n || b) none ∙ or-false (is_touched rows (take i moves) n)
+-- a row that is there holds what is noted in it
+pub in-row : (rows : List (FinSet nat_cmp)) (n place : ℕ) → place < length rows → is_noted rows n place ≡ true → is_in_row rows n place ≡ true
+in-row rows n place within here =
+    let there : slice_get rows place ≡ Some (get_or rows place empty) = slice_get-get_or rows place empty within in
+    ap (λ o. option_map_or (λ row. contains row n) o false) there ∙ sym (ap (λ o. option_map_or (λ row. contains row n) o true) there) ∙ here
+
+-- what is not in a union is in neither set, so not in the row that was put in
+module _ (rows : List (FinSet nat_cmp)) (place at : ℕ) (old row new : FinSet nat_cmp) (same : place ≡ at) (within : place < length rows) (here : row ≡ get_or rows place row) (put : new ≡ union old row) (n : ℕ) (out : contains new n ≡ false) where
+  neither : (contains old n ≡ false) × (contains row n ≡ false)
+  neither = or_parts (contains old n) (contains row n) (sym (contains-union nat_cmp_total old row n) ∙ ap (λ s. contains s n) (sym put) ∙ out)
+
+  pub out-before : contains old n ≡ false
+  out-before = neither.0
+
+  pub out-of-row : is_in_row rows n at ≡ false
+  out-of-row =
+      ap (is_in_row rows n) (sym same) ∙
+      ap (λ o. option_map_or (λ r. contains r n) o false) (slice_get_read rows (length rows) place row refl within here) ∙ neither.1

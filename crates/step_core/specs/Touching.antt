@@ -1,5 +1,5 @@
--- Which interactions depend on an atom, as a set of interactions for each atom.
-use Rattle.std.specs.Prelude.{◌≡◌, ◌≢◌, ℕ, Bool, true, false, List, [], Some, slice_get}
+-- Which interactions depend on an atom, as a set of interactions for each of its ports, and one for the guards that read it.
+use Rattle.std.specs.Prelude.{◌≡◌, ◌≢◌, ◌+◌, ◌*◌, ℕ, Bool, true, false, List, [], Some, slice_get}
 use Rattle.std.specs.Ordering.{nat_cmp}
 use Rattle.std.specs.FinSet.{FinSet, contains}
 use Rattle.std.specs.List.{list_all, list_any}
@@ -8,38 +8,60 @@ use Rattle.connector_tree.specs.Tree.{leaves}
 use Rattle.connector_tree.specs.declared.tree.Port.{Port}
 use Rattle.step_core.specs.Plant.{WireDefinition}
 use Rattle.step_core.specs.Choice.{Interaction}
+use Rattle.step_core.specs.Offers.{count_at}
+use Rattle.petri_atom.specs.declared.parts.TheConstants.{MAX_PORTS}
 use Rattle.step_core.specs.declared.choice.Move.{Move}
+use Rattle.step_core.specs.declared.touching.TheConstants.{ATOM_ROWS}
 
--- the interaction is in the row of the atom, if the atom has a row
+-- the place of the row of a port of an atom, and of the row of the guards that read an atom
+abbrev pub row_of_port : ℕ → ℕ → ℕ
+row_of_port atom port = atom * ATOM_ROWS + port
+
+abbrev pub row_of_guards : ℕ → ℕ
+row_of_guards atom = atom * ATOM_ROWS + MAX_PORTS
+
+-- the same of a port
+abbrev pub at_port : Port → ℕ
+at_port p = row_of_port p.atom p.port
+
+abbrev pub at_guards : Port → ℕ
+at_guards p = row_of_guards p.atom
+
+-- the interaction is in the row with a place, if there is one
 abbrev pub is_noted : List (FinSet nat_cmp) → ℕ → ℕ → Bool
-is_noted rows n atom = option_map_or (λ row. contains row n) (slice_get rows atom) true
+is_noted rows n place = option_map_or (λ row. contains row n) (slice_get rows place) true
 
--- the interaction is in the row of the atom of each port
-abbrev pub are_noted : List (FinSet nat_cmp) → ℕ → List Port → Bool
-are_noted rows n ports = list_all (λ p. is_noted rows n p.atom) ports
+-- the interaction is in the row of each port, at the place that is given for it
+abbrev pub are_noted : List (FinSet nat_cmp) → ℕ → (Port → ℕ) → List Port → Bool
+are_noted rows n at ports = list_all (λ p. is_noted rows n (at p)) ports
 
 -- what was noted stays noted
 abbrev pub KeepsNoted : List (FinSet nat_cmp) → List (FinSet nat_cmp) → Type 0
-KeepsNoted old new = (n atom : ℕ) → is_noted old n atom ≡ true → is_noted new n atom ≡ true
+KeepsNoted old new = (n place : ℕ) → is_noted old n place ≡ true → is_noted new n place ≡ true
 
 -- the interaction is in the rows of the atoms whose states the guards of a connector read, if it has guards
 abbrev pub AreGuardsNoted : List WireDefinition → ℕ → List (FinSet nat_cmp) → ℕ → Type 0
 AreGuardsNoted wires connector rows n =
-    (w : WireDefinition) → slice_get wires connector ≡ Some w → w.guards ≢ [] → are_noted rows n (leaves w.connector) ≡ true
+    (w : WireDefinition) → slice_get wires connector ≡ Some w → w.guards ≢ [] → are_noted rows n at_guards (leaves w.connector) ≡ true
 
--- the interaction is in the rows of the atoms that it depends on: those of its ports, and those that its guards read
+-- the interaction is in the rows that it belongs to: those of its ports, and those of the atoms that its guards read
 abbrev pub IsNoted : List WireDefinition → Interaction → List (FinSet nat_cmp) → ℕ → Type 0
-IsNoted wires i rows n = (are_noted rows n i.ports ≡ true) × AreGuardsNoted wires i.connector rows n
+IsNoted wires i rows n = (are_noted rows n at_port i.ports ≡ true) × AreGuardsNoted wires i.connector rows n
 
 -- so is each interaction, by its number
 abbrev pub AreTouching : List WireDefinition → List Interaction → List (FinSet nat_cmp) → Type 0
 AreTouching wires interactions rows =
     (n : ℕ) (i : Interaction) → slice_get interactions n ≡ Some i → IsNoted wires i rows n
 
--- the interaction is in the row of the atom
+-- the interaction is in the row with a place
 abbrev pub is_in_row : List (FinSet nat_cmp) → ℕ → ℕ → Bool
-is_in_row rows n atom = option_map_or (λ row. contains row n) (slice_get rows atom) false
+is_in_row rows n place = option_map_or (λ row. contains row n) (slice_get rows place) false
 
--- the interaction is in the row of the atom of one of the moves
-abbrev pub is_touched : List (FinSet nat_cmp) → List Move → ℕ → Bool
-is_touched rows moves n = list_any (λ m. is_in_row rows n m.atom) moves
+-- a guard of the interaction reads the atom of one of the moves
+abbrev pub is_read_by : List (FinSet nat_cmp) → List Move → ℕ → Bool
+is_read_by rows moves n = list_any (λ m. is_in_row rows n (row_of_guards m.atom)) moves
+
+-- at each port of an interaction that is not in the set the same number is kept as before
+abbrev pub AreTold : List (FinSet nat_cmp) → List (List ℕ) → List (List ℕ) → FinSet nat_cmp → Type 0
+AreTold rows old new touched =
+    (n atom port : ℕ) → is_noted rows n (row_of_port atom port) ≡ true → contains touched n ≡ false → count_at new atom port ≡ count_at old atom port

@@ -1,31 +1,28 @@
 //! The choices of a global state: how many there are, and which.
-ghost use Rattle.std.specs.Prelude.{◌≡◌, ◌↔◌, ℕ, ◌<◌, ◌≤◌, Some, map, length, slice_get, slice_index_or, option_map};
+ghost use Rattle.std.specs.Prelude.{◌≡◌, ◌↔◌, ◌*◌, ◌<◌, false, Some, map, length, slice_get, slice_index_or, option_map};
 ghost use Rattle.std.specs.FinSet.{contains, empty};
 ghost use Rattle.petri_atom.specs.Atom.{definition_of};
-ghost use Rattle.petri_atom.specs.Local.{Local};
-ghost use Rattle.petri_atom.specs.Definition.{AtomDefinition, offered_set};
 ghost use Rattle.step_core.specs.Choice.{Interaction, choices, choices_of, choices_among, IsAllowed, IsStuck};
 ghost use Rattle.step_core.specs.Chosen.{choice_of};
 ghost use Rattle.step_core.specs.Fitting.{IsOf};
 ghost use Rattle.step_core.specs.Interaction.{interaction_of};
-ghost use Rattle.step_core.specs.Judgement.{IsJudgement};
-ghost use Rattle.step_core.specs.Offers.{AreOffered, AreOfferedBut};
+ghost use Rattle.step_core.specs.Judgement.{IsJudgement, IsBehind};
+ghost use Rattle.step_core.specs.Offers.{AreOffered, AreCounted};
 ghost use Rattle.step_core.specs.Possible.{ArePossible, ArePossibleBut, AreAllowed};
-ghost use Rattle.step_core.specs.Touching.{is_touched};
-ghost use Rattle.step_core.specs.Ways.{AreWays, AreWaysBut};
+ghost use Rattle.step_core.specs.Touching.{AreTouching};
+ghost use Rattle.step_core.specs.Ways.{AreWays, AreWaysBut, IsSame};
 ghost use Rattle.step_core.specs.Wire.{wire_of};
-ghost use Rattle.step_core.specs.declared.limits.TheConstants.{MAX_ATOMS};
+ghost use Rattle.step_core.specs.declared.touching.TheConstants.{ATOM_ROWS};
 
 use crate::choice::{Choice, Move};
 use crate::filtered::Filtered;
 use crate::free::numbers_below;
 use crate::judged::Judged;
 use crate::judgement::{Judgement, no_ways};
-use crate::limits::{MAX_ATOMS, MAX_INTERACTIONS};
+use crate::limits::MAX_INTERACTIONS;
+use crate::offers::Offers;
 use crate::state::PlantState;
 use crate::system::System;
-use crate::touching::touched_by;
-use petri_atom::{Atom, TransitionSet};
 use priority_filter::InteractionSet;
 
 impl System {
@@ -56,15 +53,15 @@ impl System {
         requires { IsOf (plant_of self.now) states.now }
         ensures { IsJudgement (plant_of self.now) (map interaction_of self.now.interactions.items) states.now result }
     {
-        let offered = offered_sets(&self.atoms, states);
+        let offers = Offers::of(&self.atoms, states);
         let mut possible = InteractionSet::new();
         let mut ways = no_ways();
         let all = numbers_below(self.interactions.len());
-        self.judge_touched(states, &offered, &all, &mut possible, &mut ways);
+        self.judge_touched(states, &offers, &all, &mut possible, &mut ways);
         let mut allowed = InteractionSet::new();
-        let total = self.allow(states, &offered, &possible, &ways, &mut allowed);
+        let total = self.allow(states, &offers, &possible, &ways, &mut allowed);
         Judgement {
-            offered,
+            offers,
             possible,
             ways,
             allowed,
@@ -73,7 +70,8 @@ impl System {
     }
 
     /// Judges again what depends on the atom of one of the moves, by the rows of the interactions that depend on each atom;
-    /// what is judged of all else is right.
+    /// what is kept was judged in a state in which all other atoms were as now. Where no interaction is possible or has choices
+    /// other than before, the same ones are allowed, and nothing more is to be done.
     pub(crate) fn judge_again(
         &self,
         states: &PlantState,
@@ -82,67 +80,74 @@ impl System {
         judgement: &mut Judgement,
     )
         requires of_plant { IsOf (plant_of self.now) states.now }
-        requires offered { AreOfferedBut moves.now (map definition_of self.now.atoms.items) states.now judgement.old.offered }
-        requires possible { ArePossibleBut (is_touched rows.now moves.now) (map definition_of self.now.atoms.items) (map wire_of self.now.wires.items) states.now (map interaction_of self.now.interactions.items) judgement.old.possible }
-        requires ways { AreWaysBut (is_touched rows.now moves.now) (map definition_of self.now.atoms.items) states.now (map interaction_of self.now.interactions.items) judgement.old.ways }
+        requires rows { length rows.now ≡ length self.now.atoms.items * ATOM_ROWS }
+        requires touching { AreTouching (map wire_of self.now.wires.items) (map interaction_of self.now.interactions.items) rows.now }
+        requires behind { IsBehind (plant_of self.now) (map interaction_of self.now.interactions.items) moves.now states.now judgement.old }
         ensures { IsJudgement (plant_of self.now) (map interaction_of self.now.interactions.items) states.now judgement.new }
     {
-        judge_moved(&self.atoms, states, moves, &mut judgement.offered);
-        let touched = touched_by(rows, moves);
-        self.judge_touched(
+        let touched = judgement
+            .offers
+            .judge_moved(&self.atoms, states, rows, moves);
+        let changed = self.judge_touched(
             states,
-            &judgement.offered,
+            &judgement.offers,
             &touched,
             &mut judgement.possible,
             &mut judgement.ways,
         );
-        judgement.allowed.clear();
-        judgement.total = self.allow(
-            states,
-            &judgement.offered,
-            &judgement.possible,
-            &judgement.ways,
-            &mut judgement.allowed,
-        );
+        if changed {
+            judgement.allowed.clear();
+            judgement.total = self.allow(
+                states,
+                &judgement.offers,
+                &judgement.possible,
+                &judgement.ways,
+                &mut judgement.allowed,
+            );
+        }
     }
 
     /// Judges the interactions of the set `touched`; what is possible, and the numbers of choices, are right for all others.
+    /// Says whether that changed anything.
     fn judge_touched<'x>(
         &'x self,
         states: &'x PlantState,
-        offered: &'x [TransitionSet; MAX_ATOMS],
+        offers: &'x Offers,
         touched: &InteractionSet,
         possible: &mut InteractionSet,
         ways: &mut [u64; MAX_INTERACTIONS],
-    )
+    ) -> bool
         requires of_plant { IsOf (plant_of self.now) states.now }
-        requires exact { AreOffered (map definition_of self.now.atoms.items) states.now offered.now }
+        requires exact { AreOffered (map definition_of self.now.atoms.items) states.now offers.now.sets }
+        requires shown { AreCounted (map definition_of self.now.atoms.items) offers.now.sets offers.now.counts }
         requires others { ArePossibleBut (contains touched.now) (map definition_of self.now.atoms.items) (map wire_of self.now.wires.items) states.now (map interaction_of self.now.interactions.items) possible.old }
         requires other_ways { AreWaysBut (contains touched.now) (map definition_of self.now.atoms.items) states.now (map interaction_of self.now.interactions.items) ways.old }
         ensures possible { ArePossible (map definition_of self.now.atoms.items) (map wire_of self.now.wires.items) states.now (map interaction_of self.now.interactions.items) possible.new }
         ensures ways { AreWays (map definition_of self.now.atoms.items) states.now (map interaction_of self.now.interactions.items) ways.new }
+        ensures same { result ≡ false → IsSame possible.old ways.old possible.new ways.new }
     {
         let judged = Judged {
             atoms: &self.atoms,
             wires: &self.wires,
             ports: &self.ports,
             states,
-            offered,
+            offers,
         };
-        judged.judge_touched(&self.interactions, touched, possible, ways);
+        judged.judge_touched(&self.interactions, touched, possible, ways)
     }
 
     /// Puts the allowed interactions into the set, where it is empty, and says how many choices these have in all.
     fn allow<'x>(
         &'x self,
         states: &'x PlantState,
-        offered: &'x [TransitionSet; MAX_ATOMS],
+        offers: &'x Offers,
         possible: &'x InteractionSet,
         ways: &'x [u64; MAX_INTERACTIONS],
         allowed: &mut InteractionSet,
     ) -> u128
         requires of_plant { IsOf (plant_of self.now) states.now }
-        requires exact { AreOffered (map definition_of self.now.atoms.items) states.now offered.now }
+        requires exact { AreOffered (map definition_of self.now.atoms.items) states.now offers.now.sets }
+        requires shown { AreCounted (map definition_of self.now.atoms.items) offers.now.sets offers.now.counts }
         requires known { ArePossible (map definition_of self.now.atoms.items) (map wire_of self.now.wires.items) states.now (map interaction_of self.now.interactions.items) possible.now }
         requires counted { AreWays (map definition_of self.now.atoms.items) states.now (map interaction_of self.now.interactions.items) ways.now }
         requires none { allowed.old ≡ empty }
@@ -154,7 +159,7 @@ impl System {
             wires: &self.wires,
             ports: &self.ports,
             states,
-            offered,
+            offers,
         };
         let filtered = Filtered {
             judged,
@@ -224,7 +229,7 @@ impl System {
             wires: &self.wires,
             ports: &self.ports,
             states,
-            offered: &judgement.offered,
+            offers: &judgement.offers,
         };
         let interaction = &self.interactions[usize::from(number)];
         Choice {
@@ -236,53 +241,5 @@ impl System {
                 place,
             ),
         }
-    }
-}
-
-/// The sets of the transitions that the states offer, by the numbers of their atoms.
-fn offered_sets(atoms: &[Atom], states: &PlantState) -> [TransitionSet; MAX_ATOMS]
-    requires few { length atoms.now ≤ MAX_ATOMS }
-    requires as_many { length states.now ≡ length atoms.now }
-    ensures { AreOffered (map definition_of atoms.now) states.now result }
-{
-    let mut sets = [TransitionSet::empty(); MAX_ATOMS];
-    for number in 0..atoms.len() {
-        sets[number] = atoms[number].offered(&states.states[number]);
-    }
-    sets
-}
-
-/// Judges the transitions of the atoms of the moves again; those of all other atoms are known.
-fn judge_moved(
-    atoms: &[Atom],
-    states: &PlantState,
-    moves: &[Move],
-    offered: &mut [TransitionSet; MAX_ATOMS],
-)
-    requires as_many { length states.now ≡ length atoms.now }
-    requires few { length atoms.now ≤ MAX_ATOMS }
-    requires others { AreOfferedBut moves.now (map definition_of atoms.now) states.now offered.old }
-    ensures { AreOffered (map definition_of atoms.now) states.now offered.new }
-{
-    for step in moves {
-        judge_atom(atoms, states, step.atom, offered);
-    }
-}
-
-/// Judges the transitions of the atom with this number again, if there is one.
-fn judge_atom(
-    atoms: &[Atom],
-    states: &PlantState,
-    number: u16,
-    offered: &mut [TransitionSet; MAX_ATOMS],
-)
-    requires as_many { length states.now ≡ length atoms.now }
-    requires few { length atoms.now ≤ MAX_ATOMS }
-    ensures again { (a : AtomDefinition) (s : Local) → slice_get (map definition_of atoms.now) number ≡ Some a → slice_get states.now number ≡ Some s → slice_index_or offered.new number 0 ≡ offered_set a s }
-    ensures others { (n : ℕ) → ¬ (n ≡ number) → slice_index_or offered.new n 0 ≡ slice_index_or offered.old n 0 }
-{
-    let index = usize::from(number);
-    if let Some(atom) = atoms.get(index) {
-        offered[index] = atom.offered(&states.states[index]);
     }
 }

@@ -9,20 +9,21 @@ ghost use Rattle.step_core.specs.Choice.{is_unguarded, is_possible, move_of, mov
 ghost use Rattle.step_core.specs.Interaction.{interaction_of};
 ghost use Rattle.connector_tree.specs.Tree.{leaves};
 ghost use Rattle.step_core.specs.Possible.{ArePossible, ArePossibleBut};
-ghost use Rattle.step_core.specs.Ways.{AreWays, AreWaysBut};
+ghost use Rattle.step_core.specs.Ways.{AreWays, AreWaysBut, IsSame};
 ghost use Rattle.step_core.specs.Wire.{wire_of};
-ghost use Rattle.step_core.specs.Offers.{AreOffered};
+ghost use Rattle.step_core.specs.Offers.{AreOffered, AreCounted};
 ghost use Rattle.step_core.specs.declared.choice.Move.{Move};
 ghost use Rattle.step_core.specs.declared.limits.TheConstants.{MAX_INTERACTIONS};
 
 use crate::choice::{Move, Moves};
 use crate::interaction::Interaction;
 use crate::limits::MAX_INTERACTIONS;
+use crate::offers::Offers;
 use crate::state::PlantState;
 use crate::values::Values;
 use crate::wire::Wire;
 use connector_tree::Port;
-use petri_atom::{Atom, TransitionSet};
+use petri_atom::Atom;
 use priority_filter::InteractionSet;
 
 /// A global state with the offered transitions of its atoms.
@@ -32,24 +33,20 @@ pub(crate) struct Judged<'a> {
     pub(crate) wires: &'a [Wire],
     pub(crate) ports: &'a [Vec<Port>],
     pub(crate) states: &'a PlantState,
-    pub(crate) offered: &'a [TransitionSet],
+    pub(crate) offers: &'a Offers,
     ghost as_many: { length states.now ≡ length atoms.now },
-    ghost rows: { length atoms.now ≤ length offered.now },
     ghost leaves: { map (λ list. list.items) ports.now ≡ map (λ w. leaves w.connector) wires.now },
-    ghost exact: { AreOffered (map definition_of atoms.now) states.now offered.now },
+    ghost exact: { AreOffered (map definition_of atoms.now) states.now offers.now.sets },
+    ghost counted: { AreCounted (map definition_of atoms.now) offers.now.sets offers.now.counts },
 }
 
 impl Judged<'_> {
     /// How many moves the atom of the port can make.
-    fn move_count(&self, port: &Port) -> usize
+    fn move_count(&self, port: &Port) -> u64
         ensures few { result ≤ MAX_TRANSITIONS }
         ensures count { result ≡ length (moves_of (map definition_of self.now.atoms.now) self.now.states.now port.now) }
     {
-        let number = usize::from(port.atom);
-        match self.atoms.get(number) {
-            Some(atom) => atom.count_among(self.offered[number], port.port),
-            None => 0,
-        }
+        u64::from(self.offers.count_at(port))
     }
 
     /// The number of the transition of the move with this place among those that the atom of the port can make, if there
@@ -57,9 +54,8 @@ impl Judged<'_> {
     fn nth_transition(&self, port: &Port, place: usize) -> Option<u16>
         ensures { option_map (move_of port.now.atom) result ≡ slice_get (moves_of (map definition_of self.now.atoms.now) self.now.states.now port.now) place }
     {
-        let number = usize::from(port.atom);
-        match self.atoms.get(number) {
-            Some(atom) => atom.nth_among(self.offered[number], port.port, place),
+        match self.atoms.get(usize::from(port.atom)) {
+            Some(atom) => atom.nth_among(self.offers.set_of(port.atom), port.port, place),
             None => None,
         }
     }
@@ -90,7 +86,7 @@ impl Judged<'_> {
     {
         match ports {
             [] => 1,
-            [first, later @ ..] => self.move_count(first) as u64 * self.row_count(later),
+            [first, later @ ..] => self.move_count(first) * self.row_count(later),
         }
     }
 
@@ -105,7 +101,7 @@ impl Judged<'_> {
         match ports {
             [] => {}
             [first, later @ ..] => {
-                let below = total / self.move_count(first) as u64;
+                let below = total / self.move_count(first);
                 moves.push(self.nth_move(first, (place / below) as usize));
                 self.push_row(later, below, place % below, moves);
             }
@@ -139,50 +135,75 @@ impl Judged<'_> {
     }
 
     /// Judges the interactions of the set `touched`, by their numbers in the list; what is possible, and the numbers of
-    /// choices, are right for all others.
+    /// choices, are right for all others. Says whether that changed anything.
     pub(crate) fn judge_touched(
         &self,
         interactions: &[Interaction],
         touched: &InteractionSet,
         possible: &mut InteractionSet,
         ways: &mut [u64; MAX_INTERACTIONS],
-    )
+    ) -> bool
         requires few { length interactions.now ≤ MAX_INTERACTIONS }
         requires others { ArePossibleBut (contains touched.now) (map definition_of self.now.atoms.now) (map wire_of self.now.wires.now) self.now.states.now (map interaction_of interactions.now) possible.old }
         requires other_ways { AreWaysBut (contains touched.now) (map definition_of self.now.atoms.now) self.now.states.now (map interaction_of interactions.now) ways.old }
         ensures possible { ArePossible (map definition_of self.now.atoms.now) (map wire_of self.now.wires.now) self.now.states.now (map interaction_of interactions.now) possible.new }
         ensures ways { AreWays (map definition_of self.now.atoms.now) self.now.states.now (map interaction_of interactions.now) ways.new }
+        ensures same { result ≡ false → IsSame possible.old ways.old possible.new ways.new }
     {
+        let mut changed = false;
         let mut from = 0;
         while let Some(number) = touched.first_from(from) {
             if let Some(interaction) = interactions.get(usize::from(number)) {
-                self.note(number, interaction, possible, ways);
+                changed |= self.note(number, interaction, possible, ways);
             }
             from = number + 1;
         }
+        changed
     }
 
     /// Notes how many choices the interaction with this number has, and whether it is possible: one pass over its ports, and
-    /// its guards where each of these can move.
+    /// its guards where each of these can move. Says whether either is new.
     fn note(
         &self,
         number: u16,
         interaction: &Interaction,
         possible: &mut InteractionSet,
         ways: &mut [u64; MAX_INTERACTIONS],
-    )
+    ) -> bool
         requires { number < MAX_INTERACTIONS }
         ensures possible { contains possible.new number ≡ is_possible (map definition_of self.now.atoms.now) (map wire_of self.now.wires.now) self.now.states.now (interaction_of interaction.now) }
         ensures others { (n : ℕ) → ¬ (n ≡ number) → contains possible.new n ≡ contains possible.old n }
         ensures ways { slice_index_or ways.new number 0 ≡ length (choices_of (map definition_of self.now.atoms.now) self.now.states.now (interaction_of interaction.now)) }
         ensures other_ways { (n : ℕ) → ¬ (n ≡ number) → slice_index_or ways.new n 0 ≡ slice_index_or ways.old n 0 }
+        ensures same { result ≡ false → IsSame possible.old ways.old possible.new ways.new }
     {
         let count = self.row_count(&interaction.ports);
-        ways[usize::from(number)] = count;
-        if count > 0 && self.is_unguarded(interaction) {
-            possible.insert(number);
-        } else {
-            possible.remove(number);
-        }
+        let is_possible = self.is_possible(interaction, count);
+        let place = usize::from(number);
+        let is_new = (ways[place] != count) | (possible.contains(number) != is_possible);
+        ways[place] = count;
+        put(possible, number, is_possible);
+        is_new
+    }
+
+    /// Whether the interaction is possible, where its ports have so many rows of moves.
+    fn is_possible(&self, interaction: &Interaction, count: u64) -> bool
+        requires { count ≡ length (combinations (map (moves_of (map definition_of self.now.atoms.now) self.now.states.now) interaction.now.ports.items)) }
+        ensures { result ≡ is_possible (map definition_of self.now.atoms.now) (map wire_of self.now.wires.now) self.now.states.now (interaction_of interaction.now) }
+    {
+        count > 0 && self.is_unguarded(interaction)
+    }
+}
+
+/// Puts the interaction with this number into the set, or takes it out.
+fn put(set: &mut InteractionSet, number: u16, is_in: bool)
+    requires { number < MAX_INTERACTIONS }
+    ensures here { contains set.new number ≡ is_in }
+    ensures others { (n : ℕ) → ¬ (n ≡ number) → contains set.new n ≡ contains set.old n }
+{
+    if is_in {
+        set.insert(number);
+    } else {
+        set.remove(number);
     }
 }

@@ -1,16 +1,16 @@
 //! What a state offers, judged once and kept.
 ghost use Rattle.std.specs.Prelude.{◌≡◌, ℕ, slice_index_or};
 
-use crate::limits::{MAX_ATOMS, MAX_INTERACTIONS};
-use petri_atom::TransitionSet;
+use crate::limits::MAX_INTERACTIONS;
+use crate::offers::Offers;
 use priority_filter::InteractionSet;
 
-/// What a state of a plant offers: the transitions of each atom, the possible interactions, for each interaction how many
+/// What a state of a plant offers: what each atom offers, the possible interactions, for each interaction how many
 /// choices it has where nothing forbids it, the allowed interactions, and how many choices these have in all. It is of fixed
 /// size and takes no memory.
 #[derive(Drop)]
 pub(crate) struct Judgement {
-    pub(crate) offered: [TransitionSet; MAX_ATOMS],
+    pub(crate) offers: Offers,
     pub(crate) possible: InteractionSet,
     pub(crate) ways: [u64; MAX_INTERACTIONS],
     pub(crate) allowed: InteractionSet,

@@ -35,6 +35,7 @@ mod judged;
 mod judgement;
 mod limits;
 mod making;
+mod offers;
 mod rules;
 mod state;
 mod stepper;

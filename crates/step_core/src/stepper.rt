@@ -1,5 +1,5 @@
 //! A plant that runs: its present state, with what that state offers, judged once.
-ghost use Rattle.std.specs.Prelude.{◌≡◌, ◌↔◌, ◌<◌, Some, IfOk, map, length, slice_get};
+ghost use Rattle.std.specs.Prelude.{◌≡◌, ◌↔◌, ◌*◌, ◌<◌, Some, IfOk, map, length, slice_get};
 ghost use Rattle.step_core.specs.Choice.{choices, IsAllowed, IsStuck};
 ghost use Rattle.step_core.specs.Chosen.{choice_of};
 ghost use Rattle.step_core.specs.Fitting.{IsOf, AllFit};
@@ -7,6 +7,7 @@ ghost use Rattle.step_core.specs.Interaction.{interaction_of};
 ghost use Rattle.step_core.specs.Judgement.{IsJudgement};
 ghost use Rattle.step_core.specs.Touching.{AreTouching};
 ghost use Rattle.step_core.specs.Wire.{wire_of};
+ghost use Rattle.step_core.specs.declared.touching.TheConstants.{ATOM_ROWS};
 ghost use Rattle.step_core.specs.Step.{initial_states, next};
 ghost use Rattle.step_core.specs.System.{plant_of};
 
@@ -29,7 +30,7 @@ pub struct Stepper<'s> {
     touching: Vec<InteractionSet>,
     judgement: Judgement,
     ghost of_plant: { IsOf (plant_of system.now) states },
-    ghost rows: { length touching.items ≡ length system.now.atoms.items },
+    ghost rows: { length touching.items ≡ length system.now.atoms.items * ATOM_ROWS },
     ghost touched: { AreTouching (map wire_of system.now.wires.items) (map interaction_of system.now.interactions.items) touching.items },
     ghost judged: { IsJudgement (plant_of system.now) (map interaction_of system.now.interactions.items) states judgement },
 }

@@ -1,39 +1,67 @@
-//! Which interactions depend on an atom: a row of them for each atom, so that a step finds those that it can change.
-ghost use Rattle.std.specs.Prelude.{◌≡◌, ℕ, ◌≤◌, ◌<◌, true, IfOk, map, length};
-ghost use Rattle.std.specs.FinSet.{contains};
+//! Which interactions depend on an atom: a row of them for each of its ports, and one for the guards that read it, so that a
+//! step finds those that it can change.
+ghost use Rattle.std.specs.Prelude.{◌≡◌, ◌*◌, ◌≤◌, ◌<◌, true, IfOk, map, length};
 ghost use Rattle.connector_tree.specs.Tree.{leaves};
 ghost use Rattle.step_core.specs.Interaction.{interaction_of};
-ghost use Rattle.step_core.specs.Touching.{is_noted, are_noted, KeepsNoted, AreGuardsNoted, IsNoted, AreTouching, is_touched};
+ghost use Rattle.step_core.specs.Touching.{row_of_port, row_of_guards, at_port, at_guards, is_noted, are_noted, KeepsNoted, AreGuardsNoted, IsNoted, AreTouching};
 ghost use Rattle.step_core.specs.Wire.{wire_of};
-ghost use Rattle.step_core.specs.declared.limits.TheConstants.{MAX_INTERACTIONS};
+ghost use Rattle.step_core.specs.declared.limits.TheConstants.{MAX_ATOMS, MAX_INTERACTIONS};
+ghost use Rattle.step_core.specs.declared.touching.TheConstants.{ATOM_ROWS};
 
-use crate::choice::Move;
 use crate::interaction::Interaction;
 use crate::wire::Wire;
 use connector_tree::Port;
+use petri_atom::MAX_PORTS;
 use priority_filter::InteractionSet;
 use std::alloc::{AllocError, Global};
 
-/// Puts the interaction with this number into the row of the atom, if the atom has one.
-fn note_atom(rows: &mut [InteractionSet], atom: u16, number: u16)
+/// How many rows an atom has: one for each port that an atom may have, and one for the guards that read it.
+pub(crate) const ATOM_ROWS: usize = MAX_PORTS + 1;
+
+/// The place of the row of the interactions on a port of the atom.
+pub(crate) fn port_row(atom: u16, port: u16) -> usize
+    ensures { result ≡ row_of_port atom port }
+{
+    usize::from(atom) * ATOM_ROWS + usize::from(port)
+}
+
+/// The place of the row of the interactions whose guards read the atom.
+pub(crate) fn guard_row(atom: u16) -> usize
+    ensures { result ≡ row_of_guards atom }
+{
+    usize::from(atom) * ATOM_ROWS + MAX_PORTS
+}
+
+/// Puts the interaction with this number into the row with this place, if there is one.
+fn note_row(rows: &mut [InteractionSet], place: usize, number: u16)
     requires { number < MAX_INTERACTIONS }
-    ensures noted { is_noted rows.new number atom ≡ true }
+    ensures noted { is_noted rows.new number place ≡ true }
     ensures kept { KeepsNoted rows.old rows.new }
 {
-    let place = usize::from(atom);
     if place < rows.len() {
         rows[place].insert(number);
     }
 }
 
-/// Puts the interaction with this number into the rows of the atoms of the ports.
+/// Puts the interaction with this number into the rows of the ports.
 fn note_ports(rows: &mut [InteractionSet], ports: &[Port], number: u16)
     requires { number < MAX_INTERACTIONS }
-    ensures noted { are_noted rows.new number ports.now ≡ true }
+    ensures noted { are_noted rows.new number at_port ports.now ≡ true }
     ensures kept { KeepsNoted rows.old rows.new }
 {
     for port in ports {
-        note_atom(rows, port.atom, number);
+        note_row(rows, port_row(port.atom, port.port), number);
+    }
+}
+
+/// Puts the interaction with this number into the rows of the guards that read the atoms of the ports.
+fn note_read(rows: &mut [InteractionSet], ports: &[Port], number: u16)
+    requires { number < MAX_INTERACTIONS }
+    ensures noted { are_noted rows.new number at_guards ports.now ≡ true }
+    ensures kept { KeepsNoted rows.old rows.new }
+{
+    for port in ports {
+        note_row(rows, guard_row(port.atom), number);
     }
 }
 
@@ -53,12 +81,12 @@ fn note_guards(
     let place = usize::from(connector);
     if let Some(wire) = wires.get(place) {
         if !wire.guards.is_empty() {
-            note_ports(rows, &ports[place], number);
+            note_read(rows, &ports[place], number);
         }
     }
 }
 
-/// Puts the interaction with this number into the rows of the atoms that it depends on: those of its ports, and those that the
+/// Puts the interaction with this number into the rows that it belongs to: those of its ports, and those of the atoms that the
 /// guards of its connector read.
 fn note_interaction(
     rows: &mut [InteractionSet],
@@ -76,7 +104,7 @@ fn note_interaction(
     note_guards(rows, wires, ports, interaction.connector, number);
 }
 
-/// Puts each interaction, by its number, into the rows of the atoms that it depends on.
+/// Puts each interaction, by its number, into the rows that it belongs to.
 fn note_all(
     rows: &mut [InteractionSet],
     wires: &[Wire],
@@ -92,7 +120,7 @@ fn note_all(
     }
 }
 
-/// For each of so many atoms the interactions that depend on it.
+/// For each of so many atoms the interactions that depend on it, by its ports and by the guards that read it.
 pub(crate) fn touching_rows(
     alloc: Global,
     atoms: usize,
@@ -100,28 +128,17 @@ pub(crate) fn touching_rows(
     ports: &[Vec<Port>],
     interactions: &[Interaction],
 ) -> Result<Vec<InteractionSet>, AllocError>
+    requires atoms { atoms ≤ MAX_ATOMS }
     requires few { length interactions.now ≤ MAX_INTERACTIONS }
     requires leaves { map (λ list. list.items) ports.now ≡ map (λ w. leaves w.connector) wires.now }
-    ensures rows { IfOk result (λ rows. length rows.items ≡ atoms) }
+    ensures rows { IfOk result (λ rows. length rows.items ≡ atoms * ATOM_ROWS) }
     ensures touching { IfOk result (λ rows. AreTouching (map wire_of wires.now) (map interaction_of interactions.now) rows.items) }
 {
-    let mut rows = Vec::with_capacity(alloc, atoms)?;
-    for _ in 0..atoms {
+    let count = atoms * ATOM_ROWS;
+    let mut rows = Vec::with_capacity(alloc, count)?;
+    for _ in 0..count {
         rows.push(InteractionSet::new())?;
     }
     note_all(&mut rows, wires, ports, interactions);
     Ok(rows)
-}
-
-/// The interactions that depend on the atom of one of the moves.
-pub(crate) fn touched_by(rows: &[InteractionSet], moves: &[Move]) -> InteractionSet
-    ensures { (n : ℕ) → contains result n ≡ is_touched rows.now moves.now n }
-{
-    let mut touched = InteractionSet::new();
-    for step in moves {
-        if let Some(row) = rows.get(usize::from(step.atom)) {
-            touched.union_with(row);
-        }
-    }
-    touched
 }

@@ -7,7 +7,7 @@ use Rattle.petri_atom.specs.Expression.{tree_of}
 use Rattle.step_core.proofs.Untouched.{none-mapped}
 use Rattle.std.proofs.lemmas.Option.{same_Some, slice_get-map, slice_get_read, slice_get_past, none-some}
 use Rattle.connector_tree.specs.Tree.{leaves}
-use Rattle.step_core.specs.Touching.{are_noted}
+use Rattle.step_core.specs.Touching.{at_guards, are_noted}
 use Rattle.step_core.specs.Wire.{wire_of}
 use Rattle.step_core.proofs.Told.{same_at}
 use Rattle.step_core.proofs.touching.note_guards.Goals as goal
@@ -32,7 +32,7 @@ returns-then-not-is_empty-clause-noted c w known guarded =
     let there = slice_get-map wire_of wires n ∙ ap (option_map wire_of) (slice_get_read wires (length wires) n wire refl found.3.0 found.1) in
     let its : wire_of wire ≡ w = same_Some (wire_of wire) w (sym there ∙ ap (slice_get (map wire_of wires)) c.from-place.ensures ∙ known) in
     let lent : c.deref.result.now ≡ leaves wire.connector = c.deref.ensures.value ∙ same_at (λ list. list.items) (λ v. leaves v.connector) c.args.ports.now wires c.requires.leaves n c.index-ports-place.result wire found.3.0 c.index-ports-place.is found.1 in
-    ap (are_noted c.note_ports.new.rows c.args.number) (ap (λ v. leaves v.connector) (sym its) ∙ sym lent) ∙ c.note_ports.ensures.noted
+    ap (are_noted c.note_read.new.rows c.args.number at_guards) (ap (λ v. leaves v.connector) (sym its) ∙ sym lent) ∙ c.note_read.ensures.noted
 
 pub returns-in_default-clause-noted : goal.returns-in_default-clause-noted
 returns-in_default-clause-noted c w known guarded =

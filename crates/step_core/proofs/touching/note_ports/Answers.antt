@@ -1,5 +1,6 @@
-use Rattle.std.proofs.Common.{take}
+use Rattle.std.proofs.Common.{◌∙◌, ap, sym, take}
 use Rattle.connector_tree.specs.declared.tree.Port.{Port}
+use Rattle.step_core.specs.Touching.{at_port, is_noted}
 use Rattle.step_core.proofs.Touched.{ports-kept, noted-next}
 use Rattle.step_core.proofs.touching.note_ports.Goals as goal
 
@@ -8,7 +9,8 @@ loop-port-preserved c =
     let none : Port = record { atom = 0; port = 0 } in
     let i = c.loop-port.port-index in
     let ports = c.args.ports.now in
-    let new = c.note_atom.new.rows in (
-      noted-next new c.args.number ports i none c.loop-port-test.true (ports-kept c.loop-port.rows new c.note_atom.ensures.kept c.args.number (take i ports) c.loop-port.invariant.0) c.note_atom.ensures.noted,
-      λ n a was. c.note_atom.ensures.kept n a (c.loop-port.invariant.1 n a was),
+    let new = c.note_row.new.rows in (
+      noted-next new c.args.number at_port ports i none c.loop-port-test.true (ports-kept c.loop-port.rows new c.note_row.ensures.kept c.args.number at_port (take i ports) c.loop-port.invariant.0)
+          (ap (is_noted new c.args.number) (sym c.port_row.ensures) ∙ c.note_row.ensures.noted),
+      λ n a was. c.note_row.ensures.kept n a (c.loop-port.invariant.1 n a was),
     )

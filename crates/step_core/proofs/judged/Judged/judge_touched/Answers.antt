@@ -2,12 +2,13 @@ use Rattle.std.proofs.Common.{◌≡◌, ◌∙◌, ◌≤◌, ap, sym, refl, ar
 use Rattle.std.specs.FinSet.{contains}
 use Rattle.std.specs.Option.{option_map_or}
 use Rattle.std.specs.Prelude.{Some, slice_get, option_map}
+use Rattle.std.proofs.lemmas.Bool.{or_parts}
 use Rattle.std.proofs.lemmas.List.{length-map}
 use Rattle.std.proofs.lemmas.Option.{slice_get-map, slice_get_read}
 use Rattle.petri_atom.specs.Atom.{definition_of}
 use Rattle.step_core.specs.Choice.{is_possible, is_possible_at, choices_of}
 use Rattle.step_core.specs.Interaction.{interaction_of}
-use Rattle.step_core.specs.Ways.{ways_at}
+use Rattle.step_core.specs.Ways.{ways_at, IsSame}
 use Rattle.step_core.specs.Wire.{wire_of}
 use Rattle.step_core.proofs.Noting.{IsStep, right-next, right-still, right-all}
 use Rattle.step_core.proofs.judged.Judged.judge_touched.Goals as goal
@@ -37,12 +38,12 @@ loop-number-preserved c =
           ap (slice_get all) (sym c.from.ensures) ∙ slice_get-map interaction_of list c.from.result ∙
           ap (option_map interaction_of) (slice_get_read list (length list) c.from.result item refl lookup.3.0 lookup.1) in (
             (
-              ap (λ set. contains set n) w.possible-is ∙ w.note.ensures.possible ∙ sym (ap (λ o. option_map_or (is_possible atoms wires states) o false) there),
-              λ k other. ap (λ set. contains set k) w.possible-is ∙ w.note.ensures.others k other,
+              ap (λ set. contains set n) w.possible-is ∙ w.note-changed.ensures.possible ∙ sym (ap (λ o. option_map_or (is_possible atoms wires states) o false) there),
+              λ k other. ap (λ set. contains set k) w.possible-is ∙ w.note-changed.ensures.others k other,
             ),
             (
-              ap (λ row. get_or row n 0) w.ways-is ∙ w.note.ensures.ways ∙ sym (ap (λ o. option_map_or (λ i. length (choices_of atoms states i)) o 0) there),
-              λ k other. ap (λ row. get_or row k 0) w.ways-is ∙ w.note.ensures.other_ways k other,
+              ap (λ row. get_or row n 0) w.ways-is ∙ w.note-changed.ensures.ways ∙ sym (ap (λ o. option_map_or (λ i. length (choices_of atoms states i)) o 0) there),
+              λ k other. ap (λ row. get_or row k 0) w.ways-is ∙ w.note-changed.ensures.other_ways k other,
             ),
           )
       | in_default-get w ↦
@@ -57,6 +58,21 @@ loop-number-preserved c =
             ),
           )
     ] in
+    let same : new.changed ≡ false → IsSame c.args.possible.now c.args.ways.now new.possible new.ways =
+    elim c.match-get.branch [
+      | in-Some-get w ↦ λ unchanged.
+          let parts = or_parts old.changed w.note-changed.result (sym w.changed-is ∙ unchanged) in
+          let start = old.invariant.5 parts.0 in
+          let step = w.note-changed.ensures.same parts.1 in (
+            λ k. ap (λ set. contains set k) w.possible-is ∙ step.0 k ∙ start.0 k,
+            λ k. ap (λ row. get_or row k 0) w.ways-is ∙ step.1 k ∙ start.1 k,
+          )
+      | in_default-get w ↦ λ unchanged.
+          let start = old.invariant.5 (sym w.changed-is ∙ unchanged) in (
+            λ k. ap (λ set. contains set k) w.possible-is ∙ start.0 k,
+            λ k. ap (λ row. get_or row k 0) w.ways-is ∙ start.1 k,
+          )
+    ] in
     let found = c.in-Some.ensures.found in
     let before = old.invariant in (
       omega (arith, found.1),
@@ -64,6 +80,7 @@ loop-number-preserved c =
       right-next ways touched count old.from n (λ k. get_or old.ways k 0) (λ k. get_or new.ways k 0) found.3 before.2 before.4 step.1,
       right-still possible touched count n (contains old.possible) (contains new.possible) before.3 step.0,
       right-still ways touched count n (λ k. get_or old.ways k 0) (λ k. get_or new.ways k 0) before.4 step.1,
+      same,
     )
 
 pub returns-clause-possible : goal.returns-clause-possible

@@ -1,10 +1,10 @@
-use Rattle.std.proofs.Common.{◌≡◌, ◌<◌, ◌≤◌, ◌-◌, ℕ, map, get_or}
+use Rattle.std.proofs.Common.{◌≡◌, ◌<◌, ◌≤◌, ◌-◌, ℕ, false, map, get_or}
 use Rattle.std.specs.FinSet.{contains}
 use Rattle.petri_atom.specs.Atom.{definition_of}
 use Rattle.step_core.specs.Choice.{is_possible_at}
 use Rattle.step_core.specs.Interaction.{interaction_of}
 use Rattle.step_core.specs.Possible.{ArePossibleBut}
-use Rattle.step_core.specs.Ways.{ways_at, AreWaysBut}
+use Rattle.step_core.specs.Ways.{ways_at, AreWaysBut, IsSame}
 use Rattle.step_core.specs.Wire.{wire_of}
 use Rattle.step_core.proofs.judged.Judged.judge_touched.Given as goal
 
@@ -18,7 +18,8 @@ invariant-loop-number l =
     ((n : ℕ) → n < l.from → contains l.possible n ≡ is_possible_at atoms wires states all n) ×
     ((n : ℕ) → n < l.from → get_or l.ways n 0 ≡ ways_at atoms states all n) ×
     ArePossibleBut (contains l.touched) atoms wires states all l.possible ×
-    AreWaysBut (contains l.touched) atoms states all l.ways
+    AreWaysBut (contains l.touched) atoms states all l.ways ×
+    (l.changed ≡ false → IsSame l.fn.possible l.fn.ways l.possible l.ways)
 
 abbrev pub decreases-loop-number : goal.decreases-loop-number
 decreases-loop-number l = 1024 - l.from

@@ -1,21 +1,16 @@
-use Rattle.std.proofs.Common.{[], ◌∙◌, sym, map, length, refl}
+use Rattle.std.proofs.Common.{◌∙◌, sym, map, arith}
 use Rattle.std.proofs.lemmas.List.{length-map}
-use Rattle.petri_atom.specs.Definition.{enabled}
-use Rattle.step_core.specs.Choice.{move_of}
-use Rattle.step_core.proofs.Judging.{of_atom-there, of_atom-past, judged-set}
+use Rattle.petri_atom.specs.Atom.{definition_of}
+use Rattle.step_core.proofs.Judging.{counted-moves}
 use Rattle.step_core.proofs.judged.Judged.move_count.Goals as goal
 
-pub returns-in-Some-clause-count : goal.returns-in-Some-clause-count
-returns-in-Some-clause-count c =
-    let judged = c.args.self.now in
-    let there = c.in-Some.ensures.lookup in
-    let port = c.args.port.now in
-    let n = c.from-number.result in
-    of_atom-there judged.atoms.now judged.states.now n port.atom c.from-number.ensures (λ a s. map (move_of port.atom) (enabled a s port.port)) [] (length) c.count_among.result c.in-Some.atom.now there.3.0 there.1 judged.as_many
-    (λ s known. c.count_among.ensures.count s (judged-set judged.atoms.now judged.states.now judged.offered.now n c.in-Some.atom.now c.index-self-number.result judged.exact judged.rows there.3.0 there.1 s known) ∙ sym (length-map _ _))
+pub returns-clause-few : goal.returns-clause-few
+returns-clause-few c =
+    omega (arith, c.from.ensures, c.count_at.ensures, c.args.self.now.counted.few c.args.port.now.atom c.args.port.now.port)
 
-pub returns-in-None-clause-count : goal.returns-in-None-clause-count
-returns-in-None-clause-count c =
+pub returns-clause-count : goal.returns-clause-count
+returns-clause-count c =
     let judged = c.args.self.now in
-    let port = c.args.port.now in
-    of_atom-past judged.atoms.now judged.states.now c.from-number.result port.atom c.from-number.ensures (λ a s. map (move_of port.atom) (enabled a s port.port)) [] (length) 0 c.in-None.ensures.lookup.3 refl
+    let atoms = map definition_of judged.atoms.now in
+    c.from.ensures ∙ c.count_at.ensures ∙
+    counted-moves atoms judged.states.now judged.offers.now.sets judged.offers.now.counts (judged.as_many ∙ sym (length-map judged.atoms.now definition_of)) judged.exact judged.counted c.args.port.now

@@ -1,0 +1,87 @@
+use Rattle.std.proofs.Common.{◌≡◌, ◌*◌, ◌∙◌, ℕ, false, true, ap, sym, subst, ⊎_elim, map, length}
+use Rattle.std.specs.FinSet.{contains}
+use Rattle.std.specs.Option.{option_map_or}
+use Rattle.std.proofs.lemmas.Bool.{cases_lt}
+use Rattle.std.proofs.lemmas.List.{length-map}
+use Rattle.std.proofs.lemmas.Option.{slice_get_past}
+use Rattle.petri_atom.specs.Atom.{definition_of}
+use Rattle.connector_tree.specs.declared.tree.Port.{Port}
+use Rattle.step_core.specs.Choice.{is_possible, is_possible_at, moves_of, choices_of}
+use Rattle.step_core.specs.Interaction.{interaction_of}
+use Rattle.step_core.specs.Offers.{AreOffered, AreCounted}
+use Rattle.step_core.specs.System.{plant_of}
+use Rattle.step_core.specs.Touching.{is_noted, at_port}
+use Rattle.step_core.specs.Ways.{ways_at}
+use Rattle.step_core.proofs.Judging.{counted-moves}
+use Rattle.step_core.proofs.Unchanged.{allowed-same, total-same}
+use Rattle.step_core.proofs.Untouched.{untouched, untouched-ways}
+use Rattle.step_core.proofs.system.System.judge_again.Goals as goal
+
+pub judge_touched-changed-requires-clause-others : goal.judge_touched-changed-requires-clause-others
+judge_touched-changed-requires-clause-others c n outside =
+    let system = c.args.self.now in
+    let plant = plant_of system in
+    let all = map interaction_of system.interactions.items in
+    let behind = c.requires.behind in
+    let before = behind.before in
+    let after = c.args.states.now in
+    let new = c.judge_moved-touched.new.self in
+    let old = c.args.judgement.now.offers in
+    let judged = c.judge_moved-touched.ensures in
+    let offered : AreOffered plant.atoms after new.sets = subst (λ list. AreOffered (map definition_of list) after new.sets) c.deref.ensures.value judged.offered in
+    let counted : AreCounted plant.atoms new.sets new.counts = subst (λ list. AreCounted (map definition_of list) new.sets new.counts) c.deref.ensures.value judged.counted in
+    let told : contains c.judge_moved-touched.result n ≡ false → (p : Port) → is_noted c.args.rows.now n (at_port p) ≡ true → length (moves_of plant.atoms after p) ≡ length (moves_of plant.atoms before p) =
+    λ out p noted. sym (counted-moves plant.atoms after new.sets new.counts c.requires.of_plant offered counted p) ∙ judged.told n p.atom p.port noted out ∙
+    counted-moves plant.atoms before old.sets old.counts (behind.as_many ∙ c.requires.of_plant) behind.judged.offered behind.judged.counted p in
+    behind.judged.possible n ∙
+    sym (⊎_elim
+    (λ within. untouched plant c.args.moves.now before after all c.args.rows.now n (c.requires.rows ∙ ap (λ k. k * 33) (sym (behind.as_many ∙ c.requires.of_plant ∙ length-map system.atoms.items definition_of))) behind.as_many behind.stays c.requires.touching (judged.read n (outside within)) (told (outside within)))
+    (λ past. ap (λ o. option_map_or (is_possible plant.atoms plant.wires after) o false) (slice_get_past all n past) ∙ sym (ap (λ o. option_map_or (is_possible plant.atoms plant.wires before) o false) (slice_get_past all n past)))
+    (cases_lt n (length all)))
+
+pub judge_touched-changed-requires-clause-other_ways : goal.judge_touched-changed-requires-clause-other_ways
+judge_touched-changed-requires-clause-other_ways c n outside =
+    let system = c.args.self.now in
+    let plant = plant_of system in
+    let all = map interaction_of system.interactions.items in
+    let behind = c.requires.behind in
+    let before = behind.before in
+    let after = c.args.states.now in
+    let new = c.judge_moved-touched.new.self in
+    let old = c.args.judgement.now.offers in
+    let judged = c.judge_moved-touched.ensures in
+    let offered : AreOffered plant.atoms after new.sets = subst (λ list. AreOffered (map definition_of list) after new.sets) c.deref.ensures.value judged.offered in
+    let counted : AreCounted plant.atoms new.sets new.counts = subst (λ list. AreCounted (map definition_of list) new.sets new.counts) c.deref.ensures.value judged.counted in
+    let told : contains c.judge_moved-touched.result n ≡ false → (p : Port) → is_noted c.args.rows.now n (at_port p) ≡ true → length (moves_of plant.atoms after p) ≡ length (moves_of plant.atoms before p) =
+    λ out p noted. sym (counted-moves plant.atoms after new.sets new.counts c.requires.of_plant offered counted p) ∙ judged.told n p.atom p.port noted out ∙
+    counted-moves plant.atoms before old.sets old.counts (behind.as_many ∙ c.requires.of_plant) behind.judged.offered behind.judged.counted p in
+    behind.judged.ways n ∙
+    sym (⊎_elim
+    (λ within. untouched-ways plant c.args.moves.now before after all c.args.rows.now n (c.requires.rows ∙ ap (λ k. k * 33) (sym (behind.as_many ∙ c.requires.of_plant ∙ length-map system.atoms.items definition_of))) behind.as_many behind.stays c.requires.touching (judged.read n (outside within)) (told (outside within)))
+    (λ past. ap (λ o. option_map_or (λ i. length (choices_of plant.atoms after i)) o 0) (slice_get_past all n past) ∙ sym (ap (λ o. option_map_or (λ i. length (choices_of plant.atoms before i)) o 0) (slice_get_past all n past)))
+    (cases_lt n (length all)))
+
+pub returns-else-changed : goal.returns-else-changed
+returns-else-changed c =
+    let system = c.args.self.now in
+    let plant = plant_of system in
+    let all = map interaction_of system.interactions.items in
+    let behind = c.requires.behind in
+    let before = behind.before in
+    let after = c.args.states.now in
+    let new = c.judge_moved-touched.new.self in
+    let judged = c.judge_moved-touched.ensures in
+    let touched = c.judge_touched-changed.ensures in
+    let same = touched.same c.if-changed.false in
+    let possible : (n : ℕ) → is_possible_at plant.atoms plant.wires after all n ≡ is_possible_at plant.atoms plant.wires before all n =
+    λ n. sym (touched.possible n) ∙ same.0 n ∙ behind.judged.possible n in
+    let ways : (n : ℕ) → ways_at plant.atoms after all n ≡ ways_at plant.atoms before all n =
+    λ n. sym (touched.ways n) ∙ same.1 n ∙ behind.judged.ways n in
+    record {
+      offered = subst (λ list. AreOffered (map definition_of list) after new.sets) c.deref.ensures.value judged.offered;
+      counted = subst (λ list. AreCounted (map definition_of list) new.sets new.counts) c.deref.ensures.value judged.counted;
+      possible = touched.possible;
+      ways = touched.ways;
+      allowed = λ n. behind.judged.allowed n ∙ sym (allowed-same plant all before after possible ways n);
+      total = behind.judged.total ∙ sym (total-same plant all before after possible ways);
+    }
