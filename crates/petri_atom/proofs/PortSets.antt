@@ -54,7 +54,7 @@ any-kept p (x ∷ xs) =
     ]
 
 -- the empty set has no bits
-ones-none : ones 0 ≡ 0
+pub ones-none : ones 0 ≡ 0
 ones-none = let few : ones 0 ≤ 0 = ones-le 0 0 (pow_pos 0) in omega (arith, few)
 
 -- a set of numbers below n has as many bits as numbers pass its test

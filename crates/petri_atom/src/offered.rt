@@ -62,7 +62,11 @@ impl Atom {
         ensures few { result ≤ MAX_TRANSITIONS }
         ensures count { (state : Local) → offered ≡ offered_set (definition_of self.now) state → result ≡ length (enabled (definition_of self.now) state port) }
     {
-        (offered.word & self.mask_of(port)).count_ones() as usize
+        let word = offered.word & self.mask_of(port);
+        if word == 0 {
+            return 0;
+        }
+        word.count_ones() as usize
     }
 
     /// How many transitions of each port are in the set of those that a state offers, by the ports' numbers; 0 past the last port.

@@ -60,3 +60,15 @@ members_of-united xs ys zs n of_x of_y of_z united =
     (λ past. holds_past zs q (omega arith) ∙ sym (ap (λ b. b || holds ys q) (holds_past xs q (omega arith)) ∙ holds_past ys q (omega arith)))
     (cases_lt (q / 64) n)
     ∙ sym (fin.contains-union nat_cmp_total (members_of xs) (members_of ys) q ∙ ap (λ b. b || fin.contains (members_of ys) q) (contains-members_of xs q) ∙ ap (λ b. holds xs q || b) (contains-members_of ys q)))
+
+-- where the first words are united, what is in either set is in, among the numbers of these words, and all else is as it was
+module _ (xs ys zs : List ℕ) (count : ℕ) where
+  pub united-within : ((k : ℕ) → k < count → get_or zs k 0 ≡ bit_or (get_or xs k 0) (get_or ys k 0)) → (n : ℕ) → n < 64 * count → fin.contains (members_of zs) n ≡ (fin.contains (members_of xs) n || fin.contains (members_of ys) n)
+  united-within united n below =
+      contains-members_of zs n ∙ ap (λ w. eqb (bit_at w (n % 64)) 1) (united (n / 64) (omega arith)) ∙
+      or_bit (get_or xs (n / 64) 0) (get_or ys (n / 64) 0) (n % 64) ∙
+      sym (ap (λ b. b || fin.contains (members_of ys) n) (contains-members_of xs n) ∙ ap (λ b. holds xs n || b) (contains-members_of ys n))
+
+  pub united-past : ((k : ℕ) → count ≤ k → get_or zs k 0 ≡ get_or xs k 0) → (n : ℕ) → 64 * count ≤ n → fin.contains (members_of zs) n ≡ fin.contains (members_of xs) n
+  united-past rest n past =
+      contains-members_of zs n ∙ ap (λ w. eqb (bit_at w (n % 64)) 1) (rest (n / 64) (omega arith)) ∙ sym (contains-members_of xs n)

@@ -1,10 +1,10 @@
 -- The first number from a place on that a row of words holds.
-use Rattle.std.proofs.Common.{◌≡◌, ◌≢◌, ℕ, ◌+◌, ◌-◌, ◌*◌, ◌/◌, ◌%◌, ◌^◌, ◌<◌, ◌≤◌, false, eqb, List, length, get_or, sym, ap, ◌∙◌, ⊎_elim, w64, arith}
+use Rattle.std.proofs.Common.{◌≡◌, ◌≢◌, ℕ, ◌+◌, ◌-◌, ◌*◌, ◌/◌, ◌%◌, ◌^◌, ◌<◌, ◌≤◌, Bool, true, false, cond, eqb, ltb, List, length, get_or, refl, sym, ap, ◌∙◌, ⊎_elim, w64, arith}
 use Rattle.std.specs.Prelude.{Option, Some, None, IfSome, IfNone}
 use Rattle.std.specs.Int.{bit_at, trailing_zeros}
 use Rattle.std.specs.Ordering.{nat_cmp}
 use Rattle.std.specs.FinSet.{FinSet, contains}
-use Rattle.std.proofs.lemmas.Bool.{cases_lt, eq-eqb}
+use Rattle.std.proofs.lemmas.Bool.{cases_lt, eq-eqb, lt-ltb, ltb-true, false≢true}
 use Rattle.std.proofs.lemmas.Nat.{shr-shr}
 use Rattle.std.proofs.lemmas.Nat.Bits.{bit_at-zero, bit_at_above, bit_at-trailing_zeros}
 use Rattle.priority_filter.specs.Members.{holds, members_of, IsFirst}
@@ -78,18 +78,36 @@ module _ (words : List ℕ) (from place : ℕ) (passed : IsPassed words from pla
     λ m on before. ⊎_elim (passed.1 m on) (λ past. none m past (omega arith)) (cases_lt m place),
   )
 
-  pub none-on : length words ≡ 16 → 1024 ≤ place → (m : ℕ) → from ≤ m → holds words m ≡ false
-  none-on long past m on = ⊎_elim (passed.1 m on) (λ beyond. holds_past words m (omega arith)) (cases_lt m place)
+  pub none-on : (end : ℕ) → end ≤ place → (m : ℕ) → from ≤ m → m < end → holds words m ≡ false
+  none-on end past m on within = passed.1 m on (omega (arith, past, within))
+
+  -- the first number on is the answer where it is below the end, and else there is none
+  pub found-below : (n end : ℕ) → IsFirst (holds words) place n → IfSome (cond (ltb n end) (Some n) None) (λ k. (k < end) × IsFirst (holds words) from k)
+  found-below n end first = each (ltb n end) refl
+    where
+      each : (b : Bool) → ltb n end ≡ b → IfSome (cond b (Some n) None) (λ k. (k < end) × IsFirst (holds words) from k)
+      each true told = (ltb-true n end told, first-on n first)
+      each false told = tt
+
+  pub none-below : (n end : ℕ) → IsFirst (holds words) place n → IfNone (cond (ltb n end) (Some n) None) ((m : ℕ) → from ≤ m → m < end → holds words m ≡ false)
+  none-below n end first = each (ltb n end) refl
+    where
+      each : (b : Bool) → ltb n end ≡ b → IfNone (cond b (Some n) None) ((m : ℕ) → from ≤ m → m < end → holds words m ≡ false)
+      each true told = tt
+      each false told = λ m on within. (first-on n first).3 m on (⊎_elim (λ below. absurd (false≢true (sym told ∙ lt-ltb n end below))) (λ past. omega (arith, past, within)) (cases_lt n end))
 
 -- what is said of a set's members is said of what the words of the set hold
 module _ (words : List ℕ) (s : FinSet nat_cmp) (same : members_of words ≡ s) (from : ℕ) where
   member : (m : ℕ) → contains s m ≡ holds words m
   member m = sym (ap (λ t. contains t m) same) ∙ contains-members_of words m
 
-  pub first-member : (found : Option ℕ) → IfSome found (IsFirst (holds words) from) → IfSome found (IsFirst (contains s) from)
-  first-member None _ = tt
-  first-member (Some n) first = (first.0, first.1, member n ∙ first.2, λ m on before. member m ∙ first.3 m on before)
+  pub first-member : (found : Option ℕ) (end : ℕ) → IfSome found (λ n. (n < end) × IsFirst (holds words) from n) → IfSome found (λ n. (from ≤ n) × (n < end) × (contains s n ≡ true) × ((m : ℕ) → from ≤ m → m < n → contains s m ≡ false))
+  first-member None end _ = tt
+  first-member (Some n) end first = (first.1.0, first.0, member n ∙ first.1.2, λ m on before. member m ∙ first.1.3 m on before)
 
-  pub no-member : (found : Option ℕ) → IfNone found ((m : ℕ) → from ≤ m → holds words m ≡ false) → IfNone found ((m : ℕ) → from ≤ m → contains s m ≡ false)
-  no-member None none = λ m on. member m ∙ none m on
-  no-member (Some n) _ = tt
+  pub no-member : (found : Option ℕ) (end : ℕ) → IfNone found ((m : ℕ) → from ≤ m → m < end → holds words m ≡ false) → IfNone found ((m : ℕ) → from ≤ m → m < end → contains s m ≡ false)
+  no-member None end none = λ m on within. member m ∙ none m on within
+  no-member (Some n) end _ = tt
+
+  pub no-member-past : length words ≡ 16 → (m : ℕ) → 1024 ≤ m → contains s m ≡ false
+  no-member-past long m past = member m ∙ holds_past words m (omega (arith, long, past))

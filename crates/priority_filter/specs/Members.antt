@@ -4,6 +4,7 @@ use Rattle.std.specs.List.{range_with_len}
 use Rattle.std.specs.Int.{bit_at}
 use Rattle.std.specs.Ordering.{nat_cmp}
 use Rattle.std.specs.FinSet.{FinSet, from_list}
+use Rattle.priority_filter.specs.declared.interaction_set.TheConstants.{INTERACTION_LIMIT}
 
 -- interaction k is held by bit k % 64 of word k / 64
 abbrev pub holds : List ℕ → ℕ → Bool
@@ -15,4 +16,4 @@ members_of words = from_list (filter (holds words) (range_with_len 0 (64 * lengt
 
 -- n is a number of an interaction, passes, and is the first from `from` on that does
 abbrev pub IsFirst : (ℕ → Bool) → ℕ → ℕ → Type 0
-IsFirst has from n = (from ≤ n) × (n < 1024) × (has n ≡ true) × ((m : ℕ) → from ≤ m → m < n → has m ≡ false)
+IsFirst has from n = (from ≤ n) × (n < INTERACTION_LIMIT) × (has n ≡ true) × ((m : ℕ) → from ≤ m → m < n → has m ≡ false)

@@ -1,5 +1,5 @@
 //! A set of interaction numbers, kept as a row of bits.
-ghost use Rattle.std.specs.Prelude.{◌≡◌, ℕ, ◌/◌, ◌<◌, ◌≤◌, ◌↔◌, true, false, IsTrue, IfSome, IfNone, bit_or, slice_index};
+ghost use Rattle.std.specs.Prelude.{◌≡◌, ℕ, ◌*◌, ◌/◌, ◌||◌, ◌<◌, ◌≤◌, ◌↔◌, true, false, IsTrue, IfSome, IfNone, Some, None, if◌then◌else◌, nat_lt, bit_or, slice_index};
 ghost use Rattle.std.specs.Ordering.{nat_cmp};
 ghost use Rattle.std.specs.FinSet as set;
 ghost use Rattle.std.specs.Coded.{coded_ℕ};
@@ -10,8 +10,8 @@ use std::marker::Model;
 /// How many interactions a plant has at most.
 pub const INTERACTION_LIMIT: usize = 1024;
 
-/// How many words hold a bit for each interaction.
-const ROW_WORDS: usize = INTERACTION_LIMIT / 64;
+/// How many words of 64 bits a set of interactions has.
+pub const ROW_WORDS: usize = INTERACTION_LIMIT / 64;
 
 /// Interactions, by their numbers. Every operation goes over a few words and takes no memory.
 #[derive(Debug, Drop)]
@@ -76,7 +76,16 @@ impl InteractionSet {
         ensures found { IfSome result (λ n. (from ≤ n) × (n < INTERACTION_LIMIT) × (set.contains self.now n ≡ true) × ((m : ℕ) → from ≤ m → m < n → set.contains self.now m ≡ false)) }
         ensures none { IfNone result ((m : ℕ) → from ≤ m → set.contains self.now m ≡ false) }
     {
-        first_in_words(&self.words, usize::from(from))
+        first_in_words(&self.words, usize::from(from), INTERACTION_LIMIT)
+    }
+
+    /// The least interaction of the set from `from` on and below `end`, if there is one. No word past those up to `end` is looked at.
+    pub fn first_between(&self, from: u16, end: usize) -> Option<u16>
+        requires { end ≤ INTERACTION_LIMIT }
+        ensures found { IfSome result (λ n. (from ≤ n) × (n < end) × (set.contains self.now n ≡ true) × ((m : ℕ) → from ≤ m → m < n → set.contains self.now m ≡ false)) }
+        ensures none { IfNone result ((m : ℕ) → from ≤ m → m < end → set.contains self.now m ≡ false) }
+    {
+        first_in_words(&self.words, usize::from(from), end)
     }
 
     /// The same interactions in a set of its own.
@@ -90,7 +99,16 @@ impl InteractionSet {
     pub fn union_with(&mut self, other: &InteractionSet)
         ensures { self.new ≡ set.union self.old other.now }
     {
-        unite(&mut self.words, &other.words);
+        unite(&mut self.words, &other.words, ROW_WORDS);
+    }
+
+    /// Puts in what the first words of the other set have: each interaction below 64 for each of the words.
+    pub fn union_words(&mut self, other: &InteractionSet, words: usize)
+        requires { words ≤ ROW_WORDS }
+        ensures within { (n : ℕ) → n < 64 * words → set.contains self.new n ≡ (set.contains self.old n || set.contains other.now n) }
+        ensures past { (n : ℕ) → 64 * words ≤ n → set.contains self.new n ≡ set.contains self.old n }
+    {
+        unite(&mut self.words, &other.words, words);
     }
 
     /// Whether some interaction is in both sets.
@@ -124,28 +142,41 @@ fn first_in_word(words: &[u64; ROW_WORDS], from: usize) -> Option<u16>
     }
 }
 
-/// The first number from `from` on, if there is one.
-fn first_in_words(words: &[u64; ROW_WORDS], from: usize) -> Option<u16>
-    ensures found { IfSome result (λ n. IsFirst (holds words.now) from n) }
-    ensures none { IfNone result ((m : ℕ) → from ≤ m → holds words.now m ≡ false) }
+/// The first number from `from` on and below `end`, if there is one.
+fn first_in_words(words: &[u64; ROW_WORDS], from: usize, end: usize) -> Option<u16>
+    requires { end ≤ INTERACTION_LIMIT }
+    ensures found { IfSome result (λ n. (n < end) × IsFirst (holds words.now) from n) }
+    ensures none { IfNone result ((m : ℕ) → from ≤ m → m < end → holds words.now m ≡ false) }
 {
     let mut place = from;
-    while place < INTERACTION_LIMIT {
-        let first = first_in_word(words, place);
-        if first.is_some() {
-            return first;
+    while place < end {
+        if let Some(first) = first_in_word(words, place) {
+            return below(first, end);
         }
         place = (place / 64 + 1) * 64;
     }
     None
 }
 
-/// Sets each bit that is set in the other words.
-fn unite(words: &mut [u64; ROW_WORDS], other: &[u64; ROW_WORDS])
-    ensures { (k : ℕ) → k < ROW_WORDS
-        → slice_index words.new k ≡ bit_or (slice_index words.old k) (slice_index other.now k) }
+/// The number, if it is below the end.
+fn below(number: u16, end: usize) -> Option<u16>
+    ensures { result ≡ (if nat_lt number end then Some number else None) }
 {
-    for k in 0..ROW_WORDS {
+    if usize::from(number) < end {
+        Some(number)
+    } else {
+        None
+    }
+}
+
+/// Sets each bit of the first words that is set in the other words.
+fn unite(words: &mut [u64; ROW_WORDS], other: &[u64; ROW_WORDS], count: usize)
+    requires { count ≤ ROW_WORDS }
+    ensures united { (k : ℕ) → k < count
+        → slice_index words.new k ≡ bit_or (slice_index words.old k) (slice_index other.now k) }
+    ensures rest { (k : ℕ) → count ≤ k → slice_index words.new k ≡ slice_index words.old k }
+{
+    for k in 0..count {
         words[k] |= other[k];
     }
 }

@@ -31,6 +31,6 @@ pub mod rule;
 mod table;
 
 pub use fault::OrderFault;
-pub use interaction_set::{INTERACTION_LIMIT, InteractionSet};
+pub use interaction_set::{INTERACTION_LIMIT, InteractionSet, ROW_WORDS};
 pub use order::Order;
 pub use rule::{Rule, Side};

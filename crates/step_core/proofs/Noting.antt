@@ -47,5 +47,5 @@ module _ {X : Type 0} (right : ℕ → X) (touched : ℕ → Bool) (count : ℕ)
       (cases_eq n k)
 
   -- where nothing more passes, it is right everywhere
-  pub right-all : (i : ℕ) (f : ℕ → X) → ((m : ℕ) → i ≤ m → touched m ≡ false) → IsRightTo i f → IsRightBut f → (n : ℕ) → f n ≡ right n
-  right-all i f none before but n = ⊎_elim (before n) (λ from. but n (λ _. none n from)) (cases_lt n i)
+  pub right-all : (i : ℕ) (f : ℕ → X) → ((m : ℕ) → i ≤ m → m < count → touched m ≡ false) → IsRightTo i f → IsRightBut f → (n : ℕ) → f n ≡ right n
+  right-all i f none before but n = ⊎_elim (before n) (λ from. but n (none n from)) (cases_lt n i)

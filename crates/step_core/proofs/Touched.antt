@@ -1,9 +1,8 @@
 -- Rows of interactions: what puts an interaction in keeps what is in, and what the rows of some moves hold.
-use Rattle.std.proofs.Common.{◌≡◌, ◌≢◌, ℕ, ◌+◌, ◌<◌, refl, sym, ◌∙◌, ap, List, [], ◌∷◌, length, get_or, set, take, arith, true, false, Bool, ⊎_elim}
+use Rattle.std.proofs.Common.{◌≡◌, ◌≢◌, ℕ, ◌+◌, ◌<◌, refl, sym, ◌∙◌, ap, List, [], ◌∷◌, length, get_or, set, take, arith, true, false, Bool, ◌||◌, ⊎_elim}
 use Rattle.std.specs.Prelude.{Some, slice_get}
-use Rattle.std.specs.Cmp.{nat_cmp_total}
 use Rattle.std.specs.Ordering.{nat_cmp}
-use Rattle.std.specs.FinSet.{FinSet, contains, empty, insert, union, contains-union}
+use Rattle.std.specs.FinSet.{FinSet, contains, empty, insert}
 use Rattle.std.specs.List.{list_all, list_any}
 use Rattle.std.specs.Option.{option_map_or}
 use Rattle.std.proofs.lemmas.Bool.{and_parts, and_from, or_parts, or_from, cases_eq, cases_lt}
@@ -86,9 +85,9 @@ in-row rows n place within here =
     ap (λ o. option_map_or (λ row. contains row n) o false) there ∙ sym (ap (λ o. option_map_or (λ row. contains row n) o true) there) ∙ here
 
 -- what is not in a union is in neither set, so not in the row that was put in
-module _ (rows : List (FinSet nat_cmp)) (place at : ℕ) (old row new : FinSet nat_cmp) (same : place ≡ at) (within : place < length rows) (here : row ≡ get_or rows place row) (put : new ≡ union old row) (n : ℕ) (out : contains new n ≡ false) where
+module _ (rows : List (FinSet nat_cmp)) (place at : ℕ) (old row new : FinSet nat_cmp) (same : place ≡ at) (within : place < length rows) (here : row ≡ get_or rows place row) (n : ℕ) (put : contains new n ≡ (contains old n || contains row n)) (out : contains new n ≡ false) where
   neither : (contains old n ≡ false) × (contains row n ≡ false)
-  neither = or_parts (contains old n) (contains row n) (sym (contains-union nat_cmp_total old row n) ∙ ap (λ s. contains s n) (sym put) ∙ out)
+  neither = or_parts (contains old n) (contains row n) (sym put ∙ out)
 
   pub out-before : contains old n ≡ false
   out-before = neither.0

@@ -1,5 +1,5 @@
 -- Which interactions depend on an atom, as a set of interactions for each of its ports, and one for the guards that read it.
-use Rattle.std.specs.Prelude.{◌≡◌, ◌≢◌, ◌+◌, ◌*◌, ℕ, Bool, true, false, List, [], Some, slice_get}
+use Rattle.std.specs.Prelude.{◌≡◌, ◌≢◌, ◌<◌, ◌+◌, ◌*◌, ℕ, Bool, true, false, List, [], Some, slice_get}
 use Rattle.std.specs.Ordering.{nat_cmp}
 use Rattle.std.specs.FinSet.{FinSet, contains}
 use Rattle.std.specs.List.{list_all, list_any}
@@ -61,7 +61,7 @@ is_in_row rows n place = option_map_or (λ row. contains row n) (slice_get rows 
 abbrev pub is_read_by : List (FinSet nat_cmp) → List Move → ℕ → Bool
 is_read_by rows moves n = list_any (λ m. is_in_row rows n (row_of_guards m.atom)) moves
 
--- at each port of an interaction that is not in the set the same number is kept as before
-abbrev pub AreTold : List (FinSet nat_cmp) → List (List ℕ) → List (List ℕ) → FinSet nat_cmp → Type 0
-AreTold rows old new touched =
-    (n atom port : ℕ) → is_noted rows n (row_of_port atom port) ≡ true → contains touched n ≡ false → count_at new atom port ≡ count_at old atom port
+-- at each port of an interaction of the first words that is not in the set the same number is kept as before
+abbrev pub AreTold : List (FinSet nat_cmp) → ℕ → List (List ℕ) → List (List ℕ) → FinSet nat_cmp → Type 0
+AreTold rows words old new touched =
+    (n atom port : ℕ) → n < 64 * words → is_noted rows n (row_of_port atom port) ≡ true → contains touched n ≡ false → count_at new atom port ≡ count_at old atom port

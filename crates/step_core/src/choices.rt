@@ -85,9 +85,10 @@ impl System {
         requires behind { IsBehind (plant_of self.now) (map interaction_of self.now.interactions.items) moves.now states.now judgement.old }
         ensures { IsJudgement (plant_of self.now) (map interaction_of self.now.interactions.items) states.now judgement.new }
     {
+        let words = self.interactions.len().div_ceil(64);
         let touched = judgement
             .offers
-            .judge_moved(&self.atoms, states, rows, moves);
+            .judge_moved(&self.atoms, states, rows, words, moves);
         let changed = self.judge_touched(
             states,
             &judgement.offers,

@@ -54,7 +54,7 @@ impl Filtered<'_> {
     {
         let mut total = 0;
         let mut from = 0;
-        while let Some(number) = self.possible.first_from(from) {
+        while let Some(number) = self.possible.first_between(from, self.interactions.len()) {
             if !self.is_overruled(number) {
                 allowed.insert(number);
                 total += u128::from(self.ways[usize::from(number)]);

@@ -152,7 +152,7 @@ impl Judged<'_> {
     {
         let mut changed = false;
         let mut from = 0;
-        while let Some(number) = touched.first_from(from) {
+        while let Some(number) = touched.first_between(from, interactions.len()) {
             if let Some(interaction) = interactions.get(usize::from(number)) {
                 changed |= self.note(number, interaction, possible, ways);
             }

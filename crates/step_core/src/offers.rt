@@ -7,6 +7,7 @@ ghost use Rattle.petri_atom.specs.Definition.{AtomDefinition, offered_set};
 ghost use Rattle.step_core.specs.Offers.{count_at, AreOffered, AreOfferedBut, AreCounted};
 ghost use Rattle.step_core.specs.Touching.{row_of_guards, row_of_port, is_in_row, is_read_by, AreTold};
 ghost use Rattle.petri_atom.specs.declared.parts.TheConstants.{MAX_PORTS};
+ghost use Rattle.priority_filter.specs.declared.interaction_set.TheConstants.{ROW_WORDS};
 ghost use Rattle.step_core.specs.declared.limits.TheConstants.{MAX_ATOMS};
 ghost use Rattle.step_core.specs.declared.touching.TheConstants.{ATOM_ROWS};
 
@@ -68,28 +69,30 @@ impl Offers {
     }
 
     /// Judges the transitions of the atoms of the moves again; those of all other atoms are known. Gives the interactions that
-    /// are to be judged again: those with a port at which another number of transitions is offered now, and those whose guards
-    /// read one of the atoms.
+    /// are to be judged again, of those that a row has in so many words: those with a port at which another number of
+    /// transitions is offered now, and those whose guards read one of the atoms.
     pub(crate) fn judge_moved(
         &mut self,
         atoms: &[Atom],
         states: &PlantState,
         rows: &[InteractionSet],
+        words: usize,
         moves: &[Move],
     ) -> InteractionSet
         requires as_many { length states.now ≡ length atoms.now }
         requires few { length atoms.now ≤ MAX_ATOMS }
         requires rows { length rows.now ≡ length atoms.now * ATOM_ROWS }
+        requires words { words ≤ ROW_WORDS }
         requires others { AreOfferedBut moves.now (map definition_of atoms.now) states.now self.old.sets }
         requires counted { AreCounted (map definition_of atoms.now) self.old.sets self.old.counts }
         ensures offered { AreOffered (map definition_of atoms.now) states.now self.new.sets }
         ensures counted { AreCounted (map definition_of atoms.now) self.new.sets self.new.counts }
-        ensures told { AreTold rows.now self.old.counts self.new.counts result }
-        ensures read { (n : ℕ) → contains result n ≡ false → is_read_by rows.now moves.now n ≡ false }
+        ensures told { AreTold rows.now words self.old.counts self.new.counts result }
+        ensures read { (n : ℕ) → n < 64 * words → contains result n ≡ false → is_read_by rows.now moves.now n ≡ false }
     {
         let mut touched = InteractionSet::new();
         for step in moves {
-            self.judge_atom(atoms, states, rows, step.atom, &mut touched);
+            self.judge_atom(atoms, states, rows, words, step.atom, &mut touched);
         }
         touched
     }
@@ -100,28 +103,31 @@ impl Offers {
         atoms: &[Atom],
         states: &PlantState,
         rows: &[InteractionSet],
+        words: usize,
         number: u16,
         touched: &mut InteractionSet,
     )
         requires as_many { length states.now ≡ length atoms.now }
         requires few { length atoms.now ≤ MAX_ATOMS }
         requires rows { length rows.now ≡ length atoms.now * ATOM_ROWS }
+        requires words { words ≤ ROW_WORDS }
         requires counted { AreCounted (map definition_of atoms.now) self.old.sets self.old.counts }
         ensures again { (a : AtomDefinition) (s : Local) → slice_get (map definition_of atoms.now) number ≡ Some a → slice_get states.now number ≡ Some s → slice_index_or self.new.sets number 0 ≡ offered_set a s }
         ensures others { (n : ℕ) → ¬ (n ≡ number) → slice_index_or self.new.sets n 0 ≡ slice_index_or self.old.sets n 0 }
         ensures counted { AreCounted (map definition_of atoms.now) self.new.sets self.new.counts }
-        ensures told { AreTold rows.now self.old.counts self.new.counts touched.new }
-        ensures read { (n : ℕ) → contains touched.new n ≡ false → is_in_row rows.now n (row_of_guards number) ≡ false }
-        ensures kept { (n : ℕ) → contains touched.new n ≡ false → contains touched.old n ≡ false }
+        ensures told { AreTold rows.now words self.old.counts self.new.counts touched.new }
+        ensures read { (n : ℕ) → n < 64 * words → contains touched.new n ≡ false → is_in_row rows.now n (row_of_guards number) ≡ false }
+        ensures kept { (n : ℕ) → n < 64 * words → contains touched.new n ≡ false → contains touched.old n ≡ false }
     {
         let index = usize::from(number);
         if let Some(atom) = atoms.get(index) {
-            touched.union_with(&rows[guard_row(number)]);
+            touched.union_words(&rows[guard_row(number)], words);
             let set = atom.offered(&states.states[index]);
             if set != self.sets[index] {
                 let counts = atom.counts_among(set);
                 touch_ports(
                     rows,
+                    words,
                     number,
                     atom.ports().len(),
                     &self.counts[index],
@@ -138,6 +144,7 @@ impl Offers {
 /// Puts the interactions on those of the atom's ports whose counts differ into the set.
 fn touch_ports(
     rows: &[InteractionSet],
+    words: usize,
     number: u16,
     ports: usize,
     before: &[u8; MAX_PORTS],
@@ -146,12 +153,13 @@ fn touch_ports(
 )
     requires ports { ports ≤ MAX_PORTS }
     requires rows { row_of_guards number < length rows.now }
-    ensures told { (n port : ℕ) → port < ports → is_in_row rows.now n (row_of_port number port) ≡ true → contains touched.new n ≡ false → slice_index_or after.now port 0 ≡ slice_index_or before.now port 0 }
-    ensures kept { (n : ℕ) → contains touched.new n ≡ false → contains touched.old n ≡ false }
+    requires words { words ≤ ROW_WORDS }
+    ensures told { (n port : ℕ) → n < 64 * words → port < ports → is_in_row rows.now n (row_of_port number port) ≡ true → contains touched.new n ≡ false → slice_index_or after.now port 0 ≡ slice_index_or before.now port 0 }
+    ensures kept { (n : ℕ) → n < 64 * words → contains touched.new n ≡ false → contains touched.old n ≡ false }
 {
     for port in 0..ports {
         if before[port] != after[port] {
-            touched.union_with(&rows[port_row(number, port as u16)]);
+            touched.union_words(&rows[port_row(number, port as u16)], words);
         }
     }
 }

@@ -1,6 +1,6 @@
 //! Plants that run: what is offered is judged again where atoms moved.
 use super::runs::{is, of_atom, sample};
-use super::{atom, wire};
+use super::{atom, connector, wire};
 use crate::choice::Choice;
 use crate::state::PlantState;
 use crate::stepper::Stepper;
@@ -81,5 +81,56 @@ fn each_atom_has_its_own_state(rt: HostRuntime) -> Result<(), Fail> {
     fire(&mut run, 0)?;
     assert_eq!(rt; of_atom(run.states(), 0), Some((100, 1)));
     assert_eq!(rt; run.count(), 0);
+    Ok(())
+}
+
+#[test]
+fn interactions_of_more_than_one_word_are_judged_again(rt: HostRuntime) -> Result<(), Fail> {
+    let alloc = rt.alloc();
+    let mut atoms = Vec::new(alloc);
+    // A sends to any of seven others, of which three can move once.
+    for (name, bound) in [
+        (b"A", 9),
+        (b"B", 1),
+        (b"C", 1),
+        (b"D", 1),
+        (b"E", 9),
+        (b"F", 9),
+        (b"G", 9),
+        (b"H", 9),
+    ] {
+        atoms.push(atom(alloc, name, true, true, &[bound])?)?;
+    }
+    let mut wires = Vec::new(alloc);
+    let mut sends = wire(alloc, b"send", &[])?;
+    sends.connector = connector(alloc, &[0, 1, 2, 3, 4, 5, 6, 7], true)?;
+    wires.push(sends)?;
+    let system = System::new(alloc, atoms, wires, &[], [0; 32])?;
+    let mut run = Stepper::first(alloc, &system)?;
+    assert_eq!(rt; system.interaction_count(), 128);
+    assert_eq!(rt; run.count(), 128);
+    let all = [
+        (0, 0),
+        (1, 0),
+        (2, 0),
+        (3, 0),
+        (4, 0),
+        (5, 0),
+        (6, 0),
+        (7, 0),
+    ];
+    assert!(rt; is(&fire(&mut run, 127)?, 0, 255, &all));
+    assert_eq!(rt; run.count(), 16);
+    let rest = [(0, 0), (4, 0), (5, 0), (6, 0), (7, 0)];
+    assert!(rt; is(&fire(&mut run, 15)?, 0, 241, &rest));
+    assert!(rt;
+        is(
+            &fire(&mut run, 14)?,
+            0,
+            225,
+            &[(0, 0), (5, 0), (6, 0), (7, 0)]
+        )
+    );
+    assert_eq!(rt; run.count(), 16);
     Ok(())
 }

@@ -1,10 +1,10 @@
-use Rattle.std.proofs.Common.{◌<◌, ◌^◌, ◌∙◌, ap, arith}
+use Rattle.std.proofs.Common.{◌<◌, ◌^◌, ◌∙◌, ap, sym, arith}
 use Rattle.std.specs.Prelude.{bit_and}
 use Rattle.std.specs.Int.Count.{ones}
 use Rattle.std.proofs.lemmas.Nat.{and_le_r, ones-le}
 use Rattle.petri_atom.specs.Atom.{definition_of}
 use Rattle.petri_atom.specs.Definition.{offers_number, offered_set}
-use Rattle.petri_atom.proofs.PortSets.{ones-of_port}
+use Rattle.petri_atom.proofs.PortSets.{ones-none, ones-of_port}
 use Rattle.petri_atom.proofs.atom.Atom.count_among.Goals as goal
 
 pub returns-clause-few : goal.returns-clause-few
@@ -17,6 +17,14 @@ returns-clause-few c =
 pub returns-clause-count : goal.returns-clause-count
 returns-clause-count c state told =
     let atom = definition_of c.args.self.now in
+    ap (λ w. ones (bit_and w c.mask_of.result)) (c.offered.view_is ∙ told) ∙
+    ap (λ m. ones (bit_and (offered_set atom state) m)) c.mask_of.ensures ∙
+    ones-of_port (offers_number atom state) c.args.port atom.transitions
+
+pub returns-then-word-eq0-clause-count : goal.returns-then-word-eq0-clause-count
+returns-then-word-eq0-clause-count c state told =
+    let atom = definition_of c.args.self.now in
+    sym (ap ones c.if-word-eq0.true ∙ ones-none) ∙
     ap (λ w. ones (bit_and w c.mask_of.result)) (c.offered.view_is ∙ told) ∙
     ap (λ m. ones (bit_and (offered_set atom state) m)) c.mask_of.ensures ∙
     ones-of_port (offers_number atom state) c.args.port atom.transitions

@@ -75,7 +75,7 @@ loop-number-preserved c =
     ] in
     let found = c.in-Some.ensures.found in
     let before = old.invariant in (
-      omega (arith, found.1),
+      omega (arith, found.1, c.requires.few),
       right-next possible touched count old.from n (contains old.possible) (contains new.possible) found.3 before.1 before.3 step.0,
       right-next ways touched count old.from n (λ k. get_or old.ways k 0) (λ k. get_or new.ways k 0) found.3 before.2 before.4 step.1,
       right-still possible touched count n (contains old.possible) (contains new.possible) before.3 step.0,
@@ -88,11 +88,11 @@ returns-clause-possible c =
     let judged = c.args.self.now in
     let all = map interaction_of c.args.interactions.now in
     let now = c.loop-number in
-    right-all (is_possible_at (map definition_of judged.atoms.now) (map wire_of judged.wires.now) judged.states.now all) (contains c.args.touched.now) (length all) now.from (contains now.possible) c.in_default.ensures.none now.invariant.1 now.invariant.3
+    right-all (is_possible_at (map definition_of judged.atoms.now) (map wire_of judged.wires.now) judged.states.now all) (contains c.args.touched.now) (length all) now.from (contains now.possible) (λ m from below. c.in_default.ensures.none m from (omega (arith, below, length-map c.args.interactions.now interaction_of))) now.invariant.1 now.invariant.3
 
 pub returns-clause-ways : goal.returns-clause-ways
 returns-clause-ways c =
     let judged = c.args.self.now in
     let all = map interaction_of c.args.interactions.now in
     let now = c.loop-number in
-    right-all (ways_at (map definition_of judged.atoms.now) judged.states.now all) (contains c.args.touched.now) (length all) now.from (λ k. get_or now.ways k 0) c.in_default.ensures.none now.invariant.2 now.invariant.4
+    right-all (ways_at (map definition_of judged.atoms.now) judged.states.now all) (contains c.args.touched.now) (length all) now.from (λ k. get_or now.ways k 0) (λ m from below. c.in_default.ensures.none m from (omega (arith, below, length-map c.args.interactions.now interaction_of))) now.invariant.2 now.invariant.4

@@ -31,7 +31,7 @@ returns-then-ne-clause-counted c =
     (λ s port told. among.counts s told port) among.past among.few (map definition_of list) (atom-there list i atom found.3.0 found.1) c.requires.counted
 
 pub returns-then-ne-clause-told : goal.returns-then-ne-clause-told
-returns-then-ne-clause-told c n number port noted out =
+returns-then-ne-clause-told c n number port low noted out =
     let old = c.args.self.now in
     let i = c.from-index.result in
     let rows = c.args.rows.now in
@@ -51,7 +51,7 @@ returns-then-ne-clause-told c n number port noted out =
     (λ below.
     let place : row_of_port number port ≡ row_of_port c.args.number port = ap (λ k. row_of_port k port) (same ∙ c.from-index.ensures) in
     let within : row_of_port number port < length rows = omega (arith, same, below, as_many, c.counts_among-counts.ensures.ports, found.3.0, c.requires.rows) in
-    c.touch_ports.ensures.told n port below (ap (is_in_row rows n) (sym place) ∙ in-row rows n (row_of_port number port) within noted) out ∙
+    c.touch_ports.ensures.told n port low below (ap (is_in_row rows n) (sym place) ∙ in-row rows n (row_of_port number port) within noted) out ∙
     ap (λ k. count_at old.counts k port) (sym same))
     (λ past.
     let beyond : length (definition_of atom).ports ≤ port = omega (arith, past, as_many) in
@@ -61,12 +61,12 @@ returns-then-ne-clause-told c n number port noted out =
     (cases_eq number i)
 
 pub returns-then-ne-clause-read : goal.returns-then-ne-clause-read
-returns-then-ne-clause-read c n out =
-    out-of-row c.args.rows.now c.guard_row.result (row_of_guards c.args.number) c.args.touched.now c.index-rows-guard_row.result c.union_with.new.self c.guard_row.ensures (omega (arith, c.guard_row.ensures, c.in-Some.ensures.lookup.3.0, c.from-index.ensures, c.requires.rows)) c.index-rows-guard_row.is c.union_with.ensures n (c.touch_ports.ensures.kept n out)
+returns-then-ne-clause-read c n low out =
+    out-of-row c.args.rows.now c.guard_row.result (row_of_guards c.args.number) c.args.touched.now c.index-rows-guard_row.result c.union_words.new.self c.guard_row.ensures (omega (arith, c.guard_row.ensures, c.in-Some.ensures.lookup.3.0, c.from-index.ensures, c.requires.rows)) c.index-rows-guard_row.is n (c.union_words.ensures.within n low) (c.touch_ports.ensures.kept n low out)
 
 pub returns-then-ne-clause-kept : goal.returns-then-ne-clause-kept
-returns-then-ne-clause-kept c n out =
-    out-before c.args.rows.now c.guard_row.result (row_of_guards c.args.number) c.args.touched.now c.index-rows-guard_row.result c.union_with.new.self c.guard_row.ensures (omega (arith, c.guard_row.ensures, c.in-Some.ensures.lookup.3.0, c.from-index.ensures, c.requires.rows)) c.index-rows-guard_row.is c.union_with.ensures n (c.touch_ports.ensures.kept n out)
+returns-then-ne-clause-kept c n low out =
+    out-before c.args.rows.now c.guard_row.result (row_of_guards c.args.number) c.args.touched.now c.index-rows-guard_row.result c.union_words.new.self c.guard_row.ensures (omega (arith, c.guard_row.ensures, c.in-Some.ensures.lookup.3.0, c.from-index.ensures, c.requires.rows)) c.index-rows-guard_row.is n (c.union_words.ensures.within n low) (c.touch_ports.ensures.kept n low out)
 
 pub returns-else-ne-clause-again : goal.returns-else-ne-clause-again
 returns-else-ne-clause-again c a s known there =
@@ -83,12 +83,12 @@ returns-else-ne-clause-again c a s known there =
     ap (offered_set a) (same_Some c.index.result.now s (sym (slice_get_read c.args.states.now (length c.args.states.now) i c.index.result.now refl (omega (arith, c.requires.as_many, found.3.0)) (c.index.ensures ∙ ap (λ xs. get_or xs i c.index.result.now) c.states.view_is)) ∙ ap (slice_get c.args.states.now) c.from-index.ensures ∙ there))
 
 pub returns-else-ne-clause-read : goal.returns-else-ne-clause-read
-returns-else-ne-clause-read c n out =
-    out-of-row c.args.rows.now c.guard_row.result (row_of_guards c.args.number) c.args.touched.now c.index-rows-guard_row.result c.union_with.new.self c.guard_row.ensures (omega (arith, c.guard_row.ensures, c.in-Some.ensures.lookup.3.0, c.from-index.ensures, c.requires.rows)) c.index-rows-guard_row.is c.union_with.ensures n out
+returns-else-ne-clause-read c n low out =
+    out-of-row c.args.rows.now c.guard_row.result (row_of_guards c.args.number) c.args.touched.now c.index-rows-guard_row.result c.union_words.new.self c.guard_row.ensures (omega (arith, c.guard_row.ensures, c.in-Some.ensures.lookup.3.0, c.from-index.ensures, c.requires.rows)) c.index-rows-guard_row.is n (c.union_words.ensures.within n low) out
 
 pub returns-else-ne-clause-kept : goal.returns-else-ne-clause-kept
-returns-else-ne-clause-kept c n out =
-    out-before c.args.rows.now c.guard_row.result (row_of_guards c.args.number) c.args.touched.now c.index-rows-guard_row.result c.union_with.new.self c.guard_row.ensures (omega (arith, c.guard_row.ensures, c.in-Some.ensures.lookup.3.0, c.from-index.ensures, c.requires.rows)) c.index-rows-guard_row.is c.union_with.ensures n out
+returns-else-ne-clause-kept c n low out =
+    out-before c.args.rows.now c.guard_row.result (row_of_guards c.args.number) c.args.touched.now c.index-rows-guard_row.result c.union_words.new.self c.guard_row.ensures (omega (arith, c.guard_row.ensures, c.in-Some.ensures.lookup.3.0, c.from-index.ensures, c.requires.rows)) c.index-rows-guard_row.is n (c.union_words.ensures.within n low) out
 
 pub returns-in_default-clause-again : goal.returns-in_default-clause-again
 returns-in_default-clause-again c a s known there =
@@ -97,5 +97,5 @@ returns-in_default-clause-again c a s known there =
     absurd (none-some a (sym none ∙ ap (slice_get (map definition_of list)) c.from-index.ensures ∙ known))
 
 pub returns-in_default-clause-read : goal.returns-in_default-clause-read
-returns-in_default-clause-read c n out =
+returns-in_default-clause-read c n low out =
     ap (λ o. option_map_or (λ r. contains r n) o false) (slice_get_past c.args.rows.now (row_of_guards c.args.number) (omega (arith, c.requires.rows, c.in_default.ensures.lookup.3, c.from-index.ensures)))

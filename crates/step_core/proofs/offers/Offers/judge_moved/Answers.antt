@@ -19,6 +19,6 @@ loop-step-preserved c =
       after-one move (drop (index + 1) moves) atoms c.args.states.now c.loop-step.self.sets c.judge_atom.new.self.sets new.again new.others
           (subst (λ left. AreOfferedBut left atoms c.args.states.now c.loop-step.self.sets) (drop_more moves index none c.loop-step-test.true) old.0),
       new.counted,
-      λ n atom port noted out. new.told n atom port noted out ∙ old.2 n atom port noted (new.kept n out),
-      λ n out. read-next c.args.rows.now n moves index none c.loop-step-test.true (old.3 n (new.kept n out)) (new.read n out),
+      λ n atom port low noted out. new.told n atom port low noted out ∙ old.2 n atom port low noted (new.kept n low out),
+      λ n low out. read-next c.args.rows.now n moves index none c.loop-step-test.true (old.3 n low (new.kept n low out)) (new.read n low out),
     )

@@ -1,4 +1,4 @@
-use Rattle.std.proofs.Common.{◌≡◌, ℕ, false, map, drop, take}
+use Rattle.std.proofs.Common.{◌≡◌, ◌<◌, ◌*◌, ℕ, false, map, drop, take}
 use Rattle.std.specs.FinSet.{contains}
 use Rattle.petri_atom.specs.Atom.{definition_of}
 use Rattle.step_core.specs.Offers.{AreOfferedBut, AreCounted}
@@ -9,5 +9,5 @@ abbrev pub invariant-loop-step : goal.invariant-loop-step
 invariant-loop-step l =
     AreOfferedBut (drop l.step-index l.moves) (map definition_of l.atoms) l.states l.self.sets ×
     AreCounted (map definition_of l.atoms) l.self.sets l.self.counts ×
-    AreTold l.rows l.fn.self.counts l.self.counts l.touched ×
-    ((n : ℕ) → contains l.touched n ≡ false → is_read_by l.rows (take l.step-index l.moves) n ≡ false)
+    AreTold l.rows l.words l.fn.self.counts l.self.counts l.touched ×
+    ((n : ℕ) → n < 64 * l.words → contains l.touched n ≡ false → is_read_by l.rows (take l.step-index l.moves) n ≡ false)

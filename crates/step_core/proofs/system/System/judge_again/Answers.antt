@@ -1,4 +1,4 @@
-use Rattle.std.proofs.Common.{◌≡◌, ◌*◌, ◌∙◌, ℕ, false, true, ap, sym, subst, ⊎_elim, map, length}
+use Rattle.std.proofs.Common.{◌≡◌, ◌<◌, ◌*◌, ◌∙◌, ℕ, false, true, ap, sym, subst, ⊎_elim, arith, map, length}
 use Rattle.std.specs.FinSet.{contains}
 use Rattle.std.specs.Option.{option_map_or}
 use Rattle.std.proofs.lemmas.Bool.{cases_lt}
@@ -30,12 +30,13 @@ judge_touched-changed-requires-clause-others c n outside =
     let judged = c.judge_moved-touched.ensures in
     let offered : AreOffered plant.atoms after new.sets = subst (λ list. AreOffered (map definition_of list) after new.sets) c.deref.ensures.value judged.offered in
     let counted : AreCounted plant.atoms new.sets new.counts = subst (λ list. AreCounted (map definition_of list) new.sets new.counts) c.deref.ensures.value judged.counted in
-    let told : contains c.judge_moved-touched.result n ≡ false → (p : Port) → is_noted c.args.rows.now n (at_port p) ≡ true → length (moves_of plant.atoms after p) ≡ length (moves_of plant.atoms before p) =
-    λ out p noted. sym (counted-moves plant.atoms after new.sets new.counts c.requires.of_plant offered counted p) ∙ judged.told n p.atom p.port noted out ∙
+    let low : n < length all → n < 64 * c.div_ceil-words.result = λ within. omega (arith, within, length-map system.interactions.items interaction_of, c.div_ceil-words.ensures) in
+    let told : n < length all → contains c.judge_moved-touched.result n ≡ false → (p : Port) → is_noted c.args.rows.now n (at_port p) ≡ true → length (moves_of plant.atoms after p) ≡ length (moves_of plant.atoms before p) =
+    λ within out p noted. sym (counted-moves plant.atoms after new.sets new.counts c.requires.of_plant offered counted p) ∙ judged.told n p.atom p.port (low within) noted out ∙
     counted-moves plant.atoms before old.sets old.counts (behind.as_many ∙ c.requires.of_plant) behind.judged.offered behind.judged.counted p in
     behind.judged.possible n ∙
     sym (⊎_elim
-    (λ within. untouched plant c.args.moves.now before after all c.args.rows.now n (c.requires.rows ∙ ap (λ k. k * 33) (sym (behind.as_many ∙ c.requires.of_plant ∙ length-map system.atoms.items definition_of))) behind.as_many behind.stays c.requires.touching (judged.read n (outside within)) (told (outside within)))
+    (λ within. untouched plant c.args.moves.now before after all c.args.rows.now n (c.requires.rows ∙ ap (λ k. k * 33) (sym (behind.as_many ∙ c.requires.of_plant ∙ length-map system.atoms.items definition_of))) behind.as_many behind.stays c.requires.touching (judged.read n (low within) (outside within)) (told within (outside within)))
     (λ past. ap (λ o. option_map_or (is_possible plant.atoms plant.wires after) o false) (slice_get_past all n past) ∙ sym (ap (λ o. option_map_or (is_possible plant.atoms plant.wires before) o false) (slice_get_past all n past)))
     (cases_lt n (length all)))
 
@@ -52,12 +53,13 @@ judge_touched-changed-requires-clause-other_ways c n outside =
     let judged = c.judge_moved-touched.ensures in
     let offered : AreOffered plant.atoms after new.sets = subst (λ list. AreOffered (map definition_of list) after new.sets) c.deref.ensures.value judged.offered in
     let counted : AreCounted plant.atoms new.sets new.counts = subst (λ list. AreCounted (map definition_of list) new.sets new.counts) c.deref.ensures.value judged.counted in
-    let told : contains c.judge_moved-touched.result n ≡ false → (p : Port) → is_noted c.args.rows.now n (at_port p) ≡ true → length (moves_of plant.atoms after p) ≡ length (moves_of plant.atoms before p) =
-    λ out p noted. sym (counted-moves plant.atoms after new.sets new.counts c.requires.of_plant offered counted p) ∙ judged.told n p.atom p.port noted out ∙
+    let low : n < length all → n < 64 * c.div_ceil-words.result = λ within. omega (arith, within, length-map system.interactions.items interaction_of, c.div_ceil-words.ensures) in
+    let told : n < length all → contains c.judge_moved-touched.result n ≡ false → (p : Port) → is_noted c.args.rows.now n (at_port p) ≡ true → length (moves_of plant.atoms after p) ≡ length (moves_of plant.atoms before p) =
+    λ within out p noted. sym (counted-moves plant.atoms after new.sets new.counts c.requires.of_plant offered counted p) ∙ judged.told n p.atom p.port (low within) noted out ∙
     counted-moves plant.atoms before old.sets old.counts (behind.as_many ∙ c.requires.of_plant) behind.judged.offered behind.judged.counted p in
     behind.judged.ways n ∙
     sym (⊎_elim
-    (λ within. untouched-ways plant c.args.moves.now before after all c.args.rows.now n (c.requires.rows ∙ ap (λ k. k * 33) (sym (behind.as_many ∙ c.requires.of_plant ∙ length-map system.atoms.items definition_of))) behind.as_many behind.stays c.requires.touching (judged.read n (outside within)) (told (outside within)))
+    (λ within. untouched-ways plant c.args.moves.now before after all c.args.rows.now n (c.requires.rows ∙ ap (λ k. k * 33) (sym (behind.as_many ∙ c.requires.of_plant ∙ length-map system.atoms.items definition_of))) behind.as_many behind.stays c.requires.touching (judged.read n (low within) (outside within)) (told within (outside within)))
     (λ past. ap (λ o. option_map_or (λ i. length (choices_of plant.atoms after i)) o 0) (slice_get_past all n past) ∙ sym (ap (λ o. option_map_or (λ i. length (choices_of plant.atoms before i)) o 0) (slice_get_past all n past)))
     (cases_lt n (length all)))
 
