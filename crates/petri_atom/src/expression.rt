@@ -74,12 +74,24 @@ impl<V> Expression<V> {
     pub fn value<S: Valuation<V>>(&self, variables: &S) -> i64
         ensures { result ≡ value_of (S.value_at variables.now) (tree_of self.now) }
     {
+        // Most expressions are one word: these take no call.
         match self {
             Expression::Number(number) => *number,
             Expression::Variable(variable) => variables.value_at(variable),
-            Expression::Not(operand) => i64::from(operand.value(variables) == 0),
+            _ => self.walked(variables),
+        }
+    }
+
+    /// The same, of an expression of any kind, by a walk over its tree.
+    fn walked<S: Valuation<V>>(&self, variables: &S) -> i64
+        ensures { result ≡ value_of (S.value_at variables.now) (tree_of self.now) }
+    {
+        match self {
+            Expression::Number(number) => *number,
+            Expression::Variable(variable) => variables.value_at(variable),
+            Expression::Not(operand) => i64::from(operand.walked(variables) == 0),
             Expression::Apply(operator, left, right) => {
-                operator.apply(left.value(variables), right.value(variables))
+                operator.apply(left.walked(variables), right.walked(variables))
             }
         }
     }
@@ -91,9 +103,19 @@ impl<V> Expression<V> {
         match self {
             Expression::Number(_) => true,
             Expression::Variable(variable) => test.passes(variable),
-            Expression::Not(operand) => operand.all_variables(test),
-            Expression::Apply(_, left, right) => left.all_variables(test)
-                & right.all_variables(test),
+            _ => self.all_pass(test),
+        }
+    }
+
+    /// The same, of an expression of any kind, by a walk over its tree.
+    fn all_pass<T: VariableTest<V>>(&self, test: &T) -> bool
+        ensures { result ≡ all_variables (T.passes test.now) (tree_of self.now) }
+    {
+        match self {
+            Expression::Number(_) => true,
+            Expression::Variable(variable) => test.passes(variable),
+            Expression::Not(operand) => operand.all_pass(test),
+            Expression::Apply(_, left, right) => left.all_pass(test) & right.all_pass(test),
         }
     }
 
