@@ -86,7 +86,14 @@ impl Judged<'_> {
     {
         match ports {
             [] => 1,
-            [first, later @ ..] => self.move_count(first) * self.row_count(later),
+            [first, later @ ..] => {
+                let count = self.move_count(first);
+                if count == 0 {
+                    0
+                } else {
+                    count * self.row_count(later)
+                }
+            }
         }
     }
 
