@@ -13,6 +13,7 @@ A case is a folder tests/COMMAND/CASE. The program runs in a fresh copy of it, i
     setting       lines that say what else is so:
                       standard output closed              the program has no standard output
                       standard output full                the standard output takes nothing
+                      standard error on a terminal        what is told goes to a terminal
                       memory of COUNT KiB                 the program gets no more memory for its data
                       FILE begins with COUNT line feeds   the file, too long to be stored, has these before; or `spaces`
                       FILE ends with COUNT line feeds     the file has these behind, or is made of them
@@ -25,11 +26,13 @@ Words on the command line choose cases: `tests/run.py check` runs those whose CO
 """
 
 import os
+import pty
 import re
 import shutil
 import subprocess
 import sys
 import tempfile
+import tty
 import unittest
 from pathlib import Path
 
@@ -40,6 +43,8 @@ PROGRAM = ROOT / "crates" / "bip_run" / "out" / "bip_run"
 SECONDS = 60
 # Where a setting leads the standard output.
 OUTPUTS = {"standard output closed": ">&-", "standard output full": ">/dev/full"}
+# The setting that gives the program a terminal.
+TERMINAL = "standard error on a terminal"
 # What a setting may grow a file by.
 BYTES = {"line feeds": b"\n", "spaces": b" "}
 
@@ -64,6 +69,23 @@ def grow(file, end, more):
     """Puts more bytes before what the file holds, or behind it."""
     own = file.read_bytes() if file.exists() else b""
     file.write_bytes(more + own if end == "begins" else own + more)
+
+
+def run_on_terminal(command, how):
+    """Runs a command with a terminal as its standard error, and gives its status, standard output and what was told."""
+    ours, theirs = pty.openpty()
+    # A terminal turns line feeds into something else, unless it is told not to.
+    tty.setraw(theirs)
+    try:
+        ran = subprocess.run(command, stderr=theirs, **how)
+        os.set_blocking(ours, False)
+        told = os.read(ours, 1 << 16)
+    except BlockingIOError:
+        told = b""
+    finally:
+        os.close(theirs)
+        os.close(ours)
+    return ran.returncode, ran.stdout, told
 
 
 class Case:
@@ -100,7 +122,7 @@ class Case:
                 command = f"ulimit -d {given[1]} && {command}"
             elif line in OUTPUTS:
                 command = f"{command} {OUTPUTS[line]}"
-            else:
+            elif line != TERMINAL:
                 raise ValueError(f"{self.name}: no such setting: {line}")
         return command
 
@@ -108,9 +130,10 @@ class Case:
         """Runs the program, and gives its status, standard output and standard error."""
         with tempfile.TemporaryDirectory() as folder:
             command = ["sh", "-c", self.make_files(Path(folder)), str(program), *self.lines_of("args")]
-            ran = subprocess.run(
-                command, input=self.bytes_of("stdin") or b"", capture_output=True, cwd=folder, timeout=SECONDS
-            )
+            how = {"input": self.bytes_of("stdin") or b"", "stdout": subprocess.PIPE, "cwd": folder, "timeout": SECONDS}
+            if TERMINAL in self.lines_of("setting"):
+                return run_on_terminal(command, how)
+            ran = subprocess.run(command, stderr=subprocess.PIPE, **how)
             return ran.returncode, ran.stdout, ran.stderr
 
 

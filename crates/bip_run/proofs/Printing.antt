@@ -32,3 +32,8 @@ appended_then (Some xs) (Some ys) (Some zs) first second one two = two ∙ ap (�
 -- a count that was appended is this one
 pub counted_as : (a b : Option (List ℕ)) (word : List ℕ) (n m : ℕ) → n ≡ m → Appends a b (counted word n) → Appends a b (counted word m)
 counted_as a b word n m same appended = subst (λ count. Appends a b (counted word count)) same appended
+
+-- what holds of a text holds of the bytes that are known to be this text
+pub of_known : (known : Option (List ℕ)) (text : List ℕ) (P : List ℕ → Type 0) → IfSome known (λ bytes. text ≡ bytes) → P text → IfSome known P
+of_known None text P same holds = tt
+of_known (Some bytes) text P same holds = subst P same holds

@@ -1,3 +1,4 @@
+pub mod Explanation
 pub mod Formats
 pub mod Picks
 pub mod Printed

@@ -104,6 +104,8 @@ const FORMAT: &str = "format";
 
 const LINES: &str = "lines";
 
+const EXPLAIN: &str = "explain";
+
 /// The formats in which a run is printed, as `format_named` knows them.
 const FORMATS: &[&str] = &[LINES, "csv", "jsonl"];
 
@@ -118,21 +120,23 @@ pub(crate) fn read_request<'a>(alloc: Global, words: &'a [String]) -> Result<Req
     let mut program = program(alloc)?;
     let matches = program.try_get_matches_from_mut(words)?;
     match matches.subcommand() {
-        Some((CHECK, found)) => check_request(&mut program, found),
+        Some((CHECK, found)) => request(&mut program, found, Task::Check),
         Some((TRACE, found)) => trace_request(alloc, &mut program, found),
-        Some((DRAW, found)) => draw_request(&mut program, found),
+        Some((DRAW, found)) => request(&mut program, found, Task::Draw),
         _ => Err(program.error(ErrorKind::MissingSubcommand, "a command is missing")?),
     }
 }
 
-/// The request to count the parts of a plant.
-fn check_request<'a>(
+/// The request to do this with a plant.
+fn request<'a>(
     program: &mut Command<'a>,
     found: &ArgMatches<'a>,
+    task: Task,
 ) -> Result<Request<'a>, Error> {
     Ok(Request {
-        task: Task::Check,
+        task,
         plant: plant_given(program, found)?,
+        explain: found.get_flag(EXPLAIN),
     })
 }
 
@@ -142,26 +146,11 @@ fn trace_request<'a>(
     program: &mut Command<'a>,
     found: &ArgMatches<'a>,
 ) -> Result<Request<'a>, Error> {
-    let plant = plant_given(program, found)?;
     match read_picks(alloc, found.get_strs(PICK).unwrap_or(&[])) {
-        Ok(picks) => Ok(Request {
-            task: Task::Trace(picks, format_given(found)),
-            plant,
-        }),
+        Ok(picks) => request(program, found, Task::Trace(picks, format_given(found))),
         Err(PickFault::NoPick(word)) => Err(no_pick(alloc, program, word)?),
         Err(PickFault::Memory) => Err(Error::from(AllocError)),
     }
-}
-
-/// The request to draw a plant.
-fn draw_request<'a>(
-    program: &mut Command<'a>,
-    found: &ArgMatches<'a>,
-) -> Result<Request<'a>, Error> {
-    Ok(Request {
-        task: Task::Draw,
-        plant: plant_given(program, found)?,
-    })
 }
 
 /// The format in which a run is to be printed.
@@ -203,6 +192,7 @@ fn check_command<'a>(alloc: Global) -> Result<Command<'a>, AllocError> {
         .about(CHECK_BRIEF)
         .long_about(CHECK_ABOUT)
         .after_help(CHECK_AFTER)
+        .arg(explain_argument(alloc))?
         .arg(plant_argument(alloc))
 }
 
@@ -213,6 +203,7 @@ fn trace_command<'a>(alloc: Global) -> Result<Command<'a>, AllocError> {
         .long_about(TRACE_ABOUT)
         .after_help(TRACE_AFTER)
         .arg(format_argument(alloc))?
+        .arg(explain_argument(alloc))?
         .arg(plant_argument(alloc))?
         .arg(pick_argument(alloc))
 }
@@ -223,6 +214,7 @@ fn draw_command<'a>(alloc: Global) -> Result<Command<'a>, AllocError> {
         .about(DRAW_BRIEF)
         .long_about(DRAW_ABOUT)
         .after_help(DRAW_AFTER)
+        .arg(explain_argument(alloc))?
         .arg(plant_argument(alloc))
 }
 
@@ -231,6 +223,14 @@ fn plant_argument<'a>(alloc: Global) -> Arg<'a> {
     Arg::new(alloc, PLANT).required(true).help(
         "The file with the text of the plant, or - for the standard input",
     )
+}
+
+/// The option that has the line of a fault shown.
+fn explain_argument<'a>(alloc: Global) -> Arg<'a> {
+    Arg::new(alloc, EXPLAIN)
+        .long(EXPLAIN)
+        .action(ArgAction::SetTrue)
+        .help("Shows the plant's line below a fault, as it is done on a terminal")
 }
 
 /// The option that says in which format a run is printed.

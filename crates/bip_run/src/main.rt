@@ -8,10 +8,12 @@
 //! - `picks`: the words of a run's picks. `formats`: the words for the formats of a run.
 //! - `task`: what is done with a plant text, from a reader to a writer.
 //! - `stop`: why the program ends early, what it tells then, and its exit status.
+//! - `explanation`: the line of a fault, with a mark under what is at fault.
 #![tactic(auto)]
 
 mod command_line;
 mod counts;
+mod explanation;
 mod formats;
 mod picks;
 mod process;
@@ -21,8 +23,10 @@ mod task;
 #[cfg(test)]
 mod tests;
 
+use std::io::IsTerminal;
 use std::process::ExitCode;
 
 fn main(rt: HostRuntime) -> ExitCode {
-    ExitCode::from(process::run(&rt))
+    let is_terminal = rt.stderr().is_terminal();
+    ExitCode::from(process::run(&rt, is_terminal))
 }

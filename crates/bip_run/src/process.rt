@@ -5,22 +5,29 @@ ghost use Rattle.bip_run.specs.Stop.{status_of};
 ghost use Rattle.bip_run.specs.declared.stop.Stop.TheVariants.{Usage, Memory};
 
 use crate::command_line::read_request;
+use crate::explanation::explanation;
 use crate::request::Request;
 use crate::stop::{Stop, Told, exit_status};
 use crate::task::perform;
 use clap::Error;
 use clap::error::ErrorKind;
+use plant_text::{Fault, find_mark};
+use std::alloc::AllocError;
 use std::io::{BufWriter, ErrorKind as IoErrorKind};
 use std::rt::{Env, Files};
-use std::{env, fs, io};
+use std::{env, fs, io, str};
 
 /// The path that stands for the standard input.
 const STANDARD_INPUT: &str = "-";
 
-/// Does what the words of the command line ask for, and gives the exit status.
-pub(crate) fn run<R: Env + Files + Input + Print + Eprint + AllocGlobal>(rt: &R) -> u8 {
+/// Does what the words of the command line ask for, and gives the exit status. The line of a fault is shown where `explain`
+/// says so or the words ask for it.
+pub(crate) fn run<R: Env + Files + Input + Print + Eprint + AllocGlobal>(
+    rt: &R,
+    explain: bool,
+) -> u8 {
     match words(rt) {
-        Ok(words) => answer(rt, words.as_slice()),
+        Ok(words) => answer(rt, words.as_slice(), explain),
         Err(stop) => end(rt, "", Err(stop)),
     }
 }
@@ -38,9 +45,13 @@ fn words<R: Env + Eprint + AllocGlobal>(rt: &R) -> Result<Vec<String>, Stop> {
 }
 
 /// Answers the words of the command line.
-fn answer<R: Files + Input + Print + Eprint + AllocGlobal>(rt: &R, words: &[String]) -> u8 {
+fn answer<R: Files + Input + Print + Eprint + AllocGlobal>(
+    rt: &R,
+    words: &[String],
+    explain: bool,
+) -> u8 {
     match read_request(rt.alloc(), words) {
-        Ok(request) => end(rt, request.plant, serve(rt, &request)),
+        Ok(request) => serve(rt, &request, explain),
         Err(told) => end(rt, "", show(rt, &told)),
     }
 }
@@ -61,18 +72,51 @@ fn show<R: Print + Eprint>(rt: &R, told: &Error) -> Result<(), Stop>
     shown.map_err(|_| Stop::Unwritten)
 }
 
-/// Does what was asked for.
-fn serve<R: Files + Input + Print + AllocGlobal>(
+/// Does what was asked for, tells why not where it stops, and gives the exit status.
+fn serve<R: Files + Input + Print + Eprint + AllocGlobal>(
     rt: &R,
     request: &Request<'_>,
+    explain: bool,
+) -> u8 {
+    let mut text = Vec::new(rt.alloc());
+    let ended = work(rt, request, &mut text);
+    let status = end(rt, request.plant, ended);
+    if let Err(Stop::Plant(told)) = ended
+        && (explain || request.explain)
+    {
+        // What can't be shown for want of memory has been told by its line.
+        let _ = show_line(rt, &text, &told.fault);
+    }
+    status
+}
+
+/// Does what was asked for. The text of the plant is put into `text`.
+fn work<R: Files + Input + Print + AllocGlobal>(
+    rt: &R,
+    request: &Request<'_>,
+    text: &mut Vec<u8>,
 ) -> Result<(), Stop> {
     let alloc = rt.alloc();
     let mut output = BufWriter::new(alloc, io::writer(rt)).map_err(|_| Stop::Memory)?;
     if request.plant == STANDARD_INPUT {
-        return perform(alloc, &request.task, &mut rt.reader(), &mut output);
+        return perform(alloc, &request.task, &mut rt.reader(), text, &mut output);
     }
     let mut file = fs::open(rt, request.plant).map_err(|_| Stop::Unopened)?;
-    perform(alloc, &request.task, &mut file, &mut output)
+    perform(alloc, &request.task, &mut file, text, &mut output)
+}
+
+/// Shows the line of the text that has the fault, if it is one of a line, with a mark under what is at fault.
+fn show_line<R: Eprint + AllocGlobal>(
+    rt: &R,
+    text: &[u8],
+    fault: &Fault,
+) -> Result<(), AllocError> {
+    let alloc = rt.alloc();
+    if let Some(mark) = find_mark(alloc, text)? {
+        let shown = explanation(alloc, &mark, fault)?;
+        let _ = rt.eprint(str::from_utf8(&shown).unwrap_or(""));
+    }
+    Ok(())
 }
 
 /// Tells why the program stops, where it does, and gives the exit status.

@@ -19,4 +19,6 @@ pub(crate) struct Request<'a> {
     pub(crate) task: Task,
     /// Where the plant text stands: the path of a file, or `-` for the standard input.
     pub(crate) plant: &'a str,
+    /// Whether the line of a fault is shown, also where the standard error is no terminal.
+    pub(crate) explain: bool,
 }

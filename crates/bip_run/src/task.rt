@@ -1,5 +1,5 @@
 //! What is done with a plant text, from a reader to a writer.
-ghost use Rattle.std.specs.Prelude.{◌≡◌, ◌≢◌, IfErr, IfSome, OnOk, Err};
+ghost use Rattle.std.specs.Prelude.{◌≡◌, ◌≢◌, ◌<◌, IfErr, IfOk, IfSome, OnOk, Err};
 ghost use Rattle.std.specs.Io.KnownBytes.{Appends, Keeps};
 ghost use Rattle.step_core.specs.System.{plant_of};
 ghost use Rattle.plant_text.specs.declared.fault.PlantFault.{PlantFault};
@@ -11,28 +11,41 @@ use crate::counts::print_counts;
 use crate::request::Task;
 use crate::stop::Stop;
 use plant_drawing::draw_to;
-use plant_text::read_plant;
+use plant_text::{PlantFault, plant_of_text};
 use run_text::trace_as;
 use std::alloc::Global;
 use std::io::{Read, Write};
 use step_core::System;
-use text_io::WriteFault;
+use text_io::{WriteFault, read_text};
 
-/// Reads a plant text to the reader's end, and prints what the task says of the plant.
+/// Reads a plant text to the reader's end, and prints what the task says of the plant. The text is put into `text`, so that a
+/// fault of one of its lines can be shown there.
 pub(crate) fn perform<R: Read, W: Write>(
     alloc: Global,
     task: &Task,
-    text: &mut R,
+    reader: &mut R,
+    text: &mut Vec<u8>,
     output: &mut W,
 ) -> Result<(), Stop>
-    ensures printed { OnOk result (IfSome (R.remaining text.old) (λ bytes. Prints task.now bytes (W.contents output.old) (W.contents output.new))) }
-    ensures refused { IfErr result (λ stop. IfSome (R.remaining text.old) (λ bytes. Tells stop bytes)) }
+    ensures printed { OnOk result (IfSome (R.remaining reader.old) (λ bytes. Prints task.now bytes (W.contents output.old) (W.contents output.new))) }
+    ensures refused { IfErr result (λ stop. IfSome (R.remaining reader.old) (λ bytes. Tells stop bytes)) }
     ensures nothing_printed { (told : PlantFault) → result ≡ Err (Plant told) → output.new ≡ output.old }
+    ensures kept { (told : PlantFault) → result ≡ Err (Plant told) → 0 < told.line → IfSome (R.remaining reader.old) (λ bytes. text.new.items ≡ bytes) }
 {
-    let system = read_plant(alloc, text)?;
+    *text = read_bytes(alloc, reader)?;
+    let system = plant_of_text(alloc, text)?;
     print_task(alloc, task, &system, output)?;
     flush(output)?;
     Ok(())
+}
+
+/// The bytes of a plant text.
+fn read_bytes<R: Read>(alloc: Global, reader: &mut R) -> Result<Vec<u8>, Stop>
+    ensures all { IfOk result (λ text. IfSome (R.remaining reader.old) (λ bytes. text.items ≡ bytes)) }
+    ensures refused { IfErr result (λ stop. IfSome (R.remaining reader.old) (λ bytes. Tells stop bytes)) }
+    ensures no_line { (told : PlantFault) → result ≡ Err (Plant told) → told.line ≡ 0 }
+{
+    Ok(read_text(alloc, reader).map_err(PlantFault::from)?)
 }
 
 /// Prints what the task says of the plant.

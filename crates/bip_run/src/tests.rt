@@ -1,10 +1,11 @@
 //! What no clause says: that a task succeeds where nothing fails, and what is told of readers, writers and memory that fail.
+use crate::explanation::explanation;
 use crate::formats::format_named;
 use crate::picks::{PickFault, read_picks};
 use crate::request::Task;
 use crate::stop::{Stop, Told, exit_status};
 use crate::task::perform;
-use plant_text::{Fault, PlantFault};
+use plant_text::{Fault, Mark, PlantFault};
 use run_text::Format;
 use std::io;
 use std::io::{ErrorKind, Read, Write};
@@ -104,7 +105,8 @@ impl Read for Broken {
 fn the_sample_is_counted(rt: HostRuntime) -> Result<(), Fail> {
     let mut page = Page::new(PAGE);
     let mut text = SAMPLE;
-    let ended = perform(rt.alloc(), &Task::Check, &mut text, &mut page);
+    let mut kept = Vec::new(rt.alloc());
+    let ended = perform(rt.alloc(), &Task::Check, &mut text, &mut kept, &mut page);
     assert!(&rt; ended == Ok(()) || exit_status(&ended) == 3);
     assert!(&rt; ended != Ok(()) || page.is(COUNTS));
     Ok(())
@@ -115,8 +117,9 @@ fn a_run_is_printed_in_its_format(rt: HostRuntime) -> Result<(), Fail> {
     let picks = vec![in rt.alloc(); 0, 1]?;
     let mut page = Page::new(PAGE);
     let mut text = SAMPLE;
+    let mut kept = Vec::new(rt.alloc());
     let task = Task::Trace(picks, Format::Csv);
-    let ended = perform(rt.alloc(), &task, &mut text, &mut page);
+    let ended = perform(rt.alloc(), &task, &mut text, &mut kept, &mut page);
     assert!(&rt; ended == Ok(()) || exit_status(&ended) == 3);
     assert!(&rt; ended != Ok(()) || page.is(TABLE));
     Ok(())
@@ -139,7 +142,8 @@ fn formats_have_words(rt: HostRuntime) {
 fn an_atom_without_parts_is_drawn(rt: HostRuntime) -> Result<(), Fail> {
     let mut page = Page::new(PAGE);
     let mut text = LONE;
-    let ended = perform(rt.alloc(), &Task::Draw, &mut text, &mut page);
+    let mut kept = Vec::new(rt.alloc());
+    let ended = perform(rt.alloc(), &Task::Draw, &mut text, &mut kept, &mut page);
     assert!(&rt; ended == Ok(()) || exit_status(&ended) == 3);
     assert!(&rt; ended != Ok(()) || page.is(DRAWING));
     Ok(())
@@ -150,7 +154,8 @@ fn a_drawing_that_fails_at_any_byte_is_told(rt: HostRuntime) {
     for room in 0..DRAWING.len() {
         let mut page = Page::new(room);
         let mut text = LONE;
-        let ended = perform(rt.alloc(), &Task::Draw, &mut text, &mut page);
+        let mut kept = Vec::new(rt.alloc());
+        let ended = perform(rt.alloc(), &Task::Draw, &mut text, &mut kept, &mut page);
         assert!(&rt; ended == Err(Stop::Unwritten), "{room}");
         assert!(&rt; exit_status(&ended) == 3, "{room}");
     }
@@ -161,7 +166,8 @@ fn an_output_that_fails_at_any_byte_is_told(rt: HostRuntime) {
     for room in 0..COUNTS.len() {
         let mut page = Page::new(room);
         let mut text = SAMPLE;
-        let ended = perform(rt.alloc(), &Task::Check, &mut text, &mut page);
+        let mut kept = Vec::new(rt.alloc());
+        let ended = perform(rt.alloc(), &Task::Check, &mut text, &mut kept, &mut page);
         assert!(&rt; ended == Err(Stop::Unwritten), "{room}");
         assert!(&rt; exit_status(&ended) == 3, "{room}");
     }
@@ -174,6 +180,7 @@ fn a_reader_that_fails_is_told_as_its_file(rt: HostRuntime) -> Result<(), Fail> 
         rt.alloc(),
         &Task::Check,
         &mut Broken { given: false },
+        &mut Vec::new(rt.alloc()),
         &mut page,
     );
     let told = PlantFault {
@@ -215,5 +222,58 @@ fn picks_are_digits_alone(rt: HostRuntime) -> Result<(), Fail> {
             "{word}"
         );
     }
+    Ok(())
+}
+
+#[test]
+fn the_part_at_fault_is_marked_under_its_line(rt: HostRuntime) -> Result<(), Fail> {
+    let alloc = rt.alloc();
+    let mark = Mark {
+        line: b"\tport \xc3\x0f q",
+        start: 9,
+        len: 1,
+    };
+    let shown = explanation(alloc, &mark, &Fault::UnknownName)?;
+    let expected = b"   port \\xc3\\x0f q\n                 ^ a name is not known here\n";
+    assert!(rt; shown.as_slice() == expected.as_slice());
+    let illegal = Mark { start: 6, ..mark };
+    let shown = explanation(alloc, &illegal, &Fault::UnknownName)?;
+    let expected = b"   port \\xc3\\x0f q\n        ^^^^ a name is not known here\n";
+    assert!(rt; shown.as_slice() == expected.as_slice());
+    Ok(())
+}
+
+#[test]
+fn a_part_without_bytes_is_marked_where_it_stands(rt: HostRuntime) -> Result<(), Fail> {
+    let alloc = rt.alloc();
+    let end = Mark {
+        line: b"atom",
+        start: 4,
+        len: 0,
+    };
+    let shown = explanation(alloc, &end, &Fault::BadName)?;
+    assert!(rt;
+        shown.as_slice() == b"  atom\n      ^ a name is malformed or reserved\n".as_slice()
+    );
+    let past = Mark {
+        start: 9,
+        len: 9,
+        ..end
+    };
+    let shown = explanation(alloc, &past, &Fault::BadName)?;
+    assert!(rt;
+        shown.as_slice() == b"  atom\n      ^ a name is malformed or reserved\n".as_slice()
+    );
+    Ok(())
+}
+
+#[test]
+fn the_text_of_a_fault_is_kept(rt: HostRuntime) -> Result<(), Fail> {
+    let mut page = Page::new(PAGE);
+    let mut text = b"machine A\n".as_slice();
+    let mut kept = Vec::new(rt.alloc());
+    let ended = perform(rt.alloc(), &Task::Check, &mut text, &mut kept, &mut page);
+    assert!(&rt; exit_status(&ended) == 1 || exit_status(&ended) == 3);
+    assert!(&rt; exit_status(&ended) == 3 || kept.as_slice() == b"machine A\n".as_slice());
     Ok(())
 }

@@ -9,3 +9,4 @@ mod Rows
 pub mod Connectors
 pub mod Counts
 pub mod Systems
+pub mod Marked

@@ -4,6 +4,7 @@ pub mod Interactions
 pub mod Names
 pub mod Rows
 pub mod Meaning
+pub mod Marks
 pub mod Wires
 pub mod Parts
 pub mod Draft

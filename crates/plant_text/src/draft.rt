@@ -1,10 +1,11 @@
 //! The plant as its lines have told it so far.
-ghost use Rattle.std.specs.Prelude.{◌≡◌, ◌≤◌, length, map, IfOk, IfErr, OnOk, Ok, None};
+ghost use Rattle.std.specs.Prelude.{◌≡◌, ◌≤◌, length, map, false, is_ok, IfOk, IfErr, IfNone, IfSome, OnOk, Ok, None};
 ghost use Rattle.step_core.specs.declared.limits.TheConstants.{MAX_ATOMS, MAX_WIRES, MAX_RULES};
 ghost use Rattle.connector_tree.specs.Faults.{fault_of};
 ghost use Rattle.atom_lines.specs.Draft.{drafted as atom_drafted};
 ghost use Rattle.plant_trees.specs.Connectors.{tokens_of};
 ghost use Rattle.plant_trees.specs.Trees.{tree_in};
+ghost use Rattle.plant_words.specs.Words.{words_of};
 ghost use Rattle.plant_text.specs.Fault.{IsFaultOf};
 ghost use Rattle.plant_text.specs.Names.{port_named};
 ghost use Rattle.plant_text.specs.Parts.{wire_listed};
@@ -13,6 +14,7 @@ ghost use Rattle.plant_text.specs.Rows.{told_tree, atom_row, connector_row, rule
 use crate::fault::Fault;
 use crate::kinds::{AtomPart, LineKind, RuleKind, WirePart};
 use crate::listed::ListedWire;
+use crate::marks::Mark;
 use crate::names::AtomTable;
 use crate::parts::change_atom;
 use crate::reading::{check, end, next_name};
@@ -22,7 +24,7 @@ use connector_tree::Connector;
 use plant_trees::read_tree;
 use plant_words::{Words, is_legal, is_passed_over};
 use priority_filter::Rule;
-use std::alloc::Global;
+use std::alloc::{AllocError, Global};
 use step_core::{MAX_ATOMS, MAX_RULES, MAX_WIRES};
 
 /// A plant to which lines add parts.
@@ -58,11 +60,34 @@ impl PlantDraft {
         ensures added { OnOk result (line_row line.now (drafted self.old) ≡ Ok (drafted self.new)) }
         ensures fault { IfErr result (IsFaultOf (line_row line.now (drafted self.old))) }
     {
+        self.add_read(line, &mut Words::new(line))
+    }
+
+    /// What a line says, that is read by these words of it. Behind a fault nothing is said of the plant.
+    fn add_read(&mut self, line: &[u8], words: &mut Words) -> Result<(), Fault>
+        requires { words.old ≡ words_of line.now }
+        ensures added { OnOk result (line_row line.now (drafted self.old) ≡ Ok (drafted self.new)) }
+        ensures fault { IfErr result (IsFaultOf (line_row line.now (drafted self.old))) }
+    {
         check(is_legal(line), Fault::NotAscii)?;
         if is_passed_over(line) {
             return Ok(());
         }
-        self.add_words(&mut Words::new(line))
+        self.add_words(words)
+    }
+
+    /// What a line says; or, where it has a fault, where that stands in it.
+    pub(crate) fn mark_of<'a>(&mut self, line: &'a [u8]) -> Result<Option<Mark<'a>>, AllocError>
+        ensures added { IfOk result (λ found. IfNone found (line_row line.now (drafted self.old) ≡ Ok (drafted self.new))) }
+        ensures line { IfOk result (λ found. IfSome found (λ mark. mark.line.now ≡ line.now)) }
+        ensures refused { IfOk result (λ found. IfSome found (λ _. is_ok (line_row line.now (drafted self.old)) ≡ false)) }
+    {
+        let mut words = Words::new(line);
+        match self.add_read(line, &mut words) {
+            Ok(()) => Ok(None),
+            Err(Fault::Memory) => Err(AllocError),
+            Err(fault) => Ok(Some(Mark::of(line, fault, words.seen()))),
+        }
     }
 
     /// What the words of a line say.

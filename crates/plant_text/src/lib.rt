@@ -27,7 +27,8 @@
 //! - `read`: the text, its lines and its system. `draft`: the plant so far, and its lines. `making`: the system of a draft.
 //! - `kinds`: the kinds of lines. `parts`: an atom, changed by a line. `listed`: a connector with its interactions.
 //! - `names`: the atoms by the names that connectors use. `wires`: the connectors by the names that rules use.
-//! - `reading`: steps that take words. `fault`: what is wrong with a text. `laws`: what follows of the meaning.
+//! - `reading`: steps that take words. `fault`: what is wrong with a text. `marks`: where in its line.
+//! - `laws`: what follows of the meaning.
 #![tactic(auto)]
 
 mod draft;
@@ -36,6 +37,7 @@ mod kinds;
 pub mod laws;
 mod listed;
 mod making;
+mod marks;
 mod names;
 mod parts;
 mod read;
@@ -43,6 +45,7 @@ mod reading;
 mod wires;
 
 pub use fault::{Fault, PlantFault};
+pub use marks::{Mark, find_mark};
 pub use read::{plant_of_text, read_plant};
 
 #[cfg(test)]

@@ -6,6 +6,7 @@ use std::alloc::{AllocError, Global};
 use std::test::Fail;
 
 mod limits;
+mod marks;
 mod reader;
 
 /// Two atoms and two connectors, in 13 lines.

@@ -6,9 +6,12 @@ ghost use Rattle.plant_words.specs.Words.{is_blank, words_of, is_passed_over};
 use std::marker::Model;
 
 /// Reads a line word by word. In a contract it is the list of the words that are left.
+///
+/// It remembers where it looked last, so that one who tells a fault can show the word that is at fault.
 #[derive(Drop)]
 pub struct Words<'a> {
     rest: &'a [u8],
+    seen: &'a [u8],
 }
 
 impl<'a> Model for Words<'a> {
@@ -27,7 +30,10 @@ impl<'a> Words<'a> {
         ensures words { result ≡ words_of line.now }
         ensures count { length result ≤ length line.now }
     {
-        Words { rest: line }
+        Words {
+            rest: line,
+            seen: line,
+        }
     }
 
     /// The next word, or `None` where none is left.
@@ -36,6 +42,7 @@ impl<'a> Words<'a> {
         ensures end { IfNone result (self.new ≡ []) }
     {
         let (_, from_word) = self.rest.split_at(blanks_len(self.rest));
+        self.seen = from_word;
         if from_word.is_empty() {
             return None;
         }
@@ -45,10 +52,20 @@ impl<'a> Words<'a> {
     }
 
     /// The next word, which stays the next, or `None` where none is left.
-    pub fn peek(&self) -> Option<&'a [u8]>
-        ensures { MatchOption result (self.now ≡ []) (λ word. self.now ≡ word.now ∷ drop 1 self.now) }
+    pub fn peek(&mut self) -> Option<&'a [u8]>
+        ensures word { MatchOption result (self.old ≡ []) (λ word. self.old ≡ word.now ∷ drop 1 self.old) }
+        ensures kept { self.new ≡ self.old }
     {
-        Words { rest: self.rest }.next_word()
+        let rest = self.rest;
+        let word = self.next_word();
+        self.rest = rest;
+        word
+    }
+
+    /// The end of the line that begins with the word that was asked for last, by `next_word` or `peek`; empty where none
+    /// was left, and the whole line before the first question.
+    pub fn seen(&self) -> &'a [u8] {
+        self.seen
     }
 }
 

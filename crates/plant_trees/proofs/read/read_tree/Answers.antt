@@ -8,7 +8,7 @@ use Rattle.plant_trees.proofs.read.read_tree.Goals as goal
 pub connector-requires-clause-balanced : goal.connector-requires-clause-balanced
 connector-requires-clause-balanced g c =
     ap (is_balanced 0) c.deref-in-None.ensures.value
-    ∙ balanced (g.N.Ports.port_named c.args.names.now) c.args.words.now 0 c.in_ok-tokens.tokens.items c.in_ok-tokens.ensures.tokens
+    ∙ balanced (g.N.Ports.port_named c.args.names.now) c.peek.new.self 0 c.in_ok-tokens.tokens.items c.in_ok-tokens.ensures.tokens
 
 pub returns-clause-sound : goal.returns-clause-sound
 returns-clause-sound g c =

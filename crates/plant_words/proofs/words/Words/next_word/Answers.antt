@@ -7,7 +7,8 @@ returns-then-is_empty-clause-word c =
     sym c.self.view_is ∙ no_words c.self.inside.rest.now c.split_at.result.1.now c.blanks_len.result c.blanks_len.ensures.value c.split_at.ensures.back (search rules)
 
 pub returns-then-is_empty-clause-end : goal.returns-then-is_empty-clause-end
-returns-then-is_empty-clause-end c = returns-then-is_empty-clause-word c
+returns-then-is_empty-clause-end c =
+    no_words c.self.inside.rest.now c.split_at.result.1.now c.blanks_len.result c.blanks_len.ensures.value c.split_at.ensures.back (search rules)
 
 pub returns-clause-word : goal.returns-clause-word
 returns-clause-word c =
