@@ -1,5 +1,5 @@
 -- How the line of a fault is shown, with a mark under what is at fault.
-use Rattle.std.specs.Prelude.{ℕ, ◌+◌, ◌/◌, ◌%◌, max, List, [], ◌∷◌, ◌++◌, ◌==◌, length, take, drop, replicate, flat_map, nat_lt, if◌then◌else◌, codes}
+use Rattle.std.specs.Prelude.{◌≡◌, Option, Some, None, ℕ, ◌+◌, ◌/◌, ◌%◌, max, List, [], ◌∷◌, ◌++◌, ◌==◌, length, take, drop, replicate, flat_map, nat_lt, if◌then◌else◌, codes}
 use Rattle.plant_words.specs.Lines.{is_legal_byte}
 use Rattle.plant_text.specs.Fault.{message_of}
 use Rattle.plant_text.specs.declared.fault.Fault.{Fault}
@@ -36,3 +36,8 @@ mark_under line start len =
 -- a line with a fault, and under it a mark at the part that is at fault, with what is wrong
 abbrev pub explanation_of : List ℕ → ℕ → ℕ → Fault → List ℕ
 explanation_of line start len fault = line_shown line ++ mark_under line start len ++ message_of fault ++ codes "\n"
+
+-- this is shown of a fault of the line, with a mark at some part of it
+abbrev pub Explains : Option (List ℕ) → Fault → List ℕ → Type 0
+Explains None fault shown = Unit {0}
+Explains (Some line) fault shown = (start : ℕ) × (len : ℕ) × (shown ≡ explanation_of line start len fault)

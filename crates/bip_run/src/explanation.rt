@@ -1,11 +1,33 @@
 //! The line of a plant's fault, with a mark under what is at fault.
-ghost use Rattle.std.specs.Prelude.{◌≡◌, ◌++◌, ◌<◌, IfOk, OnOk, replicate};
-ghost use Rattle.bip_run.specs.Explanation.{hex_digit, shown_byte, shown, line_shown, mark_behind, mark_under, explanation_of};
+ghost use Rattle.std.specs.Prelude.{◌≡◌, ◌++◌, ◌<◌, ◌-◌, [], IfOk, OnOk, Err, replicate, slice_get};
+ghost use Rattle.plant_words.specs.Lines.{lines_of};
+ghost use Rattle.plant_text.specs.Meaning.{meaning};
+ghost use Rattle.bip_run.specs.Explanation.{hex_digit, shown_byte, shown, line_shown, mark_behind, mark_under, explanation_of, Explains};
 
-use plant_text::{Fault, Mark};
+use plant_text::{Fault, Mark, PlantFault, find_mark};
 use plant_words::is_legal;
 use std::alloc::{AllocError, Global};
 use std::slice;
+
+/// What is shown of the fault of a text behind the line that tells it: the line of the text, with a mark; nothing where the
+/// fault is of no line.
+#[tactic(auto, using(crate::proofs::Explaining::line_explained, crate::proofs::Explaining::no_line_explained))]
+pub(crate) fn explanation_in(
+    alloc: Global,
+    text: &[u8],
+    told: &PlantFault,
+) -> Result<Vec<u8>, AllocError>
+    ensures shown { IfOk result (λ shown. meaning text.now ≡ Err told.now → 0 < told.now.line → Explains (slice_get (lines_of text.now) (told.now.line - 1)) told.now.fault shown.items) }
+    ensures nothing { IfOk result (λ shown. told.now.line ≡ 0 → shown.items ≡ []) }
+{
+    if told.line == 0 {
+        return Ok(Vec::new(alloc));
+    }
+    match find_mark(alloc, text)? {
+        Some(mark) => Ok(explanation(alloc, &mark, &told.fault)?),
+        None => Ok(Vec::new(alloc)),
+    }
+}
 
 /// The line with the fault, and under it a mark at the part that is at fault, with what is wrong there.
 pub(crate) fn explanation(

@@ -5,13 +5,13 @@ ghost use Rattle.bip_run.specs.Stop.{status_of};
 ghost use Rattle.bip_run.specs.declared.stop.Stop.TheVariants.{Usage, Memory};
 
 use crate::command_line::read_request;
-use crate::explanation::explanation;
+use crate::explanation::explanation_in;
 use crate::request::Request;
 use crate::stop::{Stop, Told, exit_status};
 use crate::task::perform;
 use clap::Error;
 use clap::error::ErrorKind;
-use plant_text::{Fault, find_mark};
+use plant_text::PlantFault;
 use std::alloc::AllocError;
 use std::io::{BufWriter, ErrorKind as IoErrorKind};
 use std::rt::{Env, Files};
@@ -85,7 +85,7 @@ fn serve<R: Files + Input + Print + Eprint + AllocGlobal>(
         && (explain || request.explain)
     {
         // What can't be shown for want of memory has been told by its line.
-        let _ = show_line(rt, &text, &told.fault);
+        let _ = show_line(rt, &text, &told);
     }
     status
 }
@@ -109,13 +109,10 @@ fn work<R: Files + Input + Print + AllocGlobal>(
 fn show_line<R: Eprint + AllocGlobal>(
     rt: &R,
     text: &[u8],
-    fault: &Fault,
+    told: &PlantFault,
 ) -> Result<(), AllocError> {
-    let alloc = rt.alloc();
-    if let Some(mark) = find_mark(alloc, text)? {
-        let shown = explanation(alloc, &mark, fault)?;
-        let _ = rt.eprint(str::from_utf8(&shown).unwrap_or(""));
-    }
+    let shown = explanation_in(rt.alloc(), text, told)?;
+    let _ = rt.eprint(str::from_utf8(&shown).unwrap_or(""));
     Ok(())
 }
 

@@ -1,5 +1,5 @@
 //! What no clause says: that a task succeeds where nothing fails, and what is told of readers, writers and memory that fail.
-use crate::explanation::explanation;
+use crate::explanation::{explanation, explanation_in};
 use crate::formats::format_named;
 use crate::picks::{PickFault, read_picks};
 use crate::request::Task;
@@ -275,5 +275,24 @@ fn the_text_of_a_fault_is_kept(rt: HostRuntime) -> Result<(), Fail> {
     let ended = perform(rt.alloc(), &Task::Check, &mut text, &mut kept, &mut page);
     assert!(&rt; exit_status(&ended) == 1 || exit_status(&ended) == 3);
     assert!(&rt; exit_status(&ended) == 3 || kept.as_slice() == b"machine A\n".as_slice());
+    Ok(())
+}
+
+#[test]
+fn a_fault_of_no_line_shows_none(rt: HostRuntime) -> Result<(), Fail> {
+    let alloc = rt.alloc();
+    let text = b"machine A\n";
+    let mut told = PlantFault {
+        line: 1,
+        fault: Fault::UnknownWord,
+    };
+    let shown = explanation_in(alloc, text, &told)?;
+    let expected = b"  machine A\n  ^^^^^^^ no line begins with this word\n";
+    assert!(rt; shown.as_slice() == expected.as_slice());
+    told = PlantFault {
+        line: 0,
+        fault: Fault::Memory,
+    };
+    assert!(rt; explanation_in(alloc, text, &told)?.is_empty());
     Ok(())
 }
