@@ -13,7 +13,7 @@
 //! - `expression`: expressions over any kind of variable, and their values.
 //! - `name`, `parts`, `transition`: what an atom is made of. A transition keeps its places as machine words
 //!   too, so that a test of a marking is two operations; that they are those sets is kept by its type.
-//! - `offered`: the offered transitions of a state as one set, which is then counted and picked from by port.
+//! - `offered`: the offered transitions of a state as one set, which is then counted and picked from, by one port or by all.
 //! - `marking`: lists of places as machine words.
 //! - `rules`: the rules that the parts keep, as tests. `fault`: which kind of rule is broken.
 //! - `state`: local states, and what is delivered to one. `same`: whether two parts are the same.

@@ -14,12 +14,14 @@
 //!   tests. `fault`: which of them is broken.
 //! - `interaction`, `interactions`: the interactions of a connector, each with its ports in rising order of their atoms.
 //! - `state`: a local state for each atom. `choice`: a choice, and the moves that it makes.
-//! - `judgement`: what a state offers, as it is kept. `judged`: a state with the offered transitions of its atoms, by which
-//!   interactions are judged. `filtered`: which of these are allowed. `choices`: how a judgement is made, and made again behind a
-//!   step; how many choices a state has, and which.
+//! - `offers`: which transitions each atom offers, and how many at each port, judged again behind a step.
+//! - `judgement`: what a state offers, as it is kept. `judged`: a state with what its atoms offer, by which interactions are
+//!   judged. `filtered`: which of these are allowed. `choices`: how a judgement is made, and made again behind a step; how many
+//!   choices a state has, and which.
 //! - `free`: the interactions that no other can be above.
 //! - `stepper`: a plant that runs: its present state, and what that offers, judged again for what a step can change alone.
-//! - `touching`: which interactions depend on an atom, so that a step judges only the interactions that it can change.
+//! - `touching`: which interactions stand on a port, and whose guards read an atom, so that a step judges only those that it can
+//!   change.
 //! - `values`: exported variables, and guard clauses on them. `transfers`: what a choice delivers. `firing`: the state that it leaves.
 #![tactic(auto)]
 

@@ -22,7 +22,8 @@ use std::alloc::{AllocError, Global};
 /// A plant that runs: a system, its present state, and what that state offers: transitions, and possible interactions.
 ///
 /// It judges each transition and each interaction once when it is made, and after a step only the transitions of the atoms
-/// that moved, and the interactions that depend on one of these. All of a step's questions ([`Stepper::count`], [`Stepper::nth`]) are answered from what is offered. Only making it takes memory.
+/// that moved, the interactions on a port that offers another number of transitions than before, and those whose guards read an
+/// atom that moved. All of a step's questions ([`Stepper::count`], [`Stepper::nth`]) are answered from what is offered. Only making it takes memory.
 #[derive(Drop)]
 pub struct Stepper<'s> {
     system: &'s System,
@@ -103,7 +104,7 @@ impl<'s> Stepper<'s> {
     }
 
     /// Fires the choice: the present state becomes the next one. What is offered is judged again for the atoms that moved, and
-    /// what is possible for the interactions that depend on one of them.
+    /// what is possible for the interactions that this can change.
     pub fn fire(&mut self, choice: &Choice)
         requires { IsAllowed (plant_in self.old) (states_in self.old) (choice_of choice.now) }
         ensures plant { plant_in self.new ≡ plant_in self.old }
