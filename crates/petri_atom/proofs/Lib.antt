@@ -8,3 +8,4 @@ pub mod Sameness
 pub mod Rows
 pub mod PortSets
 pub mod Members
+pub mod Giving

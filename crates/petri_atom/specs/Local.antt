@@ -1,7 +1,8 @@
-use Rattle.std.specs.Prelude.{◌≡◌, ℕ, zero, suc, ◌+◌, ◌^◌, ◌≤◌, ℤ, pos, Bool, cond, not, ◌&&◌, ◌||◌, List, slice_index_or, slice_get, ◌==◌, nat_lt, Option, None, if◌then◌else◌, length, filter, map, unwrap_or, is_some}
+use Rattle.std.specs.Prelude.{◌≡◌, ℕ, zero, suc, ◌+◌, ◌^◌, ◌≤◌, ℤ, pos, Bool, cond, not, ◌&&◌, ◌||◌, List, slice_index_or, slice_get, slice_set, ◌==◌, nat_lt, Option, None, Some, if◌then◌else◌, length, filter, map, unwrap_or, is_some}
 use Rattle.petri_atom.specs.declared.state.Delivered.{Delivered}
 use Rattle.std.specs.Int.{bit_at}
 use Rattle.std.specs.List.{list_all, list_any, range_with_len}
+use Rattle.std.specs.Option.{option_or}
 use Rattle.petri_atom.specs.declared.state.TheConstants.{MAX_PLACES}
 
 -- a local state: the set of marked places, as the number whose bit k says that place k is marked, and the variables' values
@@ -57,6 +58,10 @@ delivered_of row = record {
   mask = set_below (length row) (λ j. is_some (slice_index_or row j None));
   values = map (λ value. unwrap_or value (pos 0)) row;
 }
+
+-- a row of values in which the exported variable with a number has the value, unless it had one before
+abbrev pub given : ℕ → ℤ → List (Option ℤ) → List (Option ℤ)
+given export value row = slice_set row export (option_or (slice_index_or row export None) (Some value))
 
 -- what is delivered to the exported variable number j of a port: its value where the mask has bit j
 abbrev pub delivered_value : Delivered → ℕ → Option ℤ

@@ -1,6 +1,6 @@
 //! Local states of atoms, and the values that a firing delivers to one.
-ghost use Rattle.std.specs.Prelude.{◌≡◌, ℕ, ℤ, ◌≤◌, ◌↔◌, take, map, pos, None, IsTrue, length, is_some, unwrap_or, slice_index_or, slice_set};
-ghost use Rattle.petri_atom.specs.Local.{has, set_below, value_in, IsZeroFrom, delivered_of, delivered_value};
+ghost use Rattle.std.specs.Prelude.{◌≡◌, ℕ, ℤ, List, Option, ◌≤◌, ◌↔◌, take, map, pos, None, IsTrue, length, is_some, unwrap_or, slice_index_or, slice_set};
+ghost use Rattle.petri_atom.specs.Local.{has, set_below, value_in, IsZeroFrom, delivered_of, delivered_value, given};
 ghost use Rattle.petri_atom.specs.declared.state.TheConstants.{MAX_EXPORTS};
 ghost use Rattle.petri_atom.specs.Definition.{delivered_to, is_marked_first};
 ghost use Rattle.std.specs.Option.{option_map_or};
@@ -209,6 +209,17 @@ impl Delivered {
         Delivered {
             mask: delivered_mask(&values),
             values: delivered_values(&values),
+        }
+    }
+
+    /// Gives the exported variable with this number the value, unless it has one; a number that no port exports is passed over.
+    pub fn give(&mut self, export: u8, value: i64)
+        ensures { (row : List (Option ℤ)) → length row ≡ MAX_EXPORTS → self.old ≡ delivered_of row → self.new ≡ delivered_of (given export value row) }
+    {
+        let place = usize::from(export);
+        if place < MAX_EXPORTS && !has_bit(self.mask, place) {
+            self.mask |= 1 << place;
+            self.values[place] = value;
         }
     }
 
