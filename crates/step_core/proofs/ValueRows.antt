@@ -1,23 +1,23 @@
--- Rows of values, by the places of moves: what a value that is put into them leaves.
-use Rattle.std.proofs.Common.{◌≡◌, ◌≢◌, ℕ, ◌+◌, ◌<◌, ◌≤◌, ◌==◌, ◌&&◌, Bool, true, false, cond, refl, sym, ◌∙◌, ap, List, [], ◌∷◌, ◌++◌, length, map, take, get_or, set, replicate, arith, ⊎_elim, ℤ, lit<, get_or-set_same, get_or-set_other}
-use Rattle.std.specs.Prelude.{Option, Some, None, slice_get, find, option_map}
+-- What is delivered, by the places of moves: what a value that is given to an atom leaves.
+use Rattle.std.proofs.Common.{◌≡◌, ◌≢◌, ℕ, zero, suc, ◌+◌, ◌<◌, ◌≤◌, ◌==◌, ◌&&◌, Bool, true, false, cond, refl, sym, ◌∙◌, ap, List, [], ◌∷◌, ◌++◌, length, map, take, get_or, set, replicate, arith, ⊎_elim, ℤ, lit<, get_or-set_same, get_or-set_other}
+use Rattle.std.specs.Prelude.{Option, Some, None, is_some, slice_get, slice_index_or, find, option_map, if◌then◌else◌}
 use Rattle.std.specs.List.{range_with_len}
 use Rattle.std.specs.Option.{option_or, option_map_or}
 use Rattle.std.proofs.Math.Bool.{and-true}
-use Rattle.std.proofs.lemmas.Bool.{cases_eq, eq-eqb, ne_eqb, eqb-true}
-use Rattle.std.proofs.lemmas.List.{take_more, map-append, length-replicate, get_or-replicate, length-set}
+use Rattle.std.proofs.lemmas.Bool.{cases_eq, cases_lt, eq-eqb, ne_eqb, eqb-true, false≢true}
+use Rattle.std.proofs.lemmas.List.{take_more, map-append, length-replicate, get_or-replicate, length-set, set_past}
 use Rattle.std.proofs.lemmas.List.Folds.{find-append}
-use Rattle.std.proofs.lemmas.Option.{slice_get-get_or}
-use Rattle.petri_atom.specs.Local.{Local, delivered_of}
+use Rattle.std.proofs.lemmas.Option.{same_Some, slice_get-get_or, get_or_from_slice_get, slice_get_within}
+use Rattle.petri_atom.specs.Local.{Local, delivered_of, given}
 use Rattle.petri_atom.specs.Expression.{tree_of, value_of}
 use Rattle.petri_atom.specs.Definition.{AtomDefinition}
 use Rattle.petri_atom.specs.declared.state.Delivered.{Delivered}
 use Rattle.petri_atom.specs.declared.state.TheConstants.{MAX_EXPORTS}
 use Rattle.connector_tree.specs.declared.tree.Port.{Port}
-use Rattle.step_core.specs.Delivery.{AreValues, entry}
+use Rattle.step_core.specs.Delivery.{AreDelivered, IsFirstOfAtom, IsGiven}
 use Rattle.step_core.specs.Exports.{value_at}
 use Rattle.step_core.specs.Plant.{TransferDefinition}
-use Rattle.step_core.specs.Step.{applies, is_to, value_to, delivered_by, nothing_delivered}
+use Rattle.step_core.specs.Step.{applies, is_to, is_leaf_of, value_to, delivered_by, nothing_delivered}
 use Rattle.step_core.specs.Wire.{transfer_of}
 use Rattle.step_core.specs.declared.choice.Move.{Move}
 use Rattle.step_core.specs.declared.wire.Export.{Export}
@@ -25,49 +25,58 @@ use Rattle.step_core.specs.declared.wire.Transfer.{Transfer}
 use Rattle.step_core.proofs.Told.{or_none}
 
 -- a value, where there is one
-abbrev given : Bool → ℤ → Option ℤ
-given b value = cond b (Some value) None
+abbrev some_if : Bool → ℤ → Option ℤ
+some_if b value = cond b (Some value) None
 
 and_false : (b : Bool) → (b && false) ≡ false
 and_false true = refl
 and_false false = refl
 
-module _ (moves : List Move) (atom export : ℕ) (value : ℤ) (old : List (List (Option ℤ))) where
-  -- the value is put at the places of the atom's moves so far, and the places from there on are as they were
-  pub record IsPut (n : ℕ) (now : List (List (Option ℤ))) : Type 0 where
-    pub put : (place : ℕ) (m : Move) (e : ℕ) → place < n → slice_get moves place ≡ Some m → e < MAX_EXPORTS → entry now place e ≡ option_or (entry old place e) (given (export == e && atom == m.atom) value)
-    pub rest : (place : ℕ) → n ≤ place → get_or now place [] ≡ get_or old place []
+-- where nothing is found, the first element fails the test, and nothing is found behind it
+first-fails : {X : Type 0} (y : X) (b : Bool) (o : Option X) → cond b (Some y) o ≡ None → b ≡ false
+first-fails y true o some = absurd (false≢true (sym (ap is_some some)))
+first-fails y false o none = refl
 
-  pub put-none : IsPut 0 old
-  put-none = record { put = λ place m e below there small. absurd (omega arith); rest = λ place past. refl }
+none-later : {X : Type 0} (y : X) (b : Bool) (o : Option X) → cond b (Some y) o ≡ None → o ≡ None
+none-later y true o some = absurd (false≢true (sym (ap is_some some)))
+none-later y false o none = none
 
-  module _ (n : ℕ) (now : List (List (Option ℤ))) (so_far : IsPut n now) (here : ℕ) (read : (m : Move) → slice_get moves n ≡ Some m → m.atom ≡ here) where
-    -- the next move is of the atom
-    pub put-here : atom ≡ here → n < length now → (row : List (Option ℤ)) → ((e : ℕ) → e < MAX_EXPORTS → get_or row e None ≡ option_or (entry now n e) (given (export == e) value)) → IsPut (n + 1) (set now n row)
-    put-here same within row told = record {
-      put = λ place m e below there small. ⊎_elim
-          (λ at. ap (λ k. entry (set now n row) k e) at ∙
-          ap (λ r. get_or r e None) (get_or-set_same now n row [] within) ∙ told e small ∙
-          ap (λ r. option_or (get_or r e None) (given (export == e) value)) (so_far.rest n (omega arith)) ∙
-          ap (λ k. option_or (entry old k e) (given (export == e) value)) (sym at) ∙
-          ap (λ b. option_or (entry old place e) (given b value)) (sym (ap (λ b. export == e && b) (eq-eqb atom m.atom (same ∙ sym (read m (ap (slice_get moves) (sym at) ∙ there)))) ∙ and-true (export == e))))
-          (λ other. ap (λ r. get_or r e None) (get_or-set_other now n place row [] other) ∙ so_far.put place m e (omega arith) there small)
-          (cases_eq place n);
-      rest = λ place past. get_or-set_other now n place row [] (omega arith) ∙ so_far.rest place (omega arith);
-    }
+-- where nothing is found among the first elements, none of them passes the test
+none-at : {X : Type 0} (f : X → Bool) (xs : List X) (n k : ℕ) (x : X) → find f (take n xs) ≡ None → k < n → slice_get xs k ≡ Some x → f x ≡ false
+none-at f [] n k x none below there = absurd (omega (arith, slice_get_within [] k x there))
+none-at f (y ∷ ys) zero k x none below there = absurd (omega arith)
+none-at f (y ∷ ys) (suc n) zero x none below there =
+    ap f (sym (same_Some y x there)) ∙ first-fails y (f y) (find f (take n ys)) none
+none-at f (y ∷ ys) (suc n) (suc k) x none below there =
+    none-at f ys n k x (none-later y (f y) (find f (take n ys)) none) (omega arith) there
 
-    -- the next move is of another one
-    pub put-past : atom ≢ here → IsPut (n + 1) now
-    put-past other = record {
-      put = λ place m e below there small. ⊎_elim
-          (λ at.
-          let none : (export == e && atom == m.atom) ≡ false = ap (λ b. export == e && b) (ne_eqb atom m.atom (λ same. other (same ∙ read m (ap (slice_get moves) (sym at) ∙ there)))) ∙ and_false (export == e) in
-          ap (λ r. get_or r e None) (so_far.rest place (omega arith)) ∙ sym (or_none (entry old place e)) ∙
-          ap (λ b. option_or (entry old place e) (given b value)) (sym none))
-          (λ apart. so_far.put place m e (omega arith) there small)
-          (cases_eq place n);
-      rest = λ place past. so_far.rest place (omega arith);
-    }
+-- four values
+four-values : {a b c d e f g h : Option ℤ} → a ≡ e → b ≡ f → c ≡ g → d ≡ h → ◌≡◌ {A = List (Option ℤ)} (a ∷ b ∷ c ∷ d ∷ []) (e ∷ f ∷ g ∷ h ∷ [])
+four-values {b = b} {c = c} {d = d} {e = e} {f = f} {g = g} p q r s =
+    ap (λ x. x ∷ b ∷ c ∷ d ∷ []) p ∙ ap (λ x. e ∷ x ∷ c ∷ d ∷ []) q ∙ ap (λ x. e ∷ f ∷ x ∷ d ∷ []) r ∙
+    ap (λ x. e ∷ f ∷ g ∷ x ∷ []) s
+
+-- the values of a port's variables, of which one may be new
+module _ (before after : ℕ → Option ℤ) (value : ℤ) where
+  abbrev IsAfter : ℕ → Type 0
+  IsAfter export = (e : ℕ) → e < MAX_EXPORTS → after e ≡ option_or (before e) (some_if (export == e) value)
+
+  kept : (export e : ℕ) → IsAfter export → e < MAX_EXPORTS → export ≢ e → before e ≡ after e
+  kept export e told small other =
+      sym (told e small ∙ ap (λ b. option_or (before e) (some_if b value)) (ne_eqb export e other) ∙ or_none (before e))
+
+  pub row-given : (export : ℕ) → IsAfter export → given export value (map before (range_with_len 0 MAX_EXPORTS)) ≡ map after (range_with_len 0 MAX_EXPORTS)
+  row-given zero told =
+      four-values (sym (told 0 (lit< tt))) (kept 0 1 told (lit< tt) (λ same. absurd (omega arith))) (kept 0 2 told (lit< tt) (λ same. absurd (omega arith))) (kept 0 3 told (lit< tt) (λ same. absurd (omega arith)))
+  row-given (suc zero) told =
+      four-values (kept 1 0 told (lit< tt) (λ same. absurd (omega arith))) (sym (told 1 (lit< tt))) (kept 1 2 told (lit< tt) (λ same. absurd (omega arith))) (kept 1 3 told (lit< tt) (λ same. absurd (omega arith)))
+  row-given (suc (suc zero)) told =
+      four-values (kept 2 0 told (lit< tt) (λ same. absurd (omega arith))) (kept 2 1 told (lit< tt) (λ same. absurd (omega arith))) (sym (told 2 (lit< tt))) (kept 2 3 told (lit< tt) (λ same. absurd (omega arith)))
+  row-given (suc (suc (suc zero))) told =
+      four-values (kept 3 0 told (lit< tt) (λ same. absurd (omega arith))) (kept 3 1 told (lit< tt) (λ same. absurd (omega arith))) (kept 3 2 told (lit< tt) (λ same. absurd (omega arith))) (sym (told 3 (lit< tt)))
+  row-given (suc (suc (suc (suc n)))) told =
+      set_past (map before (range_with_len 0 MAX_EXPORTS)) (suc (suc (suc (suc n)))) (option_or (slice_index_or (map before (range_with_len 0 MAX_EXPORTS)) (suc (suc (suc (suc n)))) None) (Some value)) (omega arith) ∙
+      four-values (kept _ 0 told (lit< tt) (λ same. absurd (omega arith))) (kept _ 1 told (lit< tt) (λ same. absurd (omega arith))) (kept _ 2 told (lit< tt) (λ same. absurd (omega arith))) (kept _ 3 told (lit< tt) (λ same. absurd (omega arith)))
 
 -- the leaf of a target, where it is there and where it is not
 pub to-leaf : (ports : List Port) (target : Export) (p : Port) (atom e : ℕ) → slice_get ports target.leaf ≡ Some p → is_to ports atom e target ≡ (target.export == e && p.atom == atom)
@@ -89,7 +98,7 @@ module _ (atoms : List AtomDefinition) (states : List Local) (ports : List Port)
       ap (map transfer_of) (take_more transfers i t within ∙ ap (λ x. take i transfers ++ x ∷ []) (sym here)) ∙
       map-append transfer_of (take i transfers) (t ∷ [])
 
-  one-more : (atom e : ℕ) → value_to atoms states ports (front (i + 1)) mask atom e ≡ option_or (value_to atoms states ports (front i) mask atom e) (given (applies mask (transfer_of t) && is_to ports atom e t.target) value)
+  one-more : (atom e : ℕ) → value_to atoms states ports (front (i + 1)) mask atom e ≡ option_or (value_to atoms states ports (front i) mask atom e) (some_if (applies mask (transfer_of t) && is_to ports atom e t.target) value)
   one-more atom e =
       ap (λ ts. value_to atoms states ports ts mask atom e) longer ∙
       ap (option_map read) (find-append wanted (front i) (transfer_of t ∷ [])) ∙
@@ -101,55 +110,78 @@ module _ (atoms : List AtomDefinition) (states : List Local) (ports : List Port)
       wanted : TransferDefinition → Bool
       wanted s = applies mask s && is_to ports atom e s.target
 
-      each : (o : Option TransferDefinition) (b : Bool) → option_map read (option_or o (cond b (Some (transfer_of t)) None)) ≡ option_or (option_map read o) (given b value)
+      each : (o : Option TransferDefinition) (b : Bool) → option_map read (option_or o (cond b (Some (transfer_of t)) None)) ≡ option_or (option_map read o) (some_if b value)
       each (Some s) b = refl
       each None true = refl
       each None false = refl
 
-  module _ (moves : List Move) (old new : List (List (Option ℤ))) (so_far : AreValues moves (value_to atoms states ports (front i) mask) old) where
+  -- what an atom gets, where its leaf is the target's, and where it is not
+  changed : (atom : ℕ) (b : Bool) → is_leaf_of ports t.target.leaf atom ≡ b → applies mask (transfer_of t) ≡ true → delivered_of (if b then given t.target.export value (map (value_to atoms states ports (front i) mask atom) (range_with_len 0 MAX_EXPORTS)) else map (value_to atoms states ports (front i) mask atom) (range_with_len 0 MAX_EXPORTS)) ≡ delivered_by atoms states ports (front (i + 1)) mask atom
+  changed atom true its told =
+      ap delivered_of
+      (row-given (value_to atoms states ports (front i) mask atom) (value_to atoms states ports (front (i + 1)) mask atom) value t.target.export
+      (λ e small. one-more atom e ∙
+      ap (λ b. option_or (value_to atoms states ports (front i) mask atom e) (some_if b value)) (ap (λ b. b && is_to ports atom e t.target) told ∙ ap (λ b. t.target.export == e && b) its ∙ and-true (t.target.export == e))))
+  changed atom false its told =
+      ap delivered_of
+      (four-values (same 0) (same 1) (same 2) (same 3))
+    where
+      same : (e : ℕ) → value_to atoms states ports (front i) mask atom e ≡ value_to atoms states ports (front (i + 1)) mask atom e
+      same e =
+          sym (one-more atom e ∙ ap (λ b. option_or (value_to atoms states ports (front i) mask atom e) (some_if b value)) (ap (λ b. b && is_to ports atom e t.target) told ∙ ap (λ b. t.target.export == e && b) its ∙ and_false (t.target.export == e)) ∙ or_none (value_to atoms states ports (front i) mask atom e))
+
+  module _ (moves : List Move) (old new : List Delivered) (so_far : AreDelivered moves (delivered_by atoms states ports (front i) mask) old) where
     -- it applies, and is delivered
-    pub values-more : applies mask (transfer_of t) ≡ true → ((place : ℕ) (m : Move) (e : ℕ) → slice_get moves place ≡ Some m → e < MAX_EXPORTS → entry new place e ≡ option_or (entry old place e) (given (is_to ports m.atom e t.target) value)) → AreValues moves (value_to atoms states ports (front (i + 1)) mask) new
-    values-more told delivered place m e there small =
-        delivered place m e there small ∙
-        ap (λ o. option_or o (given (is_to ports m.atom e t.target) value)) (so_far place m e there small) ∙
-        sym (one-more m.atom e ∙ ap (λ b. option_or (value_to atoms states ports (front i) mask m.atom e) (given (b && is_to ports m.atom e t.target) value)) told)
+    pub delivered-more : applies mask (transfer_of t) ≡ true → IsGiven moves (λ atom. is_leaf_of ports t.target.leaf atom) t.target.export value old new → AreDelivered moves (delivered_by atoms states ports (front (i + 1)) mask) new
+    delivered-more told done place m there first =
+        done place m (map (value_to atoms states ports (front i) mask m.atom) (range_with_len 0 MAX_EXPORTS)) there first refl (so_far place m there first) ∙
+        ap Some (changed m.atom (is_leaf_of ports t.target.leaf m.atom) refl told)
 
     -- or it does not
-    pub values-same : applies mask (transfer_of t) ≡ false → new ≡ old → AreValues moves (value_to atoms states ports (front (i + 1)) mask) new
-    values-same told same place m e there small =
-        ap (λ rows. entry rows place e) same ∙ so_far place m e there small ∙
-        sym (one-more m.atom e ∙ ap (λ b. option_or (value_to atoms states ports (front i) mask m.atom e) (given (b && is_to ports m.atom e t.target) value)) told ∙ or_none (value_to atoms states ports (front i) mask m.atom e))
-
--- a row of values that are told one by one delivers them
-pub row-delivered : (row : List (Option ℤ)) (value : ℕ → Option ℤ) → length row ≡ MAX_EXPORTS → ((e : ℕ) → e < MAX_EXPORTS → get_or row e None ≡ value e) → delivered_of row ≡ delivered_of (map value (range_with_len 0 MAX_EXPORTS))
-row-delivered (a ∷ b ∷ c ∷ d ∷ []) value long told =
-    ap (λ x. delivered_of (x ∷ b ∷ c ∷ d ∷ [])) (told 0 (lit< tt)) ∙
-    ap (λ x. delivered_of (value 0 ∷ x ∷ c ∷ d ∷ [])) (told 1 (lit< tt)) ∙
-    ap (λ x. delivered_of (value 0 ∷ value 1 ∷ x ∷ d ∷ [])) (told 2 (lit< tt)) ∙
-    ap (λ x. delivered_of (value 0 ∷ value 1 ∷ value 2 ∷ x ∷ [])) (told 3 (lit< tt))
-row-delivered [] value long told = absurd (omega arith)
-row-delivered (a ∷ []) value long told = absurd (omega arith)
-row-delivered (a ∷ b ∷ []) value long told = absurd (omega arith)
-row-delivered (a ∷ b ∷ c ∷ []) value long told = absurd (omega arith)
-row-delivered (a ∷ b ∷ c ∷ d ∷ e ∷ row) value long told = absurd (omega arith)
-
--- where there are no transfers nothing is delivered
-pub nothing-by : (atoms : List AtomDefinition) (states : List Local) (ports : List Port) (transfers : List Transfer) (mask atom : ℕ) → (length transfers == 0) ≡ true → nothing_delivered ≡ delivered_by atoms states ports (map transfer_of transfers) mask atom
-nothing-by atoms states ports [] mask atom none = refl
-nothing-by atoms states ports (t ∷ ts) mask atom none = absurd (omega (arith, eqb-true (length (t ∷ ts)) 0 none))
+    pub delivered-same : applies mask (transfer_of t) ≡ false → new ≡ old → AreDelivered moves (delivered_by atoms states ports (front (i + 1)) mask) new
+    delivered-same told same place m there first =
+        ap (λ row. slice_get row place) same ∙ so_far place m there first ∙
+        ap (λ row. Some (delivered_of row)) (four-values (as_was 0) (as_was 1) (as_was 2) (as_was 3))
+      where
+        as_was : (e : ℕ) → value_to atoms states ports (front i) mask m.atom e ≡ value_to atoms states ports (front (i + 1)) mask m.atom e
+        as_was e =
+            sym (one-more m.atom e ∙ ap (λ b. option_or (value_to atoms states ports (front i) mask m.atom e) (some_if (b && is_to ports m.atom e t.target) value)) told ∙ or_none (value_to atoms states ports (front i) mask m.atom e))
 
 -- each place of a row that is the same everywhere
 pub everywhere : {X : Type 0} (x : X) (n : ℕ) (place : ℕ) → place < n → slice_get (replicate n x) place ≡ Some x
 everywhere x n place within = slice_get-get_or (replicate n x) place x (omega (arith, length-replicate n x)) ∙ ap Some (get_or-replicate n place x x within)
 
--- one place more has what is delivered to its move's atom
-pub placed : (moves : List Move) (delivered : ℕ → Delivered) (row : List Delivered) (n : ℕ) (d : Delivered) → n < length row → ((m : Move) → slice_get moves n ≡ Some m → d ≡ delivered m.atom) →
-    ((place : ℕ) (m : Move) → place < n → slice_get moves place ≡ Some m → slice_get row place ≡ Some (delivered m.atom)) →
-    (place : ℕ) (m : Move) → place < n + 1 → slice_get moves place ≡ Some m → slice_get (set row n d) place ≡ Some (delivered m.atom)
-placed moves delivered row n d within here before place m below there =
-    let inside : place < length (set row n d) = omega (arith, length-set row n d) in
-    slice_get-get_or (set row n d) place d inside ∙
-    ⊎_elim
-    (λ at. ap (λ k. Some (get_or (set row n d) k d)) at ∙ ap Some (get_or-set_same row n d d within ∙ here m (ap (slice_get moves) (sym at) ∙ there)))
-    (λ other. ap Some (get_or-set_other row n place d d other) ∙ sym (slice_get-get_or row place d (omega (arith, length-set row n d))) ∙ before place m (omega arith) there)
-    (cases_eq place n)
+-- the first move of an atom gets a value for one of its variables
+module _ (moves : List Move) (atom export : ℕ) (value : ℤ) (row : List Delivered) where
+  -- nothing is given where no move is of the atom
+  pub given-none : (n : ℕ) → length moves ≤ n → find (λ k. k.atom == atom) (take n moves) ≡ None → IsGiven moves (λ other. atom == other) export value row row
+  given-none n long none place m values there first four old =
+      let other : (m.atom == atom) ≡ false = none-at (λ k. k.atom == atom) moves n place m none (omega (arith, slice_get_within moves place m there)) there in
+      old ∙ ap (λ b. Some (delivered_of (if b then given export value values else values))) (sym (ne_eqb atom m.atom (λ same. false≢true (sym other ∙ eq-eqb m.atom atom (sym same)))))
+
+  -- and where one is, what stands at its place is given the value
+  module _ (n : ℕ) (its : Move) (here : slice_get moves n ≡ Some its) (same : its.atom ≡ atom) (none : find (λ k. k.atom == atom) (take n moves) ≡ None) (within : n < length row) (after : Delivered) (told : (values : List (Option ℤ)) → length values ≡ MAX_EXPORTS → get_or row n after ≡ delivered_of values → after ≡ delivered_of (given export value values)) where
+    at-place : (place : ℕ) (m : Move) (values : List (Option ℤ)) → slice_get moves place ≡ Some m → place ≡ n → length values ≡ MAX_EXPORTS → slice_get row place ≡ Some (delivered_of values) → slice_get (set row n after) place ≡ Some (delivered_of (if atom == m.atom then given export value values else values))
+    at-place place m values there at four old =
+        let is_its : its ≡ m = same_Some its m (sym here ∙ ap (slice_get moves) (sym at) ∙ there) in
+        let yes : (atom == m.atom) ≡ true = eq-eqb atom m.atom (sym same ∙ ap (λ k. k.atom) is_its) in
+        ap (slice_get (set row n after)) at ∙
+        slice_get-get_or (set row n after) n after (omega (arith, within, length-set row n after)) ∙
+        ap Some (get_or-set_same row n after after within ∙ told values four (get_or_from_slice_get row n (delivered_of values) after (ap (slice_get row) (sym at) ∙ old))) ∙
+        ap (λ b. Some (delivered_of (if b then given export value values else values))) (sym yes)
+
+    elsewhere : (place : ℕ) (m : Move) (values : List (Option ℤ)) → slice_get moves place ≡ Some m → IsFirstOfAtom moves place m → place ≢ n → slice_get row place ≡ Some (delivered_of values) → slice_get (set row n after) place ≡ Some (delivered_of (if atom == m.atom then given export value values else values))
+    elsewhere place m values there first other old =
+        let inside : place < length row = slice_get_within row place (delivered_of values) old in
+        let no : (atom == m.atom) ≡ false = ne_eqb atom m.atom (λ equal.
+        ⊎_elim
+        (λ before. false≢true (sym (none-at (λ k. k.atom == atom) moves n place m none before there) ∙ eq-eqb m.atom atom (sym equal)))
+        (λ past. false≢true (sym (none-at (λ k. k.atom == m.atom) moves place n its first (omega (arith, past, other)) here) ∙ eq-eqb its.atom m.atom (same ∙ equal)))
+        (cases_lt place n)) in
+        slice_get-get_or (set row n after) place after (omega (arith, inside, length-set row n after)) ∙
+        ap Some (get_or-set_other row n place after after other) ∙ sym (slice_get-get_or row place after inside) ∙ old ∙
+        ap (λ b. Some (delivered_of (if b then given export value values else values))) (sym no)
+
+    pub given-here : IsGiven moves (λ other. atom == other) export value row (set row n after)
+    given-here place m values there first four old =
+        ⊎_elim (λ at. at-place place m values there at four old) (λ other. elsewhere place m values there first other old) (cases_eq place n)

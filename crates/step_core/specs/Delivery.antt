@@ -1,19 +1,21 @@
 -- What is delivered to the atoms of some moves.
-use Rattle.std.specs.Prelude.{◌≡◌, ℕ, ℤ, ◌<◌, List, [], Option, Some, None, slice_get, slice_index_or}
+use Rattle.std.specs.Prelude.{◌≡◌, ℕ, ℤ, Bool, ◌==◌, List, Option, Some, None, length, slice_get, find, take, if◌then◌else◌}
+use Rattle.petri_atom.specs.Local.{delivered_of, given}
 use Rattle.petri_atom.specs.declared.state.Delivered.{Delivered}
 use Rattle.petri_atom.specs.declared.state.TheConstants.{MAX_EXPORTS}
 use Rattle.step_core.specs.declared.choice.Move.{Move}
 
--- the row has for each move, by its place, what its atom gets
+-- the move at a place is the first of its atom
+abbrev pub IsFirstOfAtom : List Move → ℕ → Move → Type 0
+IsFirstOfAtom moves place m = find (λ k. k.atom == m.atom) (take place moves) ≡ None
+
+-- the row has for each move that is the first of its atom, by its place, what that atom gets
 abbrev pub AreDelivered : List Move → (ℕ → Delivered) → List Delivered → Type 0
 AreDelivered moves delivered row =
-    (place : ℕ) (m : Move) → slice_get moves place ≡ Some m → slice_get row place ≡ Some (delivered m.atom)
+    (place : ℕ) (m : Move) → slice_get moves place ≡ Some m → IsFirstOfAtom moves place m → slice_get row place ≡ Some (delivered m.atom)
 
--- what stands in rows at a place for an exported variable
-abbrev pub entry : List (List (Option ℤ)) → ℕ → ℕ → Option ℤ
-entry rows place export = slice_index_or (slice_index_or rows place []) export None
-
--- the rows have for each move, by its place, the value that each exported variable of its atom gets
-abbrev pub AreValues : List Move → (ℕ → ℕ → Option ℤ) → List (List (Option ℤ)) → Type 0
-AreValues moves value rows =
-    (place : ℕ) (m : Move) (export : ℕ) → slice_get moves place ≡ Some m → export < MAX_EXPORTS → entry rows place export ≡ value m.atom export
+-- behind a value for an exported variable of the atoms that pass a test: the first move of such an atom has it, unless it had one before, and all other first moves have what they had
+abbrev pub IsGiven : List Move → (ℕ → Bool) → ℕ → ℤ → List Delivered → List Delivered → Type 0
+IsGiven moves test export value old new =
+    (place : ℕ) (m : Move) (row : List (Option ℤ)) → slice_get moves place ≡ Some m → IsFirstOfAtom moves place m → length row ≡ MAX_EXPORTS → slice_get old place ≡ Some (delivered_of row) →
+    slice_get new place ≡ Some (delivered_of (if test m.atom then given export value row else row))

@@ -8,6 +8,7 @@ ghost use Rattle.step_core.specs.Step.{next};
 use crate::choice::Choice;
 use crate::state::PlantState;
 use crate::system::System;
+use crate::transfers::nothing_at_all;
 
 impl System {
     ghost use Rattle.step_core.specs.System.{plant_of};
@@ -21,7 +22,8 @@ impl System {
         ensures next { states.new ≡ next (plant_of self.now) states.old (choice_of choice.now) }
         ensures fits { AllFit (plant_of self.now) states.old → AllFit (plant_of self.now) states.new }
     {
-        let delivered = self.deliveries(states, choice);
+        let mut delivered = nothing_at_all();
+        self.deliver(states, choice, &mut delivered);
         let moves = choice.moves.as_slice();
         for place in 0..moves.len() {
             let step = moves[place];

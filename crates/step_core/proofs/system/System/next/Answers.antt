@@ -1,5 +1,5 @@
-use Rattle.std.proofs.Common.{◌≡◌, ◌<◌, ◌∙◌, sym, ap, subst, arith, length, map, take, get_or, set, []}
-use Rattle.std.specs.Prelude.{Some, slice_get}
+use Rattle.std.proofs.Common.{◌≡◌, ◌==◌, ◌<◌, ◌∙◌, sym, ap, subst, arith, length, map, take, get_or, set, []}
+use Rattle.std.specs.Prelude.{Some, slice_get, find}
 use Rattle.std.proofs.lemmas.List.{length-map, take_all}
 use Rattle.std.proofs.lemmas.Option.{slice_get-get_or, get_or_from_slice_get}
 use Rattle.petri_atom.specs.Atom.{definition_of}
@@ -74,7 +74,8 @@ loop-place-preserved c =
     let items = c.loop-place.states-inside.states.items in
     let read = c.index_mut.ensures.value ∙ ap (λ xs. get_or xs n now) c.loop-place.invariant.0 in
     let its : slice_get moves k ≡ Some m = slice_get-get_or moves k no_move c.loop-place-test.true in
-    let delivered = get_or_from_slice_get c.deliveries-delivered.result k (gets m.atom) (record { mask = 0; values = [] }) (c.deliveries-delivered.ensures k m (ap (λ ms. slice_get ms k) (sym c.as_slice-moves.ensures.moves) ∙ its)) in
+    let first = ap (λ n. find (λ j. j.atom == n) (take k moves)) (sym c.from-number.ensures) ∙ fresh in
+    let delivered = get_or_from_slice_get c.deliver.new.delivered k (gets m.atom) (record { mask = 0; values = [] }) (c.deliver.ensures k m (ap (λ ms. slice_get ms k) (sym c.as_slice-moves.ensures.moves) ∙ its) (ap (λ ms. find (λ j. j.atom == m.atom) (take k ms)) (sym c.as_slice-moves.ensures.moves) ∙ first)) in
     let told : new ≡ fired (definition_of c.index.result.now) m.transition (gets n) now =
     c.apply.ensures.fired ∙ ap (λ d. fired (definition_of c.index.result.now) m.transition d now) (delivered ∙ ap gets (sym c.from-number.ensures)) in
     let long : length items ≡ length old = ap length c.loop-place.invariant.0 ∙ length-stepped (map definition_of system.atoms.items) (take k moves) gets 0 old in
