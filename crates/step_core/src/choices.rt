@@ -86,9 +86,10 @@ impl System {
         ensures { IsJudgement (plant_of self.now) (map interaction_of self.now.interactions.items) states.now judgement.new }
     {
         let words = self.interactions.len().div_ceil(64);
-        let touched = judgement
+        let mut touched = InteractionSet::new();
+        judgement
             .offers
-            .judge_moved(&self.atoms, states, rows, words, moves);
+            .judge_moved(&self.atoms, states, rows, words, moves, &mut touched);
         let changed = self.judge_touched(
             states,
             &judgement.offers,

@@ -1,6 +1,6 @@
 //! A global state with the offered transitions of its atoms, each judged once: which interactions are possible in it, and how
 //! their participants can move.
-ghost use Rattle.std.specs.Prelude.{◌≡◌, ℕ, false, [], ◌≤◌, ◌<◌, ◌+◌, ◌*◌, ◌^◌, ◌++◌, Some, None, List, map, length, get_or, slice_get, slice_index_or, flat_map, option_map};
+ghost use Rattle.std.specs.Prelude.{◌≡◌, ℕ, false, [], ◌≤◌, ◌<◌, ◌+◌, ◌*◌, ◌/◌, ◌%◌, ◌^◌, ◌++◌, Some, None, List, map, length, get_or, slice_get, slice_index_or, flat_map, option_map};
 ghost use Rattle.std.specs.FinSet.{contains};
 ghost use Rattle.petri_atom.specs.Atom.{definition_of};
 ghost use Rattle.petri_atom.specs.declared.parts.TheConstants.{MAX_TRANSITIONS};
@@ -108,9 +108,9 @@ impl Judged<'_> {
         match ports {
             [] => {}
             [first, later @ ..] => {
-                let below = total / self.move_count(first);
-                moves.push(self.nth_move(first, (place / below) as usize));
-                self.push_row(later, below, place % below, moves);
+                let split = split_place(total, self.move_count(first), place);
+                moves.push(self.nth_move(first, split.own as usize));
+                self.push_row(later, split.below, split.rest, moves);
             }
         }
     }
@@ -199,6 +199,42 @@ impl Judged<'_> {
         ensures { result ≡ is_possible (map definition_of self.now.atoms.now) (map wire_of self.now.wires.now) self.now.states.now (interaction_of interaction.now) }
     {
         count > 0 && self.is_unguarded(interaction)
+    }
+}
+
+/// A place among rows as the first port sees it.
+#[derive(Drop)]
+struct Split {
+    /// The place among the moves of the first port.
+    own: u64,
+    /// How many rows there are for each of these.
+    below: u64,
+    /// The place among those.
+    rest: u64,
+}
+
+/// Splits the place of a row of `total`, where the first port has `count` moves.
+fn split_place(total: u64, count: u64, place: u64) -> Split
+    requires some { 0 < count }
+    requires whole { 0 < total / count }
+    requires place { place < total }
+    ensures own { result.own ≡ place / (total / count) }
+    ensures below { result.below ≡ total / count }
+    ensures rest { result.rest ≡ place % (total / count) }
+{
+    // Most atoms offer one transition: these need no division.
+    if count == 1 {
+        return Split {
+            own: 0,
+            below: total,
+            rest: place,
+        };
+    }
+    let below = total / count;
+    Split {
+        own: place / below,
+        below,
+        rest: place % below,
     }
 }
 

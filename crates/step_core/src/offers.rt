@@ -68,9 +68,9 @@ impl Offers {
         }
     }
 
-    /// Judges the transitions of the atoms of the moves again; those of all other atoms are known. Gives the interactions that
-    /// are to be judged again, of those that a row has in so many words: those with a port at which another number of
-    /// transitions is offered now, and those whose guards read one of the atoms.
+    /// Judges the transitions of the atoms of the moves again; those of all other atoms are known. Puts the interactions that
+    /// are to be judged again into the set, of those that a row has in so many words: those with a port at which another number
+    /// of transitions is offered now, and those whose guards read one of the atoms.
     pub(crate) fn judge_moved(
         &mut self,
         atoms: &[Atom],
@@ -78,7 +78,8 @@ impl Offers {
         rows: &[InteractionSet],
         words: usize,
         moves: &[Move],
-    ) -> InteractionSet
+        touched: &mut InteractionSet,
+    )
         requires as_many { length states.now ≡ length atoms.now }
         requires few { length atoms.now ≤ MAX_ATOMS }
         requires rows { length rows.now ≡ length atoms.now * ATOM_ROWS }
@@ -87,14 +88,12 @@ impl Offers {
         requires counted { AreCounted (map definition_of atoms.now) self.old.sets self.old.counts }
         ensures offered { AreOffered (map definition_of atoms.now) states.now self.new.sets }
         ensures counted { AreCounted (map definition_of atoms.now) self.new.sets self.new.counts }
-        ensures told { AreTold rows.now words self.old.counts self.new.counts result }
-        ensures read { (n : ℕ) → n < 64 * words → contains result n ≡ false → is_read_by rows.now moves.now n ≡ false }
+        ensures told { AreTold rows.now words self.old.counts self.new.counts touched.new }
+        ensures read { (n : ℕ) → n < 64 * words → contains touched.new n ≡ false → is_read_by rows.now moves.now n ≡ false }
     {
-        let mut touched = InteractionSet::new();
         for step in moves {
-            self.judge_atom(atoms, states, rows, words, step.atom, &mut touched);
+            self.judge_atom(atoms, states, rows, words, step.atom, touched);
         }
-        touched
     }
 
     /// Judges the transitions of the atom with this number again, if there is one.

@@ -25,13 +25,13 @@ judge_touched-changed-requires-clause-others c n outside =
     let behind = c.requires.behind in
     let before = behind.before in
     let after = c.args.states.now in
-    let new = c.judge_moved-touched.new.self in
+    let new = c.judge_moved.new.self in
     let old = c.args.judgement.now.offers in
-    let judged = c.judge_moved-touched.ensures in
+    let judged = c.judge_moved.ensures in
     let offered : AreOffered plant.atoms after new.sets = subst (λ list. AreOffered (map definition_of list) after new.sets) c.deref.ensures.value judged.offered in
     let counted : AreCounted plant.atoms new.sets new.counts = subst (λ list. AreCounted (map definition_of list) new.sets new.counts) c.deref.ensures.value judged.counted in
     let low : n < length all → n < 64 * c.div_ceil-words.result = λ within. omega (arith, within, length-map system.interactions.items interaction_of, c.div_ceil-words.ensures) in
-    let told : n < length all → contains c.judge_moved-touched.result n ≡ false → (p : Port) → is_noted c.args.rows.now n (at_port p) ≡ true → length (moves_of plant.atoms after p) ≡ length (moves_of plant.atoms before p) =
+    let told : n < length all → contains c.judge_moved.new.touched n ≡ false → (p : Port) → is_noted c.args.rows.now n (at_port p) ≡ true → length (moves_of plant.atoms after p) ≡ length (moves_of plant.atoms before p) =
     λ within out p noted. sym (counted-moves plant.atoms after new.sets new.counts c.requires.of_plant offered counted p) ∙ judged.told n p.atom p.port (low within) noted out ∙
     counted-moves plant.atoms before old.sets old.counts (behind.as_many ∙ c.requires.of_plant) behind.judged.offered behind.judged.counted p in
     behind.judged.possible n ∙
@@ -48,13 +48,13 @@ judge_touched-changed-requires-clause-other_ways c n outside =
     let behind = c.requires.behind in
     let before = behind.before in
     let after = c.args.states.now in
-    let new = c.judge_moved-touched.new.self in
+    let new = c.judge_moved.new.self in
     let old = c.args.judgement.now.offers in
-    let judged = c.judge_moved-touched.ensures in
+    let judged = c.judge_moved.ensures in
     let offered : AreOffered plant.atoms after new.sets = subst (λ list. AreOffered (map definition_of list) after new.sets) c.deref.ensures.value judged.offered in
     let counted : AreCounted plant.atoms new.sets new.counts = subst (λ list. AreCounted (map definition_of list) new.sets new.counts) c.deref.ensures.value judged.counted in
     let low : n < length all → n < 64 * c.div_ceil-words.result = λ within. omega (arith, within, length-map system.interactions.items interaction_of, c.div_ceil-words.ensures) in
-    let told : n < length all → contains c.judge_moved-touched.result n ≡ false → (p : Port) → is_noted c.args.rows.now n (at_port p) ≡ true → length (moves_of plant.atoms after p) ≡ length (moves_of plant.atoms before p) =
+    let told : n < length all → contains c.judge_moved.new.touched n ≡ false → (p : Port) → is_noted c.args.rows.now n (at_port p) ≡ true → length (moves_of plant.atoms after p) ≡ length (moves_of plant.atoms before p) =
     λ within out p noted. sym (counted-moves plant.atoms after new.sets new.counts c.requires.of_plant offered counted p) ∙ judged.told n p.atom p.port (low within) noted out ∙
     counted-moves plant.atoms before old.sets old.counts (behind.as_many ∙ c.requires.of_plant) behind.judged.offered behind.judged.counted p in
     behind.judged.ways n ∙
@@ -71,8 +71,8 @@ returns-else-changed c =
     let behind = c.requires.behind in
     let before = behind.before in
     let after = c.args.states.now in
-    let new = c.judge_moved-touched.new.self in
-    let judged = c.judge_moved-touched.ensures in
+    let new = c.judge_moved.new.self in
+    let judged = c.judge_moved.ensures in
     let touched = c.judge_touched-changed.ensures in
     let same = touched.same c.if-changed.false in
     let possible : (n : ℕ) → is_possible_at plant.atoms plant.wires after all n ≡ is_possible_at plant.atoms plant.wires before all n =
