@@ -1,3 +1,4 @@
+pub mod Indexed
 pub mod Lasts
 pub mod Numbered
 pub mod SoundLists
@@ -10,3 +11,4 @@ pub mod Connectors
 pub mod Counts
 pub mod Systems
 pub mod Marked
+pub mod Written

@@ -8,3 +8,4 @@ pub mod Marks
 pub mod Wires
 pub mod Parts
 pub mod Draft
+pub mod Index

@@ -1,5 +1,6 @@
 //! The plant as its lines have told it so far.
-ghost use Rattle.std.specs.Prelude.{◌≡◌, ◌≤◌, length, map, false, is_ok, IfOk, IfErr, IfNone, IfSome, OnOk, Ok, None};
+ghost use Rattle.std.specs.Prelude.{◌≡◌, ◌<◌, ◌≤◌, [], ◌∷◌, ◌++◌, length, map, false, is_ok, IfOk, IfErr, IfNone, IfSome, OnOk, Ok, None};
+ghost use Rattle.petri_atom.specs.Parts.{definition_by};
 ghost use Rattle.step_core.specs.declared.limits.TheConstants.{MAX_ATOMS, MAX_WIRES, MAX_RULES};
 ghost use Rattle.connector_tree.specs.Faults.{fault_of};
 ghost use Rattle.atom_lines.specs.Draft.{drafted as atom_drafted};
@@ -7,11 +8,13 @@ ghost use Rattle.plant_trees.specs.Connectors.{tokens_of};
 ghost use Rattle.plant_trees.specs.Trees.{tree_in};
 ghost use Rattle.plant_words.specs.Words.{words_of};
 ghost use Rattle.plant_text.specs.Fault.{IsFaultOf};
-ghost use Rattle.plant_text.specs.Names.{port_named};
+ghost use Rattle.plant_text.specs.Index.{names_of_atoms, names_of_wires};
+ghost use Rattle.plant_text.specs.Names.{atom_number, wire_number, port_named};
 ghost use Rattle.plant_text.specs.Parts.{wire_listed};
 ghost use Rattle.plant_text.specs.Rows.{told_tree, atom_row, connector_row, rule_row, row_of, words_row, line_row};
 
 use crate::fault::Fault;
+use crate::index::NameIndex;
 use crate::kinds::{AtomPart, LineKind, RuleKind, WirePart};
 use crate::listed::ListedWire;
 use crate::marks::Mark;
@@ -21,6 +24,7 @@ use crate::reading::{check, end, next_name};
 use crate::wires::{WireTable, have_room, read_rule};
 use atom_lines::AtomDraft;
 use connector_tree::Connector;
+use petri_atom::Name;
 use plant_trees::read_tree;
 use plant_words::{Words, is_legal, is_passed_over};
 use priority_filter::Rule;
@@ -32,11 +36,15 @@ use step_core::{MAX_ATOMS, MAX_RULES, MAX_WIRES};
 pub(crate) struct PlantDraft {
     pub(crate) alloc: Global,
     pub(crate) atoms: Vec<AtomDraft>,
+    atom_names: NameIndex,
     pub(crate) wires: Vec<ListedWire>,
+    wire_names: NameIndex,
     pub(crate) rules: Vec<Rule>,
     ghost few_atoms: { length atoms.items ≤ MAX_ATOMS },
     ghost few_wires: { length wires.items ≤ MAX_WIRES },
     ghost few_rules: { length rules.items ≤ MAX_RULES },
+    ghost atoms_named: { atom_names ≡ names_of_atoms atoms.items },
+    ghost wires_named: { wire_names ≡ names_of_wires wires.items },
 }
 
 impl PlantDraft {
@@ -50,7 +58,9 @@ impl PlantDraft {
         PlantDraft {
             alloc,
             atoms: Vec::new(alloc),
+            atom_names: NameIndex::new(alloc),
             wires: Vec::new(alloc),
+            wire_names: NameIndex::new(alloc),
             rules: Vec::new(alloc),
         }
     }
@@ -126,7 +136,20 @@ impl PlantDraft {
         let before = self.table().find(name.as_bytes());
         check(before.is_none(), Fault::Twice)?;
         end(words)?;
-        self.atoms.push(AtomDraft::new(self.alloc, name))?;
+        self.push_atom(name)?;
+        Ok(())
+    }
+
+    /// Puts an atom with a new name and no parts behind the others. It comes into the list and into the index of names, or,
+    /// where there is no memory, into neither: so the list has its room first.
+    fn push_atom(&mut self, name: Name) -> Result<(), AllocError>
+        requires few { length self.old.atoms.items < MAX_ATOMS }
+        requires new { atom_number (drafted self.old).atoms name ≡ None }
+        ensures pushed { OnOk result (drafted self.new ≡ record (drafted self.old) { atoms = (drafted self.old).atoms ++ definition_by name [] [] [] [] ∷ [] }) }
+    {
+        self.atoms.reserve(1)?;
+        self.atom_names.add(name.as_bytes())?;
+        self.atoms.push(AtomDraft::new(self.alloc, name)).unwrap();
         Ok(())
     }
 
@@ -154,7 +177,19 @@ impl PlantDraft {
         let connector = self.read_tree(words)?;
         let wire = ListedWire::new(self.alloc, name, connector)?;
         check(have_room(&self.wires, wire.masks.len()), Fault::Limit)?;
-        self.wires.push(wire)?;
+        self.push_wire(wire)?;
+        Ok(())
+    }
+
+    /// Puts a connector with a new name behind the others, into the list and into the index of names, or into neither.
+    fn push_wire(&mut self, wire: ListedWire) -> Result<(), AllocError>
+        requires few { length self.old.wires.items < MAX_WIRES }
+        requires new { wire_number (drafted self.old).wires (wire_listed wire).name ≡ None }
+        ensures pushed { OnOk result (drafted self.new ≡ record (drafted self.old) { wires = (drafted self.old).wires ++ wire_listed wire ∷ [] }) }
+    {
+        self.wires.reserve(1)?;
+        self.wire_names.add(wire.draft.name().as_bytes())?;
+        self.wires.push(wire).unwrap();
         Ok(())
     }
 
@@ -164,6 +199,7 @@ impl PlantDraft {
     {
         AtomTable {
             drafts: &self.atoms,
+            names: &self.atom_names,
         }
     }
 
@@ -171,7 +207,10 @@ impl PlantDraft {
     fn wire_table(&self) -> WireTable<'_>
         ensures { map wire_listed result.wires.now ≡ (drafted self.now).wires }
     {
-        WireTable { wires: &self.wires }
+        WireTable {
+            wires: &self.wires,
+            names: &self.wire_names,
+        }
     }
 
     /// The tree that the words are, over ports of the atoms so far.
@@ -190,6 +229,7 @@ impl PlantDraft {
     {
         let table = AtomTable {
             drafts: &self.atoms,
+            names: &self.atom_names,
         };
         let Some(wire) = self.wires.last_mut() else {
             return Err(Fault::Misplaced);

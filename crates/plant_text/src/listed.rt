@@ -50,6 +50,7 @@ impl ListedWire {
     ) -> Result<(), LineFault>
         ensures added { OnOk result (wire_part_row part (map drafted table.now.drafts.now) words.old (wire_listed self.old) ≡ Ok (wire_listed self.new)) }
         ensures fault { IfErr result (IsFaultOf (wire_part_row part (map drafted table.now.drafts.now) words.old (wire_listed self.old))) }
+        ensures same_name { (wire_listed self.new).name ≡ (wire_listed self.old).name }
     {
         change_wire(&mut self.draft, part, words, table)
     }
@@ -77,6 +78,7 @@ fn change_wire(
     ensures added { OnOk result (wire_part_row part (map drafted table.now.drafts.now) words.old (wire_drafted wire.old) ≡ Ok (wire_drafted wire.new)) }
     ensures fault { IfErr result (IsFaultOf (wire_part_row part (map drafted table.now.drafts.now) words.old (wire_drafted wire.old))) }
     ensures same_tree { (wire_drafted wire.new).tree ≡ (wire_drafted wire.old).tree }
+    ensures same_name { (wire_drafted wire.new).name ≡ (wire_drafted wire.old).name }
 {
     match part {
         WirePart::Guard => wire.add_guard(words, table),

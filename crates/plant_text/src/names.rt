@@ -1,31 +1,24 @@
 //! The atoms so far, by the names that connectors use.
-ghost use Rattle.std.specs.Prelude.{◌≡◌, ◌<◌, ◌≤◌, length, map, IfSome, position};
-ghost use Rattle.petri_atom.specs.Name.{is_same_text};
+ghost use Rattle.std.specs.Prelude.{◌≡◌, ◌<◌, ◌≤◌, length, map, IfSome};
 ghost use Rattle.step_core.specs.declared.limits.TheConstants.{MAX_ATOMS};
 ghost use Rattle.atom_lines.specs.Draft.{drafted};
+ghost use Rattle.plant_text.specs.Index.{names_of_atoms};
 ghost use Rattle.plant_text.specs.Names.{atom_number};
 
+use crate::index::NameIndex;
 use atom_lines::AtomDraft;
 use connector_tree::Port;
 use plant_trees::Ports;
 use step_core::MAX_ATOMS;
 use wire_lines::Exports;
 
-/// The index of the first draft with the name.
-fn find_draft(drafts: &[AtomDraft], name: &[u8]) -> Option<usize>
-    ensures first { result ≡ position (λ draft. is_same_text (drafted draft).name name.now) drafts.now }
-    ensures within { IfSome result (λ index. index < length drafts.now) }
-{
-    drafts
-        .iter()
-        .position(|draft| draft.name().as_bytes() == name)
-}
-
 /// The atoms so far, numbered from 0.
 #[derive(Drop)]
 pub(crate) struct AtomTable<'a> {
     pub(crate) drafts: &'a [AtomDraft],
+    pub(crate) names: &'a NameIndex,
     ghost few: { length drafts.now ≤ MAX_ATOMS },
+    ghost named: { names.now ≡ names_of_atoms drafts.now },
 }
 
 impl AtomTable<'_> {
@@ -34,7 +27,7 @@ impl AtomTable<'_> {
         ensures first { result ≡ atom_number (map drafted self.now.drafts.now) name.now }
         ensures within { IfSome result (λ index. index < length self.now.drafts.now) }
     {
-        find_draft(self.drafts, name)
+        self.names.find(name)
     }
 }
 

@@ -16,6 +16,7 @@ pub(crate) fn change_atom(
 ) -> Result<(), LineFault>
     ensures added { OnOk result (atom_part_row part words.old (drafted atom.old) ≡ Ok (drafted atom.new)) }
     ensures fault { IfErr result (IsFaultOf (atom_part_row part words.old (drafted atom.old))) }
+    ensures same_name { (drafted atom.new).name ≡ (drafted atom.old).name }
 {
     match part {
         AtomPart::Place => atom.add_place(words),

@@ -1,12 +1,13 @@
 //! The connectors so far, by the names that rules use.
-ghost use Rattle.std.specs.Prelude.{◌≡◌, ◌+◌, ◌<◌, ◌≤◌, length, nat_le, map, IfSome, position};
-ghost use Rattle.petri_atom.specs.Name.{is_same_text};
+ghost use Rattle.std.specs.Prelude.{◌≡◌, ◌+◌, ◌<◌, ◌≤◌, length, nat_le, map, IfSome};
 ghost use Rattle.step_core.specs.declared.limits.TheConstants.{MAX_WIRES, MAX_INTERACTIONS};
+ghost use Rattle.plant_text.specs.Index.{names_of_wires};
 ghost use Rattle.plant_text.specs.Interactions.{interactions_of};
 ghost use Rattle.plant_text.specs.Names.{wire_number};
 ghost use Rattle.plant_text.specs.Parts.{wire_listed};
 ghost use Rattle.plant_text.specs.Rows.{rule_in};
 
+use crate::index::NameIndex;
 use crate::kinds::RuleKind;
 use crate::listed::ListedWire;
 use atom_lines::LineFault;
@@ -27,21 +28,13 @@ pub(crate) fn have_room(wires: &[ListedWire], more: usize) -> bool
     total <= MAX_INTERACTIONS as u128
 }
 
-/// The index of the first connector with the name.
-fn find_wire(wires: &[ListedWire], name: &[u8]) -> Option<usize>
-    ensures first { result ≡ position (λ wire. is_same_text (wire_listed wire).name name.now) wires.now }
-    ensures within { IfSome result (λ index. index < length wires.now) }
-{
-    wires
-        .iter()
-        .position(|wire| wire.draft.name().as_bytes() == name)
-}
-
 /// The connectors so far, numbered from 0.
 #[derive(Drop)]
 pub(crate) struct WireTable<'a> {
     pub(crate) wires: &'a [ListedWire],
+    pub(crate) names: &'a NameIndex,
     ghost few: { length wires.now ≤ MAX_WIRES },
+    ghost named: { names.now ≡ names_of_wires wires.now },
 }
 
 impl WireTable<'_> {
@@ -50,7 +43,7 @@ impl WireTable<'_> {
         ensures first { result ≡ wire_number (map wire_listed self.now.wires.now) name.now }
         ensures within { IfSome result (λ index. index < length self.now.wires.now) }
     {
-        find_wire(self.wires, name)
+        self.names.find(name)
     }
 }
 

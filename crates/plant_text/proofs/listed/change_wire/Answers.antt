@@ -2,7 +2,7 @@ use Rattle.std.proofs.Common.{map}
 use Rattle.std.proofs.lemmas.Result.{on_ok_weaker, IfErr-weaker}
 use Rattle.atom_lines.specs.Draft.{drafted}
 use Rattle.wire_lines.specs.Draft.{drafted as wire_defined}
-use Rattle.plant_text.proofs.Connectors.{guard_made, guard_refused, guard_same_tree, transfer_made, transfer_refused, transfer_same_tree}
+use Rattle.plant_text.proofs.Connectors.{guard_made, guard_refused, guard_same_tree, guard_same_name, transfer_made, transfer_refused, transfer_same_tree, transfer_same_name}
 use Rattle.plant_text.proofs.listed.change_wire.Goals as goal
 
 pub returns-in-Guard-clause-added : goal.returns-in-Guard-clause-added
@@ -32,3 +32,11 @@ returns-in-Guard-clause-same_tree c =
 pub returns-in-Transfer-clause-same_tree : goal.returns-in-Transfer-clause-same_tree
 returns-in-Transfer-clause-same_tree c =
     transfer_same_tree (map drafted c.args.table.now.drafts.now) c.args.words.now (wire_defined c.args.wire.now) (wire_defined c.add_transfer.new.self) c.add_transfer.result c.add_transfer.ensures.added c.add_transfer.ensures.unchanged
+
+pub returns-in-Guard-clause-same_name : goal.returns-in-Guard-clause-same_name
+returns-in-Guard-clause-same_name c =
+    guard_same_name (map drafted c.args.table.now.drafts.now) c.args.words.now (wire_defined c.args.wire.now) (wire_defined c.add_guard.new.self) c.add_guard.result c.add_guard.ensures.added c.add_guard.ensures.unchanged
+
+pub returns-in-Transfer-clause-same_name : goal.returns-in-Transfer-clause-same_name
+returns-in-Transfer-clause-same_name c =
+    transfer_same_name (map drafted c.args.table.now.drafts.now) c.args.words.now (wire_defined c.args.wire.now) (wire_defined c.add_transfer.new.self) c.add_transfer.result c.add_transfer.ensures.added c.add_transfer.ensures.unchanged

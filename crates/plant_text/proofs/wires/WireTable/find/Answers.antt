@@ -1,10 +1,17 @@
-use Rattle.std.proofs.Common.{◌∙◌}
-use Rattle.petri_atom.specs.Name.{is_same_text}
-use Rattle.atom_lines.proofs.Positions.{position_of_mapped}
+use Rattle.std.proofs.Common.{◌∙◌, ap, subst, ◌<◌, ℕ, length, IfSome}
+use Rattle.std.proofs.lemmas.List.{length-map}
 use Rattle.plant_text.specs.Parts.{wire_listed}
-use Rattle.plant_text.specs.Text.{WireText}
+use Rattle.plant_text.specs.declared.listed.ListedWire.{ListedWire}
+use Rattle.plant_text.proofs.Indexed.{place_of_wire}
 use Rattle.plant_text.proofs.wires.WireTable.find.Goals as goal
 
 pub returns-clause-first : goal.returns-clause-first
 returns-clause-first c =
-    c.find_wire.ensures.first ∙ position_of_mapped wire_listed (λ (w : WireText). is_same_text w.name c.args.name.now) c.args.self.now.wires.now
+    let table = c.args.self.now in
+    c.find.ensures.first ∙ place_of_wire table.wires.now table.names.now c.args.name.now table.named
+
+pub returns-clause-within : goal.returns-clause-within
+returns-clause-within c =
+    let table = c.args.self.now in
+    subst (λ (count : ℕ). IfSome c.find.result (λ index. index < count))
+    (ap length table.named ∙ length-map table.wires.now (λ (w : ListedWire). (wire_listed w).name)) c.find.ensures.within
