@@ -1,7 +1,7 @@
 -- Names in written order: where one stands, and one more behind them.
-use Rattle.std.proofs.Common.{◌≡◌, ◌∙◌, refl, sym, ap, arith, ℕ, ◌+◌, ◌≤◌, true, List, [], ◌∷◌, ◌++◌, map, position, None, Result, Ok, Err, OnOk, if◌then◌else◌}
+use Rattle.std.proofs.Common.{◌≡◌, ◌∙◌, refl, sym, ap, arith, ℕ, ◌+◌, ◌≤◌, List, [], ◌∷◌, ◌++◌, map, position, None, Result, Ok, Err, OnOk, if◌then◌else◌}
 use Rattle.std.proofs.lemmas.List.{map-append, map-set, set-get_or}
-use Rattle.std.specs.Prelude.{slice_set, slice_index_or, OnErr, IsOk, is_ok}
+use Rattle.std.specs.Prelude.{slice_set, slice_index_or, OnErr, IsOk}
 use Rattle.std.specs.Cmp.Lexicographic.{nat_list_eq_equiv}
 use Rattle.indexmap.specs.IndexSet.{insert_key}
 use Rattle.petri_atom.specs.Definition.{AtomDefinition}
@@ -64,12 +64,3 @@ same_name_behind row a grown (Err fault) added unchanged grows = ap (λ (b : Ato
 pub not_full : {A E : Type 0} (result : Result A E) (room count : ℕ) → OnErr result (room ≤ count) → count + 1 ≤ room → IsOk result
 not_full (Ok done) room count full left = refl
 not_full (Err fault) room count full left = absurd (omega (arith, full, left))
-
--- the names behind one more
-pub one_name_more : {X : Type 0} (name_of : X → List ℕ) (list : List X) (x : X) (names : List (List ℕ)) (name : List ℕ) → names ≡ map name_of list → name ≡ name_of x → names ++ name ∷ [] ≡ map name_of (list ++ x ∷ [])
-one_name_more name_of list x names name named same =
-    (λ j. named j ++ same j ∷ []) ∙ sym (map-append name_of list (x ∷ []))
-
--- what was pushed goes last, where there was room
-pub pushed_last : {A E X : Type 0} (result : Result A E) (list pushed : List X) (x : X) → pushed ≡ (if is_ok result then list ++ x ∷ [] else list) → is_ok result ≡ true → pushed ≡ list ++ x ∷ []
-pushed_last result list pushed x items done = items ∙ ap (λ b. if b then list ++ x ∷ [] else list) done
