@@ -9,3 +9,4 @@ pub mod Rows
 pub mod PortSets
 pub mod Members
 pub mod Giving
+pub mod Grouping

@@ -112,7 +112,7 @@ pub moved-word : (m : ℕ) (ss ts : List ℕ) → m < 2 ^ 64 → bit_or (bit_and
 unfolding moved
 moved-word m ss ts small =
     set_below-is 64 _ _ (or_lt 64 _ _ (and_lt 64 m _ small rest_small) (set_below-lt 64 (is_in ts)))
-    (λ k below. has-or _ _ k ∙ ap (λ b. b || has (set_below 64 (is_in ts)) k) (has-and m _ k ∙ ap (λ b. has m k && b) (has-not word k (set_below-lt 64 (is_in ss)) below ∙ ap not (has-set_below 64 (is_in ss) k below))) ∙ ap (λ b. (has m k && not (is_in ss k)) || b) (has-set_below 64 (is_in ts) k below))
+    (λ k below. has-or _ _ k ∙ ap (λ b. b || has (set_below 64 (is_in ts)) k) (has-and m _ k ∙ ap (λ b. has m k && b) (has-not w64 word k (set_below-lt 64 (is_in ss)) below ∙ ap not (has-set_below 64 (is_in ss) k below))) ∙ ap (λ b. (has m k && not (is_in ss k)) || b) (has-set_below 64 (is_in ts) k below))
   where
     word : ℕ
     word = set_below 64 (is_in ss)
@@ -124,7 +124,7 @@ moved-word m ss ts small =
 pub blocking-word : (ss ts : List ℕ) → bit_and (set_below 64 (is_in ts)) (bit_not w64 (set_below 64 (is_in ss))) ≡ set_below 64 (λ p. is_in ts p && not (is_in ss p))
 blocking-word ss ts =
     set_below-is 64 _ _ (and_lt 64 (set_below 64 (is_in ts)) _ (set_below-lt 64 (is_in ts)) rest_small)
-    (λ k below. has-and _ _ k ∙ ap (λ b. b && has (bit_not w64 word) k) (has-set_below 64 (is_in ts) k below) ∙ ap (λ b. is_in ts k && b) (has-not word k (set_below-lt 64 (is_in ss)) below ∙ ap not (has-set_below 64 (is_in ss) k below)))
+    (λ k below. has-and _ _ k ∙ ap (λ b. b && has (bit_not w64 word) k) (has-set_below 64 (is_in ts) k below) ∙ ap (λ b. is_in ts k && b) (has-not w64 word k (set_below-lt 64 (is_in ss)) below ∙ ap not (has-set_below 64 (is_in ss) k below)))
   where
     word : ℕ
     word = set_below 64 (is_in ss)

@@ -1,8 +1,9 @@
-use Rattle.std.proofs.Common.{◌≡◌, ℕ, zero, suc, ◌+◌, ◌-◌, ◌*◌, ◌/◌, ◌%◌, ◌^◌, ◌<◌, ◌≤◌, Bool, true, false, cond, ◌&&◌, eqb, refl, sym, ◌∙◌, ap, arith, List, [], ◌∷◌, length, filter, Some, None, ⊎_elim}
+use Rattle.std.proofs.Common.{◌≡◌, ℕ, zero, suc, ◌+◌, ◌-◌, ◌*◌, ◌/◌, ◌%◌, ◌^◌, ◌<◌, ◌≤◌, Bool, true, false, cond, not, ◌&&◌, eqb, refl, sym, ◌∙◌, ap, arith, List, [], ◌∷◌, length, filter, Some, None, ⊎_elim}
 use Rattle.std.specs.Prelude.{bit_and, slice_get}
 use Rattle.std.specs.Int.{w128, trailing_zeros}
 use Rattle.std.specs.List.{range_with_len}
-use Rattle.std.proofs.lemmas.Bool.{cases_lt}
+use Rattle.std.proofs.Math.Bool.{and-true}
+use Rattle.std.proofs.lemmas.Bool.{cases_lt, cases_eq, eq-eqb, ne_eqb, and_right}
 use Rattle.std.proofs.lemmas.Nat.{pow_pos, pow_below, shr_split, mod_below}
 use Rattle.std.proofs.lemmas.Nat.Bits.{bit_at_cat_low, bit_at_cat_high, bit_at-pow_same, bit_at-pow_other, bit_at-trailing_zeros}
 use Rattle.petri_atom.specs.Definition.{TransitionDefinition, numbers_of}
@@ -63,10 +64,10 @@ module _ (w : ℕ) (some : 0 < w) (small : w < 2 ^ 128) where
   abbrev t : ℕ
   t = trailing_zeros w128 w
 
-  lowest-below : t < 128
+  pub lowest-below : t < 128
   lowest-below = (bit_at-trailing_zeros w128 w some small).0
 
-  there : has w t ≡ true
+  pub there : has w t ≡ true
   there = ap (λ x. eqb x 1) (bit_at-trailing_zeros w128 w some small).1
 
   before : (k : ℕ) → k < t → has w k ≡ false
@@ -128,6 +129,13 @@ module _ (w : ℕ) (some : 0 < w) (small : w < 2 ^ 128) where
   rest-high : (k : ℕ) → t < k → has rest k ≡ has w k
   rest-high k h =
       has-and w (w - 1) k ∙ ap (λ b. has w k && b) (less-past k h) ∙ and_same (has w k)
+
+  -- the others are all but the lowest
+  pub others : (k : ℕ) → has rest k ≡ (has w k && not (eqb k t))
+  others k =
+      ⊎_elim (λ under. rest-low k (omega arith) ∙ sym (ap (λ b. b && not (eqb k t)) (before k under)))
+      (λ past. ⊎_elim (λ same. rest-low k (omega arith) ∙ sym (ap (λ b. has w k && not b) (eq-eqb k t same) ∙ and_right (has w k) false refl)) (λ other. rest-high k (omega arith) ∙ sym (ap (λ b. has w k && not b) (ne_eqb k t other) ∙ and-true (has w k))) (cases_eq k t))
+      (cases_lt k t)
 
   numbers_below-first : numbers_below 128 w ≡ t ∷ numbers_below 128 rest
   unfolding numbers_below

@@ -31,8 +31,8 @@ has-and a b k = ap (λ x. eqb x 1) (bit_at_and a b k) ∙ both_bits _ _ (bit_at-
 pub has-or : (a b k : ℕ) → has (bit_or a b) k ≡ (has a k || has b k)
 has-or a b k = ap (λ x. eqb x 1) (bit_at_or a b k) ∙ either_bit _ _ (bit_at-lt a k) (bit_at-lt b k)
 
-pub has-not : (a k : ℕ) → a < 2 ^ 64 → k < 64 → has (bit_not w64 a) k ≡ not (has a k)
-has-not a k p q = ap (λ x. eqb x 1) (bit_at_not w64 a k p q) ∙ other_bit _ (bit_at-lt a k)
+pub has-not : (w : Width) (a k : ℕ) → a < 2 ^ bits w → k < bits w → has (bit_not w a) k ≡ not (has a k)
+has-not w a k p q = ap (λ x. eqb x 1) (bit_at_not w a k p q) ∙ other_bit _ (bit_at-lt a k)
 
 -- a number of n bits has no number from n on
 pub has-above : (a n k : ℕ) → a < 2 ^ n → n ≤ k → has a k ≡ false

@@ -49,6 +49,13 @@ value_of at (variable v) = at v
 value_of at (negation e) = truth (not (is_true (value_of at e)))
 value_of at (operation op e f) = operated op (value_of at e) (value_of at f)
 
+-- an expression is a number other than 0
+abbrev pub is_true_number : {V : Type 0} → Tree V → Bool
+is_true_number (number n) = is_true n
+is_true_number (variable v) = false
+is_true_number (negation e) = false
+is_true_number (operation op e f) = false
+
 -- how many words an expression is written with
 abbrev pub word_count : {V : Type 0} → Tree V → ℕ
 word_count (number n) = 1

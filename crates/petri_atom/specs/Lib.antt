@@ -7,5 +7,6 @@ pub mod Transition
 pub mod Parts
 pub mod Same
 pub mod SameTransition
+pub mod Groups
 pub mod Atom
 pub mod Fault

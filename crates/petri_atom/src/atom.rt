@@ -2,10 +2,12 @@
 ghost use Rattle.std.specs.Prelude.{◌≡◌, ◌≤◌, ◌↔◌, IsTrue, IfOk, IfErr, ◌&&◌, nat_le, None, map, filter, find, length, slice_get};
 ghost use Rattle.petri_atom.specs.Definition.{is_well_formed, fault_of, numbers_of, IsFaultOf};
 ghost use Rattle.petri_atom.specs.Parts.{port_of, definition_by, index_below, set_of_port, sets_below};
+ghost use Rattle.petri_atom.specs.Groups.{AreGroupsOf, unguarded_set};
 ghost use Rattle.petri_atom.specs.Transition.{transition_of};
 ghost use Rattle.petri_atom.specs.declared.parts.TheConstants.{MAX_PORTS, MAX_TRANSITIONS};
 
 use crate::fault::AtomFault;
+use crate::groups::{Group, groups_of};
 use crate::name::Name;
 use crate::parts::{MAX_PORTS, MAX_TRANSITIONS, Place, Port, Variable};
 use crate::rules;
@@ -18,7 +20,8 @@ use std::alloc::{AllocError, Global};
 ///
 /// Its places, variables, ports and transitions are numbered from 0 in the order of their lists. It keeps each rule of
 /// an atom, so that what can be asked of it cannot fail. For each port it has a list of the port's transitions, and a mask of
-/// their numbers, so that what a set of transitions has of a port is one operation.
+/// their numbers, so that what a set of transitions has of a port is one operation. Transitions that ask the same of a
+/// marking are a group, so that it is tested once for all of them, and no guard that is a number other than 0 is looked at.
 #[derive(Debug, Drop)]
 pub struct Atom {
     name: Name,
@@ -28,9 +31,13 @@ pub struct Atom {
     transitions: Vec<Transition>,
     by_port: Vec<Vec<u16>>,
     masks: Vec<u128>,
+    pub(crate) groups: Vec<Group>,
+    pub(crate) unguarded: u128,
     ghost well_formed: { IsTrue (is_well_formed (definition_by name places.items variables.items ports.items transitions.items)) },
     ghost indexed: { map (λ numbers. numbers.items) by_port.items ≡ index_below (length ports.items) (map transition_of transitions.items) },
     ghost masked: { masks.items ≡ sets_below (length ports.items) (map transition_of transitions.items) },
+    ghost grouped: { AreGroupsOf groups.items (map transition_of transitions.items) },
+    ghost unguarded_bits: { unguarded ≡ unguarded_set (map transition_of transitions.items) },
 }
 
 impl Atom {
@@ -55,6 +62,8 @@ impl Atom {
         }
         let by_port = transitions_by_port(alloc, ports.len(), &transitions)?;
         let masks = masks_by_port(alloc, ports.len(), &transitions)?;
+        let groups = groups_of(alloc, &transitions)?;
+        let unguarded = mask_of_unguarded(&transitions);
         Ok(Atom {
             name,
             places,
@@ -63,6 +72,8 @@ impl Atom {
             transitions,
             by_port,
             masks,
+            groups,
+            unguarded,
         })
     }
 
@@ -315,6 +326,18 @@ fn mask_of_port(port: u16, transitions: &[Transition]) -> u128
     let mut mask = 0;
     for (number, transition) in transitions.iter().enumerate() {
         mask |= u128::from(transition.port() == port) << number;
+    }
+    mask
+}
+
+/// The set of the transitions whose guard is a number other than 0.
+fn mask_of_unguarded(transitions: &[Transition]) -> u128
+    requires { length transitions.now ≤ MAX_TRANSITIONS }
+    ensures { result ≡ unguarded_set (map transition_of transitions.now) }
+{
+    let mut mask = 0;
+    for (number, transition) in transitions.iter().enumerate() {
+        mask |= u128::from(transition.guard().is_true_number()) << number;
     }
     mask
 }

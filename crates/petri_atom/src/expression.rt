@@ -1,7 +1,7 @@
 //! Expressions over whole numbers, and their values.
 ghost use Rattle.std.specs.Prelude.{◌≡◌, ℤ, Bool, ◌-◌, ◌^◌, min, nat_le};
 ghost use Rattle.petri_atom.specs.declared.parts.TheConstants.{MAX_WORDS};
-ghost use Rattle.petri_atom.specs.Expression.{tree_of, operated, value_of, word_count, all_variables, has_variables_below, is_same_tree};
+ghost use Rattle.petri_atom.specs.Expression.{tree_of, operated, value_of, word_count, all_variables, has_variables_below, is_same_tree, is_true_number};
 
 use crate::parts::MAX_WORDS;
 
@@ -93,6 +93,16 @@ impl<V> Expression<V> {
             Expression::Apply(operator, left, right) => {
                 operator.apply(left.walked(variables), right.walked(variables))
             }
+        }
+    }
+
+    /// Whether the expression is a number other than 0.
+    pub(crate) fn is_true_number(&self) -> bool
+        ensures { result ≡ is_true_number (tree_of self.now) }
+    {
+        match self {
+            Expression::Number(number) => *number != 0,
+            _ => false,
         }
     }
 

@@ -14,6 +14,7 @@
 //! - `name`, `parts`, `transition`: what an atom is made of. A transition keeps its places as machine words
 //!   too, so that a test of a marking is two operations; that they are those sets is kept by its type.
 //! - `offered`: the offered transitions of a state as one set, which is then counted and picked from, by one port or by all.
+//! - `groups`: the transitions that ask the same of a marking, so that it is tested once for all of them.
 //! - `marking`: lists of places as machine words.
 //! - `rules`: the rules that the parts keep, as tests. `fault`: which kind of rule is broken.
 //! - `state`: local states, and what is delivered to one. `same`: whether two parts are the same.
@@ -24,6 +25,7 @@
 mod atom;
 mod expression;
 mod fault;
+mod groups;
 mod marking;
 mod name;
 mod offered;

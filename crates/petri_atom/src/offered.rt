@@ -1,10 +1,12 @@
 //! The offered transitions of a state as one set, so that each transition is judged once in a step.
-ghost use Rattle.std.specs.Prelude.{◌≡◌, ℕ, ◌≤◌, length, slice_get, slice_index_or};
-ghost use Rattle.petri_atom.specs.Local.{Local, has, numbers_below};
+ghost use Rattle.std.specs.Prelude.{◌≡◌, ℕ, ◌<◌, ◌≤◌, ◌&&◌, IsTrue, length, slice_get, slice_index_or};
+ghost use Rattle.petri_atom.specs.Local.{Local, has, numbers_below, set_below};
+ghost use Rattle.petri_atom.specs.Groups.{passes_guard};
 ghost use Rattle.petri_atom.specs.Definition.{enabled, offered_set, offers_port};
 ghost use Rattle.petri_atom.specs.declared.parts.TheConstants.{MAX_PORTS, MAX_TRANSITIONS};
 
 use crate::atom::Atom;
+use crate::groups::movable;
 use crate::parts::MAX_PORTS;
 use crate::state::AtomState;
 use std::marker::Model;
@@ -48,13 +50,28 @@ impl Atom {
     pub fn offered(&self, state: &AtomState) -> TransitionSet
         ensures { result ≡ offered_set (definition_of self.now) state.now }
     {
-        let mut word = 0;
-        for (number, transition) in self.transitions().iter().enumerate() {
-            if transition.is_offered(state) {
-                word |= 1u128 << number;
-            }
+        let movable = movable(&self.groups, state.places());
+        let passing = self.passing(state, movable & !self.unguarded);
+        TransitionSet {
+            word: movable & self.unguarded | passing,
         }
-        TransitionSet { word }
+    }
+
+    /// Those of the transitions in the set whose guard is not 0.
+    fn passing(&self, state: &AtomState, set: u128) -> u128
+        requires { (n : ℕ) → IsTrue (has set n) → n < length (definition_of self.now).transitions }
+        ensures { result ≡ set_below MAX_TRANSITIONS (λ n. has set n && passes_guard (definition_of self.now).transitions state.now n) }
+    {
+        let mut passing = 0;
+        let mut left = set;
+        while left != 0 {
+            let number = left.trailing_zeros();
+            if self.transitions()[number as usize].guard_holds(state) {
+                passing |= 1u128 << number;
+            }
+            left &= left - 1;
+        }
+        passing
     }
 
     /// How many of the port's transitions are in the set of those that a state offers.

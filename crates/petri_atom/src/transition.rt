@@ -2,8 +2,8 @@
 ghost use Rattle.std.specs.Prelude.{◌≡◌, ◌&&◌, not, IsTrue, map};
 ghost use Rattle.std.specs.List.{list_all};
 ghost use Rattle.petri_atom.specs.Definition.{is_small_value, has_known_variables};
-ghost use Rattle.petri_atom.specs.Local.{is_in, set_below, are_places, moved};
-ghost use Rattle.petri_atom.specs.Expression.{tree_of};
+ghost use Rattle.petri_atom.specs.Local.{is_in, set_below, are_places, moved, value_in};
+ghost use Rattle.petri_atom.specs.Expression.{tree_of, is_true, value_of};
 ghost use Rattle.petri_atom.specs.Update.{update_of};
 ghost use Rattle.petri_atom.specs.declared.state.TheConstants.{MAX_PLACES};
 
@@ -29,9 +29,9 @@ pub struct Transition {
     pub(crate) targets: Vec<u8>,
     pub(crate) guard: Expression<u8>,
     pub(crate) updates: Vec<Update>,
-    source_word: u64,
+    pub(crate) source_word: u64,
     target_word: u64,
-    blocking_word: u64,
+    pub(crate) blocking_word: u64,
     ghost sources_are_places: { IsTrue (are_places sources.items) },
     ghost targets_are_places: { IsTrue (are_places targets.items) },
     ghost source_bits: { source_word ≡ set_below MAX_PLACES (is_in sources.items) },
@@ -141,11 +141,18 @@ impl Transition {
         }
     }
 
+    /// Whether the guard of the transition is not 0.
+    pub(crate) fn guard_holds(&self, state: &AtomState) -> bool
+        ensures { result ≡ is_true (value_of (value_in state.now.values) (transition_of self.now).guard) }
+    {
+        self.guard.value(state) != 0
+    }
+
     /// Whether the state offers the transition.
     pub fn is_offered(&self, state: &AtomState) -> bool
         ensures { result ≡ offers state.now (transition_of self.now) }
     {
-        self.can_move(state.places()) && self.guard.value(state) != 0
+        self.can_move(state.places()) && self.guard_holds(state)
     }
 }
 
