@@ -20,8 +20,8 @@ returns-else-place-lt-MAX_EXPORTS c row four old =
     old ∙
     elim c.else-place-lt-MAX_EXPORTS.branch [
       | else-place-lt-MAX_EXPORTS-via-then-place-lt-MAX_EXPORTS+else-not-has_bit w ↦
-        given-present row c.args.export c.args.value four (omega (arith, place, w.if-place-lt-MAX_EXPORTS.true))
-        (ap (λ d. has d.mask c.args.export) (sym old) ∙ ap (has c.args.self.now.mask) (sym place) ∙ sym w.has_bit.ensures ∙ w.if-not-has_bit.false)
+          given-present row c.args.export c.args.value four (omega (arith, place, w.if-place-lt-MAX_EXPORTS.true))
+          (ap (λ d. has d.mask c.args.export) (sym old) ∙ ap (has c.args.self.now.mask) (sym place) ∙ sym w.has_bit.ensures ∙ w.if-not-has_bit.false)
       | else-place-lt-MAX_EXPORTS-via-else-place-lt-MAX_EXPORTS w ↦
-        given-past row c.args.export c.args.value four (omega (arith, place, w.if-place-lt-MAX_EXPORTS.false))
+          given-past row c.args.export c.args.value four (omega (arith, place, w.if-place-lt-MAX_EXPORTS.false))
     ]
