@@ -1,8 +1,8 @@
-pub mod Positions
 mod Rows
 pub mod Updates
 pub mod Steps
 pub mod Growing
+pub mod Named
 pub mod Once
 pub mod Bounds
 pub mod SoundParts

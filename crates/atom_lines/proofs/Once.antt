@@ -1,14 +1,14 @@
 -- Lists in which nothing stands twice, and what was looked up in lists.
-use Rattle.std.proofs.Common.{◌≡◌, ◌∙◌, refl, sym, ℕ, suc, ◌+◌, ◌<◌, Bool, true, false, not, ◌||◌, cond, List, [], ◌∷◌, ◌++◌, length, Some, None, position, arith}
-use Rattle.std.specs.Prelude.{nat_lt, nat_eq}
-use Rattle.std.specs.List.{list_all, list_any, position_or_len}
-use Rattle.std.proofs.lemmas.Bool.{and_parts, and_from, or_from, or_parts, ltb-true, lt-ltb, not-true, not_from_false, false_from_ne_true, false≢true}
+use Rattle.std.proofs.Common.{◌≡◌, ◌∙◌, refl, sym, ℕ, Bool, true, false, not, List, [], ◌∷◌, ◌++◌, None, position}
+use Rattle.std.specs.Prelude.{nat_eq}
+use Rattle.std.specs.List.{list_all, list_any}
+use Rattle.std.proofs.lemmas.Bool.{and_parts, and_from, or_from, or_parts, not-true, not_from_false}
 use Rattle.std.proofs.lemmas.Bool.Decides.{same_from_decides, Decides-like, Decides-eqb}
 use Rattle.std.proofs.lemmas.List.Folds.{list_any-append}
-use Rattle.std.proofs.lemmas.Option.{cond_some}
 use Rattle.std.proofs.lemmas.Slice.Eq.{slice_eq-Decides}
 use Rattle.petri_atom.specs.Name.{is_same_text}
 use Rattle.petri_atom.specs.Definition.{is_each_once}
+use Rattle.plant_words.proofs.Positions.{none-passes}
 
 -- what passes one test passes a weaker one
 pub all_weaker : {X : Type 0} (f g : X → Bool) → ((x : X) → f x ≡ true → g x ≡ true) → (xs : List X) → list_all f xs ≡ true → list_all g xs ≡ true
@@ -26,32 +26,6 @@ once_more same (x ∷ xs) y once new =
     let last : list_any (λ z. same z x) (xs ++ y ∷ []) ≡ false =
     list_any-append (λ z. same z x) xs (y ∷ []) ∙ or_from _ _ (not-true _ parts.0) (or_from (same y x) false others.0 refl) in
     and_from _ _ (not_from_false _ last) (once_more same xs y parts.1 others.1)
-
--- where the first that passes stands is within the list
-pub position-within : {X : Type 0} (test : X → Bool) (xs : List X) (i : ℕ) → position test xs ≡ Some i → i < length xs
-position-within test xs i is =
-    let found = cond_some (nat_lt (position_or_len test xs) (length xs)) (position_or_len test xs) i is in
-    omega (arith, ltb-true (position_or_len test xs) (length xs) found.0, found.1)
-
--- where one passes, the first is within the list
-first_or_later : (b : Bool) (later : Bool) (first : ℕ) (n : ℕ) → (later ≡ true → first < n) → (b || later) ≡ true → cond (not b) (1 + first) 0 < suc n
-first_or_later true later first n inside some = omega arith
-first_or_later false later first n inside some = let there : first < n = inside some in omega (arith, there)
-
-any-first : {X : Type 0} (test : X → Bool) (xs : List X) → list_any test xs ≡ true → position_or_len test xs < length xs
-any-first test [] some = absurd (false≢true some)
-any-first test (x ∷ xs) some = first_or_later (test x) (list_any test xs) (position_or_len test xs) (length xs) (λ later. any-first test xs later) some
-
--- where none is first, none passes
-pub none-passes : {X : Type 0} (test : X → Bool) (xs : List X) → position test xs ≡ None → list_any test xs ≡ false
-none-passes test xs none =
-    false_from_ne_true (list_any test xs)
-    (λ some. let there : nat_lt (position_or_len test xs) (length xs) ≡ true = lt-ltb _ _ (any-first test xs some) in
-    absurd (no_none (nat_lt (position_or_len test xs) (length xs)) (position_or_len test xs) there none))
-  where
-    no_none : (b : Bool) (i : ℕ) → b ≡ true → ¬ (cond b (Some i) None ≡ None)
-    no_none true i is none = cc
-    no_none false i is none = false≢true is
 
 -- the test of two texts is the same in either order
 same_text-either_way : (xs ys : List ℕ) → is_same_text xs ys ≡ is_same_text ys xs

@@ -22,7 +22,8 @@ use Rattle.atom_lines.specs.Rows.{export_in, exports_in}
 use Rattle.atom_lines.specs.Transitions.{leads, ends_places, port_in, place_in, places_in, places_behind, on_line, expression_on, guard_in, update_in, goes_on, updates_from, updates_in, transition_in}
 use Rattle.atom_lines.specs.Sound.{is_sound_port, is_sound_transition}
 use Rattle.atom_lines.proofs.Steps.{led_on, passed, was_there, same_end, either_way}
-use Rattle.atom_lines.proofs.Once.{position-within, listed_once}
+use Rattle.plant_words.proofs.Positions.{position-within}
+use Rattle.atom_lines.proofs.Once.{listed_once}
 use Rattle.atom_lines.proofs.Bounds.{variables_below-all}
 
 -- numbers below a bound, each once

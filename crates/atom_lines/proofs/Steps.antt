@@ -1,8 +1,6 @@
 -- What the steps of a reading were that led to an end without a fault.
-use Rattle.std.proofs.Common.{◌≡◌, refl, sym, subst, ℕ, ◌≤◌, Bool, true, false, not, if◌then◌else◌, List, [], ◌∷◌, ◌++◌, length, Option, Some, None, Result, Ok, Err, arith}
-use Rattle.std.specs.Prelude.{is_some}
+use Rattle.std.proofs.Common.{◌≡◌, refl, sym, subst, Bool, true, false, if◌then◌else◌, List, [], ◌∷◌, ◌++◌, Option, Some, None, Result, Ok, Err}
 use Rattle.std.specs.Option.{ok_or}
-use Rattle.std.proofs.lemmas.List.{length-append}
 use Rattle.atom_lines.specs.declared.fault.LineFault.{LineFault}
 use Rattle.atom_lines.specs.Reading.{◌>>=◌, check}
 
@@ -30,20 +28,7 @@ pub either_way : {A : Type 0} (test : Bool) (one other : Result A LineFault) (y 
 either_way true one other y P first second told = first told
 either_way false one other y P first second told = second told
 
--- what was not found, where the line may go on only then
-pub not_found : (found : Option ℕ) (is_new : Bool) (fault : LineFault) (u : Unit {0}) → is_some found ≡ not is_new → Ok u ≡ check is_new fault → found ≡ None
-not_found None is_new fault u tells told = refl
-not_found (Some n) true fault u tells told = absurd (cc)
-not_found (Some n) false fault u tells told = absurd (cc)
-
 -- what holds of a list and of the list with one more holds after a push, whether memory was there or not
 pub after_push : {X : Type 0} (P : List X → Type 0) (pushed : Bool) (before after : List X) (x : X) → after ≡ (if pushed then before ++ x ∷ [] else before) → P before → P (before ++ x ∷ []) → P after
 after_push P true before after x is without more = subst P (sym is) more
 after_push P false before after x is without more = subst P (sym is) without
-
--- a list is no shorter after a push
-pub longer : {X : Type 0} (pushed : Bool) (before after : List X) (x : X) → after ≡ (if pushed then before ++ x ∷ [] else before) → length before ≤ length after
-longer pushed before after x is =
-    let same : length before ≤ length before = omega arith in
-    let more : length before ≤ length (before ++ x ∷ []) = omega (arith, length-append before (x ∷ [])) in
-    after_push (λ xs. length before ≤ length xs) pushed before after x is same more

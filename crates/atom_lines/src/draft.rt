@@ -2,7 +2,7 @@
 ghost use Rattle.std.specs.Prelude.{◌<◌, ◌-◌, true, drop, length, map, IfSome, IsTrue, ◌≡◌, ◌≤◌, IfOk, IfErr, OnOk, OnErr, Ok, None, []};
 ghost use Rattle.std.specs.List.{list_all};
 ghost use Rattle.atom_lines.specs.Fault.{IsFaultOf};
-ghost use Rattle.atom_lines.specs.Rows.{place_row, variable_row, port_row, export_in, exports_in};
+ghost use Rattle.atom_lines.specs.Rows.{place_row, variable_row, port_row, export_in, exports_in, with_place, with_variable, with_port};
 ghost use Rattle.atom_lines.specs.Lookup.{place_number, variable_number, port_number, export_number};
 ghost use Rattle.atom_lines.specs.Transitions.{port_in, place_in, places_in, places_behind, expression_on, guard_in, update_in, updates_from, updates_in, transition_in, transition_row};
 ghost use Rattle.atom_lines.specs.Sound.{is_sound_port, is_sound_transition};
@@ -22,7 +22,7 @@ use petri_atom::{
     MAX_VARIABLES, Name, Place, Port, Transition, Update, Variable,
 };
 use plant_expressions::{Variables, read_expression};
-use plant_words::Words;
+use plant_words::{NameIndex, Words};
 use std::alloc::{AllocError, Global};
 
 /// An atom to which lines add parts.
@@ -31,13 +31,19 @@ pub struct AtomDraft {
     alloc: Global,
     name: Name,
     places: Vec<Place>,
+    place_names: NameIndex,
     variables: Vec<Variable>,
+    variable_names: NameIndex,
     ports: Vec<Port>,
+    port_names: NameIndex,
     transitions: Vec<Transition>,
     ghost few_places: { length places.items ≤ MAX_PLACES },
     ghost few_variables: { length variables.items ≤ MAX_VARIABLES },
     ghost few_ports: { length ports.items ≤ MAX_PORTS },
     ghost few_transitions: { length transitions.items ≤ MAX_TRANSITIONS },
+    ghost places_named: { place_names ≡ map (λ p. p.name) places.items },
+    ghost variables_named: { variable_names ≡ map (λ v. v.name) variables.items },
+    ghost ports_named: { port_names ≡ map (λ p. p.name) ports.items },
     ghost places_once: { IsTrue (is_each_once (λ x y. is_same_text x.name y.name) places.items) },
     ghost variables_once: { IsTrue (is_each_once (λ x y. is_same_text x.name y.name) variables.items) },
     ghost ports_once: { IsTrue (is_each_once (λ x y. is_same_text x.name y.name) (map port_of ports.items)) },
@@ -61,8 +67,11 @@ impl AtomDraft {
             alloc,
             name,
             places: Vec::new(alloc),
+            place_names: NameIndex::new(alloc),
             variables: Vec::new(alloc),
+            variable_names: NameIndex::new(alloc),
             ports: Vec::new(alloc),
+            port_names: NameIndex::new(alloc),
             transitions: Vec::new(alloc),
         }
     }
@@ -79,21 +88,21 @@ impl AtomDraft {
         ensures number { result ≡ place_number (drafted self.now) name.now }
         ensures within { IfSome result (λ number. number < length (drafted self.now).places) }
     {
-        Some(lookup::find_place(&self.places, name)? as u8)
+        Some(self.place_names.find(name)? as u8)
     }
 
     /// The number of the variable with the name.
     pub fn find_variable(&self, name: &[u8]) -> Option<u8>
         ensures { result ≡ variable_number (drafted self.now) name.now }
     {
-        Some(lookup::find_variable(&self.variables, name)? as u8)
+        Some(self.variable_names.find(name)? as u8)
     }
 
     /// The number of the port with the name.
     pub fn find_port(&self, name: &[u8]) -> Option<u16>
         ensures { result ≡ port_number (drafted self.now) name.now }
     {
-        Some(lookup::find_port(&self.ports, name)? as u16)
+        Some(self.port_names.find(name)? as u16)
     }
 
     /// The place of the variable with the name among those that the port exports. `None` where the port exports none
@@ -116,7 +125,21 @@ impl AtomDraft {
         let name = next_name(words)?;
         check(self.find_place(name.as_bytes()).is_none(), LineFault::Twice)?;
         let marked = read_mark(words)?;
-        self.places.push(Place { name, marked })?;
+        self.push_place(Place { name, marked })?;
+        Ok(())
+    }
+
+    /// Puts a place with a new name behind the others. It comes into the list and into the index of names, or, where there
+    /// is no memory, into neither: so the list has its room first.
+    fn push_place(&mut self, place: Place) -> Result<(), AllocError>
+        requires few { length self.old.places.items < MAX_PLACES }
+        requires new { place_number (drafted self.old) place.name ≡ None }
+        ensures pushed { OnOk result (drafted self.new ≡ with_place (drafted self.old) place) }
+        ensures unchanged { OnErr result (drafted self.new ≡ drafted self.old) }
+    {
+        self.places.reserve(1)?;
+        self.place_names.add(place.name.as_bytes())?;
+        self.places.push(place).unwrap();
         Ok(())
     }
 
@@ -133,7 +156,20 @@ impl AtomDraft {
             LineFault::Twice,
         )?;
         let first = read_value(words)?;
-        self.variables.push(Variable { name, first })?;
+        self.push_variable(Variable { name, first })?;
+        Ok(())
+    }
+
+    /// Puts a variable with a new name behind the others, into the list and into the index of names, or into neither.
+    fn push_variable(&mut self, variable: Variable) -> Result<(), AllocError>
+        requires few { length self.old.variables.items < MAX_VARIABLES }
+        requires new { variable_number (drafted self.old) variable.name ≡ None }
+        ensures pushed { OnOk result (drafted self.new ≡ with_variable (drafted self.old) variable) }
+        ensures unchanged { OnErr result (drafted self.new ≡ drafted self.old) }
+    {
+        self.variables.reserve(1)?;
+        self.variable_names.add(variable.name.as_bytes())?;
+        self.variables.push(variable).unwrap();
         Ok(())
     }
 
@@ -147,7 +183,21 @@ impl AtomDraft {
         let name = next_name(words)?;
         check(self.find_port(name.as_bytes()).is_none(), LineFault::Twice)?;
         let exports = self.read_exports(words)?;
-        self.ports.push(Port { name, exports })?;
+        self.push_port(Port { name, exports })?;
+        Ok(())
+    }
+
+    /// Puts a sound port with a new name behind the others, into the list and into the index of names, or into neither.
+    fn push_port(&mut self, port: Port) -> Result<(), AllocError>
+        requires few { length self.old.ports.items < MAX_PORTS }
+        requires new { port_number (drafted self.old) port.name ≡ None }
+        requires sound { IsTrue (is_sound_port (length self.old.variables.items) (port_of port)) }
+        ensures pushed { OnOk result (drafted self.new ≡ with_port (drafted self.old) (port_of port)) }
+        ensures unchanged { OnErr result (drafted self.new ≡ drafted self.old) }
+    {
+        self.ports.reserve(1)?;
+        self.port_names.add(port.name.as_bytes())?;
+        self.ports.push(port).unwrap();
         Ok(())
     }
 

@@ -4,7 +4,7 @@ ghost use Rattle.atom_lines.specs.Fault.{number_of, line_fault};
 ghost use Rattle.atom_lines.specs.declared.fault.LineFault.TheVariants as fault;
 
 use plant_expressions::ExpressionFault;
-use std::alloc::AllocFailed;
+use std::alloc::{AllocError, AllocFailed};
 
 /// The fault of a line, told by its first word from the left that is at fault, or that memory ran out.
 #[derive(Clone, Copy, Debug, PartialEq, Eq)]
@@ -49,6 +49,14 @@ impl<T: Drop> From<AllocFailed<T>> for LineFault {
     ghost from_gives = { λ _ told. told ≡ fault.Memory };
 
     fn from(_: AllocFailed<T>) -> Self {
+        LineFault::Memory
+    }
+}
+
+impl From<AllocError> for LineFault {
+    ghost from_gives = { λ _ told. told ≡ fault.Memory };
+
+    fn from(_: AllocError) -> Self {
         LineFault::Memory
     }
 }

@@ -29,7 +29,7 @@
 //! a variable among those that a port exports.
 //!
 //! - `draft`: the atom so far, and its lines. `fault`: why a line is refused.
-//! - `reading`: steps that take words. `lookup`: parts by their names.
+//! - `reading`: steps that take words. `lookup`: what a port exports, by the names of variables.
 #![tactic(auto)]
 
 mod draft;

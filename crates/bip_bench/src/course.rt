@@ -1,5 +1,5 @@
 //! A run of random choices.
-ghost use Rattle.std.specs.Prelude.{◌≡◌, ◌≤◌};
+ghost use Rattle.std.specs.Prelude.{◌≡◌, ◌≤◌, ◌<◌, ◌%◌};
 ghost use Rattle.step_core.specs.Running.{plant_in};
 
 use crate::hash::Hash;
@@ -29,9 +29,22 @@ fn fire_step(run: &mut Stepper<'_>, picks: &mut Picks) -> bool
     if count == 0 {
         return false;
     }
-    let choice = run.nth(u128::from(picks.next_pick()) % count);
+    let choice = run.nth(place_of(picks.next_pick(), count));
     run.fire(&choice);
     true
+}
+
+/// The pick modulo the count, by a division of 64 bits: a count that fits none is greater than each pick.
+fn place_of(pick: u64, count: u128) -> u128
+    requires { 0 < count }
+    ensures remainder { result ≡ pick % count }
+    ensures within { result < count }
+{
+    if count <= u128::from(u64::MAX) {
+        u128::from(pick % count as u64)
+    } else {
+        u128::from(pick)
+    }
 }
 
 /// The hash of the lines of the present state.

@@ -12,7 +12,7 @@ use Rattle.step_core.specs.Rules.{is_known_port, is_exported, is_known_export}
 use Rattle.step_core.specs.declared.wire.Export.{Export}
 use Rattle.atom_lines.specs.Lookup.{port_number, export_number, is_named}
 use Rattle.atom_lines.proofs.Growing.{Grows}
-use Rattle.atom_lines.proofs.Once.{position-within}
+use Rattle.plant_words.proofs.Positions.{position-within}
 use Rattle.wire_lines.specs.Names.{variable_in}
 use Rattle.wire_lines.specs.Parts.{Passes}
 use Rattle.wire_lines.proofs.Naming.{variables_pass}

@@ -14,7 +14,7 @@ use Rattle.plant_words.specs.Lines.{is_legal_line}
 use Rattle.plant_words.specs.Words.{words_of, is_passed_over}
 use Rattle.atom_lines.specs.Reading.{first_name, at_end}
 use Rattle.atom_lines.proofs.Growing.{Grows, place_grows, variable_grows, port_grows, transition_grows}
-use Rattle.atom_lines.proofs.Once.{none-passes}
+use Rattle.plant_words.proofs.Positions.{none-passes}
 use Rattle.plant_trees.specs.Meaning.{interactions_in}
 use Rattle.plant_text.specs.Text.{WireText, PlantText}
 use Rattle.plant_text.specs.Interactions.{interactions_of}

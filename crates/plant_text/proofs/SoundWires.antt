@@ -14,7 +14,8 @@ use Rattle.step_core.specs.declared.limits.TheConstants.{MAX_WIRES}
 use Rattle.step_core.specs.declared.wire.Export.{Export}
 use Rattle.atom_lines.specs.Reading.{first_name}
 use Rattle.atom_lines.specs.declared.fault.LineFault.{LineFault}
-use Rattle.atom_lines.proofs.Once.{all_weaker, none-passes}
+use Rattle.plant_words.proofs.Positions.{none-passes}
+use Rattle.atom_lines.proofs.Once.{all_weaker}
 use Rattle.plant_trees.specs.Meaning.{interactions_in}
 use Rattle.plant_trees.specs.Shape.{ports_in, fault_in}
 use Rattle.plant_trees.specs.Tokens.{Reading}

@@ -14,7 +14,6 @@ ghost use Rattle.plant_text.specs.Parts.{wire_listed};
 ghost use Rattle.plant_text.specs.Rows.{told_tree, atom_row, connector_row, rule_row, row_of, words_row, line_row};
 
 use crate::fault::Fault;
-use crate::index::NameIndex;
 use crate::kinds::{AtomPart, LineKind, RuleKind, WirePart};
 use crate::listed::ListedWire;
 use crate::marks::Mark;
@@ -26,7 +25,7 @@ use atom_lines::AtomDraft;
 use connector_tree::Connector;
 use petri_atom::Name;
 use plant_trees::read_tree;
-use plant_words::{Words, is_legal, is_passed_over};
+use plant_words::{NameIndex, Words, is_legal, is_passed_over};
 use priority_filter::Rule;
 use std::alloc::{AllocError, Global};
 use step_core::{MAX_ATOMS, MAX_RULES, MAX_WIRES};

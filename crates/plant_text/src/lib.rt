@@ -26,7 +26,6 @@
 //!
 //! - `read`: the text, its lines and its system. `draft`: the plant so far, and its lines. `making`: the system of a draft.
 //! - `kinds`: the kinds of lines. `parts`: an atom, changed by a line. `listed`: a connector with its interactions.
-//! - `index`: names in written order, each found by one look-up.
 //! - `names`: the atoms by the names that connectors use. `wires`: the connectors by the names that rules use.
 //! - `reading`: steps that take words. `fault`: what is wrong with a text. `marks`: where in its line.
 //! - `laws`: what follows of the meaning.
@@ -34,7 +33,6 @@
 
 mod draft;
 mod fault;
-mod index;
 mod kinds;
 pub mod laws;
 mod listed;

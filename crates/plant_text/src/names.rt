@@ -5,10 +5,10 @@ ghost use Rattle.atom_lines.specs.Draft.{drafted};
 ghost use Rattle.plant_text.specs.Index.{names_of_atoms};
 ghost use Rattle.plant_text.specs.Names.{atom_number};
 
-use crate::index::NameIndex;
 use atom_lines::AtomDraft;
 use connector_tree::Port;
 use plant_trees::Ports;
+use plant_words::NameIndex;
 use step_core::MAX_ATOMS;
 use wire_lines::Exports;
 

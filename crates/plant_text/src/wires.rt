@@ -7,11 +7,10 @@ ghost use Rattle.plant_text.specs.Names.{wire_number};
 ghost use Rattle.plant_text.specs.Parts.{wire_listed};
 ghost use Rattle.plant_text.specs.Rows.{rule_in};
 
-use crate::index::NameIndex;
 use crate::kinds::RuleKind;
 use crate::listed::ListedWire;
 use atom_lines::LineFault;
-use plant_words::Words;
+use plant_words::{NameIndex, Words};
 use priority_filter::Rule;
 use rule_lines::{Connectors, read_maximal, read_priority};
 use step_core::{MAX_INTERACTIONS, MAX_WIRES};

@@ -1,3 +1,5 @@
+pub mod Positions
+pub mod Indexed
 pub mod Cuts
 pub mod Decimals
 pub mod Sides

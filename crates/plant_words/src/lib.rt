@@ -25,18 +25,22 @@
 //!
 //! [`is_numeric`] tells a word of an optional `-` and digits that is no number of the plant from other words.
 //!
-//! Nothing here takes memory: lines, words and parts are lent from the text.
+//! A [`NameIndex`] finds a name among those that lines declared, by one look-up of its hash. It alone takes memory: lines,
+//! words and parts are lent from the text.
 //!
 //! - `lines`, `words`: the text as lines, a line as words.
 //! - `numbers`, `names`: words of one part. `splits`: words of several parts, whose parts may be any bytes.
+//! - `index`: names in written order, each found by its bytes.
 #![tactic(auto)]
 
+mod index;
 mod lines;
 mod names;
 mod numbers;
 mod splits;
 mod words;
 
+pub use index::NameIndex;
 pub use lines::{Lines, is_legal};
 pub use names::read_name;
 pub use numbers::{MAX_DIGITS, is_numeric, read_decimal, read_int};

@@ -1,4 +1,5 @@
 //! What no clause says: that the clauses mean what they should, on values worked out by hand.
+use crate::index::NameIndex;
 use crate::lines::{Lines, is_legal};
 use crate::names::read_name;
 use crate::numbers::{is_numeric, read_decimal, read_int};
@@ -138,4 +139,19 @@ fn digits_behind_a_minus_are_numeric_however_many(rt: HostRuntime) {
     assert!(&rt; !is_numeric(b""));
     assert!(&rt; !is_numeric(b"--7"));
     assert!(&rt; !is_numeric(b"7x"));
+}
+
+#[test]
+fn names_are_found_where_they_were_added(rt: HostRuntime) -> Result<(), Fail> {
+    let mut names = NameIndex::new(rt.alloc());
+    assert!(&rt; names.find(b"p") == None);
+    assert!(&rt; names.find(b"") == None);
+    names.add(b"p")?;
+    names.add(b"q2")?;
+    names.add(b"q")?;
+    assert!(&rt; names.find(b"p") == Some(0));
+    assert!(&rt; names.find(b"q2") == Some(1));
+    assert!(&rt; names.find(b"q") == Some(2));
+    assert!(&rt; names.find(b"r") == None);
+    Ok(())
 }

@@ -6,5 +6,5 @@ use Rattle.atom_lines.proofs.draft.AtomDraft.into_atom.Goals as goal
 pub want_of_memory-requires : goal.want_of_memory-requires
 want_of_memory-requires c = memory_alone (fault_of (drafted c.args.self)) c.in-Err.fault (draft_breaks_no_rule c.args.self) c.in-Err.ensures.fault
 
-pub returns-in-Err-clause-sound : goal.returns-in-Err-clause-sound
-returns-in-Err-clause-sound c = draft_breaks_no_rule c.args.self
+pub returns-clause-sound : goal.returns-clause-sound
+returns-clause-sound c = draft_breaks_no_rule c.args.self

@@ -1,7 +1,8 @@
 use Rattle.std.proofs.Common.{◌∙◌, ap, ℕ, List, position}
 use Rattle.petri_atom.specs.Name.{is_same_text}
 use Rattle.plant_text.specs.Parts.{wire_listed}
-use Rattle.plant_text.proofs.Indexed.{place_of_wire, not_full}
+use Rattle.plant_words.proofs.Indexed.{not_full}
+use Rattle.plant_text.proofs.Indexed.{place_of_wire}
 use Rattle.plant_text.proofs.draft.PlantDraft.push_wire.Goals as goal
 
 pub add-requires : goal.add-requires

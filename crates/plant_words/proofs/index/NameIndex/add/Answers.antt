@@ -1,7 +1,7 @@
 use Rattle.std.proofs.Common.{◌≡◌, ◌∙◌, ap, [], ◌∷◌, ◌++◌, map, None, position}
 use Rattle.petri_atom.specs.Name.{is_same_text}
-use Rattle.plant_text.proofs.Indexed.{one_key_more}
-use Rattle.plant_text.proofs.index.NameIndex.add.Goals as goal
+use Rattle.plant_words.proofs.Indexed.{one_key_more}
+use Rattle.plant_words.proofs.index.NameIndex.add.Goals as goal
 
 pub returns-clause-added : goal.returns-clause-added
 returns-clause-added c =

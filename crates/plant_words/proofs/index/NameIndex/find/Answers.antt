@@ -1,7 +1,7 @@
 use Rattle.std.proofs.Common.{◌∙◌, ap, ℕ, List, position}
 use Rattle.petri_atom.specs.Name.{is_same_text}
-use Rattle.plant_text.proofs.Indexed.{place_of_key}
-use Rattle.plant_text.proofs.index.NameIndex.find.Goals as goal
+use Rattle.plant_words.proofs.Indexed.{place_of_key}
+use Rattle.plant_words.proofs.index.NameIndex.find.Goals as goal
 
 pub returns-clause-first : goal.returns-clause-first
 returns-clause-first c =

@@ -8,7 +8,7 @@ use std::marker::Model;
 
 /// Names in written order. In a contract it is the list of their bytes.
 #[derive(Drop)]
-pub(crate) struct NameIndex {
+pub struct NameIndex {
     alloc: Global,
     names: IndexSet<Vec<u8>>,
 }
@@ -23,7 +23,7 @@ impl Model for NameIndex {
 
 impl NameIndex {
     /// The index of no names.
-    pub(crate) fn new(alloc: Global) -> Self
+    pub fn new(alloc: Global) -> Self
         ensures { result ≡ [] }
     {
         NameIndex {
@@ -33,7 +33,7 @@ impl NameIndex {
     }
 
     /// The place of the name, by one look-up of its hash.
-    pub(crate) fn find(&self, name: &[u8]) -> Option<usize>
+    pub fn find(&self, name: &[u8]) -> Option<usize>
         ensures first { result ≡ position (λ known. is_same_text known name.now) self.now }
         ensures within { IfSome result (λ place. place < length self.now) }
     {
@@ -41,7 +41,7 @@ impl NameIndex {
     }
 
     /// Puts a new name behind the others. It holds a copy of the name's bytes.
-    pub(crate) fn add(&mut self, name: &[u8]) -> Result<(), AllocError>
+    pub fn add(&mut self, name: &[u8]) -> Result<(), AllocError>
         requires { position (λ known. is_same_text known name.now) self.old ≡ None }
         ensures added { OnOk result (self.new ≡ self.old ++ name.now ∷ []) }
         ensures unchanged { OnErr result (self.new ≡ self.old) }
