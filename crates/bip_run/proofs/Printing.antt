@@ -1,12 +1,15 @@
 -- What a writer took, where it is known.
-use Rattle.std.proofs.Common.{◌≡◌, ◌∙◌, ◌++◌, ap, subst, append_assoc, List, ℕ, Option, Some, None, Ok}
-use Rattle.std.specs.Prelude.{IfSome}
+use Rattle.std.proofs.Common.{◌≡◌, ◌∙◌, ◌++◌, ap, subst, append_assoc, List, ℕ, Option, Some, None, Result, Ok, Err}
+use Rattle.std.specs.Prelude.{IfSome, IfErr}
 use Rattle.std.specs.Io.KnownBytes.{Appends, Keeps}
 use Rattle.step_core.specs.Plant.{PlantDefinition}
-use Rattle.plant_text.specs.Text.{text_of}
+use Rattle.plant_text.specs.Text.{PlantText, text_of}
 use Rattle.plant_text.specs.Meaning.{meaning}
 use Rattle.bip_run.specs.Printed.{counted, printed_of, Prints}
+use Rattle.bip_run.specs.Stop.{Tells, IsOfOutput}
 use Rattle.bip_run.specs.declared.request.Task.{Task}
+use Rattle.bip_run.specs.declared.stop.Stop.{Stop}
+use Rattle.bip_run.specs.declared.stop.Stop.TheVariants.{Usage, Plant, Unopened, Memory, Unwritten}
 
 -- what was appended stays so where the bytes are kept
 pub appended_and_kept : (a b c : Option (List ℕ)) (text : List ℕ) → Appends a b text → Keeps b c → Appends a c text
@@ -37,3 +40,19 @@ counted_as a b word n m same appended = subst (λ count. Appends a b (counted wo
 pub of_known : (known : Option (List ℕ)) (text : List ℕ) (P : List ℕ → Type 0) → IfSome known (λ bytes. text ≡ bytes) → P text → IfSome known P
 of_known None text P same holds = tt
 of_known (Some bytes) text P same holds = subst P same holds
+
+-- a stop of the output, behind bytes that mean a plant
+pub output_tells : (stop : Stop) (bytes : List ℕ) (plant : PlantText) → meaning bytes ≡ Ok plant → IsOfOutput stop → Tells stop bytes
+output_tells (Plant told) bytes plant means of = absurd of
+output_tells Usage bytes plant means of = absurd of
+output_tells Unopened bytes plant means of = absurd of
+output_tells Memory bytes plant means of = tt
+output_tells Unwritten bytes plant means of = (plant, means)
+
+-- a result that is a stop of the output, behind a text of a plant, as far as the text is known
+pub refused_behind_a_plant : {A : Type 0} (result : Result A Stop) (stop : Stop) (known : Option (List ℕ)) (text : List ℕ) (plant : PlantText) →
+    result ≡ Err stop → IsOfOutput stop → meaning text ≡ Ok plant → IfSome known (λ bytes. text ≡ bytes) → IfErr result (λ told. IfSome known (λ bytes. Tells told bytes))
+refused_behind_a_plant (Ok done) stop known text plant is of means same = absurd (cc)
+refused_behind_a_plant (Err told) stop known text plant is of means same =
+    let one : stop ≡ told = cc in
+    of_known known text (Tells told) same (output_tells told text plant means (subst IsOfOutput one of))

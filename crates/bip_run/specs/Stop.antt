@@ -2,6 +2,7 @@
 use Rattle.std.specs.Prelude.{◌≡◌, ◌≢◌, ℕ, List, [], ◌++◌, codes, decimal, Option, Some, None, Result, Ok, Err}
 use Rattle.plant_text.specs.Fault.{number_of, name_of, subject_of, of_no_line}
 use Rattle.plant_text.specs.Meaning.{meaning}
+use Rattle.plant_text.specs.Text.{PlantText}
 use Rattle.plant_text.specs.declared.fault.Fault.{Fault}
 use Rattle.plant_text.specs.declared.fault.Fault.TheVariants as fault
 use Rattle.plant_text.specs.declared.fault.PlantFault.{PlantFault}
@@ -59,10 +60,19 @@ abbrev pub of_trace : TraceFault → Stop
 of_trace trace.Memory = Memory
 of_trace trace.Write = Unwritten
 
--- a stop that tells a fault of a plant text tells that of these bytes, but for want of memory and a reader that failed
+-- A stop behind these bytes of a plant text: a fault that is told is theirs, but for want of memory and a reader that failed; the output fails
+-- only behind a plant; memory may always be wanting; and words and files have no part in it.
 abbrev pub Tells : Stop → List ℕ → Type 0
 Tells (Plant told) bytes = told ≢ of_no_line fault.Memory → told ≢ of_no_line fault.Read → meaning bytes ≡ Err told
-Tells Usage bytes = Unit {0}
-Tells Unopened bytes = Unit {0}
+Tells Usage bytes = ⊥
+Tells Unopened bytes = ⊥
 Tells Memory bytes = Unit {0}
-Tells Unwritten bytes = Unit {0}
+Tells Unwritten bytes = (plant : PlantText) × (meaning bytes ≡ Ok plant)
+
+-- a stop of what is printed: memory is wanting, or the output fails
+abbrev pub IsOfOutput : Stop → Type 0
+IsOfOutput (Plant told) = ⊥
+IsOfOutput Usage = ⊥
+IsOfOutput Unopened = ⊥
+IsOfOutput Memory = Unit {0}
+IsOfOutput Unwritten = Unit {0}

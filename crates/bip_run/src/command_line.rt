@@ -19,7 +19,8 @@ const AFTER: &str = "Exit status:
   0  what was asked for is done
   1  the text is no plant; the standard error has 'plant line L: fault K NAME'
   2  the words of the command line were not understood
-  3  a file ('file PATH'), the memory ('memory') or the standard output failed
+  3  a file ('file PATH'), the memory ('memory', or 'plant line 0: fault 15 Memory')
+     or the standard output failed
 
 Example:
   bip_run trace examples/sample.plant 0 1 0 1";
@@ -40,7 +41,8 @@ Exit status:
   0  the counts are printed
   1  the text is no plant; the standard error has 'plant line L: fault K NAME'
   2  the words of the command line were not understood
-  3  a file ('file PATH'), the memory ('memory') or the standard output failed";
+  3  a file ('file PATH'), the memory ('memory', or 'plant line 0: fault 15 Memory')
+     or the standard output failed";
 
 const TRACE_BRIEF: &str = "Runs a plant from its first state, and prints the run";
 
@@ -74,7 +76,8 @@ Exit status:
   0  the run is printed, also one that is stuck
   1  the text is no plant; the standard error has 'plant line L: fault K NAME'
   2  the words of the command line were not understood
-  3  a file ('file PATH'), the memory ('memory') or the standard output failed";
+  3  a file ('file PATH'), the memory ('memory', or 'plant line 0: fault 15 Memory')
+     or the standard output failed";
 
 const DRAW_BRIEF: &str = "Draws a plant, as a graph for Graphviz's dot";
 
@@ -94,7 +97,8 @@ Exit status:
   0  the graph is printed
   1  the text is no plant; the standard error has 'plant line L: fault K NAME'
   2  the words of the command line were not understood
-  3  a file ('file PATH'), the memory ('memory') or the standard output failed";
+  3  a file ('file PATH'), the memory ('memory', or 'plant line 0: fault 15 Memory')
+     or the standard output failed";
 
 const PLANT: &str = "PLANT";
 

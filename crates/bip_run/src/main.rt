@@ -1,12 +1,13 @@
 //! The program: it reads a plant text and says what stands in it, draws it, or runs it.
 //!
-//! `main` only wires: it reads the command line, opens the plant and the standard output, and ends with the status of what
-//! came of it. What a task prints of a plant, what is told where it ends early, and which status the program then ends with
-//! are definitions in `specs/`, and the functions that the contracts tie to them know nothing of the process:
+//! `main` only asks whether a terminal shows the standard error, and hands the rest to `process`. What a task prints of a
+//! plant, what is told where it ends early, and which status the program then ends with are definitions in `specs/`, to which
+//! contracts tie the functions that do it:
 //!
+//! - `process`: the command line, the plant's file, the standard input, output and error.
 //! - `command_line`: the words, judged by `clap`; the result is a [`request::Request`].
 //! - `picks`: the words of a run's picks. `formats`: the words for the formats of a run.
-//! - `task`: what is done with a plant text, from a reader to a writer.
+//! - `task`: what is done with a plant text, from a reader to a writer. `counts`: how many parts a plant has.
 //! - `stop`: why the program ends early, what it tells then, and its exit status.
 //! - `explanation`: the line of a fault, with a mark under what is at fault.
 #![tactic(auto)]

@@ -1,7 +1,7 @@
 //! The program in its process: words, files, the standard output and error.
-ghost use Rattle.std.specs.Prelude.{◌≡◌, ◌≢◌, ◌↔◌, Err};
+ghost use Rattle.std.specs.Prelude.{◌≡◌, ◌≢◌, ◌↔◌, Err, IfErr};
 ghost use Rattle.clap.specs.Words.{kind_of};
-ghost use Rattle.bip_run.specs.Stop.{status_of};
+ghost use Rattle.bip_run.specs.Stop.{status_of, IsOfOutput};
 ghost use Rattle.bip_run.specs.declared.stop.Stop.TheVariants.{Usage, Memory};
 
 use crate::command_line::read_request;
@@ -58,6 +58,7 @@ fn answer<R: Files + Input + Print + Eprint + AllocGlobal>(
 
 /// Prints what `clap` has to say: help that was asked for on the standard output, and anything else on the standard error.
 fn show<R: Print + Eprint>(rt: &R, told: &Error) -> Result<(), Stop>
+    ensures shown { IfErr result (λ stop. stop ≢ Usage → IsOfOutput stop) }
     ensures memory { (result ≡ Err Memory) ↔ (kind_of told.now ≡ ErrorKind.OutOfMemory) }
     ensures usage { (result ≡ Err Usage) ↔
         ((kind_of told.now ≢ ErrorKind.OutOfMemory) × (kind_of told.now ≢ ErrorKind.DisplayHelp) × (kind_of told.now ≢ ErrorKind.DisplayVersion)) }

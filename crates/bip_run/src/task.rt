@@ -2,9 +2,10 @@
 ghost use Rattle.std.specs.Prelude.{◌≡◌, ◌≢◌, ◌<◌, IfErr, IfOk, IfSome, OnOk, Err};
 ghost use Rattle.std.specs.Io.KnownBytes.{Appends, Keeps};
 ghost use Rattle.step_core.specs.System.{plant_of};
+ghost use Rattle.plant_text.specs.Taken.{TakesFew};
 ghost use Rattle.plant_text.specs.declared.fault.PlantFault.{PlantFault};
 ghost use Rattle.bip_run.specs.Printed.{printed_of, Prints};
-ghost use Rattle.bip_run.specs.Stop.{Tells};
+ghost use Rattle.bip_run.specs.Stop.{Tells, IsOfOutput};
 ghost use Rattle.bip_run.specs.declared.stop.Stop.TheVariants.{Plant};
 
 use crate::counts::print_counts;
@@ -31,6 +32,7 @@ pub(crate) fn perform<R: Read, W: Write>(
     ensures refused { IfErr result (λ stop. IfSome (R.remaining reader.old) (λ bytes. Tells stop bytes)) }
     ensures nothing_printed { (told : PlantFault) → result ≡ Err (Plant told) → output.new ≡ output.old }
     ensures kept { (told : PlantFault) → result ≡ Err (Plant told) → 0 < told.line → IfSome (R.remaining reader.old) (λ bytes. text.new.items ≡ bytes) }
+    ensures few { TakesFew (R.remaining reader.old) (R.remaining reader.new) }
 {
     *text = read_bytes(alloc, reader)?;
     let system = plant_of_text(alloc, text)?;
@@ -44,6 +46,7 @@ fn read_bytes<R: Read>(alloc: Global, reader: &mut R) -> Result<Vec<u8>, Stop>
     ensures all { IfOk result (λ text. IfSome (R.remaining reader.old) (λ bytes. text.items ≡ bytes)) }
     ensures refused { IfErr result (λ stop. IfSome (R.remaining reader.old) (λ bytes. Tells stop bytes)) }
     ensures no_line { (told : PlantFault) → result ≡ Err (Plant told) → told.line ≡ 0 }
+    ensures few { TakesFew (R.remaining reader.old) (R.remaining reader.new) }
 {
     Ok(read_text(alloc, reader).map_err(PlantFault::from)?)
 }
@@ -56,7 +59,7 @@ fn print_task<W: Write>(
     output: &mut W,
 ) -> Result<(), Stop>
     ensures printed { OnOk result (Appends (W.contents output.old) (W.contents output.new) (printed_of task.now (plant_of system.now))) }
-    ensures accepted { (told : PlantFault) → result ≢ Err (Plant told) }
+    ensures of_output { IfErr result IsOfOutput }
 {
     match task {
         Task::Check => print_counts(system, output)?,

@@ -28,12 +28,14 @@ impl<D: Disk, const B: usize> Model for Cells<D, B> {
 }
 
 impl<D: Disk, const B: usize> Cells<D, B> {
+    /// The cells of the device, which is left as it is.
     pub fn new(disk: D) -> Self
         ensures { result ≡ D.state disk }
     {
         Cells { disk }
     }
 
+    /// The device under the cells.
     pub fn into_disk(self) -> D
         ensures { D.state result ≡ self }
     {

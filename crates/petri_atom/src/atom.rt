@@ -21,7 +21,7 @@ use std::alloc::{AllocError, Global};
 /// Its places, variables, ports and transitions are numbered from 0 in the order of their lists. It keeps each rule of
 /// an atom, so that what can be asked of it cannot fail. For each port it has a list of the port's transitions, and a mask of
 /// their numbers, so that what a set of transitions has of a port is one operation. Transitions that ask the same of a
-/// marking are a group, so that it is tested once for all of them, and no guard that is a number other than 0 is looked at.
+/// marking are a group, so that it is tested once for all of them; to find all that is offered, no guard that is a number other than 0 is looked at.
 #[derive(Debug, Drop)]
 pub struct Atom {
     name: Name,

@@ -18,21 +18,27 @@ pub const MAX_WORDS: usize = 64;
 /// A place: its name, and whether it is marked at first.
 #[derive(Debug, Drop)]
 pub struct Place {
+    /// The name of the place.
     pub name: Name,
+    /// Whether it is marked at first.
     pub marked: bool,
 }
 
 /// A variable: its name and its first value.
 #[derive(Debug, Drop)]
 pub struct Variable {
+    /// The name of the variable.
     pub name: Name,
+    /// Its first value.
     pub first: i64,
 }
 
 /// A port: its name, and the numbers of the variables that it exports, in order.
 #[derive(Debug, Drop)]
 pub struct Port {
+    /// The name of the port.
     pub name: Name,
+    /// The numbers of the variables that it exports, in order.
     pub exports: Vec<u8>,
 }
 

@@ -12,3 +12,4 @@ pub mod Counts
 pub mod Systems
 pub mod Marked
 pub mod Written
+pub mod Taking

@@ -9,3 +9,4 @@ pub mod Wires
 pub mod Parts
 pub mod Draft
 pub mod Index
+pub mod Taken

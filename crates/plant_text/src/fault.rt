@@ -27,11 +27,12 @@ pub enum Fault {
     BadName,
     /// The name is declared already, or stands twice where each may stand once.
     Twice,
-    /// No earlier line declares the name.
+    /// No earlier line declares the name, or what has it may not stand here: a variable that no leaf exports, a mask that is no
+    /// interaction of its connector.
     UnknownName,
     /// A word is no part of an expression, or an operand is missing.
     BadExpression,
-    /// A word that must be a number is none, or is outside of an `i64`.
+    /// A word that must be a number is none, or is outside of an `i64`; of a mask, outside of a `u64`.
     BadNumber,
     /// A word is missing, stands where another must, or is left over.
     Shape,

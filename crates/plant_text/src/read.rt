@@ -8,6 +8,7 @@ ghost use Rattle.text_io.specs.declared.reading.TheConstants.{MAX_TEXT};
 ghost use Rattle.plant_text.specs.Draft.{drafted};
 ghost use Rattle.plant_text.specs.Fault.{of_no_line};
 ghost use Rattle.plant_text.specs.Meaning.{IsWritten, meaning, written_in, lines_row, nothing};
+ghost use Rattle.plant_text.specs.Taken.{TakesFew};
 ghost use Rattle.plant_text.specs.Text.{text_of};
 ghost use Rattle.plant_text.specs.declared.fault.Fault.TheVariants as fault;
 
@@ -22,7 +23,10 @@ use text_io::{MAX_TEXT, digest_of, read_text};
 
 /// Reads a plant text to the reader's end, and gives its system.
 ///
-/// A fault of a line is told when the reader is at its end. Of the reader behind another fault nothing is said.
+/// A fault of a line is told when the reader is at its end. A reader that has more than a text may have is read up to one byte past
+/// that, so at most 1,048,578 reads are made: each but the last gives a byte. Any error of the reader is [`Fault::Read`], also one
+/// that asks to try again.
+#[tactic(auto, using(crate::proofs::Taking::few_with_a_text, crate::proofs::Taking::few_without_a_text))]
 pub fn read_plant<R: Read>(alloc: Global, reader: &mut R) -> Result<System, PlantFault>
     ensures end { OnOk result (IsAtEnd (R.remaining reader.new)) }
     ensures plant { IfOk result
@@ -31,6 +35,7 @@ pub fn read_plant<R: Read>(alloc: Global, reader: &mut R) -> Result<System, Plan
         (λ system. IfSome (R.remaining reader.old) (λ bytes. system.digest ≡ sha256 bytes)) }
     ensures fault { IfErr result
         (λ told. told ≢ of_no_line fault.Memory → told ≢ of_no_line fault.Read → IfSome (R.remaining reader.old) (λ bytes. meaning bytes ≡ Err told)) }
+    ensures few { TakesFew (R.remaining reader.old) (R.remaining reader.new) }
 {
     let text = read_text(alloc, reader)?;
     plant_of_text(alloc, &text)

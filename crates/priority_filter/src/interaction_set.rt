@@ -28,6 +28,7 @@ impl Model for InteractionSet {
 }
 
 impl InteractionSet {
+    /// The set of no interaction.
     pub fn new() -> Self
         ensures { result ≡ set.empty }
     {
@@ -36,6 +37,7 @@ impl InteractionSet {
         }
     }
 
+    /// Whether the interaction is in the set.
     pub fn contains(&self, interaction: u16) -> bool
         ensures held { result ≡ set.contains self.now interaction }
         ensures past { INTERACTION_LIMIT ≤ interaction → result ≡ false }
@@ -55,6 +57,7 @@ impl InteractionSet {
         }
     }
 
+    /// Takes the interaction out, where it is in.
     pub fn remove(&mut self, interaction: u16)
         ensures removed { self.new ≡ set.remove self.old interaction }
         ensures past { INTERACTION_LIMIT ≤ interaction → self.new ≡ self.old }
@@ -65,6 +68,7 @@ impl InteractionSet {
         }
     }
 
+    /// Takes all interactions out.
     pub fn clear(&mut self)
         ensures { self.new ≡ set.empty }
     {

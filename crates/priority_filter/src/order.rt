@@ -67,12 +67,14 @@ impl Order {
         })
     }
 
+    /// The rules that it was made of, in their order.
     pub fn rules(&self) -> &[Rule]
         ensures { result.now ≡ self.now.rules }
     {
         self.rules.as_slice()
     }
 
+    /// The interactions that it was made of, each a connector and a mask. An interaction's number is its place here.
     pub fn interactions(&self) -> &[(u16, u16)]
         ensures { result.now ≡ self.now.interactions }
     {

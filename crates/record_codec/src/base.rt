@@ -25,6 +25,7 @@ impl Model for Base {
 }
 
 impl Base {
+    /// The base at which the record with the number is the first that is kept.
     pub fn new(number: u64) -> Base
         requires { IsBase number }
         ensures { result ≡ number }
@@ -32,6 +33,7 @@ impl Base {
         Base { number }
     }
 
+    /// The number of the first record that is kept, from 1 on.
     pub fn number(&self) -> u64
         ensures value { result ≡ self.now }
         ensures in_range { IsBase self.now }

@@ -7,7 +7,9 @@ use crate::layout::{MOST_ATOMS, MOST_EXPORTED, MOST_TRANSITIONS};
 /// What one participant did in a fired interaction.
 #[derive(Clone, Copy, Debug, PartialEq, Eq)]
 pub struct Entry {
+    /// The number of the atom.
     pub atom: u16,
+    /// The number of the transition that it fired.
     pub transition: u16,
     /// How often the atom had taken part, this time included.
     pub participation: u64,

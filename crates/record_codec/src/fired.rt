@@ -33,6 +33,7 @@ impl Model for Fired {
 }
 
 impl Fired {
+    /// The record with the number, of an interaction of the connector, with an entry for each participant.
     pub fn new(number: u64, connector: u16, entries: &[Entry]) -> Fired
         requires { IsFired (record { number = number; connector = connector; entries = entries.now }) }
         ensures { result ≡ record { number = number; connector = connector; entries = entries.now } }
@@ -48,6 +49,7 @@ impl Fired {
         }
     }
 
+    /// The number of the record, from 1 on.
     pub fn number(&self) -> u64
         ensures value { result ≡ self.now.number }
         ensures in_range { IsFired self.now }
@@ -55,6 +57,7 @@ impl Fired {
         self.number
     }
 
+    /// The number of the connector.
     pub fn connector(&self) -> u16
         ensures value { result ≡ self.now.connector }
         ensures in_range { IsFired self.now }

@@ -30,6 +30,7 @@ impl Model for Identity {
 }
 
 impl Identity {
+    /// The identity of a device for so many atoms and records, and for the plant text with the digest.
     pub fn new(atoms: u16, ring: u32, digest: [u8; DIGEST]) -> Identity
         requires { IsIdentity (record { atoms = atoms; ring = ring; digest = digest }) }
         ensures { result ≡ record { atoms = atoms; ring = ring; digest = digest } }
@@ -41,6 +42,7 @@ impl Identity {
         }
     }
 
+    /// How many atoms the plant has.
     pub fn atoms(&self) -> u16
         ensures value { result ≡ self.now.atoms }
         ensures in_range { IsIdentity self.now }

@@ -32,6 +32,7 @@ impl Model for Saved {
 }
 
 impl Saved {
+    /// The state of the atom with the number, as it stood when it had taken part `count` times and the last record that was fired was `at`.
     pub fn new(atom: u16, count: u64, at: u64, marking: u64, values: &[i64]) -> Saved
         requires { IsSaved (record { atom = atom; count = count; at = at; marking = marking; values = values.now }) }
         ensures { result ≡ record { atom = atom; count = count; at = at; marking = marking; values = values.now } }
@@ -49,6 +50,7 @@ impl Saved {
         }
     }
 
+    /// The number of the atom.
     pub fn atom(&self) -> u16
         ensures value { result ≡ self.now.atom }
         ensures in_range { IsSaved self.now }

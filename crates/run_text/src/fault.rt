@@ -9,7 +9,7 @@ use text_io::WriteFault;
 /// Why a trace was not written to its end.
 #[derive(Clone, Copy, Debug, PartialEq, Eq)]
 pub enum TraceFault {
-    /// There was no memory for the states of the plant. Nothing was written.
+    /// There was no memory for the plant that runs: its states, and what a step keeps. Nothing was written.
     Memory,
     /// The writer answered an error. It may have taken a part of the trace.
     Write,

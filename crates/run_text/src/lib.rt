@@ -14,7 +14,7 @@
 //! - `format` and `word`: the formats, and what in a line differs by them alone.
 //! - `fault`: why a trace was not written to its end.
 //!
-//! Memory is taken only for the first states of a plant, before anything is printed.
+//! Memory is taken only to make the plant that runs (its states, and what a step keeps), before anything is printed.
 #![tactic(auto)]
 
 mod csv;

@@ -22,8 +22,8 @@ use std::alloc::{AllocError, Global};
 /// A plant that runs: a system, its present state, and what that state offers: transitions, and possible interactions.
 ///
 /// It judges each transition and each interaction once when it is made, and after a step only the transitions of the atoms
-/// that moved, the interactions on a port that offers another number of transitions than before, and those whose guards read an
-/// atom that moved. All of a step's questions ([`Stepper::count`], [`Stepper::nth`]) are answered from what is offered. Only making it takes memory.
+/// that moved, the interactions on a port that offers another number of transitions than before, and those of a connector with
+/// guards of which an atom with a leaf in it moved. All of a step's questions ([`Stepper::count`], [`Stepper::nth`]) are answered from what is offered. Only making it takes memory.
 #[derive(Drop)]
 pub struct Stepper<'s> {
     system: &'s System,

@@ -65,7 +65,8 @@ fn note_read(rows: &mut [InteractionSet], ports: &[Port], number: u16)
     }
 }
 
-/// Puts the interaction with this number into the rows of the atoms whose states the guards of the connector read.
+/// Puts the interaction with this number into the rows of the atoms whose states guards of the connector can read: of all its
+/// leaves, where it has a guard.
 fn note_guards(
     rows: &mut [InteractionSet],
     wires: &[Wire],
@@ -86,8 +87,8 @@ fn note_guards(
     }
 }
 
-/// Puts the interaction with this number into the rows that it belongs to: those of its ports, and those of the atoms that the
-/// guards of its connector read.
+/// Puts the interaction with this number into the rows that it belongs to: those of its ports, and those of the atoms that
+/// guards of its connector can read.
 fn note_interaction(
     rows: &mut [InteractionSet],
     wires: &[Wire],
