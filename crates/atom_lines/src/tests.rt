@@ -115,6 +115,7 @@ fn ports_export_variables_by_number(rt: HostRuntime) -> Result<(), Fail> {
     port(&mut draft, b"all d a c b")?;
     assert!(&rt; draft.find_port(b"all") == Some(1));
     let atom = draft.into_atom()?;
+    assert!(&rt; atom.ports().len() == 2);
     assert!(&rt; atom.ports()[0].exports.is_empty());
     assert!(&rt; atom.ports()[1].exports.as_slice() == [3, 0, 2, 1].as_slice());
     Ok(())
