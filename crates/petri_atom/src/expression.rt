@@ -71,10 +71,11 @@ pub enum Expression<V> {
 
 impl<V> Expression<V> {
     /// The value of the expression; both operands of an operator are always judged.
+    #[cycle(walk)]
     pub fn value<S: Valuation<V>>(&self, variables: &S) -> i64
         ensures { result ≡ value_of (S.value_at variables.now) (tree_of self.now) }
     {
-        // Most expressions are one word: these take no call.
+        // Most operands are one word: these take no call.
         match self {
             Expression::Number(number) => *number,
             Expression::Variable(variable) => variables.value_at(variable),
@@ -83,15 +84,16 @@ impl<V> Expression<V> {
     }
 
     /// The same, of an expression of any kind, by a walk over its tree.
+    #[cycle(walk)]
     fn walked<S: Valuation<V>>(&self, variables: &S) -> i64
         ensures { result ≡ value_of (S.value_at variables.now) (tree_of self.now) }
     {
         match self {
             Expression::Number(number) => *number,
             Expression::Variable(variable) => variables.value_at(variable),
-            Expression::Not(operand) => i64::from(operand.walked(variables) == 0),
+            Expression::Not(operand) => i64::from(operand.value(variables) == 0),
             Expression::Apply(operator, left, right) => {
-                operator.apply(left.walked(variables), right.walked(variables))
+                operator.apply(left.value(variables), right.value(variables))
             }
         }
     }
