@@ -180,6 +180,11 @@ fn unite(words: &mut [u64; ROW_WORDS], other: &[u64; ROW_WORDS], count: usize)
         → slice_index words.new k ≡ bit_or (slice_index words.old k) (slice_index other.now k) }
     ensures rest { (k : ℕ) → count ≤ k → slice_index words.new k ≡ slice_index words.old k }
 {
+    // Most plants have no more interactions than one word holds: these take no loop.
+    if count == 1 {
+        words[0] |= other[0];
+        return;
+    }
     for k in 0..count {
         words[k] |= other[k];
     }

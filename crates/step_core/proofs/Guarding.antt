@@ -1,35 +1,41 @@
-use Rattle.std.proofs.Common.{◌≡◌, ℕ, ◌<◌, ◌≤◌, refl, sym, ◌∙◌, ap, List, map, length, get_or, arith, Bool, true}
-use Rattle.std.specs.Prelude.{Some, None, slice_get, option_map}
+-- What is found of wires says of guards and transfers what the wires say.
+use Rattle.std.proofs.Common.{◌≡◌, ℕ, refl, sym, ◌∙◌, ap, List, map, true}
+use Rattle.std.specs.Prelude.{Option, Some, None, is_some, slice_get, option_map}
+use Rattle.std.specs.List.{list_all}
 use Rattle.std.specs.Option.{option_map_or}
-use Rattle.std.proofs.lemmas.List.{length-map}
-use Rattle.std.proofs.lemmas.Option.{slice_get-map, slice_get_read, slice_get_past}
-use Rattle.petri_atom.specs.Local.{Local}
-use Rattle.petri_atom.specs.Atom.{definition_of}
-use Rattle.petri_atom.specs.Expression.{tree_of}
-use Rattle.petri_atom.specs.declared.atom.Atom.{Atom}
-use Rattle.petri_atom.specs.declared.expression.Expression.{Expression}
+use Rattle.std.proofs.lemmas.Bool.{false≢true}
+use Rattle.std.proofs.lemmas.Option.{same_Some, slice_get-map}
+use Rattle.petri_atom.specs.Definition.{AtomDefinition}
 use Rattle.connector_tree.specs.Tree.{leaves}
-use Rattle.connector_tree.specs.declared.tree.Port.{Port}
-use Rattle.step_core.specs.Choice.{Interaction, is_unguarded}
 use Rattle.step_core.specs.Exports.{guards_hold}
 use Rattle.step_core.specs.Plant.{WireDefinition}
-use Rattle.step_core.specs.Wire.{wire_of}
-use Rattle.step_core.specs.declared.wire.Export.{Export}
-use Rattle.step_core.specs.declared.wire.Wire.{Wire}
+use Rattle.step_core.specs.Resolved.{clause_of, clause_holds, delivery_of, given_for, resolved_of, resolved_by, AreGuarding, AreDelivering}
+use Rattle.step_core.specs.Step.{delivered_by, nothing_delivered}
+use Rattle.step_core.specs.declared.resolved.Resolved.{Resolved}
+use Rattle.step_core.proofs.Resolving.{clauses-found, given-found}
 
--- the guards of an interaction, by the wire of its connector
-module _ (atoms : List Atom) (wires : List Wire) (states : List Local) (i : Interaction) (n : ℕ) (same : n ≡ i.connector) (answer : Bool) where
-  abbrev judge : WireDefinition → Bool
-  judge w = guards_hold (map definition_of atoms) states (leaves w.connector) i.mask w.guards
+module _ (atoms : List AtomDefinition) (wires : List WireDefinition) (all : List Resolved) (found : map resolved_of all ≡ map (resolved_by atoms) wires) where
+  at-wire : (n : ℕ) → option_map resolved_of (slice_get all n) ≡ option_map (resolved_by atoms) (slice_get wires n)
+  at-wire n = sym (slice_get-map resolved_of all n) ∙ ap (λ rs. slice_get rs n) found ∙ slice_get-map (resolved_by atoms) wires n
 
-  pub guards-there : (ports : List Port) (clauses : List (Expression Export)) (wire : Wire) → n < length wires → wire ≡ get_or wires n wire → ports ≡ leaves wire.connector → clauses ≡ wire.guards.items → answer ≡ guards_hold (map definition_of atoms) states ports i.mask (map tree_of clauses) → answer ≡ is_unguarded (map definition_of atoms) (map wire_of wires) states i
-  guards-there ports clauses wire within here lent_ports lent_clauses told =
-      let there : slice_get (map wire_of wires) n ≡ Some (wire_of wire) = slice_get-map wire_of wires n ∙ ap (option_map wire_of) (slice_get_read wires (length wires) n wire refl within here) in
-      told ∙ ap (λ ps. guards_hold (map definition_of atoms) states ps i.mask (map tree_of clauses)) lent_ports ∙
-      ap (λ gs. guards_hold (map definition_of atoms) states (leaves wire.connector) i.mask (map tree_of gs)) lent_clauses ∙
-      sym (ap (λ k. option_map_or judge (slice_get (map wire_of wires) k) true) (sym same) ∙ ap (λ o. option_map_or judge o true) there)
+  pub guarding-found : AreGuarding atoms wires all
+  guarding-found states mask n small = each (slice_get all n) (slice_get wires n) (at-wire n)
+    where
+      each : (r : Option Resolved) (o : Option WireDefinition) → option_map resolved_of r ≡ option_map (resolved_by atoms) o → option_map_or (λ r. list_all (clause_holds states mask) (map clause_of r.clauses.items)) r true ≡ option_map_or (λ w. guards_hold atoms states (leaves w.connector) mask w.guards) o true
+      each None None same = refl
+      each None (Some w) same = absurd (false≢true (ap is_some same))
+      each (Some r) None same = absurd (false≢true (sym (ap is_some same)))
+      each (Some r) (Some w) same =
+          ap (λ d. list_all (clause_holds states mask) d.clauses) (same_Some (resolved_of r) (resolved_by atoms w) same) ∙
+          clauses-found mask small atoms (leaves w.connector) states w.guards
 
-  pub guards-past : length wires ≤ n → answer ≡ true → answer ≡ is_unguarded (map definition_of atoms) (map wire_of wires) states i
-  guards-past past told =
-      let none : slice_get (map wire_of wires) n ≡ None = slice_get_past (map wire_of wires) n (omega (arith, length-map wires wire_of)) in
-      told ∙ sym (ap (λ k. option_map_or judge (slice_get (map wire_of wires) k) true) (sym same) ∙ ap (λ o. option_map_or judge o true) none)
+  pub delivering-found : AreDelivering atoms wires all
+  delivering-found states mask n atom small = each (slice_get all n) (slice_get wires n) (at-wire n)
+    where
+      each : (r : Option Resolved) (o : Option WireDefinition) → option_map resolved_of r ≡ option_map (resolved_by atoms) o → option_map_or (λ r. given_for states (map delivery_of r.deliveries.items) mask atom) r nothing_delivered ≡ option_map_or (λ w. delivered_by atoms states (leaves w.connector) w.transfers mask atom) o nothing_delivered
+      each None None same = refl
+      each None (Some w) same = absurd (false≢true (ap is_some same))
+      each (Some r) None same = absurd (false≢true (sym (ap is_some same)))
+      each (Some r) (Some w) same =
+          ap (λ d. given_for states d.deliveries mask atom) (same_Some (resolved_of r) (resolved_by atoms w) same) ∙
+          given-found mask small atoms (leaves w.connector) states w.transfers atom

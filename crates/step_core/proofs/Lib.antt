@@ -7,8 +7,8 @@ mod Offering
 pub mod Told
 pub mod RuleFaults
 pub mod TreeRules
-pub mod Delivering
 pub mod ValueRows
+pub mod Resolving
 pub mod Guarding
 pub mod Stepping
 pub mod OwnAtoms

@@ -4,24 +4,18 @@ use Rattle.std.specs.Prelude.{Option, Some, None, is_some, slice_get, slice_inde
 use Rattle.std.specs.List.{range_with_len}
 use Rattle.std.specs.Option.{option_or, option_map_or}
 use Rattle.std.proofs.Math.Bool.{and-true}
-use Rattle.std.proofs.lemmas.Bool.{cases_eq, cases_lt, eq-eqb, ne_eqb, eqb-true, false≢true}
+use Rattle.std.proofs.lemmas.Bool.{cases_eq, cases_lt, eq-eqb, ne_eqb, false≢true}
 use Rattle.std.proofs.lemmas.List.{take_more, map-append, length-replicate, get_or-replicate, length-set, set_past}
 use Rattle.std.proofs.lemmas.List.Folds.{find-append}
 use Rattle.std.proofs.lemmas.Option.{same_Some, slice_get-get_or, get_or_from_slice_get, slice_get_within}
 use Rattle.petri_atom.specs.Local.{Local, delivered_of, given}
 use Rattle.petri_atom.specs.Expression.{tree_of, value_of}
-use Rattle.petri_atom.specs.Definition.{AtomDefinition}
 use Rattle.petri_atom.specs.declared.state.Delivered.{Delivered}
 use Rattle.petri_atom.specs.declared.state.TheConstants.{MAX_EXPORTS}
-use Rattle.connector_tree.specs.declared.tree.Port.{Port}
 use Rattle.step_core.specs.Delivery.{AreDelivered, IsFirstOfAtom, IsGiven}
-use Rattle.step_core.specs.Exports.{value_at}
-use Rattle.step_core.specs.Plant.{TransferDefinition}
-use Rattle.step_core.specs.Step.{applies, is_to, is_leaf_of, value_to, delivered_by, nothing_delivered}
-use Rattle.step_core.specs.Wire.{transfer_of}
+use Rattle.step_core.specs.Resolved.{value_there, DeliveryDefinition, delivery_of, has_all, is_for, value_for, given_for}
 use Rattle.step_core.specs.declared.choice.Move.{Move}
-use Rattle.step_core.specs.declared.wire.Export.{Export}
-use Rattle.step_core.specs.declared.wire.Transfer.{Transfer}
+use Rattle.step_core.specs.declared.resolved.Delivery.{Delivery}
 use Rattle.step_core.proofs.Told.{or_none}
 
 -- a value, where there is one
@@ -51,7 +45,7 @@ none-at f (y ∷ ys) (suc n) (suc k) x none below there =
     none-at f ys n k x (none-later y (f y) (find f (take n ys)) none) (omega arith) there
 
 -- four values
-four-values : {a b c d e f g h : Option ℤ} → a ≡ e → b ≡ f → c ≡ g → d ≡ h → ◌≡◌ {A = List (Option ℤ)} (a ∷ b ∷ c ∷ d ∷ []) (e ∷ f ∷ g ∷ h ∷ [])
+pub four-values : {a b c d e f g h : Option ℤ} → a ≡ e → b ≡ f → c ≡ g → d ≡ h → ◌≡◌ {A = List (Option ℤ)} (a ∷ b ∷ c ∷ d ∷ []) (e ∷ f ∷ g ∷ h ∷ [])
 four-values {b = b} {c = c} {d = d} {e = e} {f = f} {g = g} p q r s =
     ap (λ x. x ∷ b ∷ c ∷ d ∷ []) p ∙ ap (λ x. e ∷ x ∷ c ∷ d ∷ []) q ∙ ap (λ x. e ∷ f ∷ x ∷ d ∷ []) r ∙
     ap (λ x. e ∷ f ∷ g ∷ x ∷ []) s
@@ -78,74 +72,70 @@ module _ (before after : ℕ → Option ℤ) (value : ℤ) where
       set_past (map before (range_with_len 0 MAX_EXPORTS)) (suc (suc (suc (suc n)))) (option_or (slice_index_or (map before (range_with_len 0 MAX_EXPORTS)) (suc (suc (suc (suc n)))) None) (Some value)) (omega arith) ∙
       four-values (kept _ 0 told (lit< tt) (λ same. absurd (omega arith))) (kept _ 1 told (lit< tt) (λ same. absurd (omega arith))) (kept _ 2 told (lit< tt) (λ same. absurd (omega arith))) (kept _ 3 told (lit< tt) (λ same. absurd (omega arith)))
 
--- the leaf of a target, where it is there and where it is not
-pub to-leaf : (ports : List Port) (target : Export) (p : Port) (atom e : ℕ) → slice_get ports target.leaf ≡ Some p → is_to ports atom e target ≡ (target.export == e && p.atom == atom)
-to-leaf ports target p atom e there = ap (λ o. target.export == e && option_map_or (λ q. q.atom == atom) o false) there
-
-pub to-none : (ports : List Port) (target : Export) (atom e : ℕ) → slice_get ports target.leaf ≡ None → is_to ports atom e target ≡ false
-to-none ports target atom e none = ap (λ o. target.export == e && option_map_or (λ q. q.atom == atom) o false) none ∙ and_false (target.export == e)
-
--- the values of one transfer more
-module _ (atoms : List AtomDefinition) (states : List Local) (ports : List Port) (transfers : List Transfer) (mask i : ℕ) (t : Transfer) (within : i < length transfers) (here : t ≡ get_or transfers i t) where
-  abbrev front : ℕ → List TransferDefinition
-  front n = map transfer_of (take n transfers)
+-- the values of one delivery more
+module _ (states : List Local) (deliveries : List Delivery) (mask i : ℕ) (t : Delivery) (within : i < length deliveries) (here : t ≡ get_or deliveries i t) where
+  abbrev front : ℕ → List DeliveryDefinition
+  front n = map delivery_of (take n deliveries)
 
   abbrev value : ℤ
-  value = value_of (value_at atoms states ports) (tree_of t.value)
+  value = value_of (value_there states) (tree_of t.value)
 
-  longer : front (i + 1) ≡ front i ++ transfer_of t ∷ []
+  abbrev is_its : ℕ → Bool
+  is_its atom = option_map_or (λ a. a == atom) t.atom false
+
+  longer : front (i + 1) ≡ front i ++ delivery_of t ∷ []
   longer =
-      ap (map transfer_of) (take_more transfers i t within ∙ ap (λ x. take i transfers ++ x ∷ []) (sym here)) ∙
-      map-append transfer_of (take i transfers) (t ∷ [])
+      ap (map delivery_of) (take_more deliveries i t within ∙ ap (λ x. take i deliveries ++ x ∷ []) (sym here)) ∙
+      map-append delivery_of (take i deliveries) (t ∷ [])
 
-  one-more : (atom e : ℕ) → value_to atoms states ports (front (i + 1)) mask atom e ≡ option_or (value_to atoms states ports (front i) mask atom e) (some_if (applies mask (transfer_of t) && is_to ports atom e t.target) value)
+  one-more : (atom e : ℕ) → value_for states (front (i + 1)) mask atom e ≡ option_or (value_for states (front i) mask atom e) (some_if (has_all mask t.leaves && is_for atom e (delivery_of t)) value)
   one-more atom e =
-      ap (λ ts. value_to atoms states ports ts mask atom e) longer ∙
-      ap (option_map read) (find-append wanted (front i) (transfer_of t ∷ [])) ∙
-      each (find wanted (front i)) (wanted (transfer_of t))
+      ap (λ ts. value_for states ts mask atom e) longer ∙
+      ap (option_map read) (find-append wanted (front i) (delivery_of t ∷ [])) ∙
+      each (find wanted (front i)) (wanted (delivery_of t))
     where
-      read : TransferDefinition → ℤ
-      read s = value_of (value_at atoms states ports) s.value
+      read : DeliveryDefinition → ℤ
+      read d = value_of (value_there states) d.value
 
-      wanted : TransferDefinition → Bool
-      wanted s = applies mask s && is_to ports atom e s.target
+      wanted : DeliveryDefinition → Bool
+      wanted d = has_all mask d.leaves && is_for atom e d
 
-      each : (o : Option TransferDefinition) (b : Bool) → option_map read (option_or o (cond b (Some (transfer_of t)) None)) ≡ option_or (option_map read o) (some_if b value)
+      each : (o : Option DeliveryDefinition) (b : Bool) → option_map read (option_or o (cond b (Some (delivery_of t)) None)) ≡ option_or (option_map read o) (some_if b value)
       each (Some s) b = refl
       each None true = refl
       each None false = refl
 
-  -- what an atom gets, where its leaf is the target's, and where it is not
-  changed : (atom : ℕ) (b : Bool) → is_leaf_of ports t.target.leaf atom ≡ b → applies mask (transfer_of t) ≡ true → delivered_of (if b then given t.target.export value (map (value_to atoms states ports (front i) mask atom) (range_with_len 0 MAX_EXPORTS)) else map (value_to atoms states ports (front i) mask atom) (range_with_len 0 MAX_EXPORTS)) ≡ delivered_by atoms states ports (front (i + 1)) mask atom
+  -- what an atom gets, where it is the target's, and where it is not
+  changed : (atom : ℕ) (b : Bool) → is_its atom ≡ b → has_all mask t.leaves ≡ true → delivered_of (if b then given t.export value (map (value_for states (front i) mask atom) (range_with_len 0 MAX_EXPORTS)) else map (value_for states (front i) mask atom) (range_with_len 0 MAX_EXPORTS)) ≡ given_for states (front (i + 1)) mask atom
   changed atom true its told =
       ap delivered_of
-      (row-given (value_to atoms states ports (front i) mask atom) (value_to atoms states ports (front (i + 1)) mask atom) value t.target.export
+      (row-given (value_for states (front i) mask atom) (value_for states (front (i + 1)) mask atom) value t.export
       (λ e small. one-more atom e ∙
-      ap (λ b. option_or (value_to atoms states ports (front i) mask atom e) (some_if b value)) (ap (λ b. b && is_to ports atom e t.target) told ∙ ap (λ b. t.target.export == e && b) its ∙ and-true (t.target.export == e))))
+      ap (λ b. option_or (value_for states (front i) mask atom e) (some_if b value)) (ap (λ b. b && is_for atom e (delivery_of t)) told ∙ ap (λ b. t.export == e && b) its ∙ and-true (t.export == e))))
   changed atom false its told =
       ap delivered_of
       (four-values (same 0) (same 1) (same 2) (same 3))
     where
-      same : (e : ℕ) → value_to atoms states ports (front i) mask atom e ≡ value_to atoms states ports (front (i + 1)) mask atom e
+      same : (e : ℕ) → value_for states (front i) mask atom e ≡ value_for states (front (i + 1)) mask atom e
       same e =
-          sym (one-more atom e ∙ ap (λ b. option_or (value_to atoms states ports (front i) mask atom e) (some_if b value)) (ap (λ b. b && is_to ports atom e t.target) told ∙ ap (λ b. t.target.export == e && b) its ∙ and_false (t.target.export == e)) ∙ or_none (value_to atoms states ports (front i) mask atom e))
+          sym (one-more atom e ∙ ap (λ b. option_or (value_for states (front i) mask atom e) (some_if b value)) (ap (λ b. b && is_for atom e (delivery_of t)) told ∙ ap (λ b. t.export == e && b) its ∙ and_false (t.export == e)) ∙ or_none (value_for states (front i) mask atom e))
 
-  module _ (moves : List Move) (old new : List Delivered) (so_far : AreDelivered moves (delivered_by atoms states ports (front i) mask) old) where
+  module _ (moves : List Move) (old new : List Delivered) (so_far : AreDelivered moves (given_for states (front i) mask) old) where
     -- it applies, and is delivered
-    pub delivered-more : applies mask (transfer_of t) ≡ true → IsGiven moves (λ atom. is_leaf_of ports t.target.leaf atom) t.target.export value old new → AreDelivered moves (delivered_by atoms states ports (front (i + 1)) mask) new
+    pub delivered-more : has_all mask t.leaves ≡ true → IsGiven moves is_its t.export value old new → AreDelivered moves (given_for states (front (i + 1)) mask) new
     delivered-more told done place m there first =
-        done place m (map (value_to atoms states ports (front i) mask m.atom) (range_with_len 0 MAX_EXPORTS)) there first refl (so_far place m there first) ∙
-        ap Some (changed m.atom (is_leaf_of ports t.target.leaf m.atom) refl told)
+        done place m (map (value_for states (front i) mask m.atom) (range_with_len 0 MAX_EXPORTS)) there first refl (so_far place m there first) ∙
+        ap Some (changed m.atom (is_its m.atom) refl told)
 
     -- or it does not
-    pub delivered-same : applies mask (transfer_of t) ≡ false → new ≡ old → AreDelivered moves (delivered_by atoms states ports (front (i + 1)) mask) new
+    pub delivered-same : has_all mask t.leaves ≡ false → new ≡ old → AreDelivered moves (given_for states (front (i + 1)) mask) new
     delivered-same told same place m there first =
         ap (λ row. slice_get row place) same ∙ so_far place m there first ∙
         ap (λ row. Some (delivered_of row)) (four-values (as_was 0) (as_was 1) (as_was 2) (as_was 3))
       where
-        as_was : (e : ℕ) → value_to atoms states ports (front i) mask m.atom e ≡ value_to atoms states ports (front (i + 1)) mask m.atom e
+        as_was : (e : ℕ) → value_for states (front i) mask m.atom e ≡ value_for states (front (i + 1)) mask m.atom e
         as_was e =
-            sym (one-more m.atom e ∙ ap (λ b. option_or (value_to atoms states ports (front i) mask m.atom e) (some_if (b && is_to ports m.atom e t.target) value)) told ∙ or_none (value_to atoms states ports (front i) mask m.atom e))
+            sym (one-more m.atom e ∙ ap (λ b. option_or (value_for states (front i) mask m.atom e) (some_if (b && is_for m.atom e (delivery_of t)) value)) told ∙ or_none (value_for states (front i) mask m.atom e))
 
 -- each place of a row that is the same everywhere
 pub everywhere : {X : Type 0} (x : X) (n : ℕ) (place : ℕ) → place < n → slice_get (replicate n x) place ≡ Some x

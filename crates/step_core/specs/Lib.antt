@@ -11,6 +11,7 @@ pub mod Fitting
 pub mod Rules
 pub mod System
 pub mod Delivery
+pub mod Resolved
 pub mod Messages
 pub mod Running
 pub mod Told

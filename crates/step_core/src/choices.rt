@@ -131,7 +131,7 @@ impl System {
         let judged = Judged {
             atoms: &self.atoms,
             wires: &self.wires,
-            ports: &self.ports,
+            resolved: &self.resolved,
             states,
             offers,
         };
@@ -159,7 +159,7 @@ impl System {
         let judged = Judged {
             atoms: &self.atoms,
             wires: &self.wires,
-            ports: &self.ports,
+            resolved: &self.resolved,
             states,
             offers,
         };
@@ -229,7 +229,7 @@ impl System {
         let judged = Judged {
             atoms: &self.atoms,
             wires: &self.wires,
-            ports: &self.ports,
+            resolved: &self.resolved,
             states,
             offers: &judgement.offers,
         };

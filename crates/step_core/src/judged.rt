@@ -7,8 +7,8 @@ ghost use Rattle.petri_atom.specs.declared.parts.TheConstants.{MAX_TRANSITIONS};
 ghost use Rattle.connector_tree.specs.declared.tree.TheConstants.{MAX_LEAVES};
 ghost use Rattle.step_core.specs.Choice.{is_unguarded, is_possible, move_of, moves_of, combinations, choices_of};
 ghost use Rattle.step_core.specs.Interaction.{interaction_of};
-ghost use Rattle.connector_tree.specs.Tree.{leaves};
 ghost use Rattle.step_core.specs.Possible.{ArePossible, ArePossibleBut};
+ghost use Rattle.step_core.specs.Resolved.{AreGuarding};
 ghost use Rattle.step_core.specs.Ways.{AreWays, AreWaysBut, IsSame};
 ghost use Rattle.step_core.specs.Wire.{wire_of};
 ghost use Rattle.step_core.specs.Offers.{AreOffered, AreCounted};
@@ -19,8 +19,8 @@ use crate::choice::{Move, Moves};
 use crate::interaction::Interaction;
 use crate::limits::MAX_INTERACTIONS;
 use crate::offers::Offers;
+use crate::resolved::Resolved;
 use crate::state::PlantState;
-use crate::values::Values;
 use crate::wire::Wire;
 use connector_tree::Port;
 use petri_atom::Atom;
@@ -31,11 +31,11 @@ use priority_filter::InteractionSet;
 pub(crate) struct Judged<'a> {
     pub(crate) atoms: &'a [Atom],
     pub(crate) wires: &'a [Wire],
-    pub(crate) ports: &'a [Vec<Port>],
+    pub(crate) resolved: &'a [Resolved],
     pub(crate) states: &'a PlantState,
     pub(crate) offers: &'a Offers,
     ghost as_many: { length states.now ≡ length atoms.now },
-    ghost leaves: { map (λ list. list.items) ports.now ≡ map (λ w. leaves w.connector) wires.now },
+    ghost guarding: { AreGuarding (map definition_of atoms.now) (map wire_of wires.now) resolved.now },
     ghost exact: { AreOffered (map definition_of atoms.now) states.now offers.now.sets },
     ghost counted: { AreCounted (map definition_of atoms.now) offers.now.sets offers.now.counts },
 }
@@ -64,16 +64,9 @@ impl Judged<'_> {
     fn is_unguarded(&self, interaction: &Interaction) -> bool
         ensures { result ≡ is_unguarded (map definition_of self.now.atoms.now) (map wire_of self.now.wires.now) self.now.states.now (interaction_of interaction.now) }
     {
-        let number = usize::from(interaction.connector);
-        match self.wires.get(number) {
-            Some(wire) => {
-                let values = Values {
-                    atoms: self.atoms,
-                    states: self.states,
-                    ports: &self.ports[number],
-                };
-                values.hold(&wire.guards, interaction.mask)
-            }
+        let mask = interaction.mask;
+        match self.resolved.get(usize::from(interaction.connector)) {
+            Some(resolved) => resolved.hold(self.states, mask),
             None => true,
         }
     }
@@ -188,8 +181,10 @@ impl Judged<'_> {
         let is_possible = self.is_possible(interaction, count);
         let place = usize::from(number);
         let is_new = (ways[place] != count) | (possible.contains(number) != is_possible);
-        ways[place] = count;
-        put(possible, number, is_possible);
+        if is_new {
+            ways[place] = count;
+            put(possible, number, is_possible);
+        }
         is_new
     }
 

@@ -38,6 +38,7 @@ mod judgement;
 mod limits;
 mod making;
 mod offers;
+mod resolved;
 mod rules;
 mod state;
 mod stepper;

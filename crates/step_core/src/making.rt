@@ -14,6 +14,7 @@ use crate::free::free_interactions;
 use crate::interaction::Interaction;
 use crate::interactions::connector_interactions;
 use crate::limits::MAX_INTERACTIONS;
+use crate::resolved::resolved_wires;
 use crate::system::System;
 use crate::wire::Wire;
 use crate::{rules, wire_rules};
@@ -43,6 +44,7 @@ impl System {
             return Err(fault);
         }
         let ports = leaves_of_wires(alloc, &wires)?;
+        let resolved = resolved_wires(alloc, &atoms, &wires)?;
         let interactions = interactions_of_wires(alloc, atoms.len() as u16, &wires)?;
         if let Some(fault) = fault_of_count(interactions.len()) {
             return Err(fault);
@@ -54,6 +56,7 @@ impl System {
             wires,
             digest,
             ports,
+            resolved,
             interactions,
             order,
             free,

@@ -1,13 +1,17 @@
 //! Systems: the atoms, wires and priority rules of a plant, which keep each rule of one, and what is prepared for its steps.
 ghost use Rattle.std.specs.Prelude.{◌≡◌, ◌≤◌, None, map, length};
+ghost use Rattle.petri_atom.specs.Atom.{definition_of};
 ghost use Rattle.connector_tree.specs.Tree.{leaves};
 ghost use Rattle.step_core.specs.Choice.{named, plant_interactions};
 ghost use Rattle.step_core.specs.Free.{AreFree};
 ghost use Rattle.step_core.specs.Interaction.{interaction_of};
 ghost use Rattle.step_core.specs.Made.{plant_by};
+ghost use Rattle.step_core.specs.Resolved.{AreGuarding, AreDelivering};
 ghost use Rattle.step_core.specs.Rules.{fault_of};
+ghost use Rattle.step_core.specs.Wire.{wire_of};
 
 use crate::interaction::Interaction;
+use crate::resolved::Resolved;
 use crate::wire::Wire;
 use connector_tree::Port;
 use petri_atom::Atom;
@@ -25,11 +29,14 @@ pub struct System {
     pub(crate) wires: Vec<Wire>,
     pub(crate) digest: [u8; 32],
     pub(crate) ports: Vec<Vec<Port>>,
+    pub(crate) resolved: Vec<Resolved>,
     pub(crate) interactions: Vec<Interaction>,
     pub(crate) order: Order,
     pub(crate) free: InteractionSet,
     ghost valid: { fault_of (plant_by atoms.items wires.items order.rules) ≡ None },
     ghost leaves: { map (λ list. list.items) ports.items ≡ map (λ w. leaves w.connector) wires.items },
+    ghost guarding: { AreGuarding (map definition_of atoms.items) (map wire_of wires.items) resolved.items },
+    ghost delivering: { AreDelivering (map definition_of atoms.items) (map wire_of wires.items) resolved.items },
     ghost listed: { map interaction_of interactions.items ≡ plant_interactions (plant_by atoms.items wires.items order.rules) },
     ghost ordered: { order.interactions ≡ map named (map interaction_of interactions.items) },
     ghost unruled: { AreFree order.rules order.interactions free },

@@ -1,22 +1,20 @@
 //! What a choice delivers to its participants.
-ghost use Rattle.std.specs.Prelude.{◌≡◌, ℕ, ◌≤◌, ◌==◌, ◌&&◌, map, length, replicate};
-ghost use Rattle.petri_atom.specs.Atom.{definition_of};
+ghost use Rattle.std.specs.Prelude.{◌≡◌, false, ◌≤◌, ◌==◌, ◌&&◌, map, length, replicate};
+ghost use Rattle.std.specs.Option.{option_map_or};
 ghost use Rattle.petri_atom.specs.Expression.{tree_of, value_of};
 ghost use Rattle.connector_tree.specs.declared.tree.TheConstants.{MAX_LEAVES};
 ghost use Rattle.step_core.specs.Chosen.{choice_of};
 ghost use Rattle.step_core.specs.Delivery.{AreDelivered, IsGiven};
-ghost use Rattle.step_core.specs.Exports.{value_at};
 ghost use Rattle.step_core.specs.Fitting.{IsOf};
-ghost use Rattle.step_core.specs.Step.{transfer, delivered_by, nothing_delivered, value_to, applies, is_to, is_leaf_of};
-ghost use Rattle.step_core.specs.Wire.{transfer_of};
+ghost use Rattle.step_core.specs.Resolved.{value_there, delivery_of, has_all, is_for, value_for, given_for};
+ghost use Rattle.step_core.specs.Step.{transfer, nothing_delivered};
 
 use crate::choice::{Choice, Move};
+use crate::resolved::{Delivery, has_all};
 use crate::state::PlantState;
 use crate::system::System;
-use crate::values::{Participants, Values};
-use crate::wire::{Export, Transfer};
-use connector_tree::{MAX_LEAVES, Mask, Port};
-use petri_atom::{Delivered, VariableTest};
+use connector_tree::{MAX_LEAVES, Mask};
+use petri_atom::Delivered;
 
 impl System {
     ghost use Rattle.step_core.specs.System.{plant_of};
@@ -26,16 +24,9 @@ impl System {
         requires { IsOf (plant_of self.now) states.now }
         ensures { result ≡ transfer (plant_of self.now) states.now (choice_of choice.now) atom }
     {
-        let number = usize::from(choice.connector);
-        match self.wires.get(number) {
-            Some(wire) => {
-                let before = Values {
-                    atoms: &self.atoms,
-                    states,
-                    ports: &self.ports[number],
-                };
-                before.delivered(&wire.transfers, choice.mask, atom)
-            }
+        let mask = choice.mask;
+        match self.resolved.get(usize::from(choice.connector)) {
+            Some(resolved) => given_for(&resolved.deliveries, states, mask, atom),
             None => Delivered::of([None, None, None, None]),
         }
     }
@@ -51,83 +42,95 @@ impl System {
         requires nothing { delivered.old ≡ replicate MAX_LEAVES nothing_delivered }
         ensures { AreDelivered choice.now.moves (transfer (plant_of self.now) states.now (choice_of choice.now)) delivered.new }
     {
-        let number = usize::from(choice.connector);
+        let mask = choice.mask;
         let moves = choice.moves.as_slice();
-        if let Some(wire) = self.wires.get(number) {
-            let before = Values {
-                atoms: &self.atoms,
-                states,
-                ports: &self.ports[number],
-            };
-            before.deliver_all(&wire.transfers, choice.mask, moves, delivered);
+        if let Some(resolved) = self.resolved.get(usize::from(choice.connector)) {
+            deliver_all(&resolved.deliveries, states, mask, moves, delivered);
         }
     }
 }
 
-impl Values<'_> {
-    /// Puts what the transfers that apply deliver to the atoms of the moves at the places of the moves, where nothing is
-    /// delivered yet.
-    fn deliver_all(
-        &self,
-        transfers: &[Transfer],
-        mask: Mask,
-        moves: &[Move],
-        delivered: &mut [Delivered; MAX_LEAVES],
-    )
-        requires few { length moves.now ≤ MAX_LEAVES }
-        requires nothing { delivered.old ≡ replicate MAX_LEAVES nothing_delivered }
-        ensures { AreDelivered moves.now (delivered_by (map definition_of self.now.atoms.now) self.now.states.now self.now.ports.now (map transfer_of transfers.now) mask) delivered.new }
-    {
-        for transfer in transfers {
-            if applies(transfer, mask) {
-                self.deliver_one(transfer, moves, delivered);
-            }
+/// Puts what the deliveries that apply give to the atoms of the moves at the places of the moves, where nothing is delivered yet.
+fn deliver_all(
+    deliveries: &[Delivery],
+    states: &PlantState,
+    mask: Mask,
+    moves: &[Move],
+    delivered: &mut [Delivered; MAX_LEAVES],
+)
+    requires few { length moves.now ≤ MAX_LEAVES }
+    requires nothing { delivered.old ≡ replicate MAX_LEAVES nothing_delivered }
+    ensures { AreDelivered moves.now (given_for states.now (map delivery_of deliveries.now) mask) delivered.new }
+{
+    for delivery in deliveries {
+        if has_all(mask, delivery.leaves) {
+            deliver_one(delivery, states, moves, delivered);
         }
     }
+}
 
-    /// Gives the target of the transfer its value, unless it has one.
-    fn deliver_one(
-        &self,
-        transfer: &Transfer,
-        moves: &[Move],
-        delivered: &mut [Delivered; MAX_LEAVES],
-    )
-        requires few { length moves.now ≤ MAX_LEAVES }
-        ensures { IsGiven moves.now (λ atom. is_leaf_of self.now.ports.now transfer.now.target.leaf atom) transfer.now.target.export (value_of (value_at (map definition_of self.now.atoms.now) self.now.states.now self.now.ports.now) (tree_of transfer.now.value)) delivered.old delivered.new }
-    {
-        if let Some(port) = self.ports.get(usize::from(transfer.target.leaf)) {
-            give_to_atom(
-                delivered,
-                moves,
-                port.atom,
-                transfer.target.export,
-                transfer.value.value(self),
-            );
+/// Gives the target of the delivery its value, unless it has one.
+fn deliver_one(
+    delivery: &Delivery,
+    states: &PlantState,
+    moves: &[Move],
+    delivered: &mut [Delivered; MAX_LEAVES],
+)
+    requires few { length moves.now ≤ MAX_LEAVES }
+    ensures { IsGiven moves.now (λ other. option_map_or (λ a. a == other) delivery.now.atom false) delivery.now.export (value_of (value_there states.now) (tree_of delivery.now.value)) delivered.old delivered.new }
+{
+    if let Some(atom) = delivery.atom {
+        let value = delivery.value.value(states);
+        give_to_atom(delivered, moves, atom, delivery.export, value);
+    }
+}
+
+/// What the deliveries that apply give to the atom.
+fn given_for(deliveries: &[Delivery], states: &PlantState, mask: Mask, atom: u16) -> Delivered
+    ensures { result ≡ given_for states.now (map delivery_of deliveries.now) mask atom }
+{
+    Delivered::of([
+        value_for(deliveries, states, mask, atom, 0),
+        value_for(deliveries, states, mask, atom, 1),
+        value_for(deliveries, states, mask, atom, 2),
+        value_for(deliveries, states, mask, atom, 3),
+    ])
+}
+
+/// The value that the exported variable of the atom gets, if a delivery to it applies.
+fn value_for(
+    deliveries: &[Delivery],
+    states: &PlantState,
+    mask: Mask,
+    atom: u16,
+    export: u8,
+) -> Option<i64>
+    ensures { result ≡ value_for states.now (map delivery_of deliveries.now) mask atom export }
+{
+    for delivery in deliveries {
+        if delivery.applies_to(mask, atom, export) {
+            return Some(delivery.value.value(states));
         }
     }
+    None
+}
 
-    /// What the transfers that apply deliver to the atom.
-    fn delivered(&self, transfers: &[Transfer], mask: Mask, atom: u16) -> Delivered
-        ensures { result ≡ delivered_by (map definition_of self.now.atoms.now) self.now.states.now self.now.ports.now (map transfer_of transfers.now) mask atom }
+impl Delivery {
+    /// Whether the delivery applies, and is to the exported variable of the atom.
+    fn applies_to(&self, mask: Mask, atom: u16, export: u8) -> bool
+        ensures { result ≡ (has_all mask self.now.leaves && is_for atom export (delivery_of self.now)) }
     {
-        Delivered::of([
-            self.value_to(transfers, mask, atom, 0),
-            self.value_to(transfers, mask, atom, 1),
-            self.value_to(transfers, mask, atom, 2),
-            self.value_to(transfers, mask, atom, 3),
-        ])
+        has_all(mask, self.leaves) && self.is_for(atom, export)
     }
 
-    /// The value that the exported variable of the atom gets, if a transfer to it applies.
-    fn value_to(&self, transfers: &[Transfer], mask: Mask, atom: u16, export: u8) -> Option<i64>
-        ensures { result ≡ value_to (map definition_of self.now.atoms.now) self.now.states.now self.now.ports.now (map transfer_of transfers.now) mask atom export }
+    /// Whether the delivery is to the exported variable of the atom.
+    fn is_for(&self, atom: u16, export: u8) -> bool
+        ensures { result ≡ is_for atom export (delivery_of self.now) }
     {
-        for transfer in transfers {
-            if applies_to(self.ports, transfer, mask, atom, export) {
-                return Some(transfer.value.value(self));
-            }
+        match self.atom {
+            Some(own) => self.export == export && own == atom,
+            None => false,
         }
-        None
     }
 }
 
@@ -154,37 +157,5 @@ fn give_to_atom(
             delivered[place].give(export, value);
             return;
         }
-    }
-}
-
-/// Whether the transfer applies, and is to the exported variable of the atom.
-fn applies_to(ports: &[Port], transfer: &Transfer, mask: Mask, atom: u16, export: u8) -> bool
-    ensures { result ≡ (applies mask (transfer_of transfer.now) && is_to ports.now atom export transfer.now.target) }
-{
-    is_to(ports, transfer.target, atom, export) && applies(transfer, mask)
-}
-
-/// Whether each leaf that the transfer names is in the mask.
-fn applies(transfer: &Transfer, mask: Mask) -> bool
-    ensures { result ≡ applies mask (transfer_of transfer.now) }
-{
-    let participants = Participants { mask };
-    participants.passes(&transfer.target) & transfer.value.all_variables(&participants)
-}
-
-/// Whether the target is the exported variable of the atom.
-fn is_to(ports: &[Port], target: Export, atom: u16, export: u8) -> bool
-    ensures { result ≡ is_to ports.now atom export target }
-{
-    (target.export == export) & is_leaf_of(ports, target.leaf, atom)
-}
-
-/// Whether the leaf is a port of the atom.
-fn is_leaf_of(ports: &[Port], leaf: u8, atom: u16) -> bool
-    ensures { result ≡ is_leaf_of ports.now leaf atom }
-{
-    match ports.get(usize::from(leaf)) {
-        Some(port) => port.atom == atom,
-        None => false,
     }
 }

@@ -1,4 +1,4 @@
-use Rattle.std.proofs.Common.{◌≡◌, ◌==◌, ◌&&◌, ◌<◌, ◌∙◌, ap, sym, arith, cond, take, get_or, length, [], ◌∷◌, w64}
+use Rattle.std.proofs.Common.{◌==◌, ◌<◌, ◌∙◌, ap, arith, cond, take, get_or, length, [], ◌∷◌, w64}
 use Rattle.std.specs.Prelude.{Some, None, find, slice_get}
 use Rattle.std.specs.Option.{option_or}
 use Rattle.std.proofs.lemmas.Bool.{ne_eqb}

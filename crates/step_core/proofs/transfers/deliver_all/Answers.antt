@@ -1,0 +1,30 @@
+use Rattle.std.proofs.Common.{◌<◌, ◌∙◌, ap, sym, arith, map}
+use Rattle.std.specs.Prelude.{Some, slice_get}
+use Rattle.std.proofs.lemmas.List.{take_all}
+use Rattle.std.proofs.lemmas.Option.{slice_get_within}
+use Rattle.step_core.specs.Resolved.{delivery_of, given_for}
+use Rattle.step_core.specs.Step.{nothing_delivered}
+use Rattle.step_core.proofs.ValueRows.{delivered-more, delivered-same, everywhere}
+use Rattle.step_core.proofs.transfers.deliver_all.Goals as goal
+use Rattle.step_core.proofs.transfers.deliver_all.Goals.{then-has_all, else-has_all}
+
+pub loop-delivery-init : goal.loop-delivery-init
+loop-delivery-init c place m there first =
+    let within : place < 8 = omega (arith, c.requires.few, slice_get_within c.args.moves.now place m there) in
+    ap (λ row. slice_get row place) c.requires.nothing ∙ everywhere nothing_delivered 8 place within
+
+pub loop-delivery-preserved : goal.loop-delivery-preserved
+loop-delivery-preserved c =
+    let states = c.args.states.now in
+    let item = c.delivery-item in
+    let i = c.loop-delivery.delivery-index in
+    let so_far = c.loop-delivery.invariant in
+    elim c.if-has_all.branch [
+      | then-has_all w ↦ delivered-more states c.args.deliveries.now c.args.mask i item.result c.loop-delivery-test.true item.is c.args.moves.now c.loop-delivery.delivered c.if-has_all.delivered so_far (sym c.has_all.ensures ∙ w.if-has_all.true) (λ place m row there first four old. ap (λ ds. slice_get ds place) w.delivered-is ∙ w.deliver_one.ensures place m row there first four old)
+      | else-has_all w ↦ delivered-same states c.args.deliveries.now c.args.mask i item.result c.loop-delivery-test.true item.is c.args.moves.now c.loop-delivery.delivered c.if-has_all.delivered so_far (sym c.has_all.ensures ∙ w.if-has_all.false) w.delivered-is
+    ]
+
+pub returns : goal.returns
+returns c place m there first =
+    c.loop-delivery.invariant place m there first ∙
+    ap (λ ds. Some (given_for c.args.states.now (map delivery_of ds) c.args.mask m.atom)) (take_all c.loop-delivery.delivery-index c.args.deliveries.now c.loop-delivery-test.false)
