@@ -9,3 +9,4 @@ pub mod DecidedChains
 pub mod DecidedOrder
 pub mod NoDeadlock
 pub mod Rows
+pub mod Words

@@ -6,6 +6,10 @@ use Rattle.std.specs.Ordering.{nat_cmp}
 use Rattle.std.specs.FinSet.{FinSet, from_list}
 use Rattle.priority_filter.specs.declared.interaction_set.TheConstants.{INTERACTION_LIMIT}
 
+-- bit k of a word is set
+abbrev pub has_bit : ℕ → ℕ → Bool
+has_bit word k = nat_eq (bit_at word k) 1
+
 -- interaction k is held by bit k % 64 of word k / 64
 abbrev pub holds : List ℕ → ℕ → Bool
 holds words k = nat_eq (bit_at (slice_index words (k / 64)) (k % 64)) 1

@@ -1,9 +1,9 @@
 //! A set of interaction numbers, kept as a row of bits.
-ghost use Rattle.std.specs.Prelude.{◌≡◌, ℕ, ◌*◌, ◌/◌, ◌||◌, ◌<◌, ◌≤◌, ◌↔◌, true, false, IsTrue, IfSome, IfNone, Some, None, if◌then◌else◌, nat_lt, bit_or, slice_index};
+ghost use Rattle.std.specs.Prelude.{◌≡◌, ℕ, ◌*◌, ◌/◌, ◌%◌, ◌||◌, ◌<◌, ◌≤◌, ◌↔◌, true, false, IsTrue, IfSome, IfNone, Some, None, if◌then◌else◌, nat_lt, bit_or, slice_index};
 ghost use Rattle.std.specs.Ordering.{nat_cmp};
 ghost use Rattle.std.specs.FinSet as set;
 ghost use Rattle.std.specs.Coded.{coded_ℕ};
-ghost use Rattle.priority_filter.specs.Members.{holds, members_of, IsFirst};
+ghost use Rattle.priority_filter.specs.Members.{has_bit, holds, members_of, IsFirst};
 
 use std::marker::Model;
 
@@ -113,6 +113,23 @@ impl InteractionSet {
         ensures past { (n : ℕ) → 64 * words ≤ n → set.contains self.new n ≡ set.contains self.old n }
     {
         unite(&mut self.words, &other.words, words);
+    }
+
+    /// Which of the 64 interactions from 64 times the place on are in the set, bit k for the one with k behind these.
+    pub(crate) fn word(&self, place: usize) -> u64
+        requires { place < ROW_WORDS }
+        ensures { (n : ℕ) → n / 64 ≡ place → has_bit result (n % 64) ≡ set.contains self.now n }
+    {
+        self.words[place]
+    }
+
+    /// Says which of the 64 interactions from 64 times the place on are in the set.
+    pub(crate) fn set_word(&mut self, place: usize, word: u64)
+        requires { place < ROW_WORDS }
+        ensures here { (n : ℕ) → n / 64 ≡ place → set.contains self.new n ≡ has_bit word (n % 64) }
+        ensures others { (n : ℕ) → ¬ (n / 64 ≡ place) → set.contains self.new n ≡ set.contains self.old n }
+    {
+        self.words[place] = word;
     }
 
     /// Whether some interaction is in both sets.

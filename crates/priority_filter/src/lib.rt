@@ -23,6 +23,7 @@
 #![tactic(auto)]
 
 pub mod fault;
+mod filter;
 pub mod interaction_set;
 pub mod laws;
 mod mask;
