@@ -9,6 +9,10 @@ use Rattle.step_core.specs.declared.choice.Move.{Move}
 abbrev pub IsFirstOfAtom : List Move → ℕ → Move → Type 0
 IsFirstOfAtom moves place m = find (λ k. k.atom == m.atom) (take place moves) ≡ None
 
+-- no two moves are of one atom
+abbrev pub AreApart : List Move → Type 0
+AreApart moves = (place : ℕ) (m : Move) → slice_get moves place ≡ Some m → IsFirstOfAtom moves place m
+
 -- the row has for each move that is the first of its atom, by its place, what that atom gets
 abbrev pub AreDelivered : List Move → (ℕ → Delivered) → List Delivered → Type 0
 AreDelivered moves delivered row =

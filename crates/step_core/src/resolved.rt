@@ -25,11 +25,12 @@ pub(crate) struct Clause {
     pub(crate) value: Expression<AtomVariable>,
 }
 
-/// A transfer, with the leaves that it names, as in a clause; its target's is one of them. The target is an exported variable of
-/// the leaf's atom.
+/// A transfer, with the leaves that it names, as in a clause; its target's is one of them, and `before` are those on the left of
+/// that. The target is an exported variable of the leaf's atom.
 #[derive(Debug, Drop)]
 pub(crate) struct Delivery {
     pub(crate) leaves: u32,
+    pub(crate) before: u32,
     pub(crate) atom: Option<u16>,
     pub(crate) export: u8,
     pub(crate) value: Expression<AtomVariable>,
@@ -107,6 +108,7 @@ fn deliveries_of(
         let value = found(alloc, atoms, ports, &transfer.value)?;
         all.push(Delivery {
             leaves: leaf_bit(transfer.target.leaf) | leaves_in(&transfer.value),
+            before: leaf_bit(transfer.target.leaf).wrapping_sub(1),
             atom: atom_of(ports, transfer.target.leaf),
             export: transfer.target.export,
             value,

@@ -4,7 +4,7 @@ ghost use Rattle.std.specs.Option.{option_map_or};
 ghost use Rattle.petri_atom.specs.Expression.{tree_of, value_of};
 ghost use Rattle.connector_tree.specs.declared.tree.TheConstants.{MAX_LEAVES};
 ghost use Rattle.step_core.specs.Chosen.{choice_of};
-ghost use Rattle.step_core.specs.Delivery.{AreDelivered, IsGiven};
+ghost use Rattle.step_core.specs.Delivery.{AreApart, AreDelivered, IsGiven};
 ghost use Rattle.step_core.specs.Fitting.{IsOf};
 ghost use Rattle.step_core.specs.Resolved.{value_there, delivery_of, has_all, is_for, value_for, given_for};
 ghost use Rattle.step_core.specs.Step.{transfer, nothing_delivered};
@@ -39,6 +39,7 @@ impl System {
         delivered: &mut [Delivered; MAX_LEAVES],
     )
         requires of_plant { IsOf (plant_of self.now) states.now }
+        requires apart { AreApart choice.now.moves }
         requires nothing { delivered.old ≡ replicate MAX_LEAVES nothing_delivered }
         ensures { AreDelivered choice.now.moves (transfer (plant_of self.now) states.now (choice_of choice.now)) delivered.new }
     {
@@ -59,29 +60,33 @@ fn deliver_all(
     delivered: &mut [Delivered; MAX_LEAVES],
 )
     requires few { length moves.now ≤ MAX_LEAVES }
+    requires apart { AreApart moves.now }
     requires nothing { delivered.old ≡ replicate MAX_LEAVES nothing_delivered }
     ensures { AreDelivered moves.now (given_for states.now (map delivery_of deliveries.now) mask) delivered.new }
 {
     for delivery in deliveries {
         if has_all(mask, delivery.leaves) {
-            deliver_one(delivery, states, moves, delivered);
+            let expected = (u32::from(mask) & delivery.before).count_ones() as usize;
+            deliver_one(delivery, states, moves, expected, delivered);
         }
     }
 }
 
-/// Gives the target of the delivery its value, unless it has one.
+/// Gives the target of the delivery its value, unless it has one. Its atom's move is looked for at the place `expected` first.
 fn deliver_one(
     delivery: &Delivery,
     states: &PlantState,
     moves: &[Move],
+    expected: usize,
     delivered: &mut [Delivered; MAX_LEAVES],
 )
     requires few { length moves.now ≤ MAX_LEAVES }
+    requires apart { AreApart moves.now }
     ensures { IsGiven moves.now (λ other. option_map_or (λ a. a == other) delivery.now.atom false) delivery.now.export (value_of (value_there states.now) (tree_of delivery.now.value)) delivered.old delivered.new }
 {
     if let Some(atom) = delivery.atom {
         let value = delivery.value.value(states);
-        give_to_atom(delivered, moves, atom, delivery.export, value);
+        give_to_atom(delivered, moves, expected, atom, delivery.export, value);
     }
 }
 
@@ -141,17 +146,25 @@ pub(crate) fn nothing_at_all() -> [Delivered; MAX_LEAVES]
     [Delivered::of([None, None, None, None]); MAX_LEAVES]
 }
 
-/// Gives the atom's exported variable the value at the place of the first move of the atom, unless it has one there.
+/// Gives the atom's exported variable the value at the place of the atom's move, unless it has one there. The move is looked for
+/// at the place `expected` first.
 fn give_to_atom(
     delivered: &mut [Delivered; MAX_LEAVES],
     moves: &[Move],
+    expected: usize,
     atom: u16,
     export: u8,
     value: i64,
 )
-    requires { length moves.now ≤ MAX_LEAVES }
+    requires few { length moves.now ≤ MAX_LEAVES }
+    requires apart { AreApart moves.now }
     ensures { IsGiven moves.now (λ other. atom == other) export value delivered.old delivered.new }
 {
+    // The atoms of a connector mostly rise with its leaves: their moves take no search.
+    if expected < moves.len() && moves[expected].atom == atom {
+        delivered[expected].give(export, value);
+        return;
+    }
     for place in 0..moves.len() {
         if moves[place].atom == atom {
             delivered[place].give(export, value);

@@ -1,7 +1,7 @@
-use Rattle.std.proofs.Common.{◌≡◌, ◌==◌, ◌<◌, ◌∙◌, sym, ap, subst, arith, length, map, take, get_or, set, []}
+use Rattle.std.proofs.Common.{◌≡◌, ◌==◌, ◌<◌, ◌∙◌, refl, sym, ap, subst, arith, length, map, take, get_or, set, []}
 use Rattle.std.specs.Prelude.{Some, slice_get, find}
 use Rattle.std.proofs.lemmas.List.{length-map, take_all}
-use Rattle.std.proofs.lemmas.Option.{slice_get-get_or, get_or_from_slice_get}
+use Rattle.std.proofs.lemmas.Option.{slice_get-get_or, slice_get_within, get_or_from_slice_get}
 use Rattle.petri_atom.specs.Atom.{definition_of}
 use Rattle.petri_atom.specs.Definition.{fired}
 use Rattle.step_core.specs.Chosen.{choice_of}
@@ -13,6 +13,14 @@ use Rattle.step_core.proofs.Judging.{atom-there}
 use Rattle.step_core.proofs.OwnAtoms.{no-earlier}
 use Rattle.step_core.proofs.Stepping.{no_move, length-stepped}
 use Rattle.step_core.proofs.system.System.next.Goals as goal
+
+pub deliver-requires-clause-apart : goal.deliver-requires-clause-apart
+deliver-requires-clause-apart c place m there =
+    let system = c.args.self.now in
+    let choice = choice_of c.args.choice.now in
+    let within = slice_get_within choice.moves place m there in
+    no-earlier (plant_of system) c.args.states.now choice system.valid c.requires.allowed choice.moves refl place no_move within m.atom
+    (sym (ap (λ k. k.atom) (get_or_from_slice_get choice.moves place m no_move there)))
 
 pub loop-place-init : goal.loop-place-init
 loop-place-init c = (
