@@ -22,7 +22,8 @@
 //! - `stepper`: a plant that runs: its present state, and what that offers, judged again for what a step can change alone.
 //! - `touching`: which interactions stand on a port, and whose guards read an atom, so that a step judges only those that it can
 //!   change.
-//! - `values`: exported variables, and guard clauses on them. `transfers`: what a choice delivers. `firing`: the state that it leaves.
+//! - `resolved`: guard clauses and transfers with their variables found. `values`: the values of variables, and whether guard clauses hold.
+//!   `transfers`: what a choice delivers. `firing`: the state that it leaves.
 #![tactic(auto)]
 
 mod choice;
