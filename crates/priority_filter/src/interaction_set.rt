@@ -116,7 +116,7 @@ impl InteractionSet {
     }
 
     /// Which of the 64 interactions from 64 times the place on are in the set, bit k for the one with k behind these.
-    pub(crate) fn word(&self, place: usize) -> u64
+    pub fn word(&self, place: usize) -> u64
         requires { place < ROW_WORDS }
         ensures { (n : ℕ) → n / 64 ≡ place → has_bit result (n % 64) ≡ set.contains self.now n }
     {

@@ -18,6 +18,7 @@ pub mod Rows
 pub mod StepRows
 mod Refreshing
 pub mod Noting
+pub mod WordByWord
 pub mod Alive
 mod Untouched
 mod Touched

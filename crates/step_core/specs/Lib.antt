@@ -19,4 +19,5 @@ pub mod Possible
 pub mod Touching
 pub mod Free
 pub mod Ways
+pub mod Words
 pub mod Judgement

@@ -5,13 +5,15 @@ ghost use Rattle.std.specs.FinSet.{contains};
 ghost use Rattle.petri_atom.specs.Atom.{definition_of};
 ghost use Rattle.petri_atom.specs.declared.parts.TheConstants.{MAX_TRANSITIONS};
 ghost use Rattle.connector_tree.specs.declared.tree.TheConstants.{MAX_LEAVES};
-ghost use Rattle.step_core.specs.Choice.{is_unguarded, is_possible, move_of, moves_of, combinations, choices_of};
+ghost use Rattle.step_core.specs.Choice.{is_unguarded, is_possible, is_possible_at, move_of, moves_of, combinations, choices_of};
 ghost use Rattle.step_core.specs.Interaction.{interaction_of};
 ghost use Rattle.step_core.specs.Possible.{ArePossible, ArePossibleBut};
 ghost use Rattle.step_core.specs.Resolved.{AreGuarding};
-ghost use Rattle.step_core.specs.Ways.{AreWays, AreWaysBut, IsSame};
+ghost use Rattle.step_core.specs.Ways.{ways_at, AreWays, AreWaysBut, IsSame};
+ghost use Rattle.step_core.specs.Words.{in_word, IsRightIn};
 ghost use Rattle.step_core.specs.Wire.{wire_of};
 ghost use Rattle.step_core.specs.Offers.{AreOffered, AreCounted};
+ghost use Rattle.priority_filter.specs.declared.interaction_set.TheConstants.{ROW_WORDS};
 ghost use Rattle.step_core.specs.declared.choice.Move.{Move};
 ghost use Rattle.step_core.specs.declared.limits.TheConstants.{MAX_INTERACTIONS};
 
@@ -151,12 +153,38 @@ impl Judged<'_> {
         ensures same { result ≡ false → IsSame possible.old ways.old possible.new ways.new }
     {
         let mut changed = false;
-        let mut from = 0;
-        while let Some(number) = touched.first_between(from, interactions.len()) {
-            if let Some(interaction) = interactions.get(usize::from(number)) {
-                changed |= self.note(number, interaction, possible, ways);
+        for place in 0..interactions.len().div_ceil(64) {
+            let word = touched.word(place);
+            changed |= self.judge_word(interactions, place, word, possible, ways);
+        }
+        changed
+    }
+
+    /// Judges those of the 64 interactions from 64 times the place on whose bit in the word is set. Says whether that changed
+    /// anything.
+    fn judge_word(
+        &self,
+        interactions: &[Interaction],
+        place: usize,
+        word: u64,
+        possible: &mut InteractionSet,
+        ways: &mut [u64; MAX_INTERACTIONS],
+    ) -> bool
+        requires few { length interactions.now ≤ MAX_INTERACTIONS }
+        requires place { place < ROW_WORDS }
+        ensures possible { IsRightIn (in_word place word) (length interactions.now) (is_possible_at (map definition_of self.now.atoms.now) (map wire_of self.now.wires.now) self.now.states.now (map interaction_of interactions.now)) (contains possible.old) (contains possible.new) }
+        ensures ways { IsRightIn (in_word place word) (length interactions.now) (ways_at (map definition_of self.now.atoms.now) self.now.states.now (map interaction_of interactions.now)) (λ n. slice_index_or ways.old n 0) (λ n. slice_index_or ways.new n 0) }
+        ensures same { result ≡ false → IsSame possible.old ways.old possible.new ways.new }
+    {
+        let mut changed = false;
+        let mut left = word;
+        while left != 0 {
+            let bit = left.trailing_zeros() as usize;
+            let number = 64 * place + bit;
+            if let Some(interaction) = interactions.get(number) {
+                changed |= self.note(number as u16, interaction, possible, ways);
             }
-            from = number + 1;
+            left &= !(1 << bit);
         }
         changed
     }

@@ -1,4 +1,5 @@
 use super::*;
+use crate::interaction_set::ROW_WORDS;
 use crate::rule::Rule::{Maximal, Under};
 use crate::rule::Side::{One, Whole};
 use std::process::Abort;
@@ -228,5 +229,44 @@ fn a_number_of_no_interaction_is_nowhere(rt: HostRuntime) -> Result<(), Fail> {
     }
     // Those that are possible beside the three overrule nothing.
     assert!(rt; !order.is_overruled(2, &possible));
+    Ok(())
+}
+
+#[test]
+fn a_filter_leaves_what_nothing_possible_is_above(rt: HostRuntime) -> Result<(), Fail> {
+    // Seventy interactions, each under the next.
+    let mut rules = Vec::new(rt.alloc());
+    let mut chain = Vec::new(rt.alloc());
+    for connector in 0..70u16 {
+        chain.push((connector, 1))?;
+        if connector > 0 {
+            rules.push(Under(Whole(connector - 1), Whole(connector)))?;
+        }
+    }
+    assert!(rt; chain.len() <= INTERACTION_LIMIT);
+    let order = Order::new(rt.alloc(), &rules, &chain)?;
+    let none = InteractionSet::new();
+    let cases: [(&[u16], usize, &[u16]); 5] = [
+        (&[0, 3, 63], 1, &[63]),
+        // What overrules is in the second word, which is not asked for.
+        (&[0, 3, 64], 1, &[]),
+        (&[0, 3, 64], 2, &[64]),
+        (&[69, 70, 127], 2, &[69, 70, 127]),
+        (&[5], 0, &[]),
+    ];
+    for (numbers, words, expected) in cases {
+        let mut possible = InteractionSet::new();
+        for &number in numbers {
+            possible.insert(number);
+        }
+        let mut allowed = InteractionSet::new();
+        if words <= ROW_WORDS {
+            order.filter(&possible, &none, words, &mut allowed);
+        }
+        for number in 0..130u16 {
+            let kept = expected.iter().any(|other| *other == number);
+            assert_eq!(rt; allowed.contains(number), kept, "{number} of {numbers:?}");
+        }
+    }
     Ok(())
 }

@@ -1,4 +1,4 @@
-use Rattle.std.proofs.Common.{◌≡◌, ◌<◌, ◌≤◌, ◌-◌, ℕ, false, map, get_or}
+use Rattle.std.proofs.Common.{◌≡◌, ◌<◌, ◌*◌, ℕ, false, map, get_or}
 use Rattle.std.specs.FinSet.{contains}
 use Rattle.petri_atom.specs.Atom.{definition_of}
 use Rattle.step_core.specs.Choice.{is_possible_at}
@@ -8,18 +8,14 @@ use Rattle.step_core.specs.Ways.{ways_at, AreWaysBut, IsSame}
 use Rattle.step_core.specs.Wire.{wire_of}
 use Rattle.step_core.proofs.judged.Judged.judge_touched.Given as goal
 
-abbrev pub invariant-loop-number : goal.invariant-loop-number
-invariant-loop-number l =
+abbrev pub invariant-loop-place : goal.invariant-loop-place
+invariant-loop-place l =
     let atoms = map definition_of l.self.atoms.now in
     let wires = map wire_of l.self.wires.now in
     let states = l.self.states.now in
     let all = map interaction_of l.interactions in
-    (l.from ≤ 1024) ×
-    ((n : ℕ) → n < l.from → contains l.possible n ≡ is_possible_at atoms wires states all n) ×
-    ((n : ℕ) → n < l.from → get_or l.ways n 0 ≡ ways_at atoms states all n) ×
+    ((n : ℕ) → n < 64 * l.place → contains l.possible n ≡ is_possible_at atoms wires states all n) ×
+    ((n : ℕ) → n < 64 * l.place → get_or l.ways n 0 ≡ ways_at atoms states all n) ×
     ArePossibleBut (contains l.touched) atoms wires states all l.possible ×
     AreWaysBut (contains l.touched) atoms states all l.ways ×
-    (l.changed ≡ false → IsSame l.fn.possible l.fn.ways l.possible l.ways)
-
-abbrev pub decreases-loop-number : goal.decreases-loop-number
-decreases-loop-number l = 1024 - l.from
+    (l.changed ≡ false → IsSame l.initial.possible l.initial.ways l.possible l.ways)
