@@ -232,6 +232,16 @@ fn a_number_of_no_interaction_is_nowhere(rt: HostRuntime) -> Result<(), Fail> {
     Ok(())
 }
 
+/// What the order leaves of the possible interactions that so many words hold, each of them asked for.
+fn filtered(order: &Order, possible: &InteractionSet, words: usize) -> InteractionSet {
+    let none = InteractionSet::new();
+    let mut allowed = InteractionSet::new();
+    if words <= ROW_WORDS {
+        order.filter(possible, &none, words, &mut allowed);
+    }
+    allowed
+}
+
 #[test]
 fn a_filter_leaves_what_nothing_possible_is_above(rt: HostRuntime) -> Result<(), Fail> {
     // Seventy interactions, each under the next.
@@ -245,7 +255,6 @@ fn a_filter_leaves_what_nothing_possible_is_above(rt: HostRuntime) -> Result<(),
     }
     assert!(rt; chain.len() <= INTERACTION_LIMIT);
     let order = Order::new(rt.alloc(), &rules, &chain)?;
-    let none = InteractionSet::new();
     let cases: [(&[u16], usize, &[u16]); 5] = [
         (&[0, 3, 63], 1, &[63]),
         // What overrules is in the second word, which is not asked for.
@@ -259,10 +268,7 @@ fn a_filter_leaves_what_nothing_possible_is_above(rt: HostRuntime) -> Result<(),
         for &number in numbers {
             possible.insert(number);
         }
-        let mut allowed = InteractionSet::new();
-        if words <= ROW_WORDS {
-            order.filter(&possible, &none, words, &mut allowed);
-        }
+        let allowed = filtered(&order, &possible, words);
         for number in 0..130u16 {
             let kept = expected.iter().any(|other| *other == number);
             assert_eq!(rt; allowed.contains(number), kept, "{number} of {numbers:?}");
