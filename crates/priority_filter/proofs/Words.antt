@@ -5,7 +5,7 @@ use Rattle.std.specs.Int.{bit_at, bit_not, trailing_zeros}
 use Rattle.std.proofs.lemmas.Bool.{cases_eq}
 use Rattle.std.proofs.lemmas.Bool.Decides.{nat_tests}
 use Rattle.std.proofs.lemmas.Nat.{and_le_l}
-use Rattle.std.proofs.lemmas.Nat.Bits.{bit_at-zero, bit_at_and, bit_at_or, bit_at_not, bit_at-lt, bit_at_clear_same, bit_at_clear_other, bit_at-trailing_zeros}
+use Rattle.std.proofs.lemmas.Nat.Bits.{bit_at_and, bit_at_or, bit_at_not, bit_at-lt, bit_at_clear_same, bit_at_clear_other, bit_at-trailing_zeros}
 use Rattle.priority_filter.specs.Members.{has_bit}
 
 both_bits : (x y : ℕ) → x < 2 → y < 2 → eqb (min x y) 1 ≡ (eqb x 1 && eqb y 1)
@@ -38,15 +38,6 @@ word-picked here free rest k over small low below never told =
     ap (λ b. has_bit (bit_and here free) k || b) (told ∙ ap (λ b. b && not over) (bit-and here (bit_not w64 (bit_and here free)) k ∙ ap (λ b. has_bit here k && b) (bit-not (bit_and here free) k low below))) ∙
     ap (λ b. b || (has_bit here k && not b) && not over) (bit-and here free k) ∙
     picked (has_bit here k) (has_bit free k) over never
-
--- nothing is asked of none, and of all everything
-pub all-asked : (some : Bool) (over : Bool) → some ≡ (some && (some || not over))
-all-asked true over = refl
-all-asked false over = refl
-
-pub none-asked : (left k : ℕ) (some over : Bool) → left ≡ 0 → (some && (has_bit left k || not over)) ≡ (some && not over)
-none-asked left k some over none =
-    ap (λ w. some && (has_bit w k || not over)) none ∙ ap (λ x. some && (eqb x 1 || not over)) (bit_at-zero k)
 
 -- the lowest bit of a word, and the word without it
 module _ (left : ℕ) (some : 0 < left) (small : left < 2 ^ 64) where

@@ -10,8 +10,8 @@ use crate::order::Order;
 
 impl Order {
     /// Says of each interaction of the first words, 64 for each word, whether it is in `allowed`: it is where it is possible and
-    /// no possible one is above it. None is above an interaction in `free`, whatever is possible, so that these are not asked
-    /// for. What `allowed` has past the words stays.
+    /// no possible one is above it. No possible one is above those in `free`, so that these are not asked for. What `allowed` has
+    /// past the words stays.
     pub fn filter(
         &self,
         possible: &InteractionSet,

@@ -1,10 +1,8 @@
 -- What the numbers of choices of all interactions say of the choices of a state.
-use Rattle.std.proofs.Common.{◌≡◌, ℕ, ◌+◌, ◌-◌, ◌*◌, ◌^◌, ◌<◌, ◌≤◌, refl, sym, ◌∙◌, ap, List, [], length, map, take, drop, get_or, arith, Bool, true, false, cond, ◌&&◌, not, ⊎_elim}
+use Rattle.std.proofs.Common.{◌≡◌, ℕ, ◌+◌, ◌-◌, ◌<◌, ◌≤◌, sym, ◌∙◌, ap, List, [], length, map, take, drop, get_or, arith, Bool, true, false, cond, ◌&&◌, not, ⊎_elim}
 use Rattle.std.specs.Prelude.{slice_get}
-use Rattle.std.specs.Ordering.{nat_cmp}
-use Rattle.std.specs.FinSet.{FinSet, contains, empty, insert, contains-empty}
 use Rattle.std.specs.Option.{option_map_or}
-use Rattle.std.proofs.lemmas.Bool.{cases_eq, cases_lt, false≢true}
+use Rattle.std.proofs.lemmas.Bool.{cases_lt, false≢true}
 use Rattle.std.proofs.lemmas.List.{take_all, drop_all}
 use Rattle.std.proofs.lemmas.Option.{slice_get-get_or, slice_get_past}
 use Rattle.petri_atom.specs.Local.{Local}
@@ -13,7 +11,6 @@ use Rattle.step_core.specs.Choice.{Interaction, ChoiceDefinition, named, is_poss
 use Rattle.step_core.specs.Ways.{AreWays}
 use Rattle.priority_filter.specs.Decided.{is_overruled}
 use Rattle.step_core.proofs.Flattened.{flat-more, flat-here, flat-behind, flat-added, flat-passed}
-use Rattle.step_core.proofs.Noting.{put-here, put-other}
 
 -- an interaction, to be read where a list has none
 pub no_interaction : Interaction
@@ -37,10 +34,6 @@ module _ (plant : PlantDefinition) (states : List Local) (all : List Interaction
   -- what is not possible is not allowed
   pub not-allowed : (n : ℕ) → is_possible_at plant.atoms plant.wires states all n ≡ false → is_allowed n ≡ false
   not-allowed n never = ap (λ b. b && not (is_overruled plant.rules (map named all) (is_possible_at plant.atoms plant.wires states all) n)) never
-
-  -- what is possible is allowed where it is not overruled
-  pub allowed-told : (n : ℕ) (b : Bool) → is_possible_at plant.atoms plant.wires states all n ≡ true → is_overruled plant.rules (map named all) (is_possible_at plant.atoms plant.wires states all) n ≡ b → is_allowed n ≡ not b
-  allowed-told n b here told = ap (λ p. p && not (is_overruled plant.rules (map named all) (is_possible_at plant.atoms plant.wires states all) n)) here ∙ ap not told
 
   pub allowed-within : (n : ℕ) → is_allowed n ≡ true → n < length all
   allowed-within n here = ⊎_elim
@@ -102,48 +95,3 @@ module _ (plant : PlantDefinition) (states : List Local) (all : List Interaction
       (λ below. entries-skip n (length all) (omega arith) (λ m from _. none m from) ∙ ap (flat_from gives (length all)) (drop_all (length all) all (omega arith)))
       (λ past. ap (flat_from gives n) (drop_all n all past))
       (cases_lt n (length all))
-
-  -- the allowed interactions below a number are in the set, and no other; and how many choices they have
-  pub record IsCountedTo (n : ℕ) (set : FinSet nat_cmp) (total : ℕ) : Type 0 where
-    pub before : (m : ℕ) → m < n → contains set m ≡ is_allowed m
-    pub behind : (m : ℕ) → n ≤ m → contains set m ≡ false
-    pub counts : total ≡ count_below n
-    pub few : total ≤ n * 2 ^ 64
-
-  pub counted-none : (set : FinSet nat_cmp) → set ≡ empty → IsCountedTo 0 set 0
-  counted-none set none = record {
-    before = λ m below. absurd (omega arith);
-    behind = λ m _. ap (λ s. contains s m) none ∙ contains-empty nat_cmp m;
-    counts = refl;
-    few = omega arith;
-  }
-
-  -- up to the next possible one
-  pub counted-skips : (i k : ℕ) (set : FinSet nat_cmp) (total : ℕ) → IsCountedTo i set total → i ≤ k → ((m : ℕ) → i ≤ m → m < k → is_allowed m ≡ false) → IsCountedTo k set total
-  counted-skips i k set total counted past none = record {
-    before = λ m below. ⊎_elim (counted.before m) (λ from. counted.behind m from ∙ sym (none m from below)) (cases_lt m i);
-    behind = λ m from. counted.behind m (omega arith);
-    counts = counted.counts ∙ sym (count-skips i k past none);
-    few = omega (arith, counted.few);
-  }
-
-  -- one more, which is allowed
-  pub counted-more : (ways : List ℕ) (n : ℕ) (old : FinSet nat_cmp) (total : ℕ) → AreWays plant.atoms states all ways → is_allowed n ≡ true → IsCountedTo n old total → get_or ways n 0 < 2 ^ 64 → IsCountedTo (n + 1) (insert old n) (total + get_or ways n 0)
-  counted-more ways n old total exact here counted small = record {
-    before = λ m below. ⊎_elim
-        (λ same. ap (contains (insert old n)) same ∙ put-here old n ∙ sym (ap is_allowed same ∙ here))
-        (λ other. put-other old n m other ∙ counted.before m (omega arith))
-        (cases_eq m n);
-    behind = λ m from. put-other old n m (omega arith) ∙ counted.behind m (omega arith);
-    counts = ap (λ k. k + get_or ways n 0) counted.counts ∙ sym (count-adds ways n exact here);
-    few = omega (arith, counted.few);
-  }
-
-  -- one more, which is not
-  pub counted-less : (n : ℕ) (set : FinSet nat_cmp) (total : ℕ) → is_allowed n ≡ false → IsCountedTo n set total → IsCountedTo (n + 1) set total
-  counted-less n set total never counted = counted-skips n (n + 1) set total counted (omega arith) (λ m from below. let e : m ≡ n = omega arith in ap is_allowed e ∙ never)
-
-  -- all of them
-  pub counted-all : (n : ℕ) (set : FinSet nat_cmp) (total : ℕ) → IsCountedTo n set total → ((m : ℕ) → n ≤ m → is_allowed m ≡ false) → (total ≡ length (choices_among plant states all)) × ((m : ℕ) → contains set m ≡ is_allowed m)
-  counted-all n set total counted none =
-      (counted.counts ∙ count-all n none, λ m. ⊎_elim (counted.before m) (λ from. counted.behind m from ∙ sym (none m from)) (cases_lt m n))

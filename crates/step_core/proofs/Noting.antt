@@ -1,8 +1,8 @@
-use Rattle.std.proofs.Common.{◌≡◌, ◌≢◌, ℕ, Bool, ◌+◌, ◌<◌, ◌≤◌, refl, sym, ◌∙◌, ap, arith, true, false, ◌||◌, ◌&&◌, not, ⊎_elim}
+use Rattle.std.proofs.Common.{◌≡◌, ◌≢◌, ℕ, Bool, ◌<◌, ◌≤◌, refl, ◌∙◌, ap, true, false, ◌||◌, ◌&&◌, not, ⊎_elim}
 use Rattle.std.specs.Cmp.{nat_cmp_total, unsigned_tied}
 use Rattle.std.specs.Ordering.{nat_cmp}
 use Rattle.std.specs.FinSet.{FinSet, contains, insert, remove, contains-insert, contains-remove}
-use Rattle.std.proofs.lemmas.Bool.{cases_eq, cases_lt, eq-eqb, ne_eqb}
+use Rattle.std.proofs.lemmas.Bool.{cases_lt, eq-eqb, ne_eqb}
 
 -- what was put in is in, and all else is in where it was
 pub put-here : (s : FinSet nat_cmp) (k : ℕ) → contains (insert s k) k ≡ true
@@ -25,26 +25,6 @@ module _ {X : Type 0} (right : ℕ → X) (touched : ℕ → Bool) (count : ℕ)
 
   abbrev pub IsRightBut : (ℕ → X) → Type 0
   IsRightBut f = (n : ℕ) → (n < count → touched n ≡ false) → f n ≡ right n
-
-  abbrev pub AreNot : ℕ → ℕ → Type 0
-  AreNot i k = (m : ℕ) → i ≤ m → m < k → touched m ≡ false
-
-  abbrev pub IsStep : ℕ → (ℕ → X) → (ℕ → X) → Type 0
-  IsStep k old new = (new k ≡ right k) × ((n : ℕ) → n ≢ k → new n ≡ old n)
-
-  -- it is right up to the next number that passes, and at it
-  pub right-next : (i k : ℕ) (old new : ℕ → X) → AreNot i k → IsRightTo i old → IsRightBut old → IsStep k old new → IsRightTo (k + 1) new
-  right-next i k old new none before but step n below = ⊎_elim
-      (λ same. ap new same ∙ step.0 ∙ ap right (sym same))
-      (λ other. step.1 n other ∙ ⊎_elim (before n) (λ from. but n (λ _. none n from (omega arith))) (cases_lt n i))
-      (cases_eq n k)
-
-  -- and stays right at all that does not
-  pub right-still : (k : ℕ) (old new : ℕ → X) → IsRightBut old → IsStep k old new → IsRightBut new
-  right-still k old new but step n outside = ⊎_elim
-      (λ same. ap new same ∙ step.0 ∙ ap right (sym same))
-      (λ other. step.1 n other ∙ but n outside)
-      (cases_eq n k)
 
   -- where nothing more passes, it is right everywhere
   pub right-all : (i : ℕ) (f : ℕ → X) → ((m : ℕ) → i ≤ m → m < count → touched m ≡ false) → IsRightTo i f → IsRightBut f → (n : ℕ) → f n ≡ right n
