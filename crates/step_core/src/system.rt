@@ -21,8 +21,8 @@ use priority_filter::{InteractionSet, Order};
 /// the text that it was read from.
 ///
 /// It keeps each rule of a plant, so that what can be asked of it cannot fail. It has all interactions at hand, the
-/// leaves of each connector, for each interaction the row of those above it, and which have none above them, so that no step
-/// takes memory.
+/// leaves of each connector, its guard clauses and transfers with their variables found, for each interaction the row of those
+/// above it, and which have none above them, so that no step takes memory.
 #[derive(Debug, Drop)]
 pub struct System {
     pub(crate) atoms: Vec<Atom>,
