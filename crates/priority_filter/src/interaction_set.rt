@@ -132,12 +132,14 @@ impl InteractionSet {
         self.words[place] = word;
     }
 
-    /// Whether some interaction is in both sets.
-    pub(crate) fn intersects(&self, other: &InteractionSet) -> bool
+    /// Whether some interaction is in both sets. The 64 interactions from 64 times `likely` on, if there are any, are looked at
+    /// before the others.
+    pub(crate) fn intersects(&self, other: &InteractionSet, likely: usize) -> bool
         ensures { IsTrue result
             ↔ ((a : ℕ) × IsTrue (set.contains self.now a) × IsTrue (set.contains other.now a)) }
     {
-        have_common_bit(&self.words, &other.words)
+        have_common_bit_at(&self.words, &other.words, likely)
+            || have_common_bit(&self.words, &other.words)
     }
 }
 
@@ -207,6 +209,13 @@ fn unite(words: &mut [u64; ROW_WORDS], other: &[u64; ROW_WORDS], count: usize)
     }
 }
 
+/// Whether some bit is set in both words with this place, if there are any.
+fn have_common_bit_at(words: &[u64; ROW_WORDS], other: &[u64; ROW_WORDS], place: usize) -> bool
+    ensures { IsTrue result → ((a : ℕ) × IsTrue (holds words.now a) × IsTrue (holds other.now a)) }
+{
+    place < ROW_WORDS && words[place] & other[place] != 0
+}
+
 /// Whether some bit is set in both.
 fn have_common_bit(words: &[u64; ROW_WORDS], other: &[u64; ROW_WORDS]) -> bool
     ensures { IsTrue result ↔ ((a : ℕ) × IsTrue (holds words.now a) × IsTrue (holds other.now a)) }
@@ -233,10 +242,11 @@ mod tests {
             for other in [0, 1, 63, 64, 127, 128, 1022, 1023] {
                 assert_eq!(rt; set.contains(other), other == number, "{other} in {number}");
             }
+            let here = usize::from(number) / 64;
             let mut all = set.copy();
-            assert!(rt; all.intersects(&set));
+            assert!(rt; all.intersects(&set, here) && all.intersects(&set, ROW_WORDS));
             all.remove(number);
-            assert!(rt; !all.intersects(&set));
+            assert!(rt; !all.intersects(&set, here) && !all.intersects(&set, ROW_WORDS));
             all.insert(512);
             all.union_with(&set);
             assert!(rt; all.contains(512) && all.contains(number));

@@ -104,8 +104,10 @@ impl Order {
         ensures strict { IsStrict self.now.rules self.now.interactions }
         ensures sound { order_fault self.now.rules self.now.interactions ≡ None }
     {
-        match self.above.get(usize::from(interaction)) {
-            Some(row) => row.intersects(possible),
+        let place = usize::from(interaction);
+        match self.above.get(place) {
+            // A rule `maximal` puts above an interaction some that follow it closely.
+            Some(row) => row.intersects(possible, place / 64),
             None => false,
         }
     }

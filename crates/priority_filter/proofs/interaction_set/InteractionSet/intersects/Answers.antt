@@ -1,13 +1,29 @@
-use Rattle.std.proofs.Common.{◌≡◌, ℕ, ◌∙◌, ap, sym}
-use Rattle.std.specs.FinSet as set
-use Rattle.priority_filter.specs.Members.{holds}
+use Rattle.std.proofs.Common.{◌≡◌, ℕ, List, ◌∙◌, ap, sym, IsTrue}
+use Rattle.std.specs.Ordering.{nat_cmp}
+use Rattle.std.specs.FinSet.{FinSet, contains}
+use Rattle.priority_filter.specs.Members.{holds, members_of}
 use Rattle.priority_filter.proofs.MemberLaws.{contains-members_of}
 use Rattle.priority_filter.proofs.interaction_set.InteractionSet.intersects.Goals as goal
 
-pub returns : goal.returns
-returns c =
-    let mine : (q : ℕ) → holds c.self.inside.words q ≡ set.contains c.args.self.now q = λ q. sym (contains-members_of c.self.inside.words q) ∙ ap (λ s. set.contains s q) c.self.view_is in
-    let theirs : (q : ℕ) → holds c.other.inside.words q ≡ set.contains c.args.other.now q = λ q. sym (contains-members_of c.other.inside.words q) ∙ ap (λ s. set.contains s q) c.other.view_is in (
-      λ yes. let some = c.have_common_bit.ensures.0 yes in (some.0, sym (mine some.0) ∙ some.1, sym (theirs some.0) ∙ some.2),
-      λ some. c.have_common_bit.ensures.1 (some.0, mine some.0 ∙ some.1, theirs some.0 ∙ some.2),
-    )
+-- what is in both rows of words is in both sets of which they are the words
+module _ (xs ys : List ℕ) (mine theirs : FinSet nat_cmp) (of_mine : members_of xs ≡ mine) (of_theirs : members_of ys ≡ theirs) where
+  held : (zs : List ℕ) (set : FinSet nat_cmp) → members_of zs ≡ set → (q : ℕ) → holds zs q ≡ contains set q
+  held zs set same q = sym (contains-members_of zs q) ∙ ap (λ s. contains s q) same
+
+  in-sets : (a : ℕ) × IsTrue (holds xs a) × IsTrue (holds ys a) → (a : ℕ) × IsTrue (contains mine a) × IsTrue (contains theirs a)
+  in-sets some = (some.0, sym (held xs mine of_mine some.0) ∙ some.1, sym (held ys theirs of_theirs some.0) ∙ some.2)
+
+  in-words : (a : ℕ) × IsTrue (contains mine a) × IsTrue (contains theirs a) → (a : ℕ) × IsTrue (holds xs a) × IsTrue (holds ys a)
+  in-words some = (some.0, held xs mine of_mine some.0 ∙ some.1, held ys theirs of_theirs some.0 ∙ some.2)
+
+pub returns-then-have_common_bit_at : goal.returns-then-have_common_bit_at
+returns-then-have_common_bit_at c = (
+  λ _. in-sets c.self.inside.words c.other.inside.words c.args.self.now c.args.other.now c.self.view_is c.other.view_is (c.have_common_bit_at.ensures c.if-have_common_bit_at.true),
+  λ _. c.if-have_common_bit_at.true,
+)
+
+pub returns-else-have_common_bit_at : goal.returns-else-have_common_bit_at
+returns-else-have_common_bit_at c = (
+  λ yes. in-sets c.self.inside.words c.other.inside.words c.args.self.now c.args.other.now c.self.view_is c.other.view_is (c.have_common_bit.ensures.0 yes),
+  λ some. c.have_common_bit.ensures.1 (in-words c.self.inside.words c.other.inside.words c.args.self.now c.args.other.now c.self.view_is c.other.view_is some),
+)

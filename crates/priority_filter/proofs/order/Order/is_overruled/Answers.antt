@@ -23,7 +23,7 @@ returns-in-Some c =
     let inside : Priorities = record { rules = c.self.inside.rules.items; interactions = c.self.inside.interactions.items } in
     let same : inside ≡ now = c.self.view_is in
     let found = c.in-Some.ensures.lookup in
-    let row : c.in-Some.row.now ≡ row_at rows a = row_read c.deref.result.now c.from.result a c.in-Some.row.now found.1 c.from.ensures (omega (arith, found.3.0, c.from.ensures)) ∙ ap (λ (t : List (FinSet nat_cmp)). row_at t a) c.deref.ensures.value in
+    let row : c.in-Some.row.now ≡ row_at rows a = row_read c.deref.result.now c.from-place.result a c.in-Some.row.now found.1 c.from-place.ensures (omega (arith, found.3.0, c.from-place.ensures)) ∙ ap (λ (t : List (FinSet nat_cmp)). row_at t a) c.deref.ensures.value in
     let told : IsTrue c.intersects.result ↔ SomeAbove now possible a = (
       λ yes.
           let some = c.intersects.ensures.0 yes in
@@ -45,7 +45,7 @@ returns-in-None c =
     let now : Priorities = c.args.self.now in
     let rows = c.self.inside.above.items in
     let inside : Priorities = record { rules = c.self.inside.rules.items; interactions = c.self.inside.interactions.items } in
-    let past : length rows ≤ a = omega (arith, c.in-None.ensures.lookup.3, c.from.ensures, ap (λ (t : List (FinSet nat_cmp)). length t) c.deref.ensures.value) in
+    let past : length rows ≤ a = omega (arith, c.in-None.ensures.lookup.3, c.from-place.ensures, ap (λ (t : List (FinSet nat_cmp)). length t) c.deref.ensures.value) in
     let told : IsTrue false ↔ SomeAbove now possible a =
     (λ never. absurd (false≢true never), λ some. absurd (nothing_past now inside rows a c.self.view_is c.self.invariant.exact past some.0 some.2)) in
     let sound : order_fault now.rules now.interactions ≡ None = sound_at_value now inside c.self.view_is c.self.invariant.sound in
