@@ -17,13 +17,13 @@ either_bit x y p q = grind (arith, nat_tests)
 other_bit : (x : ℕ) → x < 2 → eqb (1 - x) 1 ≡ not (eqb x 1)
 other_bit x p = grind (arith, nat_tests)
 
-bit-and : (a b k : ℕ) → has_bit (bit_and a b) k ≡ (has_bit a k && has_bit b k)
+pub bit-and : (a b k : ℕ) → has_bit (bit_and a b) k ≡ (has_bit a k && has_bit b k)
 bit-and a b k = ap (λ x. eqb x 1) (bit_at_and a b k) ∙ both_bits _ _ (bit_at-lt a k) (bit_at-lt b k)
 
 bit-or : (a b k : ℕ) → has_bit (bit_or a b) k ≡ (has_bit a k || has_bit b k)
 bit-or a b k = ap (λ x. eqb x 1) (bit_at_or a b k) ∙ either_bit _ _ (bit_at-lt a k) (bit_at-lt b k)
 
-bit-not : (a k : ℕ) → a < 2 ^ 64 → k < 64 → has_bit (bit_not w64 a) k ≡ not (has_bit a k)
+pub bit-not : (a k : ℕ) → a < 2 ^ 64 → k < 64 → has_bit (bit_not w64 a) k ≡ not (has_bit a k)
 bit-not a k p q = ap (λ x. eqb x 1) (bit_at_not w64 a k p q) ∙ other_bit _ (bit_at-lt a k)
 
 -- what is kept unasked, and what is kept of the others

@@ -124,7 +124,7 @@ impl InteractionSet {
     }
 
     /// Says which of the 64 interactions from 64 times the place on are in the set.
-    pub(crate) fn set_word(&mut self, place: usize, word: u64)
+    pub fn set_word(&mut self, place: usize, word: u64)
         requires { place < ROW_WORDS }
         ensures here { (n : ℕ) → n / 64 ≡ place → set.contains self.new n ≡ has_bit word (n % 64) }
         ensures others { (n : ℕ) → ¬ (n / 64 ≡ place) → set.contains self.new n ≡ set.contains self.old n }

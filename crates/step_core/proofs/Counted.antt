@@ -2,7 +2,7 @@
 use Rattle.std.proofs.Common.{◌≡◌, ℕ, ◌+◌, ◌-◌, ◌<◌, ◌≤◌, sym, ◌∙◌, ap, List, [], length, map, take, drop, get_or, arith, Bool, true, false, cond, ◌&&◌, not, ⊎_elim}
 use Rattle.std.specs.Prelude.{slice_get}
 use Rattle.std.specs.Option.{option_map_or}
-use Rattle.std.proofs.lemmas.Bool.{cases_lt, false≢true}
+use Rattle.std.proofs.lemmas.Bool.{cases_lt, false≢true, and_parts}
 use Rattle.std.proofs.lemmas.List.{take_all, drop_all}
 use Rattle.std.proofs.lemmas.Option.{slice_get-get_or, slice_get_past}
 use Rattle.petri_atom.specs.Local.{Local}
@@ -35,6 +35,11 @@ module _ (plant : PlantDefinition) (states : List Local) (all : List Interaction
   pub not-allowed : (n : ℕ) → is_possible_at plant.atoms plant.wires states all n ≡ false → is_allowed n ≡ false
   not-allowed n never = ap (λ b. b && not (is_overruled plant.rules (map named all) (is_possible_at plant.atoms plant.wires states all) n)) never
 
+  -- what is allowed is possible
+  pub possible-first : (n : ℕ) → is_allowed n ≡ true → is_possible_at plant.atoms plant.wires states all n ≡ true
+  possible-first n yes_ =
+      (and_parts (is_possible_at plant.atoms plant.wires states all n) (not (is_overruled plant.rules (map named all) (is_possible_at plant.atoms plant.wires states all) n)) yes_).0
+
   pub allowed-within : (n : ℕ) → is_allowed n ≡ true → n < length all
   allowed-within n here = ⊎_elim
       (λ within. within)
@@ -42,10 +47,10 @@ module _ (plant : PlantDefinition) (states : List Local) (all : List Interaction
       (cases_lt n (length all))
 
   -- how many choices an allowed interaction has
-  ways-given : (ways : List ℕ) (n : ℕ) → AreWays plant.atoms states all ways → n < length all → is_allowed n ≡ true → length (gives n (get_or all n no_interaction)) ≡ get_or ways n 0
+  ways-given : (ways : List ℕ) (n : ℕ) → AreWays plant.atoms plant.wires states all ways → n < length all → is_allowed n ≡ true → length (gives n (get_or all n no_interaction)) ≡ get_or ways n 0
   ways-given ways n counted within yes_ =
       ap length (all-given n (get_or all n no_interaction) yes_) ∙
-      sym (counted n ∙ ap (λ o. option_map_or (λ i. length (choices_of plant.atoms states i)) o 0) (slice_get-get_or all n no_interaction within))
+      sym (counted n (possible-first n yes_) ∙ ap (λ o. option_map_or (λ i. length (choices_of plant.atoms states i)) o 0) (slice_get-get_or all n no_interaction within))
 
   -- how many choices the interactions below a number have
   abbrev pub count_below : ℕ → ℕ
@@ -56,7 +61,7 @@ module _ (plant : PlantDefinition) (states : List Local) (all : List Interaction
   count-skips i k past none = flat-added gives all i no_interaction k past (λ m from below within. none-given m (get_or all m no_interaction) (none m from below))
 
   -- one allowed interaction more
-  pub count-adds : (ways : List ℕ) (n : ℕ) → AreWays plant.atoms states all ways → is_allowed n ≡ true → count_below (n + 1) ≡ count_below n + get_or ways n 0
+  pub count-adds : (ways : List ℕ) (n : ℕ) → AreWays plant.atoms plant.wires states all ways → is_allowed n ≡ true → count_below (n + 1) ≡ count_below n + get_or ways n 0
   count-adds ways n counted yes_ =
       let within : n < length all = allowed-within n yes_ in
       flat-more gives all n no_interaction within ∙ ap (λ k. count_below n + k) (ways-given ways n counted within yes_)
@@ -76,14 +81,14 @@ module _ (plant : PlantDefinition) (states : List Local) (all : List Interaction
   entries-skip i k past none = flat-passed gives all i no_interaction k past (λ m from below within. none-given m (get_or all m no_interaction) (none m from below))
 
   -- an entry of an allowed interaction
-  pub entry-here : (ways : List ℕ) (n place : ℕ) → AreWays plant.atoms states all ways → is_allowed n ≡ true → place < get_or ways n 0 → slice_get (from_number n) place ≡ slice_get (choices_of plant.atoms states (get_or all n no_interaction)) place
+  pub entry-here : (ways : List ℕ) (n place : ℕ) → AreWays plant.atoms plant.wires states all ways → is_allowed n ≡ true → place < get_or ways n 0 → slice_get (from_number n) place ≡ slice_get (choices_of plant.atoms states (get_or all n no_interaction)) place
   entry-here ways n place counted yes_ inside =
       let within : n < length all = allowed-within n yes_ in
       let long = ways-given ways n counted within yes_ in
       flat-here gives all n no_interaction within place (omega (arith, long)) ∙ ap (λ ys. slice_get ys place) (all-given n (get_or all n no_interaction) yes_)
 
   -- an entry behind it
-  pub entry-behind : (ways : List ℕ) (n place : ℕ) → AreWays plant.atoms states all ways → is_allowed n ≡ true → get_or ways n 0 ≤ place → slice_get (from_number n) place ≡ slice_get (from_number (n + 1)) (place - get_or ways n 0)
+  pub entry-behind : (ways : List ℕ) (n place : ℕ) → AreWays plant.atoms plant.wires states all ways → is_allowed n ≡ true → get_or ways n 0 ≤ place → slice_get (from_number n) place ≡ slice_get (from_number (n + 1)) (place - get_or ways n 0)
   entry-behind ways n place counted yes_ past =
       let within : n < length all = allowed-within n yes_ in
       let long = ways-given ways n counted within yes_ in

@@ -25,3 +25,4 @@ mod Touched
 mod Recounted
 mod Unchanged
 mod Freed
+mod Ruled

@@ -1,19 +1,19 @@
 -- Rows of interactions: what puts an interaction in keeps what is in, and what the rows of some moves hold.
-use Rattle.std.proofs.Common.{◌≡◌, ◌≢◌, ℕ, ◌+◌, ◌<◌, refl, sym, ◌∙◌, ap, List, [], ◌∷◌, length, get_or, set, take, arith, true, false, Bool, ◌||◌, ⊎_elim}
+use Rattle.std.proofs.Common.{◌≡◌, ◌≢◌, ℕ, zero, suc, ◌+◌, ◌++◌, ◌<◌, refl, sym, ◌∙◌, ap, List, [], ◌∷◌, length, get_or, set, take, arith, true, false, Bool, ◌||◌, ◌==◌, ⊎_elim}
 use Rattle.std.specs.Prelude.{Some, slice_get}
 use Rattle.std.specs.Ordering.{nat_cmp}
-use Rattle.std.specs.FinSet.{FinSet, contains, empty, insert}
+use Rattle.std.specs.FinSet.{FinSet, contains, contains-empty, empty, insert}
 use Rattle.std.specs.List.{list_all, list_any}
 use Rattle.std.specs.Option.{option_map_or}
-use Rattle.std.proofs.lemmas.Bool.{and_parts, and_from, or_parts, or_from, cases_eq, cases_lt}
-use Rattle.std.proofs.lemmas.List.Folds.{list_all-append, list_any-append}
+use Rattle.std.proofs.lemmas.Bool.{and_parts, and_from, or_parts, or_from, cases_eq, cases_lt, eq-eqb}
+use Rattle.std.proofs.lemmas.List.Folds.{list_all-append, list_any-append, list_any_at}
 use Rattle.std.proofs.lemmas.List.{take_more, length-set, get_or-set_same, get_or-set_other}
 use Rattle.std.proofs.lemmas.Option.{slice_get-get_or, slice_get_past, slice_get_read}
 use Rattle.connector_tree.specs.Tree.{leaves}
 use Rattle.connector_tree.specs.declared.tree.Port.{Port}
 use Rattle.step_core.specs.Plant.{WireDefinition}
 use Rattle.step_core.specs.Choice.{Interaction}
-use Rattle.step_core.specs.Touching.{row_of_guards, at_port, at_guards, is_noted, are_noted, KeepsNoted, IsNoted, is_in_row, is_read_by}
+use Rattle.step_core.specs.Touching.{row_of_guards, at_port, at_guards, is_noted, are_noted, KeepsNoted, IsNoted, is_in_row, is_read_by, has_row}
 use Rattle.step_core.specs.declared.choice.Move.{Move}
 use Rattle.step_core.proofs.Noting.{put-here, put-other}
 
@@ -53,6 +53,21 @@ module _ (rows : List (FinSet nat_cmp)) (k x : ℕ) (d : FinSet nat_cmp) (within
           ap (λ o. option_map_or (λ r. contains r n) o true) (ap (slice_get more) same ∙ at-k) ∙
           ⊎_elim (λ it. ap (contains (insert row x)) it ∙ put-here row x) (λ other. put-other row x n other ∙ in-row same) (cases_eq n x)
 
+  -- and nothing else is in one
+  pub row-only : (n a : ℕ) → ¬ (n ≡ x × a ≡ k) → is_in_row more n a ≡ is_in_row rows n a
+  row-only n a apart = ⊎_elim same_row (λ other. ap (λ o. option_map_or (λ r. contains r n) o false) (elsewhere a other)) (cases_eq a k)
+    where
+      same_row : a ≡ k → is_in_row more n a ≡ is_in_row rows n a
+      same_row same =
+          let there : slice_get rows k ≡ Some row = slice_get-get_or rows k d within in
+          ap (λ o. option_map_or (λ r. contains r n) o false) (ap (slice_get more) same ∙ at-k) ∙
+          put-other row x n (λ it. apart (it, same)) ∙
+          sym (ap (λ o. option_map_or (λ r. contains r n) o false) (ap (slice_get rows) same ∙ there))
+
+-- the port at a place of a list has the row that is its own
+pub own-row : (ports : List Port) (i : ℕ) (d : Port) → i < length ports → has_row ports (at_port (get_or ports i d)) ≡ true
+own-row ports i d within = list_any_at (λ p. at_port p == at_port (get_or ports i d)) ports i d within (eq-eqb (at_port (get_or ports i d)) (at_port (get_or ports i d)) refl)
+
 module _ (old new : List (FinSet nat_cmp)) (keeps : KeepsNoted old new) where
   -- so do ports, and interactions
   pub ports-kept : (n : ℕ) (at : Port → ℕ) (ports : List Port) → are_noted old n at ports ≡ true → are_noted new n at ports ≡ true
@@ -63,6 +78,13 @@ module _ (old new : List (FinSet nat_cmp)) (keeps : KeepsNoted old new) where
 
   pub noted-kept : (wires : List WireDefinition) (i : Interaction) (n : ℕ) → IsNoted wires i old n → IsNoted wires i new n
   noted-kept wires i n noted = (ports-kept n at_port i.ports noted.0, λ w known guarded. ports-kept n at_guards (leaves w.connector) (noted.1 w known guarded))
+
+-- where nothing is in any row, nothing is with one more row that is empty
+pub none-more : (rows : List (FinSet nat_cmp)) (next : FinSet nat_cmp) → next ≡ empty → ((n k : ℕ) → is_in_row rows n k ≡ false) → (n k : ℕ) → is_in_row (rows ++ next ∷ []) n k ≡ false
+none-more [] next none before n zero = ap (λ r. contains r n) none ∙ contains-empty nat_cmp n
+none-more [] next none before n (suc k) = refl
+none-more (r ∷ rs) next none before n zero = before n 0
+none-more (r ∷ rs) next none before n (suc k) = none-more rs next none (λ m j. before m (suc j)) n k
 
 -- one port more
 pub noted-next : (rows : List (FinSet nat_cmp)) (n : ℕ) (at : Port → ℕ) (ports : List Port) (i : ℕ) (d : Port) → i < length ports → are_noted rows n at (take i ports) ≡ true → is_noted rows n (at (get_or ports i d)) ≡ true → are_noted rows n at (take (i + 1) ports) ≡ true

@@ -14,7 +14,7 @@ pub record IsJudgement (plant : PlantDefinition) (interactions : List Interactio
   pub offered : AreOffered plant.atoms states j.offers.sets
   pub counted : AreCounted plant.atoms j.offers.sets j.offers.counts
   pub possible : ArePossible plant.atoms plant.wires states interactions j.possible
-  pub ways : AreWays plant.atoms states interactions j.ways
+  pub ways : AreWays plant.atoms plant.wires states interactions j.ways
   pub allowed : AreAllowed plant states interactions j.allowed
   pub total : j.total ≡ length (choices_among plant states interactions)
 

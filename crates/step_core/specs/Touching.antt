@@ -1,5 +1,5 @@
 -- Which interactions depend on an atom, as a set of interactions for each of its ports, and one for the guards that read it.
-use Rattle.std.specs.Prelude.{◌≡◌, ◌≢◌, ◌<◌, ◌+◌, ◌*◌, ℕ, Bool, true, false, List, [], Some, slice_get}
+use Rattle.std.specs.Prelude.{◌≡◌, ◌≢◌, ◌<◌, ◌+◌, ◌*◌, ◌%◌, ◌==◌, min, ℕ, Bool, true, false, List, [], Some, slice_get}
 use Rattle.std.specs.Ordering.{nat_cmp}
 use Rattle.std.specs.FinSet.{FinSet, contains}
 use Rattle.std.specs.List.{list_all, list_any}
@@ -7,15 +7,18 @@ use Rattle.std.specs.Option.{option_map_or}
 use Rattle.connector_tree.specs.Tree.{leaves}
 use Rattle.connector_tree.specs.declared.tree.Port.{Port}
 use Rattle.step_core.specs.Plant.{WireDefinition}
-use Rattle.step_core.specs.Choice.{Interaction}
+use Rattle.step_core.specs.Choice.{Interaction, moves_of}
 use Rattle.step_core.specs.Offers.{count_at}
+use Rattle.petri_atom.specs.Definition.{AtomDefinition}
+use Rattle.petri_atom.specs.Local.{Local}
 use Rattle.petri_atom.specs.declared.parts.TheConstants.{MAX_PORTS}
 use Rattle.step_core.specs.declared.choice.Move.{Move}
 use Rattle.step_core.specs.declared.touching.TheConstants.{ATOM_ROWS}
 
--- the place of the row of a port of an atom, and of the row of the guards that read an atom
+-- the place of the row of a port of an atom, and of the row of the guards that read an atom, which past the last port that an
+-- atom may have stands for the row of a port too
 abbrev pub row_of_port : ℕ → ℕ → ℕ
-row_of_port atom port = atom * ATOM_ROWS + port
+row_of_port atom port = atom * ATOM_ROWS + min port MAX_PORTS
 
 abbrev pub row_of_guards : ℕ → ℕ
 row_of_guards atom = atom * ATOM_ROWS + MAX_PORTS
@@ -56,6 +59,28 @@ AreTouching wires interactions rows =
 -- the interaction is in the row with a place
 abbrev pub is_in_row : List (FinSet nat_cmp) → ℕ → ℕ → Bool
 is_in_row rows n place = option_map_or (λ row. contains row n) (slice_get rows place) false
+
+-- the place is that of a row of a port
+abbrev pub IsOfPort : ℕ → Type 0
+IsOfPort place = place % ATOM_ROWS < MAX_PORTS
+
+-- one of the ports has its row at the place
+abbrev pub has_row : List Port → ℕ → Bool
+has_row ports place = list_any (λ p. at_port p == place) ports
+
+-- the interaction with a number is there, and one of its ports has its row at the place
+abbrev pub is_on_row : List Interaction → ℕ → ℕ → Bool
+is_on_row interactions n place = option_map_or (λ i. has_row i.ports place) (slice_get interactions n) false
+
+-- in the row of a port are interactions on it alone
+abbrev pub AreOnPorts : List Interaction → List (FinSet nat_cmp) → Type 0
+AreOnPorts interactions rows =
+    (n place : ℕ) → IsOfPort place → is_in_row rows n place ≡ true → is_on_row interactions n place ≡ true
+
+-- a row has an interaction on a port at which nothing is offered
+abbrev pub IsOnEmpty : List AtomDefinition → List Local → List (FinSet nat_cmp) → ℕ → Type 0
+IsOnEmpty atoms states rows n =
+    (p : Port) × (moves_of atoms states p ≡ []) × (p.port < MAX_PORTS) × (is_in_row rows n (at_port p) ≡ true)
 
 -- a guard of the interaction reads the atom of one of the moves
 abbrev pub is_read_by : List (FinSet nat_cmp) → List Move → ℕ → Bool

@@ -1,15 +1,15 @@
 //! The choices of a global state: how many there are, and which.
-ghost use Rattle.std.specs.Prelude.{◌≡◌, ◌↔◌, ◌*◌, ◌<◌, false, Some, map, length, slice_get, slice_index_or, option_map};
+ghost use Rattle.std.specs.Prelude.{◌≡◌, ◌↔◌, ◌*◌, ◌<◌, true, false, Some, map, length, slice_get, slice_index_or, option_map};
 ghost use Rattle.std.specs.FinSet.{contains, empty};
 ghost use Rattle.petri_atom.specs.Atom.{definition_of};
-ghost use Rattle.step_core.specs.Choice.{Interaction, choices, choices_of, choices_among, IsAllowed, IsStuck};
+ghost use Rattle.step_core.specs.Choice.{Interaction, is_possible_at, choices, choices_of, choices_among, IsAllowed, IsStuck};
 ghost use Rattle.step_core.specs.Chosen.{choice_of};
 ghost use Rattle.step_core.specs.Fitting.{IsOf};
 ghost use Rattle.step_core.specs.Interaction.{interaction_of};
 ghost use Rattle.step_core.specs.Judgement.{IsJudgement, IsBehind};
 ghost use Rattle.step_core.specs.Offers.{AreOffered, AreCounted};
 ghost use Rattle.step_core.specs.Possible.{ArePossible, ArePossibleBut, AreAllowed};
-ghost use Rattle.step_core.specs.Touching.{AreTouching};
+ghost use Rattle.step_core.specs.Touching.{AreTouching, AreOnPorts};
 ghost use Rattle.step_core.specs.Ways.{AreWays, AreWaysBut, IsSame};
 ghost use Rattle.step_core.specs.Wire.{wire_of};
 ghost use Rattle.step_core.specs.declared.touching.TheConstants.{ATOM_ROWS};
@@ -57,7 +57,7 @@ impl System {
         let mut possible = InteractionSet::new();
         let mut ways = no_ways();
         let all = numbers_below(self.interactions.len());
-        self.judge_touched(states, &offers, &all, &mut possible, &mut ways);
+        self.judge_touched(states, &offers, &[], &all, &mut possible, &mut ways);
         let mut allowed = InteractionSet::new();
         let total = self.allow(states, &offers, &possible, &ways, &mut allowed);
         Judgement {
@@ -82,6 +82,7 @@ impl System {
         requires of_plant { IsOf (plant_of self.now) states.now }
         requires rows { length rows.now ≡ length self.now.atoms.items * ATOM_ROWS }
         requires touching { AreTouching (map wire_of self.now.wires.items) (map interaction_of self.now.interactions.items) rows.now }
+        requires on_ports { AreOnPorts (map interaction_of self.now.interactions.items) rows.now }
         requires behind { IsBehind (plant_of self.now) (map interaction_of self.now.interactions.items) moves.now states.now judgement.old }
         ensures { IsJudgement (plant_of self.now) (map interaction_of self.now.interactions.items) states.now judgement.new }
     {
@@ -93,6 +94,7 @@ impl System {
         let changed = self.judge_touched(
             states,
             &judgement.offers,
+            rows,
             &touched,
             &mut judgement.possible,
             &mut judgement.ways,
@@ -109,12 +111,13 @@ impl System {
         }
     }
 
-    /// Judges the interactions of the set `touched`; what is possible, and the numbers of choices, are right for all others.
-    /// Says whether that changed anything.
+    /// Judges the interactions of the set `touched`; what is possible, and the numbers of choices of these, are right for all
+    /// others. Says whether that changed anything. The rows are those of the interactions on each port, or none.
     fn judge_touched<'x>(
         &'x self,
         states: &'x PlantState,
         offers: &'x Offers,
+        rows: &[InteractionSet],
         touched: &InteractionSet,
         possible: &mut InteractionSet,
         ways: &mut [u64; MAX_INTERACTIONS],
@@ -122,10 +125,11 @@ impl System {
         requires of_plant { IsOf (plant_of self.now) states.now }
         requires exact { AreOffered (map definition_of self.now.atoms.items) states.now offers.now.sets }
         requires shown { AreCounted (map definition_of self.now.atoms.items) offers.now.sets offers.now.counts }
+        requires on_ports { AreOnPorts (map interaction_of self.now.interactions.items) rows.now }
         requires others { ArePossibleBut (contains touched.now) (map definition_of self.now.atoms.items) (map wire_of self.now.wires.items) states.now (map interaction_of self.now.interactions.items) possible.old }
-        requires other_ways { AreWaysBut (contains touched.now) (map definition_of self.now.atoms.items) states.now (map interaction_of self.now.interactions.items) ways.old }
+        requires other_ways { AreWaysBut (contains touched.now) (map definition_of self.now.atoms.items) (map wire_of self.now.wires.items) states.now (map interaction_of self.now.interactions.items) ways.old }
         ensures possible { ArePossible (map definition_of self.now.atoms.items) (map wire_of self.now.wires.items) states.now (map interaction_of self.now.interactions.items) possible.new }
-        ensures ways { AreWays (map definition_of self.now.atoms.items) states.now (map interaction_of self.now.interactions.items) ways.new }
+        ensures ways { AreWays (map definition_of self.now.atoms.items) (map wire_of self.now.wires.items) states.now (map interaction_of self.now.interactions.items) ways.new }
         ensures same { result ≡ false → IsSame possible.old ways.old possible.new ways.new }
     {
         let judged = Judged {
@@ -135,7 +139,7 @@ impl System {
             states,
             offers,
         };
-        judged.judge_touched(&self.interactions, touched, possible, ways)
+        judged.judge_touched(&self.interactions, rows, touched, possible, ways)
     }
 
     /// Puts the allowed interactions into the set, where it is empty, and says how many choices these have in all.
@@ -151,7 +155,7 @@ impl System {
         requires exact { AreOffered (map definition_of self.now.atoms.items) states.now offers.now.sets }
         requires shown { AreCounted (map definition_of self.now.atoms.items) offers.now.sets offers.now.counts }
         requires known { ArePossible (map definition_of self.now.atoms.items) (map wire_of self.now.wires.items) states.now (map interaction_of self.now.interactions.items) possible.now }
-        requires counted { AreWays (map definition_of self.now.atoms.items) states.now (map interaction_of self.now.interactions.items) ways.now }
+        requires counted { AreWays (map definition_of self.now.atoms.items) (map wire_of self.now.wires.items) states.now (map interaction_of self.now.interactions.items) ways.now }
         requires none { allowed.old ≡ empty }
         ensures allowed { AreAllowed (plant_of self.now) states.now (map interaction_of self.now.interactions.items) allowed.new }
         ensures total { result ≡ length (choices_among (plant_of self.now) states.now (map interaction_of self.now.interactions.items)) }
@@ -223,6 +227,7 @@ impl System {
         requires of_plant { IsOf (plant_of self.now) states.now }
         requires judged { IsJudgement (plant_of self.now) (map interaction_of self.now.interactions.items) states.now judgement.now }
         requires number { number < length self.now.interactions.items }
+        requires possible { is_possible_at (map definition_of self.now.atoms.items) (map wire_of self.now.wires.items) states.now (map interaction_of self.now.interactions.items) number ≡ true }
         requires place { place < slice_index_or judgement.now.ways number 0 }
         ensures { (i : Interaction) → slice_get (map interaction_of self.now.interactions.items) number ≡ Some i → slice_get (choices_of (map definition_of self.now.atoms.items) states.now i) place ≡ Some (choice_of result) }
     {

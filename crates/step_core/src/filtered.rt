@@ -29,7 +29,7 @@ pub(crate) struct Filtered<'a> {
     ghost few: { length interactions.now ≤ MAX_INTERACTIONS },
     ghost ordered: { order.now.interactions ≡ map named (map interaction_of interactions.now) },
     ghost known: { ArePossible (map definition_of judged.atoms.now) (map wire_of judged.wires.now) judged.states.now (map interaction_of interactions.now) possible.now },
-    ghost counted: { AreWays (map definition_of judged.atoms.now) judged.states.now (map interaction_of interactions.now) ways.now },
+    ghost counted: { AreWays (map definition_of judged.atoms.now) (map wire_of judged.wires.now) judged.states.now (map interaction_of interactions.now) ways.now },
     ghost unruled: { AreFree order.now.rules order.now.interactions free.now },
 }
 

@@ -1,18 +1,21 @@
 //! A global state with the offered transitions of its atoms, each judged once: which interactions are possible in it, and how
 //! their participants can move.
-ghost use Rattle.std.specs.Prelude.{◌≡◌, ℕ, false, [], ◌≤◌, ◌<◌, ◌+◌, ◌*◌, ◌/◌, ◌%◌, ◌^◌, ◌++◌, Some, None, List, map, length, get_or, slice_get, slice_index_or, flat_map, option_map};
+ghost use Rattle.std.specs.Prelude.{◌≡◌, ℕ, true, false, [], ◌≤◌, ◌<◌, ◌+◌, ◌*◌, ◌/◌, ◌%◌, ◌^◌, ◌++◌, Some, None, List, map, length, get_or, slice_get, slice_index_or, flat_map, option_map};
 ghost use Rattle.std.specs.FinSet.{contains};
 ghost use Rattle.petri_atom.specs.Atom.{definition_of};
 ghost use Rattle.petri_atom.specs.declared.parts.TheConstants.{MAX_TRANSITIONS};
 ghost use Rattle.connector_tree.specs.declared.tree.TheConstants.{MAX_LEAVES};
-ghost use Rattle.step_core.specs.Choice.{is_unguarded, is_possible, is_possible_at, move_of, moves_of, combinations, choices_of};
+ghost use Rattle.step_core.specs.Choice.{is_unguarded, is_possible_at, move_of, moves_of, combinations};
 ghost use Rattle.step_core.specs.Interaction.{interaction_of};
 ghost use Rattle.step_core.specs.Possible.{ArePossible, ArePossibleBut};
 ghost use Rattle.step_core.specs.Resolved.{AreGuarding};
-ghost use Rattle.step_core.specs.Ways.{ways_at, AreWays, AreWaysBut, IsSame};
+ghost use Rattle.step_core.specs.Ways.{IsWays, AreWays, AreWaysBut, IsSame};
+ghost use Rattle.step_core.specs.Touching.{at_port, is_in_row, AreOnPorts, IsOnEmpty};
 ghost use Rattle.step_core.specs.Words.{in_word, IsRightIn};
 ghost use Rattle.step_core.specs.Wire.{wire_of};
 ghost use Rattle.step_core.specs.Offers.{AreOffered, AreCounted};
+ghost use Rattle.priority_filter.specs.Members.{has_bit};
+ghost use Rattle.petri_atom.specs.declared.parts.TheConstants.{MAX_PORTS};
 ghost use Rattle.priority_filter.specs.declared.interaction_set.TheConstants.{ROW_WORDS};
 ghost use Rattle.step_core.specs.declared.choice.Move.{Move};
 ghost use Rattle.step_core.specs.declared.limits.TheConstants.{MAX_INTERACTIONS};
@@ -23,9 +26,10 @@ use crate::limits::MAX_INTERACTIONS;
 use crate::offers::Offers;
 use crate::resolved::Resolved;
 use crate::state::PlantState;
+use crate::touching::port_row;
 use crate::wire::Wire;
 use connector_tree::Port;
-use petri_atom::Atom;
+use petri_atom::{Atom, MAX_PORTS};
 use priority_filter::InteractionSet;
 
 /// A global state with the offered transitions of its atoms.
@@ -136,26 +140,29 @@ impl Judged<'_> {
         moves
     }
 
-    /// Judges the interactions of the set `touched`, by their numbers in the list; what is possible, and the numbers of
-    /// choices, are right for all others. Says whether that changed anything.
+    /// Judges the interactions of the set `touched`, by their numbers in the list; what is possible, and the numbers of choices
+    /// of these, are right for all others. Says whether that changed anything. The rows are those of the interactions on each
+    /// port, or none.
     pub(crate) fn judge_touched(
         &self,
         interactions: &[Interaction],
+        rows: &[InteractionSet],
         touched: &InteractionSet,
         possible: &mut InteractionSet,
         ways: &mut [u64; MAX_INTERACTIONS],
     ) -> bool
         requires few { length interactions.now ≤ MAX_INTERACTIONS }
+        requires on_ports { AreOnPorts (map interaction_of interactions.now) rows.now }
         requires others { ArePossibleBut (contains touched.now) (map definition_of self.now.atoms.now) (map wire_of self.now.wires.now) self.now.states.now (map interaction_of interactions.now) possible.old }
-        requires other_ways { AreWaysBut (contains touched.now) (map definition_of self.now.atoms.now) self.now.states.now (map interaction_of interactions.now) ways.old }
+        requires other_ways { AreWaysBut (contains touched.now) (map definition_of self.now.atoms.now) (map wire_of self.now.wires.now) self.now.states.now (map interaction_of interactions.now) ways.old }
         ensures possible { ArePossible (map definition_of self.now.atoms.now) (map wire_of self.now.wires.now) self.now.states.now (map interaction_of interactions.now) possible.new }
-        ensures ways { AreWays (map definition_of self.now.atoms.now) self.now.states.now (map interaction_of interactions.now) ways.new }
+        ensures ways { AreWays (map definition_of self.now.atoms.now) (map wire_of self.now.wires.now) self.now.states.now (map interaction_of interactions.now) ways.new }
         ensures same { result ≡ false → IsSame possible.old ways.old possible.new ways.new }
     {
         let mut changed = false;
         for place in 0..interactions.len().div_ceil(64) {
             let word = touched.word(place);
-            changed |= self.judge_word(interactions, place, word, possible, ways);
+            changed |= self.judge_word(interactions, rows, place, word, possible, ways);
         }
         changed
     }
@@ -165,63 +172,129 @@ impl Judged<'_> {
     fn judge_word(
         &self,
         interactions: &[Interaction],
+        rows: &[InteractionSet],
         place: usize,
         word: u64,
         possible: &mut InteractionSet,
         ways: &mut [u64; MAX_INTERACTIONS],
     ) -> bool
         requires few { length interactions.now ≤ MAX_INTERACTIONS }
+        requires on_ports { AreOnPorts (map interaction_of interactions.now) rows.now }
         requires place { place < ROW_WORDS }
-        ensures possible { IsRightIn (in_word place word) (length interactions.now) (is_possible_at (map definition_of self.now.atoms.now) (map wire_of self.now.wires.now) self.now.states.now (map interaction_of interactions.now)) (contains possible.old) (contains possible.new) }
-        ensures ways { IsRightIn (in_word place word) (length interactions.now) (ways_at (map definition_of self.now.atoms.now) self.now.states.now (map interaction_of interactions.now)) (λ n. slice_index_or ways.old n 0) (λ n. slice_index_or ways.new n 0) }
+        ensures possible { IsRightIn (in_word place word) (λ n is. is ≡ is_possible_at (map definition_of self.now.atoms.now) (map wire_of self.now.wires.now) self.now.states.now (map interaction_of interactions.now) n) (contains possible.old) (contains possible.new) }
+        ensures ways { IsRightIn (in_word place word) (IsWays (map definition_of self.now.atoms.now) (map wire_of self.now.wires.now) self.now.states.now (map interaction_of interactions.now)) (λ n. slice_index_or ways.old n 0) (λ n. slice_index_or ways.new n 0) }
         ensures same { result ≡ false → IsSame possible.old ways.old possible.new ways.new }
     {
+        let before = possible.word(place);
+        possible.set_word(place, before & !word);
         let mut changed = false;
         let mut left = word;
         while left != 0 {
             let bit = left.trailing_zeros() as usize;
-            let number = 64 * place + bit;
-            if let Some(interaction) = interactions.get(number) {
-                changed |= self.note(number as u16, interaction, possible, ways);
-            }
             left &= !(1 << bit);
+            let told = self.judge_one(interactions, rows, place, bit, possible, ways);
+            left &= !told.ruled_out;
+            changed |= told.is_new;
         }
-        changed
+        changed | (possible.word(place) != before)
     }
 
-    /// Notes how many choices the interaction with this number has, and whether it is possible: one pass over its ports, and
-    /// its guards where each of these can move. Says whether either is new.
-    fn note(
+    /// Judges one of the 64 interactions from 64 times the place on, which is not in the set yet, if it is there: its ports,
+    /// and its guards where each port can move.
+    fn judge_one(
         &self,
-        number: u16,
-        interaction: &Interaction,
+        interactions: &[Interaction],
+        rows: &[InteractionSet],
+        place: usize,
+        bit: usize,
         possible: &mut InteractionSet,
         ways: &mut [u64; MAX_INTERACTIONS],
-    ) -> bool
-        requires { number < MAX_INTERACTIONS }
-        ensures possible { contains possible.new number ≡ is_possible (map definition_of self.now.atoms.now) (map wire_of self.now.wires.now) self.now.states.now (interaction_of interaction.now) }
-        ensures others { (n : ℕ) → ¬ (n ≡ number) → contains possible.new n ≡ contains possible.old n }
-        ensures ways { slice_index_or ways.new number 0 ≡ length (choices_of (map definition_of self.now.atoms.now) self.now.states.now (interaction_of interaction.now)) }
-        ensures other_ways { (n : ℕ) → ¬ (n ≡ number) → slice_index_or ways.new n 0 ≡ slice_index_or ways.old n 0 }
-        ensures same { result ≡ false → IsSame possible.old ways.old possible.new ways.new }
+    ) -> Told
+        requires few { length interactions.now ≤ MAX_INTERACTIONS }
+        requires on_ports { AreOnPorts (map interaction_of interactions.now) rows.now }
+        requires place { place < ROW_WORDS }
+        requires bit { bit < 64 }
+        requires out { contains possible.old (64 * place + bit) ≡ false }
+        ensures possible { contains possible.new (64 * place + bit) ≡ is_possible_at (map definition_of self.now.atoms.now) (map wire_of self.now.wires.now) self.now.states.now (map interaction_of interactions.now) (64 * place + bit) }
+        ensures others { (n : ℕ) → ¬ (n ≡ 64 * place + bit) → contains possible.new n ≡ contains possible.old n }
+        ensures ways { IsWays (map definition_of self.now.atoms.now) (map wire_of self.now.wires.now) self.now.states.now (map interaction_of interactions.now) (64 * place + bit) (slice_index_or ways.new (64 * place + bit) 0) }
+        ensures other_ways { (n : ℕ) → ¬ (n ≡ 64 * place + bit) → slice_index_or ways.new n 0 ≡ slice_index_or ways.old n 0 }
+        ensures ruled_out { (k : ℕ) → k < 64 → has_bit result.ruled_out k ≡ true → is_possible_at (map definition_of self.now.atoms.now) (map wire_of self.now.wires.now) self.now.states.now (map interaction_of interactions.now) (64 * place + k) ≡ false }
+        ensures same { result.is_new ≡ false → (n : ℕ) → slice_index_or ways.new n 0 ≡ slice_index_or ways.old n 0 }
     {
-        let count = self.row_count(&interaction.ports);
-        let is_possible = self.is_possible(interaction, count);
-        let place = usize::from(number);
-        let is_new = (ways[place] != count) | (possible.contains(number) != is_possible);
-        if is_new {
-            ways[place] = count;
-            put(possible, number, is_possible);
+        let number = 64 * place + bit;
+        match interactions.get(number) {
+            Some(interaction) => {
+                let count = self.row_count(&interaction.ports);
+                if count == 0 {
+                    return Told {
+                        ruled_out: self.ruled_out(rows, place, &interaction.ports),
+                        is_new: false,
+                    };
+                }
+                if self.is_unguarded(interaction) {
+                    possible.insert(number as u16);
+                    let is_new = ways[number] != count;
+                    ways[number] = count;
+                    return Told {
+                        ruled_out: 0,
+                        is_new,
+                    };
+                }
+                Told::nothing()
+            }
+            None => Told::nothing(),
         }
-        is_new
     }
 
-    /// Whether the interaction is possible, where its ports have so many rows of moves.
-    fn is_possible(&self, interaction: &Interaction, count: u64) -> bool
-        requires { count ≡ length (combinations (map (moves_of (map definition_of self.now.atoms.now) self.now.states.now) interaction.now.ports.items)) }
-        ensures { result ≡ is_possible (map definition_of self.now.atoms.now) (map wire_of self.now.wires.now) self.now.states.now (interaction_of interaction.now) }
+    /// Which of the 64 interactions from 64 times the place on are on the first of the ports at which nothing is offered, as
+    /// far as the rows tell.
+    fn ruled_out(&self, rows: &[InteractionSet], place: usize, ports: &[Port]) -> u64
+        requires { place < ROW_WORDS }
+        ensures { (k : ℕ) → k < 64 → has_bit result k ≡ true → IsOnEmpty (map definition_of self.now.atoms.now) self.now.states.now rows.now (64 * place + k) }
     {
-        count > 0 && self.is_unguarded(interaction)
+        for port in ports {
+            if self.move_count(port) == 0 {
+                return word_of_port(rows, port, place);
+            }
+        }
+        0
+    }
+}
+
+/// What judging an interaction told.
+#[derive(Drop)]
+struct Told {
+    /// Which interactions of the same 64 are not possible either.
+    ruled_out: u64,
+    /// Whether the interaction is possible with another number of choices than was noted.
+    is_new: bool,
+}
+
+impl Told {
+    /// Nothing.
+    fn nothing() -> Self
+        ensures { result ≡ record { ruled_out = 0; is_new = false } }
+    {
+        Told {
+            ruled_out: 0,
+            is_new: false,
+        }
+    }
+}
+
+/// Which of the 64 interactions from 64 times the place on are in the row of the port, if it has one.
+fn word_of_port(rows: &[InteractionSet], port: &Port, place: usize) -> u64
+    requires { place < ROW_WORDS }
+    ensures port { (k : ℕ) → k < 64 → has_bit result k ≡ true → port.now.port < MAX_PORTS }
+    ensures row { (k : ℕ) → k < 64 → has_bit result k ≡ true → is_in_row rows.now (64 * place + k) (at_port port.now) ≡ true }
+{
+    if usize::from(port.port) >= MAX_PORTS {
+        return 0;
+    }
+    match rows.get(port_row(port.atom, port.port)) {
+        Some(row) => row.word(place),
+        None => 0,
     }
 }
 
@@ -258,18 +331,5 @@ fn split_place(total: u64, count: u64, place: u64) -> Split
         own: place / below,
         below,
         rest: place % below,
-    }
-}
-
-/// Puts the interaction with this number into the set, or takes it out.
-fn put(set: &mut InteractionSet, number: u16, is_in: bool)
-    requires { number < MAX_INTERACTIONS }
-    ensures here { contains set.new number ≡ is_in }
-    ensures others { (n : ℕ) → ¬ (n ≡ number) → contains set.new n ≡ contains set.old n }
-{
-    if is_in {
-        set.insert(number);
-    } else {
-        set.remove(number);
     }
 }

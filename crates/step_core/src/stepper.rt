@@ -5,7 +5,7 @@ ghost use Rattle.step_core.specs.Chosen.{choice_of};
 ghost use Rattle.step_core.specs.Fitting.{IsOf, AllFit};
 ghost use Rattle.step_core.specs.Interaction.{interaction_of};
 ghost use Rattle.step_core.specs.Judgement.{IsJudgement};
-ghost use Rattle.step_core.specs.Touching.{AreTouching};
+ghost use Rattle.step_core.specs.Touching.{AreTouching, AreOnPorts};
 ghost use Rattle.step_core.specs.Wire.{wire_of};
 ghost use Rattle.step_core.specs.declared.touching.TheConstants.{ATOM_ROWS};
 ghost use Rattle.step_core.specs.Step.{initial_states, next};
@@ -33,6 +33,7 @@ pub struct Stepper<'s> {
     ghost of_plant: { IsOf (plant_of system.now) states },
     ghost rows: { length touching.items ≡ length system.now.atoms.items * ATOM_ROWS },
     ghost touched: { AreTouching (map wire_of system.now.wires.items) (map interaction_of system.now.interactions.items) touching.items },
+    ghost on_ports: { AreOnPorts (map interaction_of system.now.interactions.items) touching.items },
     ghost judged: { IsJudgement (plant_of system.now) (map interaction_of system.now.interactions.items) states judgement },
 }
 

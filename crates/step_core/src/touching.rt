@@ -1,9 +1,9 @@
 //! Which interactions depend on an atom: a row of them for each of its ports, and one for the guards that read it, so that a
 //! step finds those that it can change.
-ghost use Rattle.std.specs.Prelude.{◌≡◌, ◌*◌, ◌≤◌, ◌<◌, true, IfOk, map, length};
+ghost use Rattle.std.specs.Prelude.{◌≡◌, ◌*◌, ◌≤◌, ◌<◌, ℕ, true, false, IfOk, map, length};
 ghost use Rattle.connector_tree.specs.Tree.{leaves};
 ghost use Rattle.step_core.specs.Interaction.{interaction_of};
-ghost use Rattle.step_core.specs.Touching.{row_of_port, row_of_guards, at_port, at_guards, is_noted, are_noted, KeepsNoted, AreGuardsNoted, IsNoted, AreTouching};
+ghost use Rattle.step_core.specs.Touching.{row_of_port, row_of_guards, at_port, at_guards, is_noted, are_noted, is_in_row, has_row, is_on_row, IsOfPort, KeepsNoted, AreGuardsNoted, IsNoted, AreTouching, AreOnPorts};
 ghost use Rattle.step_core.specs.Wire.{wire_of};
 ghost use Rattle.step_core.specs.declared.limits.TheConstants.{MAX_ATOMS, MAX_INTERACTIONS};
 ghost use Rattle.step_core.specs.declared.touching.TheConstants.{ATOM_ROWS};
@@ -18,11 +18,12 @@ use std::alloc::{AllocError, Global};
 /// How many rows an atom has: one for each port that an atom may have, and one for the guards that read it.
 pub(crate) const ATOM_ROWS: usize = MAX_PORTS + 1;
 
-/// The place of the row of the interactions on a port of the atom.
+/// The place of the row of the interactions on a port of the atom. A port past those that an atom may have, at which nothing
+/// is ever offered, has no row of its own: its interactions stand with those whose guards read the atom.
 pub(crate) fn port_row(atom: u16, port: u16) -> usize
     ensures { result ≡ row_of_port atom port }
 {
-    usize::from(atom) * ATOM_ROWS + usize::from(port)
+    usize::from(atom) * ATOM_ROWS + usize::from(port).min(MAX_PORTS)
 }
 
 /// The place of the row of the interactions whose guards read the atom.
@@ -36,6 +37,7 @@ pub(crate) fn guard_row(atom: u16) -> usize
 fn note_row(rows: &mut [InteractionSet], place: usize, number: u16)
     requires { number < MAX_INTERACTIONS }
     ensures noted { is_noted rows.new number place ≡ true }
+    ensures only { (n k : ℕ) → ¬ (n ≡ number × k ≡ place) → is_in_row rows.new n k ≡ is_in_row rows.old n k }
     ensures kept { KeepsNoted rows.old rows.new }
 {
     if place < rows.len() {
@@ -47,6 +49,7 @@ fn note_row(rows: &mut [InteractionSet], place: usize, number: u16)
 fn note_ports(rows: &mut [InteractionSet], ports: &[Port], number: u16)
     requires { number < MAX_INTERACTIONS }
     ensures noted { are_noted rows.new number at_port ports.now ≡ true }
+    ensures only { (n k : ℕ) → (n ≡ number → has_row ports.now k ≡ false) → is_in_row rows.new n k ≡ is_in_row rows.old n k }
     ensures kept { KeepsNoted rows.old rows.new }
 {
     for port in ports {
@@ -58,6 +61,7 @@ fn note_ports(rows: &mut [InteractionSet], ports: &[Port], number: u16)
 fn note_read(rows: &mut [InteractionSet], ports: &[Port], number: u16)
     requires { number < MAX_INTERACTIONS }
     ensures noted { are_noted rows.new number at_guards ports.now ≡ true }
+    ensures only { (n k : ℕ) → IsOfPort k → is_in_row rows.new n k ≡ is_in_row rows.old n k }
     ensures kept { KeepsNoted rows.old rows.new }
 {
     for port in ports {
@@ -77,6 +81,7 @@ fn note_guards(
     requires number { number < MAX_INTERACTIONS }
     requires leaves { map (λ list. list.items) ports.now ≡ map (λ w. leaves w.connector) wires.now }
     ensures noted { AreGuardsNoted (map wire_of wires.now) connector rows.new number }
+    ensures only { (n k : ℕ) → IsOfPort k → is_in_row rows.new n k ≡ is_in_row rows.old n k }
     ensures kept { KeepsNoted rows.old rows.new }
 {
     let place = usize::from(connector);
@@ -99,6 +104,7 @@ fn note_interaction(
     requires number { number < MAX_INTERACTIONS }
     requires leaves { map (λ list. list.items) ports.now ≡ map (λ w. leaves w.connector) wires.now }
     ensures noted { IsNoted (map wire_of wires.now) (interaction_of interaction.now) rows.new number }
+    ensures only { (n k : ℕ) → IsOfPort k → (n ≡ number → has_row interaction.now.ports.items k ≡ false) → is_in_row rows.new n k ≡ is_in_row rows.old n k }
     ensures kept { KeepsNoted rows.old rows.new }
 {
     note_ports(rows, &interaction.ports, number);
@@ -114,7 +120,8 @@ fn note_all(
 )
     requires few { length interactions.now ≤ MAX_INTERACTIONS }
     requires leaves { map (λ list. list.items) ports.now ≡ map (λ w. leaves w.connector) wires.now }
-    ensures { AreTouching (map wire_of wires.now) (map interaction_of interactions.now) rows.new }
+    ensures touching { AreTouching (map wire_of wires.now) (map interaction_of interactions.now) rows.new }
+    ensures only { (n k : ℕ) → IsOfPort k → is_on_row (map interaction_of interactions.now) n k ≡ false → is_in_row rows.new n k ≡ is_in_row rows.old n k }
 {
     for (number, interaction) in interactions.iter().enumerate() {
         note_interaction(rows, wires, ports, interaction, number as u16);
@@ -134,6 +141,7 @@ pub(crate) fn touching_rows(
     requires leaves { map (λ list. list.items) ports.now ≡ map (λ w. leaves w.connector) wires.now }
     ensures rows { IfOk result (λ rows. length rows.items ≡ atoms * ATOM_ROWS) }
     ensures touching { IfOk result (λ rows. AreTouching (map wire_of wires.now) (map interaction_of interactions.now) rows.items) }
+    ensures only { IfOk result (λ rows. AreOnPorts (map interaction_of interactions.now) rows.items) }
 {
     let count = atoms * ATOM_ROWS;
     let mut rows = Vec::with_capacity(alloc, count)?;

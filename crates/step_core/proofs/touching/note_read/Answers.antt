@@ -1,4 +1,4 @@
-use Rattle.std.proofs.Common.{◌∙◌, ap, sym, take}
+use Rattle.std.proofs.Common.{◌∙◌, ap, sym, arith, take}
 use Rattle.connector_tree.specs.declared.tree.Port.{Port}
 use Rattle.step_core.specs.Touching.{at_guards, is_noted}
 use Rattle.step_core.proofs.Touched.{ports-kept, noted-next}
@@ -13,4 +13,5 @@ loop-port-preserved c =
       noted-next new c.args.number at_guards ports i none c.loop-port-test.true (ports-kept c.loop-port.rows new c.note_row.ensures.kept c.args.number at_guards (take i ports) c.loop-port.invariant.0)
           (ap (is_noted new c.args.number) (sym c.guard_row.ensures) ∙ c.note_row.ensures.noted),
       λ n a was. c.note_row.ensures.kept n a (c.loop-port.invariant.1 n a was),
+      λ n k of_port. c.note_row.ensures.only n k (λ same. absurd (omega (arith, of_port, same.1, c.guard_row.ensures))) ∙ c.loop-port.invariant.2 n k of_port,
     )

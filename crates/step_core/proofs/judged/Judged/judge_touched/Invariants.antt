@@ -4,7 +4,7 @@ use Rattle.petri_atom.specs.Atom.{definition_of}
 use Rattle.step_core.specs.Choice.{is_possible_at}
 use Rattle.step_core.specs.Interaction.{interaction_of}
 use Rattle.step_core.specs.Possible.{ArePossibleBut}
-use Rattle.step_core.specs.Ways.{ways_at, AreWaysBut, IsSame}
+use Rattle.step_core.specs.Ways.{IsWays, AreWaysBut, IsSame}
 use Rattle.step_core.specs.Wire.{wire_of}
 use Rattle.step_core.proofs.judged.Judged.judge_touched.Given as goal
 
@@ -15,7 +15,7 @@ invariant-loop-place l =
     let states = l.self.states.now in
     let all = map interaction_of l.interactions in
     ((n : ℕ) → n < 64 * l.place → contains l.possible n ≡ is_possible_at atoms wires states all n) ×
-    ((n : ℕ) → n < 64 * l.place → get_or l.ways n 0 ≡ ways_at atoms states all n) ×
+    ((n : ℕ) → n < 64 * l.place → IsWays atoms wires states all n (get_or l.ways n 0)) ×
     ArePossibleBut (contains l.touched) atoms wires states all l.possible ×
-    AreWaysBut (contains l.touched) atoms states all l.ways ×
+    AreWaysBut (contains l.touched) atoms wires states all l.ways ×
     (l.changed ≡ false → IsSame l.initial.possible l.initial.ways l.possible l.ways)

@@ -1,6 +1,6 @@
 use Rattle.std.proofs.Common.{subst, map, arith}
 use Rattle.step_core.specs.Interaction.{interaction_of}
-use Rattle.step_core.specs.Touching.{AreTouching}
+use Rattle.step_core.specs.Touching.{AreTouching, AreOnPorts}
 use Rattle.step_core.specs.Wire.{wire_of}
 use Rattle.step_core.proofs.stepper.Stepper.at.Goals as goal
 
@@ -15,5 +15,6 @@ invariant_of-result c =
       of_plant = c.requires;
       rows = omega (arith, c.in_ok-touching.ensures.rows, c.len.ensures, system.atoms.ok.0);
       touched = touched;
+      on_ports = subst (λ all. AreOnPorts (map interaction_of all) rows) c.deref-3.ensures.value c.in_ok-touching.ensures.only;
       judged = c.judge-judgement.ensures;
     }

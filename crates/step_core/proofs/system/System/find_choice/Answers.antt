@@ -3,8 +3,13 @@ use Rattle.std.specs.Prelude.{slice_get}
 use Rattle.std.proofs.lemmas.Option.{slice_get-get_or}
 use Rattle.step_core.specs.Interaction.{interaction_of}
 use Rattle.step_core.specs.System.{plant_of}
-use Rattle.step_core.proofs.Counted.{no_interaction, is_allowed, allowed-within, from_number, entries-skip, entry-here, entry-behind, entries-end}
+use Rattle.step_core.proofs.Counted.{no_interaction, is_allowed, possible-first, allowed-within, from_number, entries-skip, entry-here, entry-behind, entries-end}
 use Rattle.step_core.proofs.system.System.find_choice.Goals as goal
+
+pub choice_at-requires-clause-possible : goal.choice_at-requires-clause-possible
+choice_at-requires-clause-possible c =
+    let plant = plant_of c.args.self.now in
+    possible-first plant c.args.states.now (map interaction_of c.args.self.now.interactions.items) c.in-Some.number (sym (c.requires.judged.allowed c.in-Some.number) ∙ c.in-Some.ensures.found.2)
 
 pub returns-then-left-ways : goal.returns-then-left-ways
 returns-then-left-ways c =

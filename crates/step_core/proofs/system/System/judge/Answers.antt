@@ -5,7 +5,7 @@ use Rattle.std.specs.Ordering.{nat_cmp}
 use Rattle.std.proofs.lemmas.Bool.{cases_lt, false≢true}
 use Rattle.std.proofs.lemmas.List.{length-map}
 use Rattle.std.proofs.lemmas.Option.{slice_get_past}
-use Rattle.step_core.specs.Choice.{is_possible, choices_of}
+use Rattle.step_core.specs.Choice.{is_possible}
 use Rattle.step_core.specs.Interaction.{interaction_of}
 use Rattle.step_core.specs.System.{plant_of}
 use Rattle.step_core.proofs.system.System.judge.Goals as goal
@@ -21,11 +21,10 @@ judge_touched-requires-clause-others c n outside =
     (cases_lt n (length all))
 
 pub judge_touched-requires-clause-other_ways : goal.judge_touched-requires-clause-other_ways
-judge_touched-requires-clause-other_ways c n outside =
+judge_touched-requires-clause-other_ways c n outside possible =
     let plant = plant_of c.args.self.now in
     let all = map interaction_of c.args.self.now.interactions.items in
     ⊎_elim
     (λ within. absurd (false≢true (sym (outside within) ∙ c.numbers_below-all.ensures n (omega (arith, within, c.len.ensures, length-map c.args.self.now.interactions.items interaction_of)))))
-    (λ past. c.no_ways-ways.ensures n ∙
-    sym (ap (λ o. option_map_or (λ i. length (choices_of plant.atoms c.args.states.now i)) o 0) (slice_get_past all n past)))
+    (λ past. absurd (false≢true (sym (ap (λ o. option_map_or (is_possible plant.atoms plant.wires c.args.states.now) o false) (slice_get_past all n past)) ∙ possible)))
     (cases_lt n (length all))

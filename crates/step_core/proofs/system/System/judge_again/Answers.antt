@@ -41,7 +41,7 @@ judge_touched-changed-requires-clause-others c n outside =
     (cases_lt n (length all)))
 
 pub judge_touched-changed-requires-clause-other_ways : goal.judge_touched-changed-requires-clause-other_ways
-judge_touched-changed-requires-clause-other_ways c n outside =
+judge_touched-changed-requires-clause-other_ways c n outside possible =
     let system = c.args.self.now in
     let plant = plant_of system in
     let all = map interaction_of system.interactions.items in
@@ -57,7 +57,12 @@ judge_touched-changed-requires-clause-other_ways c n outside =
     let told : n < length all → contains c.judge_moved.new.touched n ≡ false → (p : Port) → is_noted c.args.rows.now n (at_port p) ≡ true → length (moves_of plant.atoms after p) ≡ length (moves_of plant.atoms before p) =
     λ within out p noted. sym (counted-moves plant.atoms after new.sets new.counts c.requires.of_plant offered counted p) ∙ judged.told n p.atom p.port (low within) noted out ∙
     counted-moves plant.atoms before old.sets old.counts (behind.as_many ∙ c.requires.of_plant) behind.judged.offered behind.judged.counted p in
-    behind.judged.ways n ∙
+    let before-possible : is_possible_at plant.atoms plant.wires before all n ≡ is_possible_at plant.atoms plant.wires after all n =
+    sym (⊎_elim
+    (λ within. untouched plant c.args.moves.now before after all c.args.rows.now n (c.requires.rows ∙ ap (λ k. k * 33) (sym (behind.as_many ∙ c.requires.of_plant ∙ length-map system.atoms.items definition_of))) behind.as_many behind.stays c.requires.touching (judged.read n (low within) (outside within)) (told within (outside within)))
+    (λ past. ap (λ o. option_map_or (is_possible plant.atoms plant.wires after) o false) (slice_get_past all n past) ∙ sym (ap (λ o. option_map_or (is_possible plant.atoms plant.wires before) o false) (slice_get_past all n past)))
+    (cases_lt n (length all))) in
+    behind.judged.ways n (before-possible ∙ possible) ∙
     sym (⊎_elim
     (λ within. untouched-ways plant c.args.moves.now before after all c.args.rows.now n (c.requires.rows ∙ ap (λ k. k * 33) (sym (behind.as_many ∙ c.requires.of_plant ∙ length-map system.atoms.items definition_of))) behind.as_many behind.stays c.requires.touching (judged.read n (low within) (outside within)) (told within (outside within)))
     (λ past. ap (λ o. option_map_or (λ i. length (choices_of plant.atoms after i)) o 0) (slice_get_past all n past) ∙ sym (ap (λ o. option_map_or (λ i. length (choices_of plant.atoms before i)) o 0) (slice_get_past all n past)))
@@ -77,8 +82,8 @@ returns-else-changed c =
     let same = touched.same c.if-changed.false in
     let possible : (n : ℕ) → is_possible_at plant.atoms plant.wires after all n ≡ is_possible_at plant.atoms plant.wires before all n =
     λ n. sym (touched.possible n) ∙ same.0 n ∙ behind.judged.possible n in
-    let ways : (n : ℕ) → ways_at plant.atoms after all n ≡ ways_at plant.atoms before all n =
-    λ n. sym (touched.ways n) ∙ same.1 n ∙ behind.judged.ways n in
+    let ways : (n : ℕ) → is_possible_at plant.atoms plant.wires after all n ≡ true → ways_at plant.atoms after all n ≡ ways_at plant.atoms before all n =
+    λ n yes_. sym (touched.ways n yes_) ∙ same.1 n ∙ behind.judged.ways n (sym (possible n) ∙ yes_) in
     record {
       offered = subst (λ list. AreOffered (map definition_of list) after new.sets) c.deref.ensures.value judged.offered;
       counted = subst (λ list. AreCounted (map definition_of list) new.sets new.counts) c.deref.ensures.value judged.counted;
