@@ -3,7 +3,6 @@ use Rattle.std.proofs.lemmas.Bool.{cases_Bool, false≢true}
 use Rattle.std.proofs.lemmas.List.{length-append, take_at}
 use Rattle.step_core.specs.Interaction.{interaction_of}
 use Rattle.step_core.specs.Touching.{is_in_row, is_on_row, AreTouching}
-
 use Rattle.step_core.specs.Wire.{wire_of}
 use Rattle.step_core.proofs.Touched.{none-more}
 use Rattle.step_core.proofs.touching.touching_rows.Goals as goal
