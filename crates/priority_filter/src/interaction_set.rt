@@ -123,7 +123,8 @@ impl InteractionSet {
         self.words[place]
     }
 
-    /// Says which of the 64 interactions from 64 times the place on are in the set.
+    /// Puts in, of the 64 interactions from 64 times the place on, those whose bit is set, bit k for the one with k behind these,
+    /// and takes the others of them out.
     pub fn set_word(&mut self, place: usize, word: u64)
         requires { place < ROW_WORDS }
         ensures here { (n : ℕ) → n / 64 ≡ place → set.contains self.new n ≡ has_bit word (n % 64) }

@@ -12,7 +12,7 @@
 //! - [`Order::new`] refuses the first rule that names something unknown, and then the first
 //!   interaction that is below itself. So an order that was made is strict.
 //! - [`Order::below`] is exactly that order, and costs the test of one bit.
-//! - [`Order::is_overruled`] says whether some possible interaction is above, in one pass over words. [`Order::filter`] leaves those
+//! - [`Order::is_overruled`] says whether some possible interaction is above, word by word. [`Order::filter`] leaves those
 //!   of the possible interactions of which this is false, 64 at a time.
 //! - [`laws`] has what follows from the definitions: below is transitive, and where something is
 //!   possible, some possible interaction has no possible one above it.

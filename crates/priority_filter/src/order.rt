@@ -106,7 +106,7 @@ impl Order {
     {
         let place = usize::from(interaction);
         match self.above.get(place) {
-            // A rule `maximal` puts above an interaction some that follow it closely.
+            // Under `maximal` those above follow closely, so that the own word most likely has one.
             Some(row) => row.intersects(possible, place / 64),
             None => false,
         }

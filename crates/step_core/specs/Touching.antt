@@ -15,8 +15,8 @@ use Rattle.petri_atom.specs.declared.parts.TheConstants.{MAX_PORTS}
 use Rattle.step_core.specs.declared.choice.Move.{Move}
 use Rattle.step_core.specs.declared.touching.TheConstants.{ATOM_ROWS}
 
--- the place of the row of a port of an atom, and of the row of the guards that read an atom, which past the last port that an
--- atom may have stands for the row of a port too
+-- the place of the row of a port of an atom, and of the row of the guards that read an atom; a port with a number that no atom's
+-- port can have has the guards' row
 abbrev pub row_of_port : ℕ → ℕ → ℕ
 row_of_port atom port = atom * ATOM_ROWS + min port MAX_PORTS
 
@@ -60,7 +60,7 @@ AreTouching wires interactions rows =
 abbrev pub is_in_row : List (FinSet nat_cmp) → ℕ → ℕ → Bool
 is_in_row rows n place = option_map_or (λ row. contains row n) (slice_get rows place) false
 
--- the place is that of a row of a port
+-- the place is that of the row of a port that an atom can have
 abbrev pub IsOfPort : ℕ → Type 0
 IsOfPort place = place % ATOM_ROWS < MAX_PORTS
 
@@ -72,12 +72,12 @@ has_row ports place = list_any (λ p. at_port p == place) ports
 abbrev pub is_on_row : List Interaction → ℕ → ℕ → Bool
 is_on_row interactions n place = option_map_or (λ i. has_row i.ports place) (slice_get interactions n) false
 
--- in the row of a port are interactions on it alone
+-- the row of a port has no interaction that is not on the port
 abbrev pub AreOnPorts : List Interaction → List (FinSet nat_cmp) → Type 0
 AreOnPorts interactions rows =
     (n place : ℕ) → IsOfPort place → is_in_row rows n place ≡ true → is_on_row interactions n place ≡ true
 
--- a row has an interaction on a port at which nothing is offered
+-- the interaction with a number is in the row of a port at which nothing is offered
 abbrev pub IsOnEmpty : List AtomDefinition → List Local → List (FinSet nat_cmp) → ℕ → Type 0
 IsOnEmpty atoms states rows n =
     (p : Port) × (moves_of atoms states p ≡ []) × (p.port < MAX_PORTS) × (is_in_row rows n (at_port p) ≡ true)

@@ -27,7 +27,7 @@ abbrev pub AreWaysBut : (ℕ → Bool) → List AtomDefinition → List WireDefi
 AreWaysBut touched atoms wires states interactions ways =
     (n : ℕ) → (n < length interactions → touched n ≡ false) → IsWays atoms wires states interactions n (slice_index_or ways n 0)
 
--- the same interactions are possible, and each has as many choices
+-- the same interactions are possible, and the same numbers are kept
 abbrev pub IsSame : FinSet nat_cmp → List ℕ → FinSet nat_cmp → List ℕ → Type 0
 IsSame possible ways possible' ways' =
     ((n : ℕ) → contains possible' n ≡ contains possible n) × ((n : ℕ) → slice_index_or ways' n 0 ≡ slice_index_or ways n 0)

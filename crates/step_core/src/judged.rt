@@ -199,8 +199,8 @@ impl Judged<'_> {
         changed | (possible.word(place) != before)
     }
 
-    /// Judges one of the 64 interactions from 64 times the place on, which is not in the set yet, if it is there: its ports,
-    /// and its guards where each port can move.
+    /// Judges one of the 64 interactions from 64 times the place on, which the set does not have yet, if the list has it: its
+    /// ports, and its guards where each port can move.
     fn judge_one(
         &self,
         interactions: &[Interaction],
@@ -247,8 +247,8 @@ impl Judged<'_> {
         }
     }
 
-    /// Which of the 64 interactions from 64 times the place on are on the first of the ports at which nothing is offered, as
-    /// far as the rows tell.
+    /// Which of the 64 interactions from 64 times the place on cannot move since they are on the first of the ports at which
+    /// nothing is offered, as far as the rows tell.
     fn ruled_out(&self, rows: &[InteractionSet], place: usize, ports: &[Port]) -> u64
         requires { place < ROW_WORDS }
         ensures { (k : ℕ) → k < 64 → has_bit result k ≡ true → IsOnEmpty (map definition_of self.now.atoms.now) self.now.states.now rows.now (64 * place + k) }
@@ -265,7 +265,7 @@ impl Judged<'_> {
 /// What judging an interaction told.
 #[derive(Drop)]
 struct Told {
-    /// Which interactions of the same 64 are not possible either.
+    /// Some interactions of the same 64 that are not possible.
     ruled_out: u64,
     /// Whether the interaction is possible with another number of choices than was noted.
     is_new: bool,

@@ -5,9 +5,9 @@ use crate::limits::MAX_INTERACTIONS;
 use crate::offers::Offers;
 use priority_filter::InteractionSet;
 
-/// What a state of a plant offers: what each atom offers, the possible interactions, for each interaction how many
-/// choices it has where nothing forbids it, the allowed interactions, and how many choices these have in all. It is of fixed
-/// size and takes no memory.
+/// What a state of a plant offers: what each atom offers, the possible interactions, for each of these how many choices it has
+/// where no priority forbids it, the allowed interactions, and how many choices these have in all. It is of fixed size and takes
+/// no memory.
 #[derive(Drop)]
 pub(crate) struct Judgement {
     pub(crate) offers: Offers,
