@@ -26,3 +26,4 @@ mod Recounted
 mod Unchanged
 mod Freed
 mod Ruled
+mod Walked

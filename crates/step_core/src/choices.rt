@@ -1,8 +1,8 @@
 //! The choices of a global state: how many there are, and which.
-ghost use Rattle.std.specs.Prelude.{◌≡◌, ◌↔◌, ◌*◌, ◌<◌, true, false, Some, map, length, slice_get, slice_index_or, option_map};
+ghost use Rattle.std.specs.Prelude.{◌≡◌, ◌↔◌, ◌+◌, ◌*◌, ◌<◌, IfOk, IfErr, true, false, Some, map, length, slice_get, slice_index_or, option_map};
 ghost use Rattle.std.specs.FinSet.{contains, empty};
 ghost use Rattle.petri_atom.specs.Atom.{definition_of};
-ghost use Rattle.step_core.specs.Choice.{Interaction, is_possible_at, choices, choices_of, choices_among, IsAllowed, IsStuck};
+ghost use Rattle.step_core.specs.Choice.{Interaction, is_possible_at, choices, choices_of, choices_from, choices_among, IsAllowed, IsStuck};
 ghost use Rattle.step_core.specs.Chosen.{choice_of};
 ghost use Rattle.step_core.specs.Fitting.{IsOf};
 ghost use Rattle.step_core.specs.Interaction.{interaction_of};
@@ -12,6 +12,7 @@ ghost use Rattle.step_core.specs.Possible.{ArePossible, ArePossibleBut, AreAllow
 ghost use Rattle.step_core.specs.Touching.{AreTouching, AreOnPorts};
 ghost use Rattle.step_core.specs.Ways.{AreWays, AreWaysBut, IsSame};
 ghost use Rattle.step_core.specs.Wire.{wire_of};
+ghost use Rattle.priority_filter.specs.declared.interaction_set.TheConstants.{ROW_WORDS};
 ghost use Rattle.step_core.specs.declared.touching.TheConstants.{ATOM_ROWS};
 
 use crate::choice::{Choice, Move};
@@ -204,16 +205,43 @@ impl System {
         ensures { option_map choice_of result ≡ slice_get (choices_among (plant_of self.now) states.now (map interaction_of self.now.interactions.items)) place }
     {
         let mut left = place;
-        let mut from = 0;
-        while let Some(number) = judgement.allowed.first_from(from) {
-            let ways = u128::from(judgement.ways[usize::from(number)]);
-            if left < ways {
-                return Some(self.choice_at(states, judgement, number, left as u64));
+        for at in 0..self.interactions.len().div_ceil(64) {
+            match self.find_in_word(states, judgement, at, left) {
+                Ok(choice) => return Some(choice),
+                Err(later) => left = later,
             }
-            left -= ways;
-            from = number + 1;
         }
         None
+    }
+
+    /// The choice with this place among those of the interactions from 64 times `at` on, if it is of one of the first 64 of
+    /// these; else its place among those of the interactions behind them.
+    fn find_in_word(
+        &self,
+        states: &PlantState,
+        judgement: &Judgement,
+        at: usize,
+        place: u128,
+    ) -> Result<Choice, u128>
+        requires of_plant { IsOf (plant_of self.now) states.now }
+        requires judged { IsJudgement (plant_of self.now) (map interaction_of self.now.interactions.items) states.now judgement.now }
+        requires at { at < ROW_WORDS }
+        ensures here { IfOk result (λ choice. slice_get (choices_from (plant_of self.now) states.now (map interaction_of self.now.interactions.items) (64 * at)) place ≡ Some (choice_of choice)) }
+        ensures behind { IfErr result (λ later. slice_get (choices_from (plant_of self.now) states.now (map interaction_of self.now.interactions.items) (64 * at)) place ≡ slice_get (choices_from (plant_of self.now) states.now (map interaction_of self.now.interactions.items) (64 * (at + 1))) later) }
+    {
+        let mut left = place;
+        let mut word = judgement.allowed.word(at);
+        while word != 0 {
+            let bit = word.trailing_zeros() as usize;
+            let number = 64 * at + bit;
+            let ways = u128::from(judgement.ways[number]);
+            if left < ways {
+                return Ok(self.choice_at(states, judgement, number as u16, left as u64));
+            }
+            left -= ways;
+            word &= !(1 << bit);
+        }
+        Err(left)
     }
 
     /// The choice with this place among those of the interaction with this number.

@@ -1,15 +1,17 @@
 //! A judged state with its possible interactions, filtered by the order of the plant's priority rules: which interactions are
 //! allowed, and how many choices they have.
-ghost use Rattle.std.specs.Prelude.{◌≡◌, ◌≤◌, map, length};
+ghost use Rattle.std.specs.Prelude.{◌≡◌, ◌≤◌, ◌<◌, ◌+◌, ◌*◌, ◌/◌, ◌%◌, ◌^◌, ℕ, map, length};
 ghost use Rattle.std.specs.FinSet.{empty};
 ghost use Rattle.petri_atom.specs.Atom.{definition_of};
-ghost use Rattle.step_core.specs.Choice.{named, choices_among};
+ghost use Rattle.step_core.specs.Choice.{named, is_allowed_at, choices_below, choices_among};
 ghost use Rattle.step_core.specs.Interaction.{interaction_of};
 ghost use Rattle.step_core.specs.Made.{plant_by};
 ghost use Rattle.step_core.specs.Possible.{ArePossible, AreAllowed};
 ghost use Rattle.step_core.specs.Free.{AreFree};
 ghost use Rattle.step_core.specs.Ways.{AreWays};
 ghost use Rattle.step_core.specs.Wire.{wire_of};
+ghost use Rattle.priority_filter.specs.Members.{has_bit};
+ghost use Rattle.priority_filter.specs.declared.interaction_set.TheConstants.{ROW_WORDS};
 ghost use Rattle.step_core.specs.declared.limits.TheConstants.{MAX_INTERACTIONS};
 
 use crate::interaction::Interaction;
@@ -59,10 +61,26 @@ impl Filtered<'_> {
         ensures { result ≡ length (choices_among (plant_by self.now.judged.atoms.now self.now.judged.wires.now self.now.order.now.rules) self.now.judged.states.now (map interaction_of self.now.interactions.now)) }
     {
         let mut total = 0;
-        let mut from = 0;
-        while let Some(number) = allowed.first_between(from, self.interactions.len()) {
-            total += u128::from(self.ways[usize::from(number)]);
-            from = number + 1;
+        for place in 0..self.interactions.len().div_ceil(64) {
+            total += self.count_word(place, allowed.word(place));
+        }
+        total
+    }
+
+    /// How many choices those of the 64 interactions from 64 times the place on have that are allowed, which are those whose
+    /// bit in the word is set.
+    fn count_word(&self, place: usize, word: u64) -> u128
+        requires place { place < ROW_WORDS }
+        requires allowed { (n : ℕ) → n / 64 ≡ place → has_bit word (n % 64) ≡ is_allowed_at (plant_by self.now.judged.atoms.now self.now.judged.wires.now self.now.order.now.rules) self.now.judged.states.now (map interaction_of self.now.interactions.now) n }
+        ensures few { result ≤ 64 * 2 ^ 64 }
+        ensures count { length (choices_below (plant_by self.now.judged.atoms.now self.now.judged.wires.now self.now.order.now.rules) self.now.judged.states.now (map interaction_of self.now.interactions.now) (64 * (place + 1))) ≡ length (choices_below (plant_by self.now.judged.atoms.now self.now.judged.wires.now self.now.order.now.rules) self.now.judged.states.now (map interaction_of self.now.interactions.now) (64 * place)) + result }
+    {
+        let mut total = 0;
+        let mut left = word;
+        while left != 0 {
+            let bit = left.trailing_zeros() as usize;
+            total += u128::from(self.ways[64 * place + bit]);
+            left &= !(1 << bit);
         }
         total
     }
