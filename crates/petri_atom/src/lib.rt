@@ -43,6 +43,3 @@ pub use offered::TransitionSet;
 pub use parts::{MAX_PORTS, MAX_TRANSITIONS, MAX_UPDATES, MAX_WORDS, Place, Port, Variable};
 pub use state::{AtomState, Delivered, MAX_EXPORTS, MAX_PLACES, MAX_VARIABLES};
 pub use transition::{Transition, Update};
-
-#[cfg(test)]
-mod tests;

@@ -34,6 +34,3 @@ mod rule;
 mod transition;
 
 pub use plant::draw_to;
-
-#[cfg(test)]
-mod tests;

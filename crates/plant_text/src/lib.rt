@@ -47,6 +47,3 @@ mod wires;
 pub use fault::{Fault, PlantFault};
 pub use marks::{Mark, find_mark};
 pub use read::{plant_of_text, read_plant};
-
-#[cfg(test)]
-mod tests;

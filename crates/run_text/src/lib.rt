@@ -32,6 +32,3 @@ pub use fired::print_choice;
 pub use format::Format;
 pub use states::print_states;
 pub use trace::{trace_as, trace_to};
-
-#[cfg(test)]
-mod tests;

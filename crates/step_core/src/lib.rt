@@ -59,6 +59,3 @@ pub use state::PlantState;
 pub use stepper::Stepper;
 pub use system::System;
 pub use wire::{Export, Transfer, Wire};
-
-#[cfg(test)]
-mod tests;

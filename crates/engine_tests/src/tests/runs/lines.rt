@@ -1,7 +1,8 @@
 //! Runs of small plants.
-use super::{PAGE, Page, counting, moving, name, place, port, variable, wire};
-use crate::trace_to;
+use super::{counting, moving, wire};
+use crate::tests::{PAGE, Page, name, place, port, variable};
 use petri_atom::{Atom, Expression, Transition};
+use run_text::trace_to;
 use std::alloc::Global;
 use std::test::Fail;
 use step_core::System;

@@ -1,14 +1,11 @@
 //! Priorities between interactions, in plants worked out by hand.
 use super::runs::is;
-use super::{atom, connector, name, wire};
-use crate::fault::SystemFault;
-use crate::state::PlantState;
-use crate::stepper::Stepper;
-use crate::system::System;
-use crate::wire::Wire;
+use super::{atom, connector, wire};
+use crate::tests::name;
 use priority_filter::{OrderFault, Rule, Side};
 use std::alloc::Global;
 use std::test::Fail;
+use step_core::{PlantState, Stepper, System, SystemFault, Wire};
 
 /// The rule that puts each interaction of the first connector below each of the second.
 fn under(lower: u16, upper: u16) -> Rule {

@@ -1,6 +1,6 @@
 //! Texts from a reader.
 use super::{SAMPLE, at};
-use crate::{Fault, read_plant};
+use plant_text::{Fault, read_plant};
 use std::io;
 use std::io::{ErrorKind, Read};
 use std::test::Fail;

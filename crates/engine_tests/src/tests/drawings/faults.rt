@@ -1,6 +1,7 @@
 //! Writers that fail.
-use super::{PAGE, Page, leaf, simple, wire};
-use crate::draw_to;
+use super::{leaf, simple, wire};
+use crate::tests::{PAGE, Page};
+use plant_drawing::draw_to;
 use std::alloc::Global;
 use std::test::Fail;
 use step_core::System;

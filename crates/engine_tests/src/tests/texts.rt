@@ -1,6 +1,6 @@
-//! What no clause says: that the clauses mean what they should, on texts worked out by hand.
-use crate::{Fault, PlantFault, plant_of_text};
+//! The plants and the faults of texts.
 use connector_tree::TreeFault;
+use plant_text::{Fault, PlantFault, plant_of_text};
 use priority_filter::{OrderFault, Rule, Side};
 use std::alloc::{AllocError, Global};
 use std::test::Fail;

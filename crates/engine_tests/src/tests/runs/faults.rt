@@ -1,6 +1,7 @@
 //! Writers that fail, and want of memory.
-use super::{PAGE, Page, counting};
-use crate::{Format, TraceFault, print_choice, print_states, trace_as};
+use super::counting;
+use crate::tests::{PAGE, Page};
+use run_text::{Format, TraceFault, print_choice, print_states, trace_as};
 use std::test::Fail;
 use step_core::PlantState;
 

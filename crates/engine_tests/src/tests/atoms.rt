@@ -1,14 +1,11 @@
-//! What no clause says: that the clauses mean what they should, on values worked out by hand.
+//! Expressions, names and atoms.
 ghost use Rattle.std.specs.Prelude.{◌<◌};
 
-use crate::atom::Atom;
-use crate::expression::{Expression, Operator};
-use crate::fault::AtomFault;
-use crate::name::Name;
-use crate::offered::TransitionSet;
-use crate::parts::{Place, Port, Variable};
-use crate::state::{AtomState, Delivered};
-use crate::transition::{Transition, Update};
+use super::{name, place, variable};
+use petri_atom::{
+    Atom, AtomFault, AtomState, Delivered, Expression, Name, Operator, Port, Transition,
+    TransitionSet, Update,
+};
 use std::alloc::{AllocError, Global};
 use std::test::Fail;
 
@@ -16,24 +13,6 @@ const NOTHING: Delivered = Delivered {
     mask: 0,
     values: [0; 4],
 };
-
-fn name(text: &[u8]) -> Result<Name, Fail> {
-    Ok(Name::new(text).ok_or("no name")?)
-}
-
-fn place(text: &[u8], marked: bool) -> Result<Place, Fail> {
-    Ok(Place {
-        name: name(text)?,
-        marked,
-    })
-}
-
-fn variable(text: &[u8], first: i64) -> Result<Variable, Fail> {
-    Ok(Variable {
-        name: name(text)?,
-        first,
-    })
-}
 
 fn apply(
     alloc: Global,

@@ -3,14 +3,12 @@ ghost use Rattle.std.specs.Prelude.{OnOk};
 ghost use Rattle.step_core.specs.Fitting.{IsOf};
 ghost use Rattle.step_core.specs.System.{plant_of};
 
-use super::{atom, connector, export, name, wire, wire_with_transfer};
-use crate::choice::{Choice, Move};
-use crate::state::PlantState;
-use crate::system::System;
-use crate::wire::{Export, Transfer, Wire};
+use super::{atom, connector, export, wire, wire_with_transfer};
+use crate::tests::name;
 use petri_atom::{Delivered, Expression, Operator};
 use std::alloc::Global;
 use std::test::Fail;
+use step_core::{Choice, Export, Move, PlantState, System, Transfer, Wire};
 
 const NOTHING: Delivered = Delivered {
     mask: 0,

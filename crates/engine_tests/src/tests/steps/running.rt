@@ -1,12 +1,9 @@
 //! Plants that run: what is offered is judged again where atoms moved.
 use super::runs::{is, of_atom, sample};
 use super::{atom, connector, wire};
-use crate::choice::Choice;
-use crate::state::PlantState;
-use crate::stepper::Stepper;
-use crate::system::System;
 use petri_atom::AtomState;
 use std::test::Fail;
+use step_core::{Choice, PlantState, Stepper, System};
 
 /// Fires the entry at the pick, modulo their number, of the present choices; an error where there is none.
 fn fire(run: &mut Stepper<'_>, pick: u128) -> Result<Choice, Fail> {

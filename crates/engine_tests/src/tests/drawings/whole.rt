@@ -1,8 +1,9 @@
 //! Drawings of small plants.
-use super::{PAGE, Page, apply, holder, leaf, name, place, port, simple, variable, wire};
-use crate::draw_to;
+use super::{apply, holder, leaf, simple, wire};
+use crate::tests::{PAGE, Page, name, place, port, variable};
 use connector_tree::{Child, Node};
 use petri_atom::{Atom, Expression, Operator, Transition, Update};
+use plant_drawing::draw_to;
 use priority_filter::{Rule, Side};
 use std::alloc::Global;
 use std::test::Fail;

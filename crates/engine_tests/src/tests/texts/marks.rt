@@ -1,6 +1,6 @@
 //! Where in its line each fault stands.
 use super::{SAMPLE, sample_and};
-use crate::{Mark, find_mark};
+use plant_text::{Mark, find_mark};
 use std::alloc::Global;
 use std::test::Fail;
 

@@ -1,6 +1,6 @@
 //! How large a plant may be.
 use super::{at, told};
-use crate::{Fault, plant_of_text};
+use plant_text::{Fault, plant_of_text};
 use std::alloc::{AllocError, Global};
 use std::test::Fail;
 

@@ -1,12 +1,11 @@
 //! Each fault of atoms and wires that make no plant, and which is told where two are possible.
-use super::{atom, connector, export, name, wire, wire_with_transfer};
-use crate::fault::{SystemFault, WireFault};
-use crate::system::System;
-use crate::wire::{Transfer, Wire};
+use super::{atom, connector, export, wire, wire_with_transfer};
+use crate::tests::name;
 use connector_tree::TreeFault;
 use petri_atom::{Atom, Expression};
 use std::alloc::Global;
 use std::test::Fail;
+use step_core::{System, SystemFault, Transfer, Wire, WireFault};
 
 /// Two atoms, A and B, with port 0 each.
 fn two(alloc: Global) -> Result<Vec<Atom>, Fail> {

@@ -1,17 +1,17 @@
-//! What no clause says: that the clauses mean what they should, on values worked out by hand.
+//! The interactions of connectors, and plants that step.
 mod faults;
 mod priorities;
 mod running;
 mod runs;
 
-use crate::interactions::connector_interactions;
-use crate::wire::{Export, Transfer, Wire};
+use super::{name, place, port, variable};
 use connector_tree::{Child, Connector, Node, Port, TreeFault};
-use petri_atom::{Atom, Expression, Name, Operator, Place, Transition, Update, Variable};
+use petri_atom::{Atom, Expression, Operator, Transition, Update};
 use std::alloc::{AllocError, Global};
 use std::test::Fail;
+use step_core::{Export, Transfer, Wire, connector_interactions};
 
-pub(crate) fn leaf(atom: u16, trigger: bool) -> Child {
+fn leaf(atom: u16, trigger: bool) -> Child {
     Child {
         trigger,
         node: Node::Leaf { atom, port: 0 },
@@ -19,11 +19,7 @@ pub(crate) fn leaf(atom: u16, trigger: bool) -> Child {
 }
 
 /// A connector of port 0 of each atom, the first of which may be a trigger.
-pub(crate) fn connector(
-    alloc: Global,
-    atoms: &[u16],
-    trigger: bool,
-) -> Result<Connector, AllocError> {
+fn connector(alloc: Global, atoms: &[u16], trigger: bool) -> Result<Connector, AllocError> {
     let mut root = Vec::new(alloc);
     for (number, atom) in atoms.iter().enumerate() {
         root.push(leaf(*atom, trigger && number == 0))?;
@@ -31,16 +27,12 @@ pub(crate) fn connector(
     Ok(Connector { root })
 }
 
-pub(crate) fn name(text: &[u8]) -> Result<Name, Fail> {
-    Ok(Name::new(text).ok_or("no name")?)
-}
-
-pub(crate) fn export(leaf: u8) -> Export {
+fn export(leaf: u8) -> Export {
     Export { leaf, export: 0 }
 }
 
 /// A wire of this name over port 0 of each atom, without transfers.
-pub(crate) fn wire(alloc: Global, text: &[u8], atoms: &[u16]) -> Result<Wire, Fail> {
+fn wire(alloc: Global, text: &[u8], atoms: &[u16]) -> Result<Wire, Fail> {
     Ok(Wire {
         name: name(text)?,
         connector: connector(alloc, atoms, false)?,
@@ -50,7 +42,7 @@ pub(crate) fn wire(alloc: Global, text: &[u8], atoms: &[u16]) -> Result<Wire, Fa
 }
 
 /// The same with the transfer `target := value`, each by its leaf.
-pub(crate) fn wire_with_transfer(
+fn wire_with_transfer(
     alloc: Global,
     text: &[u8],
     atoms: &[u16],
@@ -88,7 +80,7 @@ fn count_on(alloc: Global) -> Result<Update, Fail> {
 
 /// An atom with one marked place, a variable that its one port exports, and for each bound a transition of that port,
 /// from the place to itself, that is offered where the variable is below the bound. With `counts`, each adds 1 to it.
-pub(crate) fn atom(
+fn atom(
     alloc: Global,
     text: &[u8],
     marked: bool,
@@ -96,22 +88,11 @@ pub(crate) fn atom(
     bounds: &[i64],
 ) -> Result<Atom, Fail> {
     let mut places = Vec::new(alloc);
-    places.push(Place {
-        name: name(b"s")?,
-        marked,
-    })?;
+    places.push(place(b"s", marked)?)?;
     let mut variables = Vec::new(alloc);
-    variables.push(Variable {
-        name: name(b"n")?,
-        first: 0,
-    })?;
-    let mut exports = Vec::new(alloc);
-    exports.push(0)?;
+    variables.push(variable(b"n", 0)?)?;
     let mut ports = Vec::new(alloc);
-    ports.push(petri_atom::Port {
-        name: name(b"t")?,
-        exports,
-    })?;
+    ports.push(port(alloc, b"t", &[0])?)?;
     let mut transitions = Vec::new(alloc);
     for bound in bounds {
         let sources = vec![in alloc; 0u8]?;
@@ -125,7 +106,7 @@ pub(crate) fn atom(
     Ok(Atom::new(alloc, name(text)?, places, variables, ports, transitions)?)
 }
 
-fn port(atom: u16) -> Port {
+fn first_port(atom: u16) -> Port {
     Port { atom, port: 0 }
 }
 
@@ -137,14 +118,17 @@ fn ports_rise_by_their_atoms(rt: HostRuntime) -> Result<(), Fail> {
     assert_eq!(rt; (all[0].connector, all[0].mask), (2, 7));
     assert_eq!(rt;
         all[0].ports.as_slice(),
-        [port(1), port(3), port(5)].as_slice()
+        [first_port(1), first_port(3), first_port(5)].as_slice()
     );
     let all = connector_interactions(alloc, 6, 1, &connector(alloc, &[4, 2], true)?)?;
     assert_eq!(rt; all.len(), 2);
     assert_eq!(rt; (all[0].connector, all[0].mask), (1, 1));
-    assert_eq!(rt; all[0].ports.as_slice(), [port(4)].as_slice());
+    assert_eq!(rt; all[0].ports.as_slice(), [first_port(4)].as_slice());
     assert_eq!(rt; (all[1].connector, all[1].mask), (1, 3));
-    assert_eq!(rt; all[1].ports.as_slice(), [port(2), port(4)].as_slice());
+    assert_eq!(rt;
+        all[1].ports.as_slice(),
+        [first_port(2), first_port(4)].as_slice()
+    );
     Ok(())
 }
 

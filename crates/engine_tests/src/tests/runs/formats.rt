@@ -1,7 +1,8 @@
 //! Runs in each format.
-use super::{PAGE, Page, counting, moving, name, place, port, variable, wire};
-use crate::{Format, trace_as};
+use super::{counting, moving, wire};
+use crate::tests::{PAGE, Page, name, place, port, variable};
 use petri_atom::{Atom, Expression, Transition};
+use run_text::{Format, trace_as};
 use std::alloc::Global;
 use std::test::Fail;
 use step_core::{Export, System, Transfer};
