@@ -1,19 +1,8 @@
-use Rattle.std.specs.Prelude.{◌≡◌, ◌≢◌, ℕ, Result, Err}
+use Rattle.std.specs.Prelude.{◌≡◌, ◌≢◌, Result, Err}
 use Rattle.plant_expressions.specs.declared.fault.ExpressionFault.{ExpressionFault}
 use Rattle.plant_expressions.specs.declared.fault.ExpressionFault.TheVariants as expression
 use Rattle.atom_lines.specs.declared.fault.LineFault.{LineFault}
 use Rattle.atom_lines.specs.declared.fault.LineFault.TheVariants.{BadName, Twice, UnknownName, BadExpression, BadNumber, Shape, Limit, Memory}
-
--- the number of a fault, as it is printed
-abbrev pub number_of : LineFault → ℕ
-number_of BadName = 5
-number_of Twice = 6
-number_of UnknownName = 7
-number_of BadExpression = 8
-number_of BadNumber = 9
-number_of Shape = 10
-number_of Limit = 13
-number_of Memory = 15
 
 -- a fault that is told is the one of what was read, or that memory ran out
 abbrev pub IsFaultOf : {A : Type 0} → Result A LineFault → LineFault → Type 0

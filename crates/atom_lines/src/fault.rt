@@ -1,6 +1,6 @@
 //! Why a line of a plant text says nothing that its atom or connector could take, or no rule.
 ghost use Rattle.std.specs.Prelude.{◌≡◌};
-ghost use Rattle.atom_lines.specs.Fault.{number_of, line_fault};
+ghost use Rattle.atom_lines.specs.Fault.{line_fault};
 ghost use Rattle.atom_lines.specs.declared.fault.LineFault.TheVariants as fault;
 
 use plant_expressions::ExpressionFault;
@@ -27,24 +27,6 @@ pub enum LineFault {
     Limit,
     /// Memory ran out.
     Memory,
-}
-
-impl LineFault {
-    /// The number of the fault, as it is printed.
-    pub fn number(&self) -> u8
-        ensures { result ≡ number_of self.now }
-    {
-        match self {
-            LineFault::BadName => 5,
-            LineFault::Twice => 6,
-            LineFault::UnknownName => 7,
-            LineFault::BadExpression => 8,
-            LineFault::BadNumber => 9,
-            LineFault::Shape => 10,
-            LineFault::Limit => 13,
-            LineFault::Memory => 15,
-        }
-    }
 }
 
 impl<T: Drop> From<AllocFailed<T>> for LineFault {

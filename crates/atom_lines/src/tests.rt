@@ -188,18 +188,6 @@ fn an_atom_may_have_no_parts(rt: HostRuntime) -> Result<(), Fail> {
 }
 
 #[test]
-fn faults_have_their_numbers(rt: HostRuntime) {
-    assert_eq!(rt; LineFault::BadName.number(), 5);
-    assert_eq!(rt; LineFault::Twice.number(), 6);
-    assert_eq!(rt; LineFault::UnknownName.number(), 7);
-    assert_eq!(rt; LineFault::BadExpression.number(), 8);
-    assert_eq!(rt; LineFault::BadNumber.number(), 9);
-    assert_eq!(rt; LineFault::Shape.number(), 10);
-    assert_eq!(rt; LineFault::Limit.number(), 13);
-    assert_eq!(rt; LineFault::Memory.number(), 15);
-}
-
-#[test]
 fn transitions_name_ports_and_places_by_number(rt: HostRuntime) -> Result<(), Fail> {
     let mut draft = sample(rt.alloc())?;
     transition(&mut draft, b"t from p to q p")?;

@@ -43,14 +43,6 @@ fault_told (Err SameAtom) = Some SameAtom
 fault_told (Err Empty) = Some Empty
 fault_told (Err Memory) = None
 
--- the number of a fault
-abbrev pub number_of : TreeFault → ℕ
-number_of TooManyLeaves = 1
-number_of TooDeep = 2
-number_of SameAtom = 3
-number_of Empty = 4
-number_of Memory = 5
-
 -- what a fault says to a person
 abbrev pub message_of : TreeFault → List ℕ
 message_of TooManyLeaves = codes "a connector may have at most " ++ decimal MAX_LEAVES ++ codes " ports"

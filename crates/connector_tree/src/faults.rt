@@ -1,5 +1,4 @@
 ghost use Rattle.std.specs.Prelude.{◌≡◌};
-ghost use Rattle.connector_tree.specs.Faults.{number_of};
 
 use crate::tree::{MAX_DEPTH, MAX_LEAVES};
 use std::alloc::AllocError;
@@ -19,21 +18,6 @@ pub enum TreeFault {
     Empty,
     /// There was no memory for the interactions.
     Memory,
-}
-
-impl TreeFault {
-    /// The number under which the fault is told.
-    pub fn number(&self) -> u8
-        ensures { result ≡ number_of self.now }
-    {
-        match self {
-            TreeFault::TooManyLeaves => 1,
-            TreeFault::TooDeep => 2,
-            TreeFault::SameAtom => 3,
-            TreeFault::Empty => 4,
-            TreeFault::Memory => 5,
-        }
-    }
 }
 
 impl fmt::Display for TreeFault {

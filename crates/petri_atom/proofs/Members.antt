@@ -1,4 +1,4 @@
-use Rattle.std.proofs.Common.{◌≡◌, ℕ, zero, suc, ◌+◌, ◌-◌, ◌*◌, ◌/◌, ◌%◌, ◌^◌, ◌<◌, ◌≤◌, Bool, true, false, cond, not, ◌&&◌, eqb, refl, sym, ◌∙◌, ap, arith, List, [], ◌∷◌, length, filter, Some, None, ⊎_elim}
+use Rattle.std.proofs.Common.{◌≡◌, ℕ, zero, suc, ◌+◌, ◌-◌, ◌*◌, ◌/◌, ◌%◌, ◌^◌, ◌<◌, ◌≤◌, Bool, true, false, cond, not, ◌&&◌, eqb, refl, sym, ◌∙◌, ap, arith, List, [], ◌∷◌, length, filter, find, Some, None, ⊎_elim}
 use Rattle.std.specs.Prelude.{bit_and, slice_get}
 use Rattle.std.specs.Int.{w128, trailing_zeros}
 use Rattle.std.specs.List.{range_with_len}
@@ -53,6 +53,9 @@ numbers_below-none n =
 
 pub nth-none : (n k : ℕ) → slice_get (numbers_below n 0) k ≡ None
 nth-none n k = ap (λ xs. slice_get xs k) (numbers_below-none n)
+
+pub find-none : (p : ℕ → Bool) (n : ℕ) → find p (numbers_below n 0) ≡ None
+find-none p n = ap (find p) (numbers_below-none n)
 
 -- a test twice over
 and_same : (b : Bool) → (b && b) ≡ b
@@ -156,6 +159,13 @@ module _ (w : ℕ) (some : 0 < w) (small : w < 2 ^ 128) where
 
   pub nth-later : (k : ℕ) → slice_get (numbers_below 128 w) (suc k) ≡ slice_get (numbers_below 128 rest) k
   nth-later k = ap (λ xs. slice_get xs (suc k)) numbers_below-first
+
+  -- and the first number that passes a test is the lowest where that does, and else the first of the others
+  pub find-lowest : (p : ℕ → Bool) → p t ≡ true → find p (numbers_below 128 w) ≡ Some t
+  find-lowest p passes = ap (find p) numbers_below-first ∙ ap (λ b. cond b (Some t) (find p (numbers_below 128 rest))) passes
+
+  pub find-others : (p : ℕ → Bool) → p t ≡ false → find p (numbers_below 128 w) ≡ find p (numbers_below 128 rest)
+  find-others p fails = ap (find p) numbers_below-first ∙ ap (λ b. cond b (Some t) (find p (numbers_below 128 rest))) fails
 
 -- of a set of transitions, the numbers of a port are those of its transitions that pass the set's test
 pub numbers_below-of_port : (f : ℕ → Bool) (port : ℕ) (ts : List TransitionDefinition) → length ts ≤ 128 → numbers_below 128 (bit_and (set_below (length ts) f) (set_of_port port ts)) ≡ filter f (numbers_of port ts)

@@ -1,7 +1,7 @@
 use Rattle.std.specs.Prelude.{ℕ, zero, suc, Bool, false, List, [], ◌∷◌, ◌++◌, length, map, slice_get, ◌==◌}
 use Rattle.std.specs.Option.{option_map_or}
 use Rattle.petri_atom.specs.Local.{set_below}
-use Rattle.petri_atom.specs.Definition.{PortDefinition, TransitionDefinition, AtomDefinition, numbers_of}
+use Rattle.petri_atom.specs.Definition.{PortDefinition, TransitionDefinition, AtomDefinition}
 use Rattle.petri_atom.specs.Transition.{transition_of}
 use Rattle.petri_atom.specs.declared.parts.Place.{Place}
 use Rattle.petri_atom.specs.declared.parts.Variable.{Variable}
@@ -26,10 +26,6 @@ definition_by name places variables ports transitions = record {
 abbrev pub table_below : {X : Type 0} → (ℕ → X) → ℕ → List X
 table_below of zero = []
 table_below of (suc n) = table_below of n ++ of n ∷ []
-
--- for each port below n, the numbers of its transitions
-abbrev pub index_below : ℕ → List TransitionDefinition → List (List ℕ)
-index_below n ts = table_below (λ port. numbers_of port ts) n
 
 -- the transition with a number is of the port
 abbrev pub is_of_port : ℕ → List TransitionDefinition → ℕ → Bool

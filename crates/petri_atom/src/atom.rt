@@ -1,7 +1,7 @@
 //! Atoms: what they are made of, which transitions a state offers, and what firing one leaves.
-ghost use Rattle.std.specs.Prelude.{◌≡◌, ◌≤◌, ◌↔◌, IsTrue, IfOk, IfErr, ◌&&◌, nat_le, None, map, filter, find, length, slice_get};
-ghost use Rattle.petri_atom.specs.Definition.{is_well_formed, fault_of, numbers_of, IsFaultOf};
-ghost use Rattle.petri_atom.specs.Parts.{port_of, definition_by, index_below, set_of_port, sets_below};
+ghost use Rattle.std.specs.Prelude.{◌≡◌, ◌≤◌, ◌↔◌, IsTrue, IfOk, IfErr, None, map, length};
+ghost use Rattle.petri_atom.specs.Definition.{is_well_formed, fault_of, IsFaultOf};
+ghost use Rattle.petri_atom.specs.Parts.{port_of, definition_by, set_of_port, sets_below};
 ghost use Rattle.petri_atom.specs.Groups.{AreGroupsOf, unguarded_set};
 ghost use Rattle.petri_atom.specs.Transition.{transition_of};
 ghost use Rattle.petri_atom.specs.declared.parts.TheConstants.{MAX_PORTS, MAX_TRANSITIONS};
@@ -19,8 +19,8 @@ use std::alloc::{AllocError, Global};
 /// An atom: a one-safe Petri net with variables and ports.
 ///
 /// Its places, variables, ports and transitions are numbered from 0 in the order of their lists. It keeps each rule of
-/// an atom, so that what can be asked of it cannot fail. For each port it has a list of the port's transitions, and a mask of
-/// their numbers, so that what a set of transitions has of a port is one operation. Transitions that ask the same of a
+/// an atom, so that what can be asked of it cannot fail. For each port it has the set of the port's transitions, so that what
+/// a set of transitions has of a port is one operation. Transitions that ask the same of a
 /// marking are a group, so that it is tested once for all of them; to find all that is offered, no guard that is a number other than 0 is looked at.
 #[derive(Debug, Drop)]
 pub struct Atom {
@@ -29,12 +29,10 @@ pub struct Atom {
     variables: Vec<Variable>,
     ports: Vec<Port>,
     transitions: Vec<Transition>,
-    by_port: Vec<Vec<u16>>,
     masks: Vec<u128>,
     pub(crate) groups: Vec<Group>,
     pub(crate) unguarded: u128,
     ghost well_formed: { IsTrue (is_well_formed (definition_by name places.items variables.items ports.items transitions.items)) },
-    ghost indexed: { map (λ numbers. numbers.items) by_port.items ≡ index_below (length ports.items) (map transition_of transitions.items) },
     ghost masked: { masks.items ≡ sets_below (length ports.items) (map transition_of transitions.items) },
     ghost grouped: { AreGroupsOf groups.items (map transition_of transitions.items) },
     ghost unguarded_bits: { unguarded ≡ unguarded_set (map transition_of transitions.items) },
@@ -42,7 +40,7 @@ pub struct Atom {
 
 impl Atom {
     ghost use Rattle.petri_atom.specs.Atom.{definition_of};
-    ghost use Rattle.petri_atom.specs.Definition.{Fits, enabled, exported_value, exports_of, offers_number, offers_port, first_from, fired, initial};
+    ghost use Rattle.petri_atom.specs.Definition.{Fits, exports_of, offers_number, fired, initial};
 
     /// The atom that is made of these parts, or the rule that they break first.
     pub fn new(
@@ -60,7 +58,6 @@ impl Atom {
         if let Some(fault) = rules::fault_of(&places, &variables, &ports, &transitions) {
             return Err(fault);
         }
-        let by_port = transitions_by_port(alloc, ports.len(), &transitions)?;
         let masks = masks_by_port(alloc, ports.len(), &transitions)?;
         let groups = groups_of(alloc, &transitions)?;
         let unguarded = mask_of_unguarded(&transitions);
@@ -70,7 +67,6 @@ impl Atom {
             variables,
             ports,
             transitions,
-            by_port,
             masks,
             groups,
             unguarded,
@@ -141,93 +137,12 @@ impl Atom {
         }
     }
 
-    /// The least transition of the port, from the number `from` on, that the state offers.
-    pub fn first_enabled(&self, state: &AtomState, port: u16, from: u16) -> Option<u16>
-        ensures { result ≡ first_from from (enabled (definition_of self.now) state.now port) }
-    {
-        self.first_offered(state, self.transitions_of(port), from)
-    }
-
-    /// The numbers of the port's transitions, rising; none of a port that is not there.
-    pub fn transitions_of(&self, port: u16) -> &[u16]
-        ensures { result.now ≡ numbers_of port (definition_of self.now).transitions }
-    {
-        match self.by_port.get(usize::from(port)) {
-            Some(numbers) => numbers,
-            None => &[],
-        }
-    }
-
     /// The set of the port's transitions, empty of a port that is not there.
     pub(crate) fn mask_of(&self, port: u16) -> u128
         ensures { result ≡ set_of_port port (definition_of self.now).transitions }
     {
         match self.masks.get(usize::from(port)) {
             Some(mask) => *mask,
-            None => 0,
-        }
-    }
-
-    /// The first of some transitions, from the number `from` on, that the state offers.
-    fn first_offered(&self, state: &AtomState, numbers: &[u16], from: u16) -> Option<u16>
-        ensures { result ≡ find (λ n. nat_le from n && offers_number (definition_of self.now) state.now n) numbers.now }
-    {
-        for number in numbers {
-            if self.is_offered_from(state, from, *number) {
-                return Some(*number);
-            }
-        }
-        None
-    }
-
-    /// Whether the transition is not before `from`, and the state offers it.
-    fn is_offered_from(&self, state: &AtomState, from: u16, transition: u16) -> bool
-        ensures { result ≡ (nat_le from transition && offers_number (definition_of self.now) state.now transition) }
-    {
-        from <= transition && self.is_offered(state, transition)
-    }
-
-    /// How many transitions of the port the state offers.
-    pub fn enabled_count(&self, state: &AtomState, port: u16) -> usize
-        ensures { result ≡ length (enabled (definition_of self.now) state.now port) }
-    {
-        self.transitions_of(port)
-            .iter()
-            .filter(|number| self.is_offered(state, **number))
-            .count()
-    }
-
-    /// The transition with this place, from 0, among those of the port that the state offers, by rising number.
-    pub fn nth_enabled(&self, state: &AtomState, port: u16, place: usize) -> Option<u16>
-        ensures { result ≡ slice_get (enabled (definition_of self.now) state.now port) place }
-    {
-        let mut left = place;
-        for number in self.transitions_of(port) {
-            if self.is_offered(state, *number) {
-                if left == 0 {
-                    return Some(*number);
-                }
-                left -= 1;
-            }
-        }
-        None
-    }
-
-    /// Whether the state offers a transition of the port.
-    pub fn offers(&self, state: &AtomState, port: u16) -> bool
-        ensures { result ≡ offers_port (definition_of self.now) state.now port }
-    {
-        self.transitions_of(port)
-            .iter()
-            .any(|number| self.is_offered(state, *number))
-    }
-
-    /// The value of a variable that the port exports, by its place among those; 0 where the port exports no such one.
-    pub fn exported(&self, state: &AtomState, port: u16, export: u8) -> i64
-        ensures { result ≡ exported_value (definition_of self.now) state.now port export }
-    {
-        match self.exports(port).get(usize::from(export)) {
-            Some(variable) => state.value(*variable),
             None => 0,
         }
     }
@@ -264,41 +179,6 @@ impl Atom {
         transition.update(state);
         transition.shift(state);
     }
-}
-
-/// For each port below the number, the numbers of its transitions.
-fn transitions_by_port(
-    alloc: Global,
-    ports: usize,
-    transitions: &[Transition],
-) -> Result<Vec<Vec<u16>>, AllocError>
-    requires ports { ports ≤ MAX_PORTS }
-    requires transitions { length transitions.now ≤ MAX_TRANSITIONS }
-    ensures { IfOk result (λ lists. map (λ numbers. numbers.items) lists.items ≡ index_below ports (map transition_of transitions.now)) }
-{
-    let mut lists = Vec::with_capacity(alloc, ports)?;
-    for port in 0..ports {
-        lists.push(transitions_of_port(alloc, port as u16, transitions)?)?;
-    }
-    Ok(lists)
-}
-
-/// The numbers of the port's transitions, rising.
-fn transitions_of_port(
-    alloc: Global,
-    port: u16,
-    transitions: &[Transition],
-) -> Result<Vec<u16>, AllocError>
-    requires { length transitions.now ≤ MAX_TRANSITIONS }
-    ensures { IfOk result (λ numbers. numbers.items ≡ numbers_of port (map transition_of transitions.now)) }
-{
-    let mut numbers = Vec::new(alloc);
-    for (number, transition) in transitions.iter().enumerate() {
-        if transition.port() == port {
-            numbers.push(number as u16)?;
-        }
-    }
-    Ok(numbers)
 }
 
 /// For each port below the number, the set of its transitions.

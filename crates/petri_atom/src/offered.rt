@@ -2,7 +2,7 @@
 ghost use Rattle.std.specs.Prelude.{◌≡◌, ℕ, ◌<◌, ◌≤◌, ◌&&◌, IsTrue, length, slice_get, slice_index_or};
 ghost use Rattle.petri_atom.specs.Local.{Local, has, numbers_below, set_below};
 ghost use Rattle.petri_atom.specs.Groups.{passes_guard};
-ghost use Rattle.petri_atom.specs.Definition.{enabled, offered_set, offers_port};
+ghost use Rattle.petri_atom.specs.Definition.{enabled, first_from, offered_set, offers_port};
 ghost use Rattle.petri_atom.specs.declared.parts.TheConstants.{MAX_PORTS, MAX_TRANSITIONS};
 
 use crate::atom::Atom;
@@ -74,8 +74,22 @@ impl Atom {
         passing
     }
 
+    /// Whether the state offers a transition of the port.
+    pub fn offers(&self, state: &AtomState, port: u16) -> bool
+        ensures { result ≡ offers_port (definition_of self.now) state.now port }
+    {
+        self.offered(state).word & self.mask_of(port) != 0
+    }
+
+    /// The least transition of the port, from the number `from` on, that the state offers.
+    pub fn first_enabled(&self, state: &AtomState, port: u16, from: u16) -> Option<u16>
+        ensures { result ≡ first_from from (enabled (definition_of self.now) state.now port) }
+    {
+        first_in(self.offered(state).word & self.mask_of(port), from)
+    }
+
     /// How many of the port's transitions are in the set of those that a state offers.
-    pub fn count_among(&self, offered: TransitionSet, port: u16) -> usize
+    fn count_among(&self, offered: TransitionSet, port: u16) -> usize
         ensures few { result ≤ MAX_TRANSITIONS }
         ensures count { (state : Local) → offered ≡ offered_set (definition_of self.now) state → result ≡ length (enabled (definition_of self.now) state port) }
     {
@@ -98,13 +112,6 @@ impl Atom {
             counts[port] = self.count_among(offered, port as u16) as u8;
         }
         counts
-    }
-
-    /// Whether one of the port's transitions is in the set of those that a state offers.
-    pub fn offers_among(&self, offered: TransitionSet, port: u16) -> bool
-        ensures { (state : Local) → offered ≡ offered_set (definition_of self.now) state → result ≡ offers_port (definition_of self.now) state port }
-    {
-        offered.word & self.mask_of(port) != 0
     }
 
     /// The transition with this place, from 0, among the port's transitions in the set of those that a state offers, by
@@ -132,4 +139,19 @@ fn nth_in(set: u128, place: usize) -> Option<u16>
     } else {
         Some(left.trailing_zeros() as u16)
     }
+}
+
+/// The least number in the set that is not before `from`.
+fn first_in(set: u128, from: u16) -> Option<u16>
+    ensures { result ≡ first_from from (numbers_below MAX_TRANSITIONS set) }
+{
+    let mut left = set;
+    while left != 0 {
+        let number = left.trailing_zeros() as u16;
+        if from <= number {
+            return Some(number);
+        }
+        left &= left - 1;
+    }
+    None
 }

@@ -1,5 +1,4 @@
 pub mod DecidedTests
-pub mod FirstMember
 pub mod MemberLaws
 pub mod CommonMembers
 pub mod Chains

@@ -6,7 +6,6 @@ use Rattle.priority_filter.specs.declared.rule.Side.TheVariants.{Whole, One}
 use Rattle.priority_filter.specs.declared.rule.Rule.{Rule}
 use Rattle.priority_filter.specs.declared.rule.Rule.TheVariants.{Under, Maximal}
 use Rattle.priority_filter.specs.declared.fault.OrderFault.TheVariants.{Cycle, UnknownName, Memory}
-use Rattle.priority_filter.specs.Fault.{number_of}
 use Rattle.priority_filter.specs.Members.{members_of}
 use Rattle.priority_filter.specs.Rule.{IsProperSubset, IsOn, Puts}
 use Rattle.priority_filter.specs.Order.{interaction_at, rule_at, IsRuleStep, IsBelow, IsFirstCyclic, IsKnown, IsFirstUnknown}
@@ -191,10 +190,7 @@ computed_unknown : (order_fault (Maximal 1 ∷ Maximal 3 ∷ []) plant ≡ Some 
 unfolding is_below order_fault
 computed_unknown = (refl, refl)
 
--- ---- faults and bits
-
-fault_numbers : (number_of (Cycle 5) ≡ 1) × (number_of (UnknownName 0) ≡ 2) × (number_of Memory ≡ 3)
-fault_numbers = (refl, refl, refl)
+-- ---- bits
 
 -- bit 1 of the second word stands for interaction 65
 bit_65 : contains (members_of (0 ∷ 2 ∷ [])) 65 ≡ true

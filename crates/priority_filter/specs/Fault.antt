@@ -1,14 +1,8 @@
--- The numbers of the faults, and what they say.
+-- What the faults say.
 use Rattle.std.specs.Prelude.{ℕ, List, ◌++◌, codes}
 use Rattle.std.specs.Fmt.{decimal}
 use Rattle.priority_filter.specs.declared.fault.OrderFault.{OrderFault}
 use Rattle.priority_filter.specs.declared.fault.OrderFault.TheVariants.{Cycle, UnknownName, Memory}
-
--- the number that stands for the fault
-abbrev pub number_of : OrderFault → ℕ
-number_of (Cycle interaction) = 1
-number_of (UnknownName rule) = 2
-number_of Memory = 3
 
 -- what a fault says to a person
 abbrev pub message_of : OrderFault → List ℕ

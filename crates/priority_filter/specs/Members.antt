@@ -17,7 +17,3 @@ holds words k = nat_eq (bit_at (slice_index words (k / 64)) (k % 64)) 1
 -- the set of all interactions that the words hold
 unfoldable pub members_of : List ℕ → FinSet nat_cmp
 members_of words = from_list (filter (holds words) (range_with_len 0 (64 * length words)))
-
--- n is a number of an interaction, passes, and is the first from `from` on that does
-abbrev pub IsFirst : (ℕ → Bool) → ℕ → ℕ → Type 0
-IsFirst has from n = (from ≤ n) × (n < INTERACTION_LIMIT) × (has n ≡ true) × ((m : ℕ) → from ≤ m → m < n → has m ≡ false)

@@ -1,6 +1,4 @@
 //! Why there is no order.
-ghost use Rattle.std.specs.Prelude.{◌≡◌};
-
 use std::alloc::AllocError;
 use std::error::Error;
 use std::fmt;
@@ -15,21 +13,6 @@ pub enum OrderFault {
     UnknownName(usize),
     /// Memory ran out.
     Memory,
-}
-
-impl OrderFault {
-    ghost use Rattle.priority_filter.specs.Fault.{number_of};
-
-    /// The number that stands for the fault in printed lines.
-    pub fn number(self) -> u8
-        ensures { result ≡ number_of self }
-    {
-        match self {
-            OrderFault::Cycle(_) => 1,
-            OrderFault::UnknownName(_) => 2,
-            OrderFault::Memory => 3,
-        }
-    }
 }
 
 impl fmt::Display for OrderFault {
@@ -70,22 +53,19 @@ mod tests {
     use std::test::Fail;
 
     #[test]
-    fn faults_have_numbers_and_texts(rt: HostRuntime) -> Result<(), Fail> {
+    fn faults_have_texts(rt: HostRuntime) -> Result<(), Fail> {
         let cases = [
             (
                 OrderFault::Cycle(5),
-                1,
                 "the rules put interaction 5 below itself",
             ),
             (
                 OrderFault::UnknownName(2),
-                2,
                 "rule 2 names no interaction of the plant",
             ),
-            (OrderFault::Memory, 3, "out of memory"),
+            (OrderFault::Memory, "out of memory"),
         ];
-        for (fault, number, text) in cases {
-            assert_eq!(rt; fault.number(), number);
+        for (fault, text) in cases {
             assert_eq!(rt; format!(in rt.alloc(); "{fault}")?.as_str(), text);
         }
         Ok(())

@@ -1,9 +1,9 @@
 //! A set of interaction numbers, kept as a row of bits.
-ghost use Rattle.std.specs.Prelude.{◌≡◌, ℕ, ◌*◌, ◌/◌, ◌%◌, ◌||◌, ◌<◌, ◌≤◌, ◌↔◌, true, false, IsTrue, IfSome, IfNone, Some, None, if◌then◌else◌, nat_lt, bit_or, slice_index};
+ghost use Rattle.std.specs.Prelude.{◌≡◌, ℕ, ◌*◌, ◌/◌, ◌%◌, ◌||◌, ◌<◌, ◌≤◌, ◌↔◌, false, IsTrue, bit_or, slice_index};
 ghost use Rattle.std.specs.Ordering.{nat_cmp};
 ghost use Rattle.std.specs.FinSet as set;
 ghost use Rattle.std.specs.Coded.{coded_ℕ};
-ghost use Rattle.priority_filter.specs.Members.{has_bit, holds, members_of, IsFirst};
+ghost use Rattle.priority_filter.specs.Members.{has_bit, holds, members_of};
 
 use std::marker::Model;
 
@@ -57,39 +57,11 @@ impl InteractionSet {
         }
     }
 
-    /// Takes the interaction out, where it is in.
-    pub fn remove(&mut self, interaction: u16)
-        ensures removed { self.new ≡ set.remove self.old interaction }
-        ensures past { INTERACTION_LIMIT ≤ interaction → self.new ≡ self.old }
-    {
-        let place = usize::from(interaction);
-        if place < INTERACTION_LIMIT {
-            self.words[place / 64] &= !(1 << (place % 64));
-        }
-    }
-
     /// Takes all interactions out.
     pub fn clear(&mut self)
         ensures { self.new ≡ set.empty }
     {
         self.words = [0; ROW_WORDS];
-    }
-
-    /// The least interaction of the set from `from` on, if there is one.
-    pub fn first_from(&self, from: u16) -> Option<u16>
-        ensures found { IfSome result (λ n. (from ≤ n) × (n < INTERACTION_LIMIT) × (set.contains self.now n ≡ true) × ((m : ℕ) → from ≤ m → m < n → set.contains self.now m ≡ false)) }
-        ensures none { IfNone result ((m : ℕ) → from ≤ m → set.contains self.now m ≡ false) }
-    {
-        first_in_words(&self.words, usize::from(from), INTERACTION_LIMIT)
-    }
-
-    /// The least interaction of the set from `from` on and below `end`, if there is one. No word past those up to `end` is looked at.
-    pub fn first_between(&self, from: u16, end: usize) -> Option<u16>
-        requires { end ≤ INTERACTION_LIMIT }
-        ensures found { IfSome result (λ n. (from ≤ n) × (n < end) × (set.contains self.now n ≡ true) × ((m : ℕ) → from ≤ m → m < n → set.contains self.now m ≡ false)) }
-        ensures none { IfNone result ((m : ℕ) → from ≤ m → m < end → set.contains self.now m ≡ false) }
-    {
-        first_in_words(&self.words, usize::from(from), end)
     }
 
     /// The same interactions in a set of its own.
@@ -152,47 +124,6 @@ impl Default for InteractionSet {
     }
 }
 
-/// The first number from `from` on in the word that has the bit of `from`.
-fn first_in_word(words: &[u64; ROW_WORDS], from: usize) -> Option<u16>
-    requires { from < INTERACTION_LIMIT }
-    ensures found { IfSome result (λ n. IsFirst (holds words.now) from n) }
-    ensures none { IfNone result ((m : ℕ) → from ≤ m → m / 64 ≡ from / 64 → holds words.now m ≡ false) }
-{
-    let rest = words[from / 64] >> (from % 64);
-    if rest == 0 {
-        None
-    } else {
-        Some((from + rest.trailing_zeros() as usize) as u16)
-    }
-}
-
-/// The first number from `from` on and below `end`, if there is one.
-fn first_in_words(words: &[u64; ROW_WORDS], from: usize, end: usize) -> Option<u16>
-    requires { end ≤ INTERACTION_LIMIT }
-    ensures found { IfSome result (λ n. (n < end) × IsFirst (holds words.now) from n) }
-    ensures none { IfNone result ((m : ℕ) → from ≤ m → m < end → holds words.now m ≡ false) }
-{
-    let mut place = from;
-    while place < end {
-        if let Some(first) = first_in_word(words, place) {
-            return below(first, end);
-        }
-        place = (place / 64 + 1) * 64;
-    }
-    None
-}
-
-/// The number, if it is below the end.
-fn below(number: u16, end: usize) -> Option<u16>
-    ensures { result ≡ (if nat_lt number end then Some number else None) }
-{
-    if usize::from(number) < end {
-        Some(number)
-    } else {
-        None
-    }
-}
-
 /// Sets each bit of the first words that is set in the other words.
 fn unite(words: &mut [u64; ROW_WORDS], other: &[u64; ROW_WORDS], count: usize)
     requires { count ≤ ROW_WORDS }
@@ -246,52 +177,13 @@ mod tests {
             let here = usize::from(number) / 64;
             let mut all = set.copy();
             assert!(rt; all.intersects(&set, here) && all.intersects(&set, ROW_WORDS));
-            all.remove(number);
+            all.clear();
             assert!(rt; !all.intersects(&set, here) && !all.intersects(&set, ROW_WORDS));
             all.insert(512);
             all.union_with(&set);
             assert!(rt; all.contains(512) && all.contains(number));
             all.clear();
             assert!(rt; !all.contains(512) && !all.contains(number));
-        }
-    }
-
-    #[test]
-    fn members_are_gone_over_in_order(rt: HostRuntime) {
-        let members = [0, 1, 63, 64, 127, 640, 1023];
-        let mut set = InteractionSet::new();
-        assert_eq!(rt; set.first_from(0), None);
-        for number in members {
-            set.insert(number);
-        }
-        let mut from = 0;
-        for number in members {
-            assert_eq!(rt; set.first_from(from), Some(number), "from {from}");
-            from = number + 1;
-        }
-        for past in [1024, 1025, 2047, 65535] {
-            assert_eq!(rt; set.first_from(past), None, "from {past}");
-        }
-    }
-
-    #[test]
-    fn a_member_is_the_first_from_itself(rt: HostRuntime) {
-        let mut set = InteractionSet::new();
-        set.insert(5);
-        set.insert(700);
-        for (from, first) in [
-            (4, 5),
-            (5, 5),
-            (6, 700),
-            (63, 700),
-            (64, 700),
-            (699, 700),
-            (700, 700),
-        ] {
-            assert_eq!(rt; set.first_from(from), Some(first), "from {from}");
-        }
-        for from in [701, 703, 704, 1023] {
-            assert_eq!(rt; set.first_from(from), None, "from {from}");
         }
     }
 
@@ -320,7 +212,6 @@ mod tests {
             for number in [0, 1, 1023] {
                 set.insert(number);
             }
-            set.remove(outside);
             for number in [0, 1, 1023] {
                 assert!(rt; set.contains(number), "{number} after {outside}");
             }
