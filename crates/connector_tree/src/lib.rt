@@ -22,8 +22,6 @@ pub mod laws;
 mod ports;
 mod row;
 mod shape;
-#[cfg(test)]
-mod tests;
 mod tree;
 mod walk;
 

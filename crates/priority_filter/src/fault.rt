@@ -46,28 +46,3 @@ impl From<AllocError> for OrderFault {
         OrderFault::Memory
     }
 }
-
-#[cfg(test)]
-mod tests {
-    use super::*;
-    use std::test::Fail;
-
-    #[test]
-    fn faults_have_texts(rt: HostRuntime) -> Result<(), Fail> {
-        let cases = [
-            (
-                OrderFault::Cycle(5),
-                "the rules put interaction 5 below itself",
-            ),
-            (
-                OrderFault::UnknownName(2),
-                "rule 2 names no interaction of the plant",
-            ),
-            (OrderFault::Memory, "out of memory"),
-        ];
-        for (fault, text) in cases {
-            assert_eq!(rt; format!(in rt.alloc(); "{fault}")?.as_str(), text);
-        }
-        Ok(())
-    }
-}

@@ -125,6 +125,3 @@ fn first_unknown(rules: &[Rule], interactions: &[(u16, u16)]) -> Option<usize>
     }
     None
 }
-
-#[cfg(test)]
-mod tests;

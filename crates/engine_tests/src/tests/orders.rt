@@ -1,7 +1,8 @@
-use super::*;
-use crate::interaction_set::ROW_WORDS;
-use crate::rule::Rule::{Maximal, Under};
-use crate::rule::Side::{One, Whole};
+//! The priority order, and sets of interactions.
+use priority_filter::Rule::{Maximal, Under};
+use priority_filter::Side::{One, Whole};
+use priority_filter::{INTERACTION_LIMIT, InteractionSet, Order, OrderFault, ROW_WORDS, Rule};
+use std::alloc::Global;
 use std::process::Abort;
 use std::test::Fail;
 
@@ -273,6 +274,74 @@ fn a_filter_leaves_what_nothing_possible_is_above(rt: HostRuntime) -> Result<(),
             let kept = expected.iter().any(|other| *other == number);
             assert_eq!(rt; allowed.contains(number), kept, "{number} of {numbers:?}");
         }
+    }
+    Ok(())
+}
+
+#[test]
+fn the_ends_of_words_are_kept_apart(rt: HostRuntime) {
+    for number in [0, 1, 63, 64, 127, 128, 1022, 1023] {
+        let mut set = InteractionSet::default();
+        assert!(rt; !set.contains(number));
+        set.insert(number);
+        for other in [0, 1, 63, 64, 127, 128, 1022, 1023] {
+            assert_eq!(rt; set.contains(other), other == number, "{other} in {number}");
+        }
+        let mut all = set.copy();
+        all.insert(512);
+        all.union_with(&set);
+        assert!(rt; all.contains(512) && all.contains(number));
+        all.clear();
+        assert!(rt; !all.contains(512) && !all.contains(number));
+    }
+}
+
+#[test]
+fn a_copy_and_a_union_hold_both(rt: HostRuntime) {
+    let mut low = InteractionSet::new();
+    low.insert(3);
+    let mut high = low.copy();
+    high.insert(900);
+    assert!(rt; !low.contains(900));
+    low.insert(70);
+    low.union_with(&high);
+    assert!(rt; low.contains(3) && low.contains(70) && low.contains(900));
+    assert!(rt; high.contains(3) && !high.contains(70));
+}
+
+#[test]
+fn numbers_of_no_interaction_stay_out(rt: HostRuntime) {
+    // Their last ten bits are those of 0, 1 and 1023.
+    for outside in [1024, 1025, 2047, 65535] {
+        let mut set = InteractionSet::new();
+        set.insert(outside);
+        for number in [0, 1, 63, 64, 1023, outside] {
+            assert!(rt; !set.contains(number), "{number} after {outside}");
+        }
+        for number in [0, 1, 1023] {
+            set.insert(number);
+        }
+        for number in [0, 1, 1023] {
+            assert!(rt; set.contains(number), "{number} after {outside}");
+        }
+    }
+}
+
+#[test]
+fn faults_have_texts(rt: HostRuntime) -> Result<(), Fail> {
+    let cases = [
+        (
+            OrderFault::Cycle(5),
+            "the rules put interaction 5 below itself",
+        ),
+        (
+            OrderFault::UnknownName(2),
+            "rule 2 names no interaction of the plant",
+        ),
+        (OrderFault::Memory, "out of memory"),
+    ];
+    for (fault, text) in cases {
+        assert_eq!(rt; format!(in rt.alloc(); "{fault}")?.as_str(), text);
     }
     Ok(())
 }

@@ -1,4 +1,7 @@
-use super::*;
+//! Connectors: their interactions, their faults and their leaves.
+use connector_tree::{
+    Child, Connector, LeafRow, Mask, Node, Port, TreeFault, first_fault, interactions, leaves,
+};
 use std::alloc::{AllocError, Global};
 use std::process::Abort;
 use std::test::Fail;
