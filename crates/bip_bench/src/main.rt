@@ -14,8 +14,6 @@ mod hash;
 mod picks;
 mod process;
 mod report;
-#[cfg(test)]
-mod tests;
 
 use std::process::ExitCode;
 

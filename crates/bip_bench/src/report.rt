@@ -1,4 +1,8 @@
 //! The lines that are printed.
+ghost use Rattle.std.specs.Prelude.{◌≡◌};
+ghost use Rattle.std.specs.Duration.{as_nanos};
+ghost use Rattle.bip_bench.specs.Report.{rate_of};
+
 use std::fmt;
 use std::time::Duration;
 
@@ -13,7 +17,9 @@ impl fmt::Display for Seconds {
 }
 
 /// How many steps a second so many in this time are, rounded down; 0 where no time went by.
-pub(crate) fn rate(steps: u64, time: Duration) -> u128 {
+pub(crate) fn rate(steps: u64, time: Duration) -> u128
+    ensures { result ≡ rate_of steps (as_nanos time) }
+{
     match time.as_nanos() {
         0 => 0,
         nanoseconds => u128::from(steps) * 1_000_000_000 / nanoseconds,

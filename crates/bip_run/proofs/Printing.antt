@@ -7,7 +7,7 @@ use Rattle.plant_text.specs.Text.{PlantText, text_of}
 use Rattle.plant_text.specs.Meaning.{meaning}
 use Rattle.bip_run.specs.Printed.{counted, printed_of, Prints}
 use Rattle.bip_run.specs.Stop.{Tells, IsOfOutput}
-use Rattle.bip_run.specs.declared.request.Task.{Task}
+use Rattle.command_line.specs.declared.request.Task.{Task}
 use Rattle.bip_run.specs.declared.stop.Stop.{Stop}
 use Rattle.bip_run.specs.declared.stop.Stop.TheVariants.{Usage, Plant, Unopened, Memory, Unwritten}
 

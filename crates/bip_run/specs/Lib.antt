@@ -1,5 +1,3 @@
 pub mod Explanation
-pub mod Formats
-pub mod Picks
 pub mod Printed
 pub mod Stop

@@ -7,8 +7,8 @@ use Rattle.plant_text.specs.Text.{text_of}
 use Rattle.plant_text.specs.Meaning.{meaning}
 use Rattle.plant_drawing.specs.Drawing.{drawing_of}
 use Rattle.run_text.specs.Trace.{trace_in}
-use Rattle.bip_run.specs.declared.request.Task.{Task}
-use Rattle.bip_run.specs.declared.request.Task.TheVariants.{Check, Trace, Draw}
+use Rattle.command_line.specs.declared.request.Task.{Task}
+use Rattle.command_line.specs.declared.request.Task.TheVariants.{Check, Trace, Draw}
 
 -- a count behind the word for what is counted
 abbrev pub counted : List ℕ → ℕ → List ℕ

@@ -8,6 +8,8 @@ use Rattle.plant_text.specs.declared.fault.Fault.TheVariants as fault
 use Rattle.plant_text.specs.declared.fault.PlantFault.{PlantFault}
 use Rattle.run_text.specs.declared.fault.TraceFault.{TraceFault}
 use Rattle.run_text.specs.declared.fault.TraceFault.TheVariants as trace
+use Rattle.command_line.specs.declared.answer.Answered.{Answered}
+use Rattle.command_line.specs.declared.answer.Answered.TheVariants as answered
 use Rattle.bip_run.specs.declared.stop.Stop.{Stop}
 use Rattle.bip_run.specs.declared.stop.Stop.TheVariants.{Usage, Plant, Unopened, Memory, Unwritten}
 
@@ -25,6 +27,13 @@ status_of (Err (Plant told)) = fault_status told.fault
 status_of (Err Unopened) = 3
 status_of (Err Memory) = 3
 status_of (Err Unwritten) = 3
+
+-- how the program ends where the words of the command line are no request, and it was told so
+abbrev pub ended_by : Answered → Result (Unit {0}) Stop
+ended_by answered.Helped = Ok tt
+ended_by answered.Usage = Err Usage
+ended_by answered.Memory = Err Memory
+ended_by answered.Unwritten = Err Unwritten
 
 -- the number that a fault speaks of, in parentheses
 abbrev pub subject_text : Option ℕ → List ℕ

@@ -4,25 +4,18 @@
 //! plant, what is told where it ends early, and which status the program then ends with are definitions in `specs/`, to which
 //! contracts tie the functions that do it:
 //!
-//! - `process`: the command line, the plant's file, the standard input, output and error.
-//! - `command_line`: the words, judged by `clap`; the result is a [`request::Request`].
-//! - `picks`: the words of a run's picks. `formats`: the words for the formats of a run.
+//! - `process`: the words, the plant's file, the standard input, output and error. What the words ask for is read by the
+//!   crate `command_line`.
 //! - `task`: what is done with a plant text, from a reader to a writer. `counts`: how many parts a plant has.
 //! - `stop`: why the program ends early, what it tells then, and its exit status.
 //! - `explanation`: the line of a fault, with a mark under what is at fault.
 #![tactic(auto)]
 
-mod command_line;
 mod counts;
 mod explanation;
-mod formats;
-mod picks;
 mod process;
-mod request;
 mod stop;
 mod task;
-#[cfg(test)]
-mod tests;
 
 use std::io::IsTerminal;
 use std::process::ExitCode;

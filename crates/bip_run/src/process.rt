@@ -1,16 +1,11 @@
 //! The program in its process: words, files, the standard output and error.
-ghost use Rattle.std.specs.Prelude.{◌≡◌, ◌≢◌, ◌↔◌, Err, IfErr};
-ghost use Rattle.clap.specs.Words.{kind_of};
-ghost use Rattle.bip_run.specs.Stop.{status_of, IsOfOutput};
-ghost use Rattle.bip_run.specs.declared.stop.Stop.TheVariants.{Usage, Memory};
+ghost use Rattle.std.specs.Prelude.{◌≡◌};
+ghost use Rattle.bip_run.specs.Stop.{status_of};
 
-use crate::command_line::read_request;
 use crate::explanation::explanation_in;
-use crate::request::Request;
-use crate::stop::{Stop, Told, exit_status};
+use crate::stop::{Stop, Told, ended, exit_status};
 use crate::task::perform;
-use clap::Error;
-use clap::error::ErrorKind;
+use command_line::{Request, read_request};
 use plant_text::PlantFault;
 use std::alloc::AllocError;
 use std::io::{BufWriter, ErrorKind as IoErrorKind};
@@ -50,27 +45,10 @@ fn answer<R: Files + Input + Print + Eprint + AllocGlobal>(
     words: &[String],
     explain: bool,
 ) -> u8 {
-    match read_request(rt.alloc(), words) {
+    match read_request(rt, words) {
         Ok(request) => serve(rt, &request, explain),
-        Err(told) => end(rt, "", show(rt, &told)),
+        Err(answered) => end(rt, "", ended(answered)),
     }
-}
-
-/// Prints what `clap` has to say: help that was asked for on the standard output, and anything else on the standard error.
-fn show<R: Print + Eprint>(rt: &R, told: &Error) -> Result<(), Stop>
-    ensures shown { IfErr result (λ stop. stop ≢ Usage → IsOfOutput stop) }
-    ensures memory { (result ≡ Err Memory) ↔ (kind_of told.now ≡ ErrorKind.OutOfMemory) }
-    ensures usage { (result ≡ Err Usage) ↔
-        ((kind_of told.now ≢ ErrorKind.OutOfMemory) × (kind_of told.now ≢ ErrorKind.DisplayHelp) × (kind_of told.now ≢ ErrorKind.DisplayVersion)) }
-{
-    if told.kind() == ErrorKind::OutOfMemory {
-        return Err(Stop::Memory);
-    }
-    let shown = told.print(rt);
-    if told.use_stderr() {
-        return Err(Stop::Usage);
-    }
-    shown.map_err(|_| Stop::Unwritten)
 }
 
 /// Does what was asked for, tells why not where it stops, and gives the exit status.

@@ -1,7 +1,8 @@
 //! Why the program ends early, what it tells then, and its exit status.
 ghost use Rattle.std.specs.Prelude.{◌≡◌};
-ghost use Rattle.bip_run.specs.Stop.{status_of};
+ghost use Rattle.bip_run.specs.Stop.{ended_by, status_of};
 
+use command_line::Answered;
 use plant_text::{Fault, PlantFault};
 use run_text::TraceFault;
 use std::fmt;
@@ -37,6 +38,18 @@ pub(crate) fn exit_status(ended: &Result<(), Stop>) -> u8
         Err(Stop::Unopened) => 3,
         Err(Stop::Memory) => 3,
         Err(Stop::Unwritten) => 3,
+    }
+}
+
+/// How the program ends where the words of the command line are no request, and it was told so.
+pub(crate) fn ended(answered: Answered) -> Result<(), Stop>
+    ensures { result ≡ ended_by answered }
+{
+    match answered {
+        Answered::Helped => Ok(()),
+        Answered::Usage => Err(Stop::Usage),
+        Answered::Memory => Err(Stop::Memory),
+        Answered::Unwritten => Err(Stop::Unwritten),
     }
 }
 

@@ -9,8 +9,8 @@ ghost use Rattle.bip_run.specs.Stop.{Tells, IsOfOutput};
 ghost use Rattle.bip_run.specs.declared.stop.Stop.TheVariants.{Plant};
 
 use crate::counts::print_counts;
-use crate::request::Task;
 use crate::stop::Stop;
+use command_line::Task;
 use plant_drawing::draw_to;
 use plant_text::{PlantFault, plant_of_text};
 use run_text::trace_as;

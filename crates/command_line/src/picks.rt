@@ -1,0 +1,50 @@
+//! The picks of a run, as words of the command line.
+ghost use Rattle.std.specs.Prelude.{◌≡◌, [], map, Ok, Err, IfOk, IfErr};
+ghost use Rattle.command_line.specs.Picks.{picks_in, IsFaultOf};
+
+use plant_words::read_decimal;
+use std::alloc::{AllocError, AllocFailed, Global};
+
+/// Why words are no picks.
+#[derive(Clone, Copy, Debug, PartialEq, Eq)]
+pub(crate) enum PickFault<'a> {
+    /// The first word that is no pick.
+    NoPick(&'a str),
+    /// Memory ran out.
+    Memory,
+}
+
+impl<'a> From<AllocError> for PickFault<'a> {
+    ghost use Rattle.command_line.specs.declared.picks.PickFault.TheVariants.{Memory};
+
+    ghost from_gives = { λ _ fault. fault ≡ Memory };
+
+    fn from(_: AllocError) -> Self {
+        PickFault::Memory
+    }
+}
+
+impl<'a, T: Drop> From<AllocFailed<T>> for PickFault<'a> {
+    ghost use Rattle.command_line.specs.declared.picks.PickFault.TheVariants.{Memory};
+
+    ghost from_gives = { λ _ fault. fault ≡ Memory };
+
+    fn from(_: AllocFailed<T>) -> Self {
+        PickFault::Memory
+    }
+}
+
+/// The picks that the words write, or the first word that writes none: a pick is digits alone, within a `u64`.
+pub(crate) fn read_picks<'a>(alloc: Global, words: &[&'a str]) -> Result<Vec<u64>, PickFault<'a>>
+    ensures picks { IfOk result (λ picks. picks_in (map (λ word. word.now) words.now) ≡ Ok picks.items) }
+    ensures fault { IfErr result (IsFaultOf (map (λ word. word.now) words.now)) }
+{
+    let mut picks = Vec::with_capacity(alloc, words.len())?;
+    for word in words {
+        match read_decimal(word.as_bytes()) {
+            Some(pick) => picks.push(pick)?,
+            None => return Err(PickFault::NoPick(word)),
+        }
+    }
+    Ok(picks)
+}
