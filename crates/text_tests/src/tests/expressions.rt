@@ -1,8 +1,6 @@
 //! What no clause says: that the clauses mean what they should, on values worked out by hand.
-use crate::fault::ExpressionFault;
-use crate::read::read_expression;
-use crate::word::Variables;
 use petri_atom::{Expression, MAX_WORDS, Operator};
+use plant_expressions::{ExpressionFault, Variables, read_expression};
 use plant_words::Words;
 use std::alloc::{AllocError, Global};
 use std::test::Fail;

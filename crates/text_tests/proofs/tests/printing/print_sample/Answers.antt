@@ -3,7 +3,7 @@ use Rattle.std.proofs.Common.{rules}
 use Rattle.std.proofs.KnownBytes.{Appends-trans}
 use Rattle.std.specs.Fmt.{signed_decimal}
 use Rattle.std.specs.Io.KnownBytes.{Appends}
-use Rattle.text_io.proofs.tests.printing.print_sample.Goals as goal
+use Rattle.text_tests.proofs.tests.printing.print_sample.Goals as goal
 
 pub returns : goal.returns
 returns g c =

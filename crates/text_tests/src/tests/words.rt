@@ -1,10 +1,8 @@
 //! What no clause says: that the clauses mean what they should, on values worked out by hand.
-use crate::index::NameIndex;
-use crate::lines::{Lines, is_legal};
-use crate::names::read_name;
-use crate::numbers::{is_numeric, read_decimal, read_int};
-use crate::splits::{split_export, split_mask, split_port};
-use crate::words::{Words, is_passed_over};
+use plant_words::{
+    Lines, NameIndex, Words, is_legal, is_numeric, is_passed_over, read_decimal, read_int,
+    read_name, split_export, split_mask, split_port,
+};
 use std::test::Fail;
 
 #[test]

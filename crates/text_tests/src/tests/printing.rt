@@ -2,9 +2,9 @@ ghost use Rattle.std.specs.Prelude.{◌++◌, codes, decimal, flat_map, OnOk};
 ghost use Rattle.std.specs.Fmt.{signed_decimal};
 ghost use Rattle.std.specs.Io.KnownBytes.{Appends};
 
-use crate::{WriteFault, end_line, print_number, print_signed, print_text};
 use std::io;
 use std::io::{ErrorKind, Write};
+use text_io::{WriteFault, end_line, print_number, print_signed, print_text};
 
 // A part with one piece for each count.
 fn print_counts<W: Write>(writer: &mut W, counts: &[u64]) -> Result<(), WriteFault>

@@ -1,8 +1,6 @@
 //! What no clause says: that the clauses mean what they should, on trees worked out by hand.
-use crate::fault::TreeWordsFault;
-use crate::read::read_tree;
-use crate::token::Ports;
 use connector_tree::{Mask, Port, TreeFault, interactions, leaves};
+use plant_trees::{Ports, TreeWordsFault, read_tree};
 use plant_words::Words;
 use std::alloc::{AllocError, Global};
 use std::process::Abort;

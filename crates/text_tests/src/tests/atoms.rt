@@ -1,6 +1,5 @@
 //! What no clause says: that the clauses mean what they should, on lines worked out by hand.
-use crate::draft::AtomDraft;
-use crate::fault::LineFault;
+use atom_lines::{AtomDraft, LineFault};
 use petri_atom::Name;
 use plant_words::Words;
 use std::alloc::Global;

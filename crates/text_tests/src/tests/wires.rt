@@ -1,6 +1,4 @@
 //! What no clause says: that the clauses mean what they should, on lines worked out by hand.
-use crate::draft::WireDraft;
-use crate::names::Exports;
 use atom_lines::LineFault;
 use connector_tree::{Child, Connector, Node, Port, first_fault};
 use petri_atom::{Expression, Name};
@@ -8,6 +6,7 @@ use plant_words::Words;
 use std::alloc::{AllocError, Global};
 use std::test::Fail;
 use step_core::Export;
+use wire_lines::{Exports, WireDraft};
 
 /// Atoms A, B and C, numbered from 4. Port 7 of A exports n and then k, port 2 of B exports m, and no other port
 /// exports a variable.

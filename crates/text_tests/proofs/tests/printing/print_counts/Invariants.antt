@@ -2,7 +2,7 @@
 use Rattle.std.proofs.Common.{◌++◌, codes, take}
 use Rattle.std.specs.Prelude.{flat_map, decimal}
 use Rattle.std.specs.Io.KnownBytes.{Appends}
-use Rattle.text_io.proofs.tests.printing.print_counts.Given as goal
+use Rattle.text_tests.proofs.tests.printing.print_counts.Given as goal
 
 abbrev pub invariant-loop-count : goal.invariant-loop-count
 invariant-loop-count g l =

@@ -1,4 +1,4 @@
-use crate::digest_of;
+use text_io::digest_of;
 
 // The expected digests are those of FIPS 180-4's examples and of the empty message.
 #[test]

@@ -1,7 +1,7 @@
-use crate::{MAX_TEXT, TextFault, read_text};
 use std::alloc::{AllocError, Global};
 use std::io;
 use std::io::{ErrorKind, Read};
+use text_io::{MAX_TEXT, TextFault, read_text};
 
 // Gives its bytes so many at a read, and answers an error in place of one of its reads, counted from 1.
 #[derive(Drop)]

@@ -1,9 +1,8 @@
 //! What no clause says: that the clauses mean what they should, on lines worked out by hand.
-use crate::connectors::Connectors;
-use crate::rule::{read_maximal, read_priority};
 use atom_lines::LineFault;
 use plant_words::Words;
 use priority_filter::{Rule, Side};
+use rule_lines::{Connectors, read_maximal, read_priority};
 use std::test::Fail;
 
 const TICK: u16 = 0;
