@@ -1,4 +1,4 @@
-//! What no clause says: that the clauses mean what they should, on values worked out by hand.
+//! What no clause says and no run of the program shows, on values worked out by hand.
 mod atoms;
 mod digests;
 mod expressions;

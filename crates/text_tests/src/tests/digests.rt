@@ -1,3 +1,4 @@
+//! Digests of texts.
 use text_io::digest_of;
 
 // The expected digests are those of FIPS 180-4's examples and of the empty message.

@@ -1,26 +1,17 @@
+//! Reading from a reader that gives few bytes at a time, or fails.
 use std::alloc::{AllocError, Global};
 use std::io;
 use std::io::{ErrorKind, Read};
+use std::test::Fail;
 use text_io::{MAX_TEXT, TextFault, read_text};
 
-// Gives its bytes so many at a read, and answers an error in place of one of its reads, counted from 1.
+/// Gives its bytes so many at a read, and answers an error in place of one of its reads, counted from 1.
 #[derive(Drop)]
 struct Stepping<'a> {
     rest: &'a [u8],
     step: usize,
     fails_at: u64,
     reads: u64,
-}
-
-impl<'a> Stepping<'a> {
-    fn new(bytes: &'a [u8], step: usize, fails_at: u64) -> Stepping<'a> {
-        Stepping {
-            rest: bytes,
-            step,
-            fails_at,
-            reads: 0,
-        }
-    }
 }
 
 impl<'a> Read for Stepping<'a> {
@@ -40,77 +31,84 @@ fn filled(alloc: Global, length: usize) -> Result<Vec<u8>, AllocError> {
     vec![in alloc; b'x'; length]
 }
 
-#[test]
-fn an_empty_reader_gives_an_empty_text(rt: HostRuntime) {
-    let mut reader = Stepping::new(b"", 1, 0);
-    let text = read_text(rt.alloc(), &mut reader).expect(&rt, "the text");
-    assert!(rt; text.is_empty());
-    assert!(rt; reader.reads == 1);
+/// Whether the bytes, so many at a read and with an error at this one, are read by so many reads, which leave so many of them unread:
+/// as the text, or to the fault.
+fn is_read(
+    alloc: Global,
+    (bytes, step, fails_at): (&[u8], usize, u64),
+    (reads, left, fault): (u64, usize, Option<TextFault>),
+) -> bool {
+    let mut reader = Stepping {
+        rest: bytes,
+        step,
+        fails_at,
+        reads: 0,
+    };
+    let is_as_wanted = match read_text(alloc, &mut reader) {
+        Ok(text) => fault.is_none() && text.as_slice() == bytes,
+        Err(told) => fault == Some(told),
+    };
+    is_as_wanted && reader.reads == reads && reader.rest.len() == left
 }
 
 #[test]
-fn all_bytes_come_however_few_a_read_gives(rt: HostRuntime) {
-    for step in [1, 2, 7, 100] {
-        let mut reader = Stepping::new(b"atom A\nplace p\n", step, 0);
-        let text = read_text(rt.alloc(), &mut reader).expect(&rt, "the text");
-        assert!(rt;
-            text.as_slice() == b"atom A\nplace p\n".as_slice(),
-            "at {step}"
+fn a_text_is_read_to_its_end(rt: HostRuntime) -> Result<(), Fail> {
+    let alloc = rt.alloc();
+    let longest = filled(alloc, MAX_TEXT)?;
+    for (text, step, reads) in [
+        (b"".as_slice(), 1, 1),
+        (b"atom A\nplace p\n", 1, 16),
+        (b"atom A\nplace p\n", 2, 9),
+        (b"atom A\nplace p\n", 7, 4),
+        (b"atom A\nplace p\n", 100, 2),
+        (longest.as_slice(), 1, 1_048_577),
+        (longest.as_slice(), 4_096, 257),
+        (longest.as_slice(), 1_000_000, 257),
+    ] {
+        assert!(&rt;
+            is_read(alloc, (text, step, 0), (reads, 0, None)),
+            "{reads} reads"
         );
     }
+    Ok(())
 }
 
 #[test]
-fn a_slice_is_read_too(rt: HostRuntime) {
+fn what_keeps_a_text_from_being_read_is_told_at_once(rt: HostRuntime) -> Result<(), Fail> {
+    let alloc = rt.alloc();
+    for (fails_at, left) in [(1, 5), (2, 4), (3, 3), (4, 2), (5, 1), (6, 0)] {
+        let wanted = (fails_at, left, Some(TextFault::Read));
+        assert!(&rt;
+            is_read(alloc, (b"12345", 1, fails_at), wanted),
+            "at {fails_at}"
+        );
+    }
+    assert!(&rt; is_read(alloc, (b"12345", 1, 7), (6, 0, None)));
+    let long = filled(alloc, 1_048_580)?;
+    for (step, reads) in [(1, 1_048_577), (4_096, 257)] {
+        let wanted = (reads, 3, Some(TextFault::TooLong));
+        assert!(&rt; is_read(alloc, (&long, step, 0), wanted), "{reads} reads");
+    }
+    Ok(())
+}
+
+#[test]
+fn a_slice_is_read_too(rt: HostRuntime) -> Result<(), Fail> {
     let mut reader: &[u8] = b"place A";
-    let text = read_text(rt.alloc(), &mut reader).expect(&rt, "the text");
+    let text = read_text(rt.alloc(), &mut reader)?;
     assert!(rt; text.as_slice() == b"place A".as_slice());
     assert!(rt; reader.is_empty());
+    Ok(())
 }
 
 #[test]
-fn an_error_at_any_read_is_told(rt: HostRuntime) {
-    for fails_at in 1..=6 {
-        let mut reader = Stepping::new(b"12345", 1, fails_at);
-        let answer = read_text(rt.alloc(), &mut reader);
-        assert!(rt; answer.err() == Some(TextFault::Read), "at {fails_at}");
-        assert!(rt; reader.reads == fails_at, "at {fails_at}");
-    }
-    let mut reader = Stepping::new(b"12345", 1, 7);
-    assert!(rt; read_text(rt.alloc(), &mut reader).is_ok());
-}
-
-#[test]
-fn a_text_of_the_most_bytes_is_read(rt: HostRuntime) {
-    let bytes = filled(rt.alloc(), MAX_TEXT).expect(&rt, "the bytes");
-    for (step, reads) in [(1, 1_048_577), (4_096, 257), (1_000_000, 257)] {
-        let mut reader = Stepping::new(bytes.as_slice(), step, 0);
-        let text = read_text(rt.alloc(), &mut reader).expect(&rt, "the text");
-        assert!(rt; text.len() == 1_048_576, "at {step}");
-        assert!(rt; reader.reads == reads, "at {step}");
-    }
-}
-
-#[test]
-fn one_byte_more_is_too_long_and_ends_the_reading(rt: HostRuntime) {
-    let bytes = filled(rt.alloc(), 1_048_580).expect(&rt, "the bytes");
-    for (step, reads) in [(1, 1_048_577), (4_096, 257)] {
-        let mut reader = Stepping::new(bytes.as_slice(), step, 0);
-        let answer = read_text(rt.alloc(), &mut reader);
-        assert!(rt; answer.err() == Some(TextFault::TooLong), "at {step}");
-        assert!(rt; reader.reads == reads, "at {step}");
-        assert!(rt; reader.rest.len() == 3, "at {step}");
-    }
-}
-
-#[test]
-fn faults_say_what_is_wrong(rt: HostRuntime) {
+fn faults_say_what_is_wrong(rt: HostRuntime) -> Result<(), Fail> {
     for (fault, said) in [
         (TextFault::TooLong, "the text has more than 1048576 bytes"),
         (TextFault::Memory, "not enough memory for the text"),
         (TextFault::Read, "the text could not be read"),
     ] {
-        let text = fault.to_string(rt.alloc()).expect(&rt, "memory");
-        assert_eq!(rt; text.as_str(), said);
+        assert_eq!(rt; fault.to_string(rt.alloc())?.as_str(), said);
     }
+    Ok(())
 }

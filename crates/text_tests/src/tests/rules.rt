@@ -1,9 +1,8 @@
-//! What no clause says: that the clauses mean what they should, on lines worked out by hand.
+//! Rules over connectors that another type names than the program's.
 use atom_lines::LineFault;
 use plant_words::Words;
 use priority_filter::{Rule, Side};
 use rule_lines::{Connectors, read_maximal, read_priority};
-use std::test::Fail;
 
 const TICK: u16 = 0;
 
@@ -42,81 +41,48 @@ impl Connectors for Sample {
     }
 }
 
-fn priority(words: &[u8]) -> Result<Rule, LineFault> {
-    read_priority(&mut Words::new(words), &Sample)
-}
-
-fn maximal(words: &[u8]) -> Result<Rule, LineFault> {
-    read_maximal(&mut Words::new(words), &Sample)
-}
-
 #[test]
-fn the_left_side_is_below_the_right_one(rt: HostRuntime) -> Result<(), Fail> {
-    for (words, left, right) in [
+fn any_type_may_name_the_connectors(rt: HostRuntime) {
+    let under = |left, right| Ok(Rule::Under(left, right));
+    for (words, rule) in [
         (
             b"tick < send".as_slice(),
-            Side::Whole(TICK),
-            Side::Whole(SEND),
+            under(Side::Whole(TICK), Side::Whole(SEND)),
         ),
-        (b"bc:1 < bc:3", Side::One(BC, 1), Side::One(BC, 3)),
-        (b" bc:03\t< tick ", Side::One(BC, 3), Side::Whole(TICK)),
-        (b"send < tick:1", Side::Whole(SEND), Side::One(TICK, 1)),
-        (b"bc < bc", Side::Whole(BC), Side::Whole(BC)),
+        (b"bc:1 < bc:3", under(Side::One(BC, 1), Side::One(BC, 3))),
+        (
+            b" bc:03\t< tick ",
+            under(Side::One(BC, 3), Side::Whole(TICK)),
+        ),
+        (
+            b"send < tick:1",
+            under(Side::Whole(SEND), Side::One(TICK, 1)),
+        ),
+        (b"bc < bc", under(Side::Whole(BC), Side::Whole(BC))),
+        (b"tick > no", Err(LineFault::Shape)),
+        (b"bc:2 < tick", Err(LineFault::UnknownName)),
+        (b"bc:1:3 < tick", Err(LineFault::UnknownName)),
+        (b"tick < bc:65537", Err(LineFault::UnknownName)),
+        (
+            b"bc:18446744073709551615 < tick",
+            Err(LineFault::UnknownName),
+        ),
+        (b"bc:18446744073709551616 < tick", Err(LineFault::BadNumber)),
     ] {
-        assert!(&rt; priority(words) == Ok(Rule::Under(left, right)));
+        assert!(&rt;
+            read_priority(&mut Words::new(words), &Sample) == rule,
+            "{words:?}"
+        );
     }
-    Ok(())
-}
-
-#[test]
-fn the_first_fault_of_a_priority_is_told(rt: HostRuntime) -> Result<(), Fail> {
-    for (words, fault) in [
-        (b"".as_slice(), LineFault::Shape),
-        (b"tick", LineFault::Shape),
-        (b"tick <", LineFault::Shape),
-        (b"tick send", LineFault::Shape),
-        (b"tick <= send", LineFault::Shape),
-        (b"tick > no", LineFault::Shape),
-        (b"tick < send x", LineFault::Shape),
-        (b"no < send", LineFault::UnknownName),
-        (b"no send x", LineFault::UnknownName),
-        (b"tick < no", LineFault::UnknownName),
-        (b"tick < no x", LineFault::UnknownName),
-        (b"bc:2 < tick", LineFault::UnknownName),
-        (b"tick < send:1", LineFault::UnknownName),
-        (b"bc: < tick", LineFault::UnknownName),
-        (b":1 < tick", LineFault::UnknownName),
-        (b"bc:1:3 < tick", LineFault::UnknownName),
-        (b"no:x < tick", LineFault::UnknownName),
-        (b"bc:x < tick", LineFault::BadNumber),
-        (b"bc:-1 < tick", LineFault::BadNumber),
-        (b"bc:70000 < tick", LineFault::UnknownName),
-        (b"tick < bc:65537", LineFault::UnknownName),
-        (b"bc:18446744073709551615 < tick", LineFault::UnknownName),
-        (b"bc:18446744073709551616 < tick", LineFault::BadNumber),
+    for (words, rule) in [
+        (b"bc".as_slice(), Ok(Rule::Maximal(BC))),
+        (b"tick", Ok(Rule::Maximal(TICK))),
+        (b"bc:1", Err(LineFault::UnknownName)),
+        (b"bc x", Err(LineFault::Shape)),
     ] {
-        assert!(&rt; priority(words) == Err(fault));
+        assert!(&rt;
+            read_maximal(&mut Words::new(words), &Sample) == rule,
+            "{words:?}"
+        );
     }
-    Ok(())
-}
-
-#[test]
-fn a_connector_is_maximal_by_its_name(rt: HostRuntime) -> Result<(), Fail> {
-    assert!(&rt; maximal(b"bc") == Ok(Rule::Maximal(BC)));
-    assert!(&rt; maximal(b"tick") == Ok(Rule::Maximal(TICK)));
-    Ok(())
-}
-
-#[test]
-fn the_first_fault_of_a_maximal_connector_is_told(rt: HostRuntime) -> Result<(), Fail> {
-    for (words, fault) in [
-        (b"".as_slice(), LineFault::Shape),
-        (b"bc x", LineFault::Shape),
-        (b"no", LineFault::UnknownName),
-        (b"no x", LineFault::UnknownName),
-        (b"bc:1", LineFault::UnknownName),
-    ] {
-        assert!(&rt; maximal(words) == Err(fault));
-    }
-    Ok(())
 }
