@@ -39,6 +39,3 @@ mod reading;
 
 pub use draft::AtomDraft;
 pub use fault::LineFault;
-
-#[cfg(test)]
-mod tests;

@@ -32,6 +32,3 @@ mod word;
 pub use fault::ExpressionFault;
 pub use read::read_expression;
 pub use word::Variables;
-
-#[cfg(test)]
-mod tests;

@@ -37,6 +37,3 @@ mod token;
 pub use fault::TreeWordsFault;
 pub use read::read_tree;
 pub use token::{Ports, Token};
-
-#[cfg(test)]
-mod tests;

@@ -46,6 +46,3 @@ pub use names::read_name;
 pub use numbers::{MAX_DIGITS, is_numeric, read_decimal, read_int};
 pub use splits::{PortWord, split_export, split_mask, split_port};
 pub use words::{Words, is_passed_over};
-
-#[cfg(test)]
-mod tests;

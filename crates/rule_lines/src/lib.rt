@@ -28,6 +28,3 @@ mod side;
 
 pub use connectors::Connectors;
 pub use rule::{read_maximal, read_priority};
-
-#[cfg(test)]
-mod tests;

@@ -14,8 +14,6 @@
 mod digest;
 mod printing;
 mod reading;
-#[cfg(test)]
-mod tests;
 
 pub use digest::digest_of;
 pub use printing::{WriteFault, end_line, print_number, print_signed, print_text};

@@ -33,6 +33,3 @@ mod reading;
 
 pub use draft::WireDraft;
 pub use names::Exports;
-
-#[cfg(test)]
-mod tests;

@@ -1,3 +1,0 @@
-mod digest;
-mod printing;
-mod reading;
