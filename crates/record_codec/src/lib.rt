@@ -43,6 +43,3 @@ pub use layout::{
     MOST_ENTRIES, MOST_EXPORTED, MOST_RING, MOST_TRANSITIONS, MOST_VARIABLES, VERSION,
 };
 pub use saved::Saved;
-
-#[cfg(test)]
-mod tests;

@@ -2,8 +2,8 @@ use Rattle.std.proofs.Common.{◌≡◌, true, ◌∷◌, [], ap, ◌∙◌, ref
 use Rattle.disk_model.specs.DiskState.{DiskState, size_of}
 use Rattle.disk_model.specs.Cells.{IsClosed}
 use Rattle.disk_model.specs.Steps.{AreClosed}
-use Rattle.disk_model.proofs.TestLemmas.{one_of_five, closed_after_erase, three_differ, three_inside}
-use Rattle.disk_model.proofs.tests.stopped.Goals as goal
+use Rattle.durable_tests.proofs.FiveCells.{one_of_five, closed_after_erase, three_differ, three_inside}
+use Rattle.durable_tests.proofs.tests.cells.stopped.Goals as goal
 
 pub set-requires : goal.set-requires
 set-requires c =
