@@ -1,5 +1,5 @@
 -- How a run of device calls goes on: what a stop at any moment since its start leaves.
-use Rattle.std.proofs.Common.{◌≡◌, ◌⊎◌, inl, inr, ⊎_elim, ℕ, ◌≤◌, Bool, false, List, [], ◌∷◌, ◌++◌, length, drop, None, Result, Ok, Err, OnOk, refl, ◌∙◌, ap, subst, arith}
+use Rattle.std.proofs.Common.{◌≡◌, ◌⊎◌, inl, inr, ⊎_elim, ℕ, ◌<◌, ◌≤◌, Bool, false, List, [], ◌∷◌, ◌++◌, length, drop, slice_index, None, Result, Ok, Err, OnOk, refl, ◌∙◌, ap, subst, arith}
 use Rattle.std.proofs.lemmas.List.{length-append, length-map, drop-append-le, drop_all}
 use Rattle.std.proofs.lemmas.List.FromFn.{length-range_with_len}
 use Rattle.disk_model.specs.DiskState.{Moment, DiskState, MayLeave, IsSettled, LeftByOne, LeftSince, Counts, IsUnchanged, counted, moment_of}
@@ -22,6 +22,13 @@ counts_then failed synced old mid new first second = record {
 -- two calls that changed nothing
 pub unchanged_from : (old mid new : DiskState) → IsUnchanged old mid → IsUnchanged mid new → IsUnchanged old new
 unchanged_from old mid new first second = record { now = second.now ∙ first.now; past = second.past ∙ first.past }
+
+-- before an erase and a set the cells are already what these leave
+pub old_or_empty_before : (ks : List ℕ) (cells : List Cell) → OldOrEmptyAt ks cells cells
+old_or_empty_before ks cells = record { count = refl; each = λ j. inl refl; others = λ j none. refl }
+
+pub empty_or_new_before : (ks : List ℕ) (bodies : List (List ℕ)) (cells : List Cell) → ((i : ℕ) → i < length ks → cell cells (slice_index ks i) ≡ None) → EmptyOrNewAt ks bodies cells cells
+empty_or_new_before ks bodies cells empty = record { count = refl; each = λ i lt. inl (empty i lt); others = λ j none. refl }
 
 -- one moment more
 left_more : (ms : List Moment) (m : Moment) (image : List ℕ) → LeftByOne (ms ++ m ∷ []) image → LeftByOne ms image ⊎ MayLeave m image

@@ -4,5 +4,8 @@
 //! mean what they should, on devices and bodies worked out by hand.
 #![tactic(auto)]
 
+// The cells of the device and the bodies that are written into them have one length.
+const _: () = prove!(disk_model::BODY == record_codec::BODY);
+
 #[cfg(test)]
 mod tests;

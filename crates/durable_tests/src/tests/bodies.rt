@@ -99,10 +99,20 @@ fn identities(rt: HostRuntime) -> Result<(), Fail> {
     assert_eq!(rt; again.to_body(), body);
     assert_eq!(rt; Identity::version_in(&body), Some(1));
 
+    let largest = Identity::new(64, 4096, *identity.digest());
+    assert_eq!(rt; Identity::from_body(&largest.to_body()), Some(largest));
+
+    // A ring of 4,097 records, 65 atoms, and another version.
+    let mut longer_ring = largest.to_body();
+    longer_ring[11] = 1;
+    let mut more_atoms = largest.to_body();
+    more_atoms[7] = 65;
     let mut other_version = body;
     other_version[5] = 3;
+    for refused in [longer_ring, more_atoms, other_version] {
+        assert_eq!(rt; Identity::from_body(&refused), None);
+    }
     assert_eq!(rt; Identity::version_in(&other_version), Some(3));
-    assert_eq!(rt; Identity::from_body(&other_version), None);
     assert_eq!(rt; Identity::version_in(&body_of(&[])), None);
     Ok(())
 }

@@ -1,6 +1,7 @@
 // What a stop leaves, call by call, on devices of five cells. The bodies of the cells are of one byte all through.
-ghost use Rattle.std.specs.Prelude.{◌≡◌, IfOk, OnOk, ◌^◌, ◌<◌};
-ghost use Rattle.disk_model.specs.DiskState.{size_of};
+ghost use Rattle.std.specs.Prelude.{◌≡◌, IfOk, ◌+◌, ◌<◌, ◌∷◌, [], true};
+ghost use Rattle.disk_model.specs.DiskState.{IsSettled, size_of};
+ghost use Rattle.disk_model.specs.Cells.{cell_count, seen_cells, Leaves, OldOrEmptyAt};
 ghost use Rattle.disk_model.specs.MemDisk.{state_of};
 
 use disk_model::{BODY, Cells, Disk, DiskFault, MemDisk, Tear};
@@ -167,5 +168,28 @@ fn an_erase_writes_a_gate_or_only_syncs(rt: HostRuntime) -> Result<(), Fail> {
     let mut gate = [7];
     disk.read_at(1024, &mut gate)?;
     assert_eq!(rt; gate, [0]);
+    Ok(())
+}
+
+/// Empties cell `k` and answers the size: a caller that knows only that there is a device.
+fn emptied<D: Disk>(cells: &mut Cells<D, BODY>, k: u64) -> Result<u64, DiskFault>
+    requires inside { k < cell_count (BODY + 1) cells.old }
+    requires settled { cells.old.keeps ≡ true → IsSettled cells.old.now }
+    ensures size { IfOk result (λ n. n ≡ size_of cells.old) }
+    ensures same_size { size_of cells.new ≡ size_of cells.old }
+    ensures leaves { cells.old.keeps ≡ true
+        → Leaves (BODY + 1) (OldOrEmptyAt (k ∷ []) (seen_cells (BODY + 1) cells.old)) cells.old cells.new }
+{
+    let size = cells.size()?;
+    cells.erase(k)?;
+    Ok(size)
+}
+
+#[test]
+fn cells_of_any_device_are_emptied(rt: HostRuntime) -> Result<(), Fail> {
+    let mut cells = Engine::new(filled(rt.alloc())?);
+    cells.sync()?;
+    assert_eq!(rt; emptied(&mut cells, 1)?, 2560);
+    assert_eq!(rt; seen(&rt, cells.into_disk())?, [0, 0, 2, 3, 4]);
     Ok(())
 }

@@ -1,5 +1,6 @@
 // What a device in memory makes of fuses, stops and changes without room.
-use disk_model::{Disk, MemDisk, Tear};
+use disk_model::{Disk, DiskFault, MemDisk, Tear};
+use record_codec::ring::{device_cells, record_cell, slot_cell};
 use std::test::Fail;
 
 /// What a stop leaves of a written byte in cell 0 and one in cell 1, where 0x11 stood at the last sync and 0x22 was written.
@@ -63,5 +64,30 @@ fn a_change_past_the_room_changes_nothing(rt: HostRuntime) -> Result<(), Fail> {
     let mut bytes = [0; 2];
     disk.read_at(0, &mut bytes)?;
     assert_eq!(rt; bytes, [1, 1]);
+    Ok(())
+}
+
+/// The largest device that a plant can have: two slots for each of 64 atoms, and a ring of 4,096 records.
+#[test]
+fn there_is_memory_for_the_largest_device(rt: HostRuntime) -> Result<(), Fail> {
+    assert_eq!(rt; slot_cell(63, 1), 130);
+    let size = 512 * device_cells(64, 4096);
+    assert_eq!(rt; size, 2_164_224);
+    let mut disk = MemDisk::with_cells(rt.alloc(), size, 2, 512)?;
+    let last = 512 * record_cell(64, 4096, u64::MAX) + 511;
+    assert_eq!(rt; last, size - 1);
+    disk.write_at(last, &[7])?;
+    disk.sync()?;
+    let mut disk = disk.stop(Tear::Old);
+    let mut byte = [0];
+    disk.read_at(last, &mut byte)?;
+    assert_eq!(rt; byte, [7]);
+    Ok(())
+}
+
+#[test]
+fn a_failure_is_told(rt: HostRuntime) -> Result<(), Fail> {
+    let said = DiskFault.to_string(rt.alloc())?;
+    assert_eq!(rt; said.as_str(), "the device failed");
     Ok(())
 }
