@@ -6,7 +6,7 @@ use Rattle.std.proofs.lemmas.List.{ext_get_or, length-take-le, append_assoc, dro
 use Rattle.disk_model.specs.DiskState.{Moment, DiskState, MayLeave, IsSettled, Writes, Syncs, IsUnchanged, FailsToWrite, overwritten, is_within, is_pending, size_of}
 use Rattle.disk_model.specs.Cells.{Cell, body_at, cell_at, cells_in, cells_of, cell, cell_count, seen_cells, MayBe, IsClosed, Leaves}
 use Rattle.disk_model.specs.Steps.{ChangesOne, IsAsBefore, IsAsBeforeOrEmpty, IsEmptied, IsEmptyOr, HasBody, Steps, IsFirm}
-use Rattle.disk_model.specs.Moments.{leaves_unchanged, leaves_changed}
+use Rattle.disk_model.specs.Moments.{leaves_unchanged, leaves_changed, unchanged_from}
 use Rattle.disk_model.proofs.Overwrites.{Before, before_write, overwritten_inside}
 use Rattle.disk_model.proofs.CellBytes.{cell_inside, cell-cells_of}
 use Rattle.disk_model.proofs.Steps.{DifferIn, other_body, other_cell, same_count, gate_keeps_body, gate_keeps_bodies, differ_before, differ_seen}
@@ -213,9 +213,6 @@ writes_from at bytes old mid new same w = record {
   past = w.past ∙ ap (λ (l : List Moment). l ++ mid.now ∷ []) same.past ∙ ap (λ (m : Moment). old.past ++ m ∷ []) same.now;
 }
 
-pub unchanged_from : (old mid new : DiskState) → IsUnchanged old mid → IsUnchanged mid new → IsUnchanged old new
-unchanged_from old mid new first second = record { now = second.now ∙ first.now; past = second.past ∙ first.past }
-
 pub fails_from : (at : ℕ) (bytes : List ℕ) (old mid new : DiskState) → IsUnchanged old mid → FailsToWrite at bytes mid new → FailsToWrite at bytes old new
 fails_from at bytes old mid new same (inl none) = inl (unchanged_from old mid new same none)
 fails_from at bytes old mid new same (inr (other, len, w)) = inr (other, len, writes_from at other old mid new same w)
@@ -224,10 +221,6 @@ fails_from at bytes old mid new same (inr (other, len, w)) = inr (other, len, wr
 pub written_or_failed : (r : Result (Unit {0}) DiskFault) (at : ℕ) (bytes : List ℕ) (old new : DiskState) → OnOk r (Writes at bytes old new) → OnErr r (FailsToWrite at bytes old new) → FailsToWrite at bytes old new
 written_or_failed (Ok v) at bytes old new ok err = inr (bytes, refl, ok)
 written_or_failed (Err e) at bytes old new ok err = err
-
-pub on_ok : (r : Result (Unit {0}) DiskFault) (P Q : Type 0) → (P → Q) → OnOk r P → OnOk r Q
-on_ok (Ok v) P Q goes p = goes p
-on_ok (Err e) P Q goes p = p
 
 -- a gate that is not open reads as an empty cell
 pub seen_shut : (size k : ℕ) (old new : DiskState) → k < cell_count size old → eqb (get_or old.now.seen (size * k) 0) 165 ≡ false → IsUnchanged old new → ChangesOne k IsEmptied (seen_cells size old) (seen_cells size new)

@@ -1,10 +1,11 @@
 -- What the bytes of an image say of its cells.
 use Rattle.std.proofs.Common.{◌≡◌, ◌≢◌, ◌⊎◌, inl, inr, ℕ, ◌+◌, ◌-◌, ◌*◌, ◌/◌, ◌<◌, ◌≤◌, cond, eqb, min, List, length, drop, get_or, Some, None, sym, ◌∙◌, ap, subst, arith}
 use Rattle.std.proofs.lemmas.Bool.{cases_lt}
-use Rattle.std.proofs.lemmas.List.{get_or-take, get_or-drop, get_or_past, length-take, length-drop, length-map, ext_get_or}
-use Rattle.std.proofs.lemmas.List.FromFn.{get_or-map-range_with_len, length-range_with_len}
+use Rattle.std.proofs.lemmas.List.{get_or-take, get_or-drop, get_or_past, length-take, length-drop, ext_get_or}
+use Rattle.std.proofs.lemmas.List.FromFn.{get_or-map-range_with_len}
 use Rattle.std.proofs.Math.Nat.{mul-le-mul_left, mul-div-le}
 use Rattle.disk_model.specs.Cells.{body_at, cell_at, cells_in, cells_of, cell}
+use Rattle.disk_model.specs.Moments.{length-cells_of}
 
 -- Two images of one length with the same bytes behind the gate of cell k have the same body there.
 pub same_body : (size k : ℕ) (a b : List ℕ) → length a ≡ length b → ((i : ℕ) → 1 ≤ i → i < size → get_or a (size * k + i) 0 ≡ get_or b (size * k + i) 0) → body_at size a k ≡ body_at size b k
@@ -31,9 +32,6 @@ same_cell size k a b gate body =
 -- cell k of the cells of an image is what its bytes say
 pub cell-cells_of : (size : ℕ) (image : List ℕ) (k : ℕ) → k < cells_in size (length image) → cell (cells_of size image) k ≡ cell_at size image k
 cell-cells_of size image k lt = get_or-map-range_with_len (cell_at size image) 0 (cells_in size (length image)) k k None lt (omega arith)
-
-pub length-cells_of : (size : ℕ) (image : List ℕ) → length (cells_of size image) ≡ cells_in size (length image)
-length-cells_of size image = simp (length-map, length-range_with_len)
 
 pub cell-past : (size : ℕ) (image : List ℕ) (k : ℕ) → cells_in size (length image) ≤ k → cell (cells_of size image) k ≡ None
 cell-past size image k past =

@@ -5,6 +5,5 @@ pub mod CallLemmas
 pub mod RunLemmas
 pub mod Replay
 pub mod MemoryLemmas
-pub mod TestLemmas
 pub mod LawLemmas
 mod Rows

@@ -1,10 +1,10 @@
 -- How a run of cells goes on: what holds of each image after one cell more.
-use Rattle.std.proofs.Common.{◌≡◌, ◌≢◌, ◌⊎◌, inl, inr, ⊎_elim, ℕ, ◌+◌, ◌<◌, ◌≤◌, Bool, false, List, [], length, get_or, Some, None, Result, Ok, Err, OnOk, OnErr, refl, sym, ◌∙◌, ap, subst, arith}
+use Rattle.std.proofs.Common.{◌≡◌, ◌≢◌, ◌⊎◌, inl, inr, ⊎_elim, ℕ, ◌+◌, ◌<◌, ◌≤◌, List, [], length, get_or, Some, None, Result, Ok, Err, OnOk, OnErr, refl, sym, ◌∙◌, ap, subst, arith}
 use Rattle.std.proofs.lemmas.Bool.{cases_lt, cases_eq}
 use Rattle.std.proofs.lemmas.List.{ext_get_or}
 use Rattle.disk_model.specs.declared.disk.DiskFault.{DiskFault}
-use Rattle.disk_model.specs.DiskState.{DiskState, Counts, Syncs, IsUnchanged, counted}
-use Rattle.disk_model.specs.Cells.{Cell, body_at, cells_of, cell, seen_cells, MayBe, IsClosed, IsNoneOf, Leaves, OldOrEmpty, EmptyOrNew, Erased, Filled}
+use Rattle.disk_model.specs.DiskState.{DiskState, Syncs, IsUnchanged}
+use Rattle.disk_model.specs.Cells.{Cell, body_at, cells_of, cell, seen_cells, MayBe, IsClosed, IsNoneOf, Leaves, OldOrEmpty, EmptyOrNew, Settles, Erased, Filled}
 use Rattle.disk_model.specs.Steps.{ChangesOne, IsAsBefore, IsAsBeforeOrEmpty, IsEmptied, IsEmptyOr, HasBody, Steps, AreClosed, AllDiffer, AreFirm, SeenEmptied, SeenStaged, SeenOpened}
 use Rattle.disk_model.specs.Moments.{leaves_start, leaves_unchanged, leaves_then, leaves_weaker, leaves_now}
 use Rattle.disk_model.proofs.CallLemmas.{settled_by_sync, steps_sync, leaves_step}
@@ -15,15 +15,6 @@ same_cells k before cells ch = ext_get_or None cells before ch.count (λ j lt. e
   | inl is ↦ subst (λ (n : ℕ). get_or cells n None ≡ get_or before n None) (sym is) ch.here
   | inr ne ↦ ch.others j ne
 ])
-
--- two calls one after another, of which the first succeeds and makes no sync
-pub counts_then : (failed synced : Bool) (old mid new : DiskState) → Counts false false old mid → Counts failed synced mid new → Counts failed synced old new
-counts_then failed synced old mid new first second = record {
-  size = second.size ∙ first.size;
-  keeps = second.keeps ∙ first.keeps;
-  failures = second.failures ∙ ap (λ (n : ℕ). counted failed n) first.failures;
-  syncs = second.syncs ∙ ap (λ (n : ℕ). counted synced n) first.syncs;
-}
 
 -- k is entry i of ks, so it differs from what is none of them
 pub apart : (ks : List ℕ) (i k j : ℕ) → i < length ks → k ≡ get_or ks i 0 → IsNoneOf ks j → j ≢ k
@@ -42,6 +33,10 @@ module _ (size : ℕ) where
   pub leaves_sync_or_not : (r : Result (Unit {0}) DiskFault) (P : List Cell → Type 0) (old mid new : DiskState) → 0 < size → Leaves size P old mid → OnOk r (Syncs mid new) → OnErr r (IsUnchanged mid new) → Leaves size P old new
   leaves_sync_or_not (Ok v) P old mid new sized run ok err = leaves_sync P old mid new sized run ok
   leaves_sync_or_not (Err e) P old mid new sized run ok err = leaves_failed P old mid new run err
+
+  -- a sync of its own
+  pub settles : (old new : DiskState) → Syncs old new → Settles size old new
+  settles old new s = record { settled = settled_by_sync old new s; same = ap (λ (l : List ℕ). cells_of size l) s.seen }
 
   -- one step more of a run
   pub leaves_more : (k : ℕ) (S : Cell → Cell → Type 0) (P : List Cell → Type 0) (old mid new : DiskState) → Leaves size P old mid → Steps size k S mid new → ((before cells : List Cell) → P before → ChangesOne k S before cells → P cells) → Leaves size P old new

@@ -3,8 +3,9 @@ use Rattle.std.proofs.Common.{◌≡◌, ◌≢◌, ◌⊎◌, inl, inr, ℕ, �
 use Rattle.std.proofs.lemmas.Bool.{cases_eq}
 use Rattle.disk_model.specs.DiskState.{DiskState, Writes, size_of}
 use Rattle.disk_model.specs.Cells.{body_at, cells_in, cells_of, cell}
+use Rattle.disk_model.specs.Moments.{length-cells_of}
 use Rattle.disk_model.proofs.Overwrites.{Before, overwritten_outside, length-overwritten}
-use Rattle.disk_model.proofs.CellBytes.{same_body, same_cell, same_entry, cells_apart, length-cells_of}
+use Rattle.disk_model.proofs.CellBytes.{same_body, same_cell, same_entry, cells_apart}
 
 -- Two images that differ inside a part of cell k alone.
 pub record DifferIn (size k at count : ℕ) (a b : List ℕ) : Type 0 where

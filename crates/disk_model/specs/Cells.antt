@@ -89,3 +89,20 @@ pub record Filled (size : ℕ) (ks : List ℕ) (bodies : List (List ℕ)) (old n
   pub settled : IsSettled new.now
   pub each : (i : ℕ) → i < length ks → cell (seen_cells size new) (slice_index ks i) ≡ Some (slice_index_or bodies i [])
   pub others : (j : ℕ) → IsNoneOf ks j → cell (seen_cells size new) j ≡ cell (seen_cells size old) j
+
+-- Each cell reads as before, and a stop leaves these cells and nothing else.
+pub record Settles (size : ℕ) (old new : DiskState) : Type 0 where
+  pub settled : IsSettled new.now
+  pub same : seen_cells size new ≡ seen_cells size old
+
+-- Each of the numbered cells is as it was or empty, and every other as it was.
+pub record OldOrEmptyAt (ks : List ℕ) (before cells : List Cell) : Type 0 where
+  pub count : length cells ≡ length before
+  pub each : (j : ℕ) → (cell cells j ≡ cell before j) ⊎ (cell cells j ≡ None)
+  pub others : (j : ℕ) → IsNoneOf ks j → cell cells j ≡ cell before j
+
+-- Each of the numbered cells is empty or has its new body, and every other is as it was.
+pub record EmptyOrNewAt (ks : List ℕ) (bodies : List (List ℕ)) (before cells : List Cell) : Type 0 where
+  pub count : length cells ≡ length before
+  pub each : (i : ℕ) → i < length ks → (cell cells (slice_index ks i) ≡ None) ⊎ (cell cells (slice_index ks i) ≡ Some (slice_index_or bodies i []))
+  pub others : (j : ℕ) → IsNoneOf ks j → cell cells j ≡ cell before j

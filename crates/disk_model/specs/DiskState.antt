@@ -61,6 +61,11 @@ pub record IsUnchanged (old new : DiskState) : Type 0 where
   pub now : new.now ≡ old.now
   pub past : new.past ≡ old.past
 
+-- What reading alone keeps and counts: it makes no sync, and where the device keeps the disk model nothing was changed.
+pub record Reads (failed : Bool) (old new : DiskState) : Type 0 where
+  pub counts : Counts failed false old new
+  pub same : old.keeps ≡ true → IsUnchanged old new
+
 -- the list with this part in place of as many entries from number at on
 abbrev pub overwritten : {X : Type 0} → ℕ → List X → List X → List X
 overwritten at part whole = take at whole ++ part ++ drop (at + length part) whole

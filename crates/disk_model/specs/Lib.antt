@@ -2,6 +2,7 @@ pub mod DiskState
 pub mod Cells
 pub mod Laws
 pub mod Moments
+pub mod Reading
 pub mod Steps
 pub mod Recording
 pub mod Fuse

@@ -1,8 +1,34 @@
 -- How a run of device calls goes on: what a stop at any moment since its start leaves.
-use Rattle.std.proofs.Common.{◌≡◌, ◌⊎◌, inl, inr, ⊎_elim, ℕ, ◌≤◌, List, [], ◌∷◌, ◌++◌, length, drop, None, refl, ◌∙◌, ap, subst, arith}
-use Rattle.std.proofs.lemmas.List.{length-append, drop-append-le, drop_all}
-use Rattle.disk_model.specs.DiskState.{Moment, DiskState, MayLeave, IsSettled, LeftByOne, LeftSince, IsUnchanged, moment_of}
-use Rattle.disk_model.specs.Cells.{Cell, cells_of, cell, seen_cells, IsClosed, MayBe, MayHaveBeen, Leaves}
+use Rattle.std.proofs.Common.{◌≡◌, ◌⊎◌, inl, inr, ⊎_elim, ℕ, ◌<◌, ◌≤◌, Bool, false, List, [], ◌∷◌, ◌++◌, length, drop, slice_index, None, Result, Ok, Err, OnOk, refl, ◌∙◌, ap, subst, arith}
+use Rattle.std.proofs.lemmas.List.{length-append, length-map, drop-append-le, drop_all}
+use Rattle.std.proofs.lemmas.List.FromFn.{length-range_with_len}
+use Rattle.disk_model.specs.DiskState.{Moment, DiskState, MayLeave, IsSettled, LeftByOne, LeftSince, Counts, IsUnchanged, counted, moment_of}
+use Rattle.disk_model.specs.Cells.{Cell, cells_of, cells_in, cell, cell_count, seen_cells, IsClosed, MayBe, MayHaveBeen, Leaves, OldOrEmpty, OldOrEmptyAt, EmptyOrNew, EmptyOrNewAt}
+
+-- what follows from a fact of an Ok is a fact of it too
+pub on_ok : {V E : Type 0} (r : Result V E) (P Q : Type 0) → (P → Q) → OnOk r P → OnOk r Q
+on_ok (Ok v) P Q goes p = goes p
+on_ok (Err e) P Q goes p = p
+
+-- counts of one call after another, of which the first did not fail and made no sync
+pub counts_then : (failed synced : Bool) (old mid new : DiskState) → Counts false false old mid → Counts failed synced mid new → Counts failed synced old new
+counts_then failed synced old mid new first second = record {
+  size = second.size ∙ first.size;
+  keeps = second.keeps ∙ first.keeps;
+  failures = second.failures ∙ ap (λ (n : ℕ). counted failed n) first.failures;
+  syncs = second.syncs ∙ ap (λ (n : ℕ). counted synced n) first.syncs;
+}
+
+-- two calls that changed nothing
+pub unchanged_from : (old mid new : DiskState) → IsUnchanged old mid → IsUnchanged mid new → IsUnchanged old new
+unchanged_from old mid new first second = record { now = second.now ∙ first.now; past = second.past ∙ first.past }
+
+-- before an erase and a set the cells are already what these leave
+pub old_or_empty_before : (ks : List ℕ) (cells : List Cell) → OldOrEmptyAt ks cells cells
+old_or_empty_before ks cells = record { count = refl; each = λ j. inl refl; others = λ j none. refl }
+
+pub empty_or_new_before : (ks : List ℕ) (bodies : List (List ℕ)) (cells : List Cell) → ((i : ℕ) → i < length ks → cell cells (slice_index ks i) ≡ None) → EmptyOrNewAt ks bodies cells cells
+empty_or_new_before ks bodies cells empty = record { count = refl; each = λ i lt. inl (empty i lt); others = λ j none. refl }
 
 -- one moment more
 left_more : (ms : List Moment) (m : Moment) (image : List ℕ) → LeftByOne (ms ++ m ∷ []) image → LeftByOne ms image ⊎ MayLeave m image
@@ -94,3 +120,26 @@ module _ (size : ℕ) where
   -- where nothing is pending a cell that reads empty is closed
   pub closed_at_rest : (s : DiskState) (k : ℕ) → IsSettled s.now → cell (seen_cells size s) k ≡ None → IsClosed size s k
   closed_at_rest s k settled empty cells may = ap (λ (l : List Cell). cell l k) (may.same ∙ ap (λ (image : List ℕ). cells_of size image) (settled may.image may.left)) ∙ empty
+
+  -- an image has as many cells as there are whole ones in its bytes
+  pub length-cells_of : (image : List ℕ) → length (cells_of size image) ≡ cells_in size (length image)
+  length-cells_of image = simp (length-map, length-range_with_len)
+
+  -- a read gives all cells of the device
+  pub seen_length : (s : DiskState) → length (seen_cells size s) ≡ cell_count size s
+  seen_length s = length-cells_of s.now.seen
+
+  -- what each image has, a read gives too
+  pub seen_after : (P : List Cell → Type 0) (old new : DiskState) → Leaves size P old new → P (seen_cells size new)
+  seen_after P old new run = leaves_now P old new run (seen_cells size new) (seen_may new)
+
+  -- where nothing is pending a stop leaves one list of cells
+  pub settled_cells : (s : DiskState) (cells : List Cell) → IsSettled s.now → MayBe size s cells → cells ≡ seen_cells size s
+  settled_cells s cells settled may = may.same ∙ ap (λ (image : List ℕ). cells_of size image) (settled may.image may.left)
+
+  -- so cells that were old or empty, or empty or new, were so of those that a read gave
+  pub old_or_empty_seen : (old : DiskState) (ks : List ℕ) (cells : List Cell) → IsSettled old.now → OldOrEmpty size old ks cells → OldOrEmptyAt ks (seen_cells size old) cells
+  old_or_empty_seen old ks cells settled p = subst (λ (l : List Cell). OldOrEmptyAt ks l cells) (settled_cells old p.before settled p.was) (record { count = p.count; each = p.each; others = p.others })
+
+  pub empty_or_new_seen : (old : DiskState) (ks : List ℕ) (bodies : List (List ℕ)) (cells : List Cell) → IsSettled old.now → EmptyOrNew size old ks bodies cells → EmptyOrNewAt ks bodies (seen_cells size old) cells
+  empty_or_new_seen old ks bodies cells settled p = subst (λ (l : List Cell). EmptyOrNewAt ks bodies l cells) (settled_cells old p.before settled p.was) (record { count = p.count; each = p.each; others = p.others })

@@ -1,10 +1,10 @@
 ghost use Rattle.std.specs.Prelude.{◌≡◌, ℕ, ◌+◌, ◌<◌, ◌∷◌, [], true, false, if◌then◌else◌, length, is_ok, is_err, IfOk, OnOk, MatchResult, Some, None};
-ghost use Rattle.disk_model.specs.DiskState.{DiskState, Counts, CountsTwo, IsUnchanged, Syncs};
-ghost use Rattle.disk_model.specs.Cells.{cell_count, cell, seen_cells, IsClosed, Leaves, OldOrEmpty, EmptyOrNew, Erased, Filled};
+ghost use Rattle.disk_model.specs.DiskState.{DiskState, Counts, CountsTwo, IsUnchanged, Reads, Syncs, size_of};
+ghost use Rattle.disk_model.specs.Cells.{cell_count, cell, seen_cells, IsClosed, MayBe, Leaves, Settles, OldOrEmpty, EmptyOrNew, Erased, Filled};
 ghost use Rattle.disk_model.specs.Steps.{AreInside, ReadEmpty, AreClosed, AllDiffer};
 
 use crate::calls::read_full;
-use crate::run::{erase_all, set_all};
+use crate::run::{erase_all, set_all, sync_all};
 use crate::{Disk, DiskFault};
 use std::marker::Model;
 use std::slice;
@@ -27,7 +27,9 @@ impl<D: Disk, const B: usize> Model for Cells<D, B> {
     ghost view = { λ c. D.state c.disk };
 }
 
-impl<D: Disk, const B: usize> Cells<D, B> {
+// At one length of bodies: a call of a method with a length of its own, from code generic in the device, would ask that the
+// whole struct fits in memory, which no bound on the device gives.
+impl<D: Disk> Cells<D, BODY> {
     /// The cells of the device, which is left as it is.
     pub fn new(disk: D) -> Self
         ensures { result ≡ D.state disk }
@@ -43,65 +45,84 @@ impl<D: Disk, const B: usize> Cells<D, B> {
         disk
     }
 
+    /// How many bytes the device has.
+    pub fn size(&mut self) -> Result<u64, DiskFault>
+        ensures size { IfOk result (λ n. n ≡ size_of self.old) }
+        ensures reads { Reads (is_err result) self.old self.new }
+    {
+        self.disk.size()
+    }
+
+    /// Makes all that was written last.
+    pub fn sync(&mut self) -> Result<(), DiskFault>
+        ensures counts { Counts (is_err result) (is_ok result) self.old self.new }
+        ensures leaves { self.old.keeps ≡ true
+            → Leaves (BODY + 1) (MayBe (BODY + 1) self.old) self.old self.new }
+        ensures settles { self.old.keeps ≡ true → OnOk result (Settles (BODY + 1) self.old self.new) }
+        ensures syncs { self.old.keeps ≡ true
+            → MatchResult result (λ _. Syncs self.old self.new) (λ _. IsUnchanged self.old self.new) }
+    {
+        sync_all::<D, BODY>(&mut self.disk)
+    }
+
     /// Whether cell `k` is full, and its body then. Of an empty cell, and after a failure, `body` holds anything.
-    pub fn read_cell(&mut self, k: u64, body: &mut [u8; B]) -> Result<bool, DiskFault>
-        requires inside { k < cell_count (B + 1) self.old }
+    pub fn read_cell(&mut self, k: u64, body: &mut [u8; BODY]) -> Result<bool, DiskFault>
+        requires inside { k < cell_count (BODY + 1) self.old }
         ensures cell { self.old.keeps ≡ true → IfOk result
-            (λ full. cell (seen_cells (B + 1) self.old) k ≡ (if full then Some body.new else None)) }
-        ensures counts { Counts (is_err result) false self.old self.new }
-        ensures same { self.old.keeps ≡ true → IsUnchanged self.old self.new }
+            (λ full. cell (seen_cells (BODY + 1) self.old) k ≡ (if full then Some body.new else None)) }
+        ensures reads { Reads (is_err result) self.old self.new }
     {
         read_full(&mut self.disk, k, body)
     }
 
     /// Empties cell `k`. Where it reads empty nothing is written, and the call only syncs.
     pub fn erase(&mut self, k: u64) -> Result<(), DiskFault>
-        requires inside { k < cell_count (B + 1) self.old }
+        requires inside { k < cell_count (BODY + 1) self.old }
         ensures counts { Counts (is_err result) (is_ok result) self.old self.new }
         ensures leaves { self.old.keeps ≡ true
-            → Leaves (B + 1) (OldOrEmpty (B + 1) self.old (k ∷ [])) self.old self.new }
-        ensures erased { self.old.keeps ≡ true → OnOk result (Erased (B + 1) (k ∷ []) self.old self.new) }
-        ensures only_syncs { self.old.keeps ≡ true → cell (seen_cells (B + 1) self.old) k ≡ None
+            → Leaves (BODY + 1) (OldOrEmpty (BODY + 1) self.old (k ∷ [])) self.old self.new }
+        ensures erased { self.old.keeps ≡ true → OnOk result (Erased (BODY + 1) (k ∷ []) self.old self.new) }
+        ensures only_syncs { self.old.keeps ≡ true → cell (seen_cells (BODY + 1) self.old) k ≡ None
             → MatchResult result (λ _. Syncs self.old self.new) (λ _. IsUnchanged self.old self.new) }
     {
         self.erase_run(&[k])
     }
 
     /// Fills cell `k`, which is empty whatever a stop leaves.
-    pub fn set(&mut self, k: u64, body: &[u8; B]) -> Result<(), DiskFault>
-        requires inside { k < cell_count (B + 1) self.old }
-        requires closed { self.old.keeps ≡ true → IsClosed (B + 1) self.old k }
+    pub fn set(&mut self, k: u64, body: &[u8; BODY]) -> Result<(), DiskFault>
+        requires inside { k < cell_count (BODY + 1) self.old }
+        requires closed { self.old.keeps ≡ true → IsClosed (BODY + 1) self.old k }
         ensures counts { CountsTwo (is_ok result) self.old self.new }
         ensures leaves { self.old.keeps ≡ true
-            → Leaves (B + 1) (EmptyOrNew (B + 1) self.old (k ∷ []) (body.now ∷ [])) self.old self.new }
-        ensures filled { self.old.keeps ≡ true → OnOk result (Filled (B + 1) (k ∷ []) (body.now ∷ []) self.old self.new) }
+            → Leaves (BODY + 1) (EmptyOrNew (BODY + 1) self.old (k ∷ []) (body.now ∷ [])) self.old self.new }
+        ensures filled { self.old.keeps ≡ true → OnOk result (Filled (BODY + 1) (k ∷ []) (body.now ∷ []) self.old self.new) }
     {
         self.set_run(&[k], slice::from_ref(body))
     }
 
     /// Empties the cells `ks` by one sync.
     pub fn erase_run(&mut self, ks: &[u64]) -> Result<(), DiskFault>
-        requires inside { AreInside (B + 1) self.old ks.now }
+        requires inside { AreInside (BODY + 1) self.old ks.now }
         ensures counts { Counts (is_err result) (is_ok result) self.old self.new }
         ensures leaves { self.old.keeps ≡ true
-            → Leaves (B + 1) (OldOrEmpty (B + 1) self.old ks.now) self.old self.new }
-        ensures erased { self.old.keeps ≡ true → OnOk result (Erased (B + 1) ks.now self.old self.new) }
-        ensures only_syncs { self.old.keeps ≡ true → ReadEmpty (B + 1) self.old ks.now
+            → Leaves (BODY + 1) (OldOrEmpty (BODY + 1) self.old ks.now) self.old self.new }
+        ensures erased { self.old.keeps ≡ true → OnOk result (Erased (BODY + 1) ks.now self.old self.new) }
+        ensures only_syncs { self.old.keeps ≡ true → ReadEmpty (BODY + 1) self.old ks.now
             → MatchResult result (λ _. Syncs self.old self.new) (λ _. IsUnchanged self.old self.new) }
     {
-        erase_all::<D, B>(&mut self.disk, ks)
+        erase_all::<D, BODY>(&mut self.disk, ks)
     }
 
     /// Fills the cells `ks`, which are empty whatever a stop leaves, by two syncs.
-    pub fn set_run(&mut self, ks: &[u64], bodies: &[[u8; B]]) -> Result<(), DiskFault>
+    pub fn set_run(&mut self, ks: &[u64], bodies: &[[u8; BODY]]) -> Result<(), DiskFault>
         requires differ { AllDiffer ks.now }
         requires as_many { length bodies.now ≡ length ks.now }
-        requires inside { AreInside (B + 1) self.old ks.now }
-        requires closed { self.old.keeps ≡ true → AreClosed (B + 1) self.old ks.now }
+        requires inside { AreInside (BODY + 1) self.old ks.now }
+        requires closed { self.old.keeps ≡ true → AreClosed (BODY + 1) self.old ks.now }
         ensures counts { CountsTwo (is_ok result) self.old self.new }
         ensures leaves { self.old.keeps ≡ true
-            → Leaves (B + 1) (EmptyOrNew (B + 1) self.old ks.now bodies.now) self.old self.new }
-        ensures filled { self.old.keeps ≡ true → OnOk result (Filled (B + 1) ks.now bodies.now self.old self.new) }
+            → Leaves (BODY + 1) (EmptyOrNew (BODY + 1) self.old ks.now bodies.now) self.old self.new }
+        ensures filled { self.old.keeps ≡ true → OnOk result (Filled (BODY + 1) ks.now bodies.now self.old self.new) }
     {
         set_all(&mut self.disk, ks, bodies)
     }

@@ -29,6 +29,3 @@ pub use cells::{BODY, Cells};
 pub use change::{LONGEST, Tear};
 pub use disk::{Disk, DiskFault};
 pub use memory::MemDisk;
-
-#[cfg(test)]
-mod tests;

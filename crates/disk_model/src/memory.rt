@@ -2,15 +2,14 @@ ghost use Rattle.std.specs.Prelude.{◌≡◌, ℕ, ◌+◌, ◌^◌, ◌<◌, �
 ghost use Rattle.disk_model.specs.DiskState.{MayLeave, size_of, moment_of, is_pending, Counts, IsUnchanged, Writes, FailsToWrite, Syncs};
 ghost use Rattle.disk_model.specs.Recording.{byte_left};
 
-use crate::cells::BODY;
 use crate::change::{LONGEST, Tear};
 use crate::fuse::Fuse;
 use crate::recorded::Recorded;
 use crate::{Disk, DiskFault};
 use std::alloc::{AllocError, Global};
 
-/// The bytes of a cell, gate and body.
-const CELL: u64 = BODY as u64 + 1;
+/// The bytes of a cell, gate and body, where no other size is asked for.
+const CELL: u64 = 512;
 
 /// A device in memory that always keeps the disk model, for tests. It fails where a fuse says so, and a stop tears what
 /// is pending by one of four patterns. Once it is made its calls take no memory: it keeps a record of its changes in a

@@ -1,11 +1,24 @@
 // Several cells at once. A stop inside a run leaves each of its cells by itself as the call says.
 ghost use Rattle.std.specs.Prelude.{◌≡◌, ℕ, ◌+◌, ◌<◌, ◌∷◌, [], List, true, false, length, is_ok, is_err, OnOk, MatchResult};
 ghost use Rattle.disk_model.specs.DiskState.{Counts, CountsTwo, IsUnchanged, Syncs};
-ghost use Rattle.disk_model.specs.Cells.{cell_count, MayBe, Leaves, OldOrEmpty, EmptyOrNew, Erased, Filled};
+ghost use Rattle.disk_model.specs.Cells.{cell_count, MayBe, Leaves, Settles, OldOrEmpty, EmptyOrNew, Erased, Filled};
 ghost use Rattle.disk_model.specs.Steps.{AreInside, ReadEmpty, AreClosed, AllDiffer, AreFirm, SeenEmptied, SeenStaged, SeenOpened};
 
 use crate::calls::{close_gate, open_gate, write_body};
 use crate::{Disk, DiskFault};
+
+/// Makes all that was written last.
+pub(crate) fn sync_all<D: Disk, const B: usize>(disk: &mut D) -> Result<(), DiskFault>
+    ensures counts { Counts (is_err result) (is_ok result) (D.state disk.old) (D.state disk.new) }
+    ensures leaves { (D.state disk.old).keeps ≡ true
+        → Leaves (B + 1) (MayBe (B + 1) (D.state disk.old)) (D.state disk.old) (D.state disk.new) }
+    ensures settles { (D.state disk.old).keeps ≡ true → OnOk result
+        (Settles (B + 1) (D.state disk.old) (D.state disk.new)) }
+    ensures syncs { (D.state disk.old).keeps ≡ true
+        → MatchResult result (λ _. Syncs (D.state disk.old) (D.state disk.new)) (λ _. IsUnchanged (D.state disk.old) (D.state disk.new)) }
+{
+    disk.sync()
+}
 
 fn close_gates<D: Disk, const B: usize>(disk: &mut D, ks: &[u64]) -> Result<(), DiskFault>
     requires inside { AreInside (B + 1) (D.state disk.old) ks.now }

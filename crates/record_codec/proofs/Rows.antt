@@ -1,12 +1,82 @@
 -- Worked examples of the definitions, as computed facts. The bodies are short: a definition takes a body of
 -- any length.
 use Rattle.std.proofs.Common.{◌≡◌, ℕ, ◌^◌, pos, negsuc, ℤ, List, [], ◌∷◌, ◌++◌, Option, Some, None, refl, replicate}
+use Rattle.record_codec.specs.declared.layout.TheConstants.{BODY, MAGIC, VERSION, MOST_ATOMS, LEAST_RING, MOST_RING, DIGEST, LAST_NUMBER, MOST_VARIABLES, MOST_CONNECTORS, MOST_TRANSITIONS, MOST_EXPORTED, LONGEST_ENTRY, MOST_ENTRIES}
+use Rattle.record_codec.specs.declared.ring.TheConstants.{IDENTITY_CELL}
+use Rattle.record_codec.specs.Ring.{identity_cell, base_cell, slot_cell, record_cell, device_cells}
 use Rattle.record_codec.specs.Bytes.{one_byte, two_bytes, four_bytes, eight_bytes, signed_bytes, one_byte_number, two_byte_number, four_byte_number, eight_byte_number, signed_number, zeros, padded}
 use Rattle.record_codec.specs.Base.{base_in}
 use Rattle.record_codec.specs.Identity.{IdentityFields, identity_bytes, identity_in, version_in}
 use Rattle.record_codec.specs.Saved.{SavedFields, saved_bytes, saved_in}
 use Rattle.record_codec.specs.Entry.{entry_bytes, entry_at, behind_entry}
 use Rattle.record_codec.specs.Fired.{FiredFields, fired_bytes, fired_in}
+
+-- ---- sizes and limits
+
+a_body_has_511_bytes : BODY ≡ 511
+a_body_has_511_bytes = refl
+
+an_identity_begins_with_bipf : MAGIC ≡ 66 ∷ 73 ∷ 80 ∷ 70 ∷ []
+an_identity_begins_with_bipf = refl
+
+this_is_version_1 : VERSION ≡ 1
+this_is_version_1 = refl
+
+a_digest_has_32_bytes : DIGEST ≡ 32
+a_digest_has_32_bytes = refl
+
+a_ring_has_8_records_at_least : LEAST_RING ≡ 8
+a_ring_has_8_records_at_least = refl
+
+and_4096_at_most : MOST_RING ≡ 4096
+and_4096_at_most = refl
+
+the_last_number_is_below_2_to_63 : LAST_NUMBER ≡ 9223372036854775807
+the_last_number_is_below_2_to_63 = refl
+
+a_plant_has_64_atoms_at_most : MOST_ATOMS ≡ 64
+a_plant_has_64_atoms_at_most = refl
+
+and_64_connectors : MOST_CONNECTORS ≡ 64
+and_64_connectors = refl
+
+an_atom_has_16_variables_at_most : MOST_VARIABLES ≡ 16
+an_atom_has_16_variables_at_most = refl
+
+and_128_transitions : MOST_TRANSITIONS ≡ 128
+and_128_transitions = refl
+
+a_port_exports_4_variables_at_most : MOST_EXPORTED ≡ 4
+a_port_exports_4_variables_at_most = refl
+
+a_record_has_8_entries_at_most : MOST_ENTRIES ≡ 8
+a_record_has_8_entries_at_most = refl
+
+each_of_46_bytes_at_most : LONGEST_ENTRY ≡ 46
+each_of_46_bytes_at_most = refl
+
+-- ---- cells, of two atoms and a ring of eight
+
+the_identity_stands_first : IDENTITY_CELL ≡ identity_cell
+the_identity_stands_first = refl
+
+then_the_bases : base_cell 1 ≡ 2
+then_the_bases = refl
+
+slot_1_of_atom_1_is_cell_6 : slot_cell 1 1 ≡ 6
+slot_1_of_atom_1_is_cell_6 = refl
+
+record_8_is_cell_7 : record_cell 2 8 8 ≡ 7
+record_8_is_cell_7 = refl
+
+record_7_is_the_last_cell : record_cell 2 8 7 ≡ 14
+record_7_is_the_last_cell = refl
+
+fifteen_cells_in_all : device_cells 2 8 ≡ 15
+fifteen_cells_in_all = refl
+
+the_largest_device_has_4227_cells : device_cells 64 4096 ≡ 4227
+the_largest_device_has_4227_cells = refl
 
 -- ---- bases
 

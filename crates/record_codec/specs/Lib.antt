@@ -4,3 +4,4 @@ pub mod Identity
 pub mod Saved
 pub mod Entry
 pub mod Fired
+pub mod Ring

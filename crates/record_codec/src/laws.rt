@@ -1,11 +1,12 @@
 //! Laws over the definitions alone: each is the contract of a function with an empty body.
 
-ghost use Rattle.std.specs.Prelude.{◌≡◌, ◌↔◌, ℕ, List, Some};
+ghost use Rattle.std.specs.Prelude.{◌≡◌, ◌≢◌, ◌↔◌, ℕ, ◌+◌, ◌<◌, List, Some};
 ghost use Rattle.record_codec.specs.Bytes.{AreBytes};
 ghost use Rattle.record_codec.specs.Base.{IsBaseBody, base_in};
 ghost use Rattle.record_codec.specs.Identity.{IdentityFields, IsIdentityBody, identity_in};
 ghost use Rattle.record_codec.specs.Saved.{SavedFields, IsSavedBody, saved_in};
 ghost use Rattle.record_codec.specs.Fired.{FiredFields, IsFiredBody, fired_in};
+ghost use Rattle.record_codec.specs.Ring.{AreSameSlot, identity_cell, base_cell, slot_cell, record_cell, device_cells};
 
 /// A body holds a base exactly where it is the base's spelling, and zeros.
 pub fn base_grammar()
@@ -25,4 +26,33 @@ pub fn saved_grammar()
 /// A body holds a record exactly where it is the record's spelling, and zeros.
 pub fn fired_grammar()
     ensures { (body : List ℕ) (fired : FiredFields) → AreBytes body → ((fired_in body ≡ Some fired) ↔ IsFiredBody body fired) }
+{}
+
+/// Two records whose numbers are less than the ring's length apart have cells of their own.
+pub fn records_within_a_ring_differ()
+    ensures { (atoms ring first second : ℕ) → first < second → second < first + ring
+        → record_cell atoms ring first ≢ record_cell atoms ring second }
+{}
+
+/// A record's cell is never the identity's, a base's or a slot's.
+pub fn records_keep_off_the_other_cells()
+    ensures identity { (atoms ring number : ℕ) → record_cell atoms ring number ≢ identity_cell }
+    ensures bases { (atoms ring number base : ℕ) → base < 2 → record_cell atoms ring number ≢ base_cell base }
+    ensures slots { (atoms ring number atom slot : ℕ) → atom < atoms → slot < 2
+        → record_cell atoms ring number ≢ slot_cell atom slot }
+{}
+
+/// Two slots with one cell are one slot, and no slot's cell is the identity's or a base's.
+pub fn slots_have_cells_of_their_own()
+    ensures differ { (atom slot other other_slot : ℕ) → slot < 2 → other_slot < 2
+        → slot_cell atom slot ≡ slot_cell other other_slot → AreSameSlot atom slot other other_slot }
+    ensures identity { (atom slot : ℕ) → slot_cell atom slot ≢ identity_cell }
+    ensures bases { (atom slot base : ℕ) → base < 2 → slot_cell atom slot ≢ base_cell base }
+{}
+
+/// Each of these cells is one of the device's.
+pub fn cells_are_the_devices()
+    ensures bases { (atoms ring base : ℕ) → base < 2 → base_cell base < device_cells atoms ring }
+    ensures slots { (atoms ring atom slot : ℕ) → atom < atoms → slot < 2 → slot_cell atom slot < device_cells atoms ring }
+    ensures records { (atoms ring number : ℕ) → 0 < ring → record_cell atoms ring number < device_cells atoms ring }
 {}

@@ -20,6 +20,7 @@
 //! two together. No call takes memory.
 //!
 //! - `layout`: sizes and limits, each in one place.
+//! - `ring`: which cell of a device holds which value.
 //! - `reader`, `writer`: one field at a time, over bodies of any length.
 //! - `identity`, `base`, `saved`, `entry`, `fired`: the values.
 #![tactic(auto)]
@@ -31,6 +32,7 @@ mod identity;
 pub mod laws;
 mod layout;
 mod reader;
+pub mod ring;
 mod saved;
 mod writer;
 
@@ -43,6 +45,3 @@ pub use layout::{
     MOST_ENTRIES, MOST_EXPORTED, MOST_RING, MOST_TRANSITIONS, MOST_VARIABLES, VERSION,
 };
 pub use saved::Saved;
-
-#[cfg(test)]
-mod tests;

@@ -94,19 +94,3 @@ fn a_refused_line_adds_no_part(rt: HostRuntime) -> Result<(), Fail> {
     assert!(&rt; transition.targets() == [0, 1].as_slice());
     Ok(())
 }
-
-#[test]
-fn faults_have_their_numbers(rt: HostRuntime) {
-    for (fault, number) in [
-        (LineFault::BadName, 5),
-        (LineFault::Twice, 6),
-        (LineFault::UnknownName, 7),
-        (LineFault::BadExpression, 8),
-        (LineFault::BadNumber, 9),
-        (LineFault::Shape, 10),
-        (LineFault::Limit, 13),
-        (LineFault::Memory, 15),
-    ] {
-        assert_eq!(rt; fault.number(), number);
-    }
-}

@@ -2,7 +2,8 @@ use Rattle.std.proofs.Common.{◌+◌, ◌≡◌, ◌*◌, ℕ, [], ◌∷◌, r
 use Rattle.disk_model.specs.DiskState.{Writes}
 use Rattle.disk_model.specs.Cells.{body_at, seen_cells}
 use Rattle.disk_model.specs.Steps.{ChangesOne, HasBody}
-use Rattle.disk_model.proofs.CallLemmas.{steps_open, firm_open, seen_open, bodies_open, written_or_failed, on_ok}
+use Rattle.disk_model.specs.Moments.{on_ok}
+use Rattle.disk_model.proofs.CallLemmas.{steps_open, firm_open, seen_open, bodies_open, written_or_failed}
 use Rattle.disk_model.proofs.calls.open_gate.Goals as goal
 
 pub returns-clause-steps : goal.returns-clause-steps

@@ -2,7 +2,8 @@ use Rattle.std.proofs.Common.{◌≡◌, ◌≢◌, ◌+◌, ◌*◌, ℕ, arith
 use Rattle.disk_model.specs.DiskState.{Writes}
 use Rattle.disk_model.specs.Cells.{body_at, seen_cells}
 use Rattle.disk_model.specs.Steps.{ChangesOne, IsAsBefore}
-use Rattle.disk_model.proofs.CallLemmas.{steps_body, seen_body, others_written, written_or_failed, on_ok}
+use Rattle.disk_model.specs.Moments.{on_ok}
+use Rattle.disk_model.proofs.CallLemmas.{steps_body, seen_body, others_written, written_or_failed}
 use Rattle.disk_model.proofs.calls.write_body.Goals as goal
 
 pub returns-clause-steps : goal.returns-clause-steps

@@ -1,7 +1,8 @@
 use Rattle.std.proofs.Common.{false, ◌+◌, ◌∙◌, get_or, refl, arith}
-use Rattle.disk_model.proofs.CallLemmas.{unchanged_from, reads_same}
-use Rattle.disk_model.proofs.RunLemmas.{counts_then, erase_start, erase_more, seen_none, seen_emptied_more}
+use Rattle.disk_model.proofs.CallLemmas.{reads_same}
+use Rattle.disk_model.proofs.RunLemmas.{erase_start, erase_more, seen_none, seen_emptied_more}
 use Rattle.disk_model.proofs.run.close_gates.Goals as goal
+use Rattle.disk_model.specs.Moments.{counts_then, unchanged_from}
 
 pub loop-k-init : goal.loop-k-init
 loop-k-init g c = record {

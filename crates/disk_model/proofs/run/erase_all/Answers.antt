@@ -1,7 +1,8 @@
 use Rattle.std.proofs.Common.{◌+◌, ◌∙◌, arith}
 use Rattle.disk_model.specs.DiskState.{Syncs}
 use Rattle.disk_model.specs.Cells.{OldOrEmpty, Erased}
-use Rattle.disk_model.proofs.CallLemmas.{on_ok, only_sync}
+use Rattle.disk_model.specs.Moments.{on_ok}
+use Rattle.disk_model.proofs.CallLemmas.{only_sync}
 use Rattle.disk_model.proofs.RunLemmas.{leaves_sync_or_not, erased}
 use Rattle.disk_model.proofs.run.erase_all.Goals as goal
 

@@ -1,6 +1,7 @@
 use Rattle.std.proofs.Common.{false, ◌+◌, ◌<◌, [], ◌∙◌, length, get_or, refl, arith}
-use Rattle.disk_model.proofs.RunLemmas.{counts_then, open_start, open_more, opened_none, opened_more}
+use Rattle.disk_model.proofs.RunLemmas.{open_start, open_more, opened_none, opened_more}
 use Rattle.disk_model.proofs.run.open_gates.Goals as goal
+use Rattle.disk_model.specs.Moments.{counts_then}
 
 pub loop-k-init : goal.loop-k-init
 loop-k-init g c = record {

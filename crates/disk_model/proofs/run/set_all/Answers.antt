@@ -1,7 +1,7 @@
 use Rattle.std.proofs.Common.{◌+◌, ◌≡◌, true, ◌∙◌, arith}
 use Rattle.disk_model.specs.DiskState.{Syncs}
 use Rattle.disk_model.specs.Cells.{MayBe, EmptyOrNew, Filled, Leaves}
-use Rattle.disk_model.proofs.CallLemmas.{on_ok}
+use Rattle.disk_model.specs.Moments.{on_ok}
 use Rattle.disk_model.proofs.RunLemmas.{leaves_sync, leaves_sync_or_not, leaves_failed, leaves_staged, leaves_opened, closed_after, firm_bodies, filled}
 use Rattle.disk_model.proofs.run.set_all.Goals as goal
 

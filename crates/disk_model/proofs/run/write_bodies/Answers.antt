@@ -1,7 +1,8 @@
 use Rattle.std.proofs.Common.{false, ◌+◌, ◌<◌, [], ◌∙◌, length, get_or, refl, arith}
 use Rattle.std.proofs.lemmas.List.{get_or_read}
-use Rattle.disk_model.proofs.RunLemmas.{counts_then, stage_more, staged_more}
+use Rattle.disk_model.proofs.RunLemmas.{stage_more, staged_more}
 use Rattle.disk_model.proofs.run.write_bodies.Goals as goal
+use Rattle.disk_model.specs.Moments.{counts_then}
 
 pub returns-in_err-write_body-clause-leaves : goal.returns-in_err-write_body-clause-leaves
 returns-in_err-write_body-clause-leaves g c keeps =

@@ -1,9 +1,10 @@
 // What a stop leaves, call by call, on devices of five cells. The bodies of the cells are of one byte all through.
-ghost use Rattle.std.specs.Prelude.{◌≡◌, IfOk, OnOk, ◌^◌, ◌<◌};
-ghost use Rattle.disk_model.specs.DiskState.{size_of};
+ghost use Rattle.std.specs.Prelude.{◌≡◌, IfOk, ◌+◌, ◌<◌, ◌∷◌, [], true};
+ghost use Rattle.disk_model.specs.DiskState.{IsSettled, size_of};
+ghost use Rattle.disk_model.specs.Cells.{cell_count, seen_cells, Leaves, OldOrEmptyAt};
 ghost use Rattle.disk_model.specs.MemDisk.{state_of};
 
-use crate::{BODY, Cells, Disk, DiskFault, MemDisk, Tear};
+use disk_model::{BODY, Cells, Disk, DiskFault, MemDisk, Tear};
 use std::alloc::Global;
 use std::process::Abort;
 use std::test::Fail;
@@ -155,86 +156,40 @@ fn a_stop_leaves_each_cell_old_or_empty_or_new(rt: HostRuntime) -> Result<(), Fa
     Ok(())
 }
 
+/// Of a full cell the gate is written, as 0; of an empty one nothing is.
 #[test]
-fn the_gate_of_an_emptied_cell_is_zero(rt: HostRuntime) -> Result<(), Fail> {
+fn an_erase_writes_a_gate_or_only_syncs(rt: HostRuntime) -> Result<(), Fail> {
     let mut cells = Engine::new(filled(rt.alloc())?);
     cells.erase(2)?;
+    cells.erase(0)?;
     let mut disk = cells.into_disk();
+    // Eight writes and a sync fill it; then a gate and a sync, and a sync alone.
+    assert_eq!(rt; disk.changes(), 9 + 2 + 1);
     let mut gate = [7];
     disk.read_at(1024, &mut gate)?;
     assert_eq!(rt; gate, [0]);
     Ok(())
 }
 
+/// Empties cell `k` and answers the size: a caller that knows only that there is a device.
+fn emptied<D: Disk>(cells: &mut Cells<D, BODY>, k: u64) -> Result<u64, DiskFault>
+    requires inside { k < cell_count (BODY + 1) cells.old }
+    requires settled { cells.old.keeps ≡ true → IsSettled cells.old.now }
+    ensures size { IfOk result (λ n. n ≡ size_of cells.old) }
+    ensures same_size { size_of cells.new ≡ size_of cells.old }
+    ensures leaves { cells.old.keeps ≡ true
+        → Leaves (BODY + 1) (OldOrEmptyAt (k ∷ []) (seen_cells (BODY + 1) cells.old)) cells.old cells.new }
+{
+    let size = cells.size()?;
+    cells.erase(k)?;
+    Ok(size)
+}
+
 #[test]
-fn an_erase_of_an_empty_cell_only_syncs(rt: HostRuntime) -> Result<(), Fail> {
-    // Eight writes and a sync were asked for.
+fn cells_of_any_device_are_emptied(rt: HostRuntime) -> Result<(), Fail> {
     let mut cells = Engine::new(filled(rt.alloc())?);
-    cells.erase(0)?;
-    assert_eq!(rt; cells.into_disk().changes(), 10);
-    Ok(())
-}
-
-/// What a stop leaves of a written byte in cell 0 and one in cell 1, where 0x11 stood at the last sync and 0x22 was written.
-#[test]
-fn each_tear_makes_its_own_of_what_is_pending(rt: HostRuntime) -> Result<(), Fail> {
-    for (tear, even, odd) in [
-        (Tear::Old, 0x11, 0x11),
-        (Tear::New, 0x22, 0x22),
-        (Tear::Gates, 0xA5, 0xA5),
-        (Tear::Mixed, 0x11, 0x22),
-    ] {
-        let mut disk = MemDisk::with_cells(rt.alloc(), 16, 8, 4)?;
-        disk.write_at(0, &[0x11; 8])?;
-        disk.sync()?;
-        disk.write_at(2, &[0x22; 4])?;
-        let mut disk = disk.stop(tear);
-        let mut bytes = [0; 9];
-        disk.read_at(0, &mut bytes)?;
-        assert_eq!(rt; bytes, [0x11, 0x11, even, even, odd, odd, 0x11, 0x11, 0]);
-    }
-    Ok(())
-}
-
-/// A write that the fuse fails writes the first half of its bytes, and its whole range is pending.
-#[test]
-fn a_fuse_cuts_a_write_in_half(rt: HostRuntime) -> Result<(), Fail> {
-    let mut disk = MemDisk::new(rt.alloc(), 16, 8)?;
-    disk.fuse_once(2);
-    assert_eq!(rt; disk.size()?, 16);
-    assert!(rt; disk.write_at(1, &[7; 5]).is_err());
-    let mut bytes = [0; 7];
-    disk.read_at(0, &mut bytes)?;
-    assert_eq!(rt; bytes, [0, 7, 7, 0, 0, 0, 0]);
-    let mut disk = disk.stop(Tear::Gates);
-    disk.read_at(0, &mut bytes)?;
-    assert_eq!(rt; bytes, [0, 0xA5, 0xA5, 0xA5, 0xA5, 0xA5, 0]);
-    Ok(())
-}
-
-/// The second change fails and all calls after it, reads among them.
-#[test]
-fn a_fuse_counts_changes_alone(rt: HostRuntime) -> Result<(), Fail> {
-    let mut disk = MemDisk::new(rt.alloc(), 16, 8)?;
-    disk.fuse_change(2);
-    disk.write_at(0, &[1])?;
-    assert_eq!(rt; disk.size()?, 16);
-    assert!(rt; disk.sync().is_err());
-    assert!(rt; disk.size().is_err());
-    assert_eq!(rt; disk.changes(), 2);
-    Ok(())
-}
-
-/// Past its room, and longer than 1,024 bytes, a change fails and changes nothing.
-#[test]
-fn a_change_past_the_room_changes_nothing(rt: HostRuntime) -> Result<(), Fail> {
-    let mut disk = MemDisk::new(rt.alloc(), 2048, 1)?;
-    assert!(rt; disk.write_at(0, &[1; 1025]).is_err());
-    disk.write_at(0, &[1; 2])?;
-    assert!(rt; disk.write_at(0, &[2; 2]).is_err());
-    assert!(rt; disk.sync().is_err());
-    let mut bytes = [0; 2];
-    disk.read_at(0, &mut bytes)?;
-    assert_eq!(rt; bytes, [1, 1]);
+    cells.sync()?;
+    assert_eq!(rt; emptied(&mut cells, 1)?, 2560);
+    assert_eq!(rt; seen(&rt, cells.into_disk())?, [0, 0, 2, 3, 4]);
     Ok(())
 }

@@ -1,6 +1,7 @@
+// The bodies of cells, byte for byte, and which single bytes of them may change.
 ghost use Rattle.std.specs.Prelude.{◌≤◌, length};
 
-use super::*;
+use record_codec::{BODY, Base, Entry, Fired, Identity, Saved};
 use std::test::Fail;
 
 const BASE: [u8; 8] = [0, 0, 0, 0, 0, 0, 0, 9];
@@ -80,12 +81,10 @@ fn bases(rt: HostRuntime) -> Result<(), Fail> {
 
     let mut trailing = body_of(&BASE);
     trailing[BODY - 1] = 1;
-    assert_eq!(rt; Base::from_body(&trailing), None);
-    assert_eq!(rt; Base::from_body(&body_of(&[])), None);
-    assert_eq!(rt;
-        Base::from_body(&body_of(&[128, 0, 0, 0, 0, 0, 0, 1])),
-        None
-    );
+    let past = body_of(&[128, 0, 0, 0, 0, 0, 0, 1]);
+    for refused in [trailing, body_of(&[]), past] {
+        assert_eq!(rt; Base::from_body(&refused), None);
+    }
     Ok(())
 }
 
@@ -100,10 +99,20 @@ fn identities(rt: HostRuntime) -> Result<(), Fail> {
     assert_eq!(rt; again.to_body(), body);
     assert_eq!(rt; Identity::version_in(&body), Some(1));
 
+    let largest = Identity::new(64, 4096, *identity.digest());
+    assert_eq!(rt; Identity::from_body(&largest.to_body()), Some(largest));
+
+    // A ring of 4,097 records, 65 atoms, and another version.
+    let mut longer_ring = largest.to_body();
+    longer_ring[11] = 1;
+    let mut more_atoms = largest.to_body();
+    more_atoms[7] = 65;
     let mut other_version = body;
     other_version[5] = 3;
+    for refused in [longer_ring, more_atoms, other_version] {
+        assert_eq!(rt; Identity::from_body(&refused), None);
+    }
     assert_eq!(rt; Identity::version_in(&other_version), Some(3));
-    assert_eq!(rt; Identity::from_body(&other_version), None);
     assert_eq!(rt; Identity::version_in(&body_of(&[])), None);
     Ok(())
 }
@@ -158,17 +167,17 @@ fn records(rt: HostRuntime) -> Result<(), Fail> {
     assert_eq!(rt; longest.entries().len(), 8);
     assert_eq!(rt; longest.to_body(), longest_record());
 
-    // A participation number past the record's, and the atoms 1 and 0 in this order.
-    let mut past = body_of(&RECORD);
+    // Participation 3 in record 2, participation 2 in record 1, and atoms 1 and 0 in this order.
+    let mut past = body;
     past[22] = 3;
-    assert!(rt; Fired::from_body(&past).is_none());
-    let mut first_record = body_of(&RECORD);
+    let mut first_record = body;
     first_record[7] = 1;
-    assert!(rt; Fired::from_body(&first_record).is_none());
-    let mut turned = body_of(&RECORD);
+    let mut turned = body;
     turned[12] = 1;
     turned[26] = 0;
-    assert!(rt; Fired::from_body(&turned).is_none());
+    for refused in [past, first_record, turned] {
+        assert!(rt; Fired::from_body(&refused).is_none());
+    }
     Ok(())
 }
 

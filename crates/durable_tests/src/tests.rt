@@ -1,0 +1,4 @@
+//! What no clause says: that the clauses mean what they should, on devices and bodies worked out by hand.
+mod bodies;
+mod cells;
+mod devices;
