@@ -5,7 +5,6 @@ ghost use Rattle.command_line.specs.declared.answer.Answered.TheVariants.{Usage,
 
 use clap::Error;
 use clap::error::ErrorKind;
-use std::rt::{Eprint, Print};
 
 /// How the program ends where the words of the command line are no request.
 #[derive(Clone, Copy, Debug, PartialEq, Eq)]

@@ -8,7 +8,6 @@ use clap::error::ErrorKind;
 use clap::{Arg, ArgAction, ArgMatches, Command, Error};
 use run_text::Format;
 use std::alloc::{AllocError, Global};
-use std::rt::{Eprint, Print};
 
 const ABOUT: &str = "Reads the text of a plant, and says what stands in it, draws it or runs it.
 
