@@ -88,12 +88,6 @@ fn a_variable_is_its_leaf_and_its_place_in_the_port(rt: HostRuntime) -> Result<(
     for words in [b"A.k".as_slice(), b"1"] {
         draft.add_guard(&mut Words::new(words), &Sample)?;
     }
-    let again = draft.add_transfer(&mut Words::new(b"A.k := 1"), &Sample);
-    assert!(&rt; again == Err(LineFault::Twice));
-    let away = draft.add_guard(&mut Words::new(b"C.n"), &Sample);
-    assert!(&rt; away == Err(LineFault::UnknownName));
-    assert!(&rt; draft.name().as_bytes() == b"link".as_slice());
-    assert!(&rt; draft.connector().root.len() == 2);
     let wire = draft.into_wire();
     match wire.transfers.as_slice() {
         [first, second] => {
@@ -117,5 +111,19 @@ fn a_variable_is_its_leaf_and_its_place_in_the_port(rt: HostRuntime) -> Result<(
         }
         _ => return Err("not two guards".into()),
     }
+    Ok(())
+}
+
+#[test]
+fn a_refused_line_adds_nothing_to_a_connector(rt: HostRuntime) -> Result<(), Fail> {
+    let mut draft = link(rt.alloc())?;
+    for (words, added) in [
+        (b"A.k := 1".as_slice(), Ok(())),
+        (b"A.k := B.m", Err(LineFault::Twice)),
+        (b"C.n := 1", Err(LineFault::UnknownName)),
+    ] {
+        assert!(&rt; draft.add_transfer(&mut Words::new(words), &Sample) == added);
+    }
+    assert!(&rt; draft.into_wire().transfers.len() == 1);
     Ok(())
 }
