@@ -5,7 +5,7 @@ use plant_words::Words;
 use std::test::Fail;
 
 /// A variable of an atom, by their numbers.
-#[derive(Clone, Copy, PartialEq, Eq)]
+#[derive(Clone, Copy)]
 struct Export {
     atom: u8,
     variable: u8,

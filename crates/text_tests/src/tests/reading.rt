@@ -27,6 +27,7 @@ impl<'a> Read for Stepping<'a> {
     }
 }
 
+/// So many bytes.
 fn filled(alloc: Global, length: usize) -> Result<Vec<u8>, AllocError> {
     vec![in alloc; b'x'; length]
 }
