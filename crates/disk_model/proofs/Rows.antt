@@ -1,5 +1,5 @@
 -- Worked examples of the definitions, as computed facts.
-use Rattle.std.proofs.Common.{◌≡◌, inl, inr, ℕ, zero, suc, ◌*◌, true, false, List, [], ◌∷◌, slice_index, slice_index_or, Some, None, refl, arith}
+use Rattle.std.proofs.Common.{◌≡◌, ◌⊎◌, inl, inr, ℕ, zero, suc, ◌*◌, ◌<◌, true, false, List, [], ◌∷◌, slice_index, slice_index_or, Some, None, refl, arith}
 use Rattle.disk_model.specs.declared.cells.TheConstants.{BODY}
 use Rattle.disk_model.specs.declared.calls.TheConstants.{OPEN, CLOSED}
 use Rattle.disk_model.specs.declared.change.TheConstants.{LONGEST}
@@ -7,7 +7,7 @@ use Rattle.disk_model.specs.declared.memory.TheConstants.{CELL}
 use Rattle.disk_model.specs.declared.change.Tear.TheVariants.{Old, New, Gates, Mixed}
 use Rattle.disk_model.specs.declared.fuse.Fuse.TheVariants.{Once, Dead, Change}
 use Rattle.disk_model.specs.DiskState.{Moment, DiskState, MayLeave, LeftSince, counted, overwritten, is_within, moment_of}
-use Rattle.disk_model.specs.Cells.{cell_at, cells_of, cell}
+use Rattle.disk_model.specs.Cells.{Cell, cell_at, cells_of, cell, IsNoneOf, OldOrEmptyAt, EmptyOrNewAt}
 use Rattle.disk_model.specs.Recording.{at_rest, byte_left}
 use Rattle.disk_model.specs.Fuse.{burns, fuse_after}
 
@@ -97,6 +97,44 @@ a_part_of_a_cell_is_none = refl
 
 past_the_last_cell_is_nothing : cell (cells_of 4 two_cells) 2 ≡ None
 past_the_last_cell_is_nothing = refl
+
+-- of two full cells the second is emptied, and then filled again
+abbrev both_full : List Cell
+both_full = Some (7 ∷ []) ∷ Some (8 ∷ []) ∷ []
+
+abbrev second_empty : List Cell
+second_empty = Some (7 ∷ []) ∷ None ∷ []
+
+abbrev second_new : List Cell
+second_new = Some (7 ∷ []) ∷ Some (9 ∷ []) ∷ []
+
+a_stop_may_leave_it_empty : OldOrEmptyAt (1 ∷ []) both_full second_empty
+a_stop_may_leave_it_empty = record { count = refl; each = each; others = others }
+  where
+    each : (j : ℕ) → (cell second_empty j ≡ cell both_full j) ⊎ (cell second_empty j ≡ None)
+    each zero = inl refl
+    each (suc zero) = inr refl
+    each (suc (suc j)) = inl refl
+
+    others : (j : ℕ) → IsNoneOf (1 ∷ []) j → cell second_empty j ≡ cell both_full j
+    others zero none = refl
+    others (suc zero) none = absurd (none 0 (omega arith) refl)
+    others (suc (suc j)) none = refl
+
+a_stop_leaves_no_other_body : OldOrEmptyAt (1 ∷ []) both_full second_new → ⊥
+a_stop_leaves_no_other_body left = elim (left.each 1) [ inl old ↦ absurd (cc) | inr empty ↦ absurd (cc) ]
+
+and_may_leave_the_new_one : EmptyOrNewAt (1 ∷ []) ((9 ∷ []) ∷ []) second_empty second_new
+and_may_leave_the_new_one = record { count = refl; each = each; others = others }
+  where
+    each : (i : ℕ) → i < 1 → (cell second_new (slice_index (1 ∷ []) i) ≡ None) ⊎ (cell second_new (slice_index (1 ∷ []) i) ≡ Some (slice_index_or ((9 ∷ []) ∷ []) i []))
+    each zero lt = inr refl
+    each (suc i) lt = absurd (omega arith)
+
+    others : (j : ℕ) → IsNoneOf (1 ∷ []) j → cell second_new j ≡ cell second_empty j
+    others zero none = refl
+    others (suc zero) none = absurd (none 0 (omega arith) refl)
+    others (suc (suc j)) none = refl
 
 -- cell 9 of cells of 512 bytes begins at byte 4,608
 the_ninth_cell : 512 * 9 ≡ 4608

@@ -113,9 +113,13 @@ module _ (size : ℕ) where
   pub leaves_now : (P : List Cell → Type 0) (old new : DiskState) → Leaves size P old new → (cells : List Cell) → MayBe size new cells → P cells
   leaves_now P old new run cells may = run.each cells (now_been new (moment_of old) cells may)
 
+  -- the cells of an image that a stop now may leave
+  pub left_may : (s : DiskState) (image : List ℕ) → MayLeave s.now image → MayBe size s (cells_of size image)
+  left_may s image left = record { image = image; left = left; same = refl }
+
   -- what a read gives is among what a stop may leave
   pub seen_may : (s : DiskState) → MayBe size s (cells_of size s.now.seen)
-  seen_may s = record { image = s.now.seen; left = record { size = refl; others = λ i is. refl }; same = refl }
+  seen_may s = left_may s s.now.seen (record { size = refl; others = λ i is. refl })
 
   -- where nothing is pending a cell that reads empty is closed
   pub closed_at_rest : (s : DiskState) (k : ℕ) → IsSettled s.now → cell (seen_cells size s) k ≡ None → IsClosed size s k

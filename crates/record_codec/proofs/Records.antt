@@ -8,7 +8,7 @@ use Rattle.record_codec.specs.declared.entry.Entry.{Entry}
 use Rattle.record_codec.specs.declared.layout.TheConstants.{LONGEST_ENTRY, MOST_ENTRIES}
 use Rattle.record_codec.specs.Bytes.{AreBytes, padded, if_spelled, zeros, one_byte, two_bytes, eight_bytes, one_byte_number, two_byte_number, eight_byte_number}
 use Rattle.record_codec.specs.Entry.{IsEntry, is_entry, entry_bytes, entries_at}
-use Rattle.record_codec.specs.Fired.{FiredFields, IsFired, IsFiredBody, FiredFits, atoms_of, is_rising, is_fired, fired_bytes, fired_fields, fired_in}
+use Rattle.record_codec.specs.Fired.{FiredFields, IsFiredUpTo, IsFired, IsFiredBodyUpTo, FiredFits, atoms_of, is_rising, is_fired_up_to, fired_bytes, fired_fields, fired_up_to, fired_in}
 use Rattle.std.proofs.lemmas.List.Elements.{All-drop}
 use Rattle.record_codec.proofs.Fitting.{IsByte, entries_fit}
 use Rattle.record_codec.proofs.Spelled.{if_spelled-some, if_spelled_is}
@@ -28,14 +28,14 @@ IsEntry-from_test number entry h = record {
   participation_within = grind (arith, nat_tests);
 }
 
-pub is_fired-true : (fired : FiredFields) → IsFired fired → is_fired fired ≡ true
-is_fired-true fired h =
+is_fired-true : (most : ℕ) (fired : FiredFields) → IsFiredUpTo most fired → is_fired_up_to most fired ≡ true
+is_fired-true most fired h =
     let entries : list_all (is_entry fired.number) fired.entries ≡ true = list_all-from_AllPass (is_entry fired.number) fired.entries (λ k d lt. is_entry-true fired.number (get_or fired.entries k d) (h.entries k d lt)) in
     let rising : is_rising (atoms_of fired.entries) ≡ true = is_rising-true (atoms_of fired.entries) h.rising in
     grind (arith, nat_tests)
 
-pub IsFired-from_test : (fired : FiredFields) → is_fired fired ≡ true → IsFired fired
-IsFired-from_test fired h =
+pub IsFired-from_test : (most : ℕ) (fired : FiredFields) → is_fired_up_to most fired ≡ true → IsFiredUpTo most fired
+IsFired-from_test most fired h =
     let entries : list_all (is_entry fired.number) fired.entries ≡ true = grind (arith, nat_tests) in
     let rising : is_rising (atoms_of fired.entries) ≡ true = grind (arith, nat_tests) in
     let each = AllPass-from_list_all (is_entry fired.number) fired.entries entries in
@@ -50,8 +50,8 @@ IsFired-from_test fired h =
     }
 
 -- the fields of a spelling are those of the record that is spelled
-fired_fields-fired_bytes : (fired : FiredFields) (rest : List ℕ) → IsFired fired → FiredFits fired → fired_fields (fired_bytes fired ++ rest) ≡ fired
-fired_fields-fired_bytes fired rest h fits =
+fired_fields-fired_bytes : (most : ℕ) (fired : FiredFields) (rest : List ℕ) → IsFiredUpTo most fired → FiredFits fired → fired_fields (fired_bytes fired ++ rest) ≡ fired
+fired_fields-fired_bytes most fired rest h fits =
     let from_entries : List ℕ = flat_map entry_bytes fired.entries ++ rest in
     let from_count : List ℕ = one_byte (length fired.entries) ++ from_entries in
     let from_connector : List ℕ = two_bytes fired.connector ++ from_count in
@@ -72,18 +72,16 @@ fired_fields_fit body bytes =
     let from_entries = All-drop IsByte 1 (drop 2 (drop 8 body)) from_count in
     record { entries = entries_fit (one_byte_number (drop 2 (drop 8 body))) (drop 1 (drop 2 (drop 8 body))) from_entries }
 
-pub held_fired_is_spelled : (body : List ℕ) (fired : FiredFields) → AreBytes body → fired_in body ≡ Some fired → IsFiredBody body fired
-unfolding fired_in
-held_fired_is_spelled body fired bytes e =
+pub held_fired_is_spelled : (most : ℕ) (body : List ℕ) (fired : FiredFields) → AreBytes body → fired_up_to most body ≡ Some fired → IsFiredBodyUpTo most body fired
+held_fired_is_spelled most body fired bytes e =
     let f = fired_fields body in
-    let p = if_spelled-some (is_fired f) f fired (fired_bytes f) body e in
-    rw (← p.same) (record { in_range = IsFired-from_test f p.in_range; fits = fired_fields_fit body bytes; spelled = p.spelled })
+    let p = if_spelled-some (is_fired_up_to most f) f fired (fired_bytes f) body e in
+    rw (← p.same) (record { in_range = IsFired-from_test most f p.in_range; fits = fired_fields_fit body bytes; spelled = p.spelled })
 
-pub spelled_fired_is_held : (body : List ℕ) (fired : FiredFields) → IsFiredBody body fired → fired_in body ≡ Some fired
-unfolding fired_in
-spelled_fired_is_held body fired h =
-    let is : fired_fields body ≡ fired = ap fired_fields (h.spelled ∙ padded_is (length body) (fired_bytes fired)) ∙ fired_fields-fired_bytes fired (zeros (length body - length (fired_bytes fired))) h.in_range h.fits in
-    ap (λ (f : FiredFields). if_spelled (is_fired f) f (fired_bytes f) body) is ∙ if_spelled_is (is_fired fired) fired (fired_bytes fired) body (is_fired-true fired h.in_range) h.spelled
+pub spelled_fired_is_held : (most : ℕ) (body : List ℕ) (fired : FiredFields) → IsFiredBodyUpTo most body fired → fired_up_to most body ≡ Some fired
+spelled_fired_is_held most body fired h =
+    let is : fired_fields body ≡ fired = ap fired_fields (h.spelled ∙ padded_is (length body) (fired_bytes fired)) ∙ fired_fields-fired_bytes most fired (zeros (length body - length (fired_bytes fired))) h.in_range h.fits in
+    ap (λ (f : FiredFields). if_spelled (is_fired_up_to most f) f (fired_bytes f) body) is ∙ if_spelled_is (is_fired_up_to most fired) fired (fired_bytes fired) body (is_fired-true most fired h.in_range) h.spelled
 
 length-fired_bytes : (fired : FiredFields) → FiredFits fired → length (fired_bytes fired) ≤ 11 + LONGEST_ENTRY * length fired.entries
 length-fired_bytes fired fits =
@@ -92,5 +90,6 @@ length-fired_bytes fired fits =
 
 -- what is written is read again
 pub fired_reads_back : (fired : FiredFields) (len : ℕ) → 11 + LONGEST_ENTRY * MOST_ENTRIES ≤ len → IsFired fired → FiredFits fired → fired_in (padded len (fired_bytes fired)) ≡ Some fired
+unfolding fired_in
 fired_reads_back fired len room h fits =
-    spelled_fired_is_held (padded len (fired_bytes fired)) fired (record { in_range = h; fits = fits; spelled = padded_to_own len (fired_bytes fired) (omega (arith, length-fired_bytes fired fits, h.entries_within)) })
+    spelled_fired_is_held MOST_ENTRIES (padded len (fired_bytes fired)) fired (record { in_range = h; fits = fits; spelled = padded_to_own len (fired_bytes fired) (omega (arith, length-fired_bytes fired fits, h.entries_within)) })

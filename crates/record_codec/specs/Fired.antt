@@ -17,15 +17,19 @@ pub record FiredFields : Type 0 where
 abbrev pub atoms_of : List Entry → List ℕ
 atoms_of entries = map (λ (entry : Entry). entry.atom) entries
 
--- the ranges of a record; its atoms rise strictly from entry to entry
-pub record IsFired (fired : FiredFields) : Type 0 where
+-- the ranges of a record of at most so many entries; its atoms rise strictly from entry to entry
+pub record IsFiredUpTo (most : ℕ) (fired : FiredFields) : Type 0 where
   pub number_positive : 1 ≤ fired.number
   pub number_within : fired.number ≤ LAST_NUMBER
   pub connector_within : fired.connector < MOST_CONNECTORS
   pub some_entry : 1 ≤ length fired.entries
-  pub entries_within : length fired.entries ≤ MOST_ENTRIES
+  pub entries_within : length fired.entries ≤ most
   pub entries : All (IsEntry fired.number) fired.entries
   pub rising : IsStrictlyIncreasing (atoms_of fired.entries)
+
+-- the ranges in this layout
+abbrev pub IsFired : FiredFields → Type 0
+IsFired fired = IsFiredUpTo MOST_ENTRIES fired
 
 -- each number is below the next, as a test
 abbrev pub is_rising : List ℕ → Bool
@@ -34,11 +38,14 @@ is_rising (x ∷ []) = true
 is_rising (x ∷ y ∷ ys) = nat_lt x y && is_rising (y ∷ ys)
 
 -- the ranges as a test
-abbrev pub is_fired : FiredFields → Bool
-is_fired fired =
+abbrev pub is_fired_up_to : ℕ → FiredFields → Bool
+is_fired_up_to most fired =
     nat_le 1 fired.number && nat_le fired.number LAST_NUMBER && nat_lt fired.connector MOST_CONNECTORS
-    && nat_le 1 (length fired.entries) && nat_le (length fired.entries) MOST_ENTRIES
+    && nat_le 1 (length fired.entries) && nat_le (length fired.entries) most
     && list_all (is_entry fired.number) fired.entries && is_rising (atoms_of fired.entries)
+
+abbrev pub is_fired : FiredFields → Bool
+is_fired fired = is_fired_up_to MOST_ENTRIES fired
 
 -- each entry has its places, and each value is an i64
 pub record FiredFits (fired : FiredFields) : Type 0 where
@@ -49,10 +56,13 @@ abbrev pub fired_bytes : FiredFields → List ℕ
 fired_bytes fired = eight_bytes fired.number ++ two_bytes fired.connector ++ one_byte (length fired.entries) ++ flat_map entry_bytes fired.entries
 
 -- the body is the spelling of this record, and zeros
-pub record IsFiredBody (body : List ℕ) (fired : FiredFields) : Type 0 where
-  pub in_range : IsFired fired
+pub record IsFiredBodyUpTo (most : ℕ) (body : List ℕ) (fired : FiredFields) : Type 0 where
+  pub in_range : IsFiredUpTo most fired
   pub fits : FiredFits fired
   pub spelled : body ≡ padded (length body) (fired_bytes fired)
+
+abbrev pub IsFiredBody : List ℕ → FiredFields → Type 0
+IsFiredBody body fired = IsFiredBodyUpTo MOST_ENTRIES body fired
 
 -- what the fields say
 abbrev pub fired_fields : List ℕ → FiredFields
@@ -66,5 +76,8 @@ fired_fields body =
     }
 
 -- the record that a body holds
+abbrev pub fired_up_to : ℕ → List ℕ → Option FiredFields
+fired_up_to most body = let fired = fired_fields body in if_spelled (is_fired_up_to most fired) fired (fired_bytes fired) body
+
 unfoldable pub fired_in : List ℕ → Option FiredFields
-fired_in body = let fired = fired_fields body in if_spelled (is_fired fired) fired (fired_bytes fired) body
+fired_in body = fired_up_to MOST_ENTRIES body

@@ -23,13 +23,21 @@ abbrev pub is_identity : IdentityFields → Bool
 is_identity identity = nat_le 1 identity.atoms && nat_le identity.atoms MOST_ATOMS && nat_le LEAST_RING identity.ring && nat_le identity.ring MOST_RING && length identity.digest == DIGEST
 
 -- how an identity is spelled
+-- in a layout of this version
+abbrev pub identity_bytes_of : ℕ → IdentityFields → List ℕ
+identity_bytes_of version identity = MAGIC ++ two_bytes version ++ two_bytes identity.atoms ++ four_bytes identity.ring ++ identity.digest
+
+-- and in this one
 abbrev pub identity_bytes : IdentityFields → List ℕ
-identity_bytes identity = MAGIC ++ two_bytes VERSION ++ two_bytes identity.atoms ++ four_bytes identity.ring ++ identity.digest
+identity_bytes identity = identity_bytes_of VERSION identity
 
 -- the body is the spelling of this identity, and zeros
-pub record IsIdentityBody (body : List ℕ) (identity : IdentityFields) : Type 0 where
+pub record IsIdentityBodyOf (version : ℕ) (body : List ℕ) (identity : IdentityFields) : Type 0 where
   pub in_range : IsIdentity identity
-  pub spelled : body ≡ padded (length body) (identity_bytes identity)
+  pub spelled : body ≡ padded (length body) (identity_bytes_of version identity)
+
+abbrev pub IsIdentityBody : List ℕ → IdentityFields → Type 0
+IsIdentityBody body identity = IsIdentityBodyOf VERSION body identity
 
 -- what the fields behind the magic bytes and the version say
 abbrev pub identity_fields : List ℕ → IdentityFields
@@ -40,8 +48,11 @@ identity_fields body =
     record { atoms = two_byte_number from_atoms; ring = four_byte_number from_ring; digest = take DIGEST (drop 4 from_ring) }
 
 -- the identity that a body holds
+abbrev pub identity_of : ℕ → List ℕ → Option IdentityFields
+identity_of version body = let identity = identity_fields body in if_spelled (is_identity identity) identity (identity_bytes_of version identity) body
+
 unfoldable pub identity_in : List ℕ → Option IdentityFields
-identity_in body = let identity = identity_fields body in if_spelled (is_identity identity) identity (identity_bytes identity) body
+identity_in body = identity_of VERSION body
 
 -- the version of the layout that a device is formatted with: what stands behind the magic bytes, if these are there
 unfoldable pub version_in : List ℕ → Option ℕ

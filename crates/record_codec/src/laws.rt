@@ -3,9 +3,9 @@
 ghost use Rattle.std.specs.Prelude.{◌≡◌, ◌≢◌, ◌↔◌, ℕ, ◌+◌, ◌<◌, List, Some};
 ghost use Rattle.record_codec.specs.Bytes.{AreBytes};
 ghost use Rattle.record_codec.specs.Base.{IsBaseBody, base_in};
-ghost use Rattle.record_codec.specs.Identity.{IdentityFields, IsIdentityBody, identity_in};
+ghost use Rattle.record_codec.specs.Identity.{IdentityFields, IsIdentityBody, IsIdentityBodyOf, identity_in, identity_of};
 ghost use Rattle.record_codec.specs.Saved.{SavedFields, IsSavedBody, saved_in};
-ghost use Rattle.record_codec.specs.Fired.{FiredFields, IsFiredBody, fired_in};
+ghost use Rattle.record_codec.specs.Fired.{FiredFields, IsFiredBody, IsFiredBodyUpTo, fired_in, fired_up_to};
 ghost use Rattle.record_codec.specs.Ring.{AreSameSlot, identity_cell, base_cell, slot_cell, record_cell, device_cells};
 
 /// A body holds a base exactly where it is the base's spelling, and zeros.
@@ -15,7 +15,9 @@ pub fn base_grammar()
 
 /// A body holds an identity exactly where it is the identity's spelling, and zeros.
 pub fn identity_grammar()
-    ensures { (body : List ℕ) (identity : IdentityFields) → (identity_in body ≡ Some identity) ↔ IsIdentityBody body identity }
+    ensures this_layout { (body : List ℕ) (identity : IdentityFields) → (identity_in body ≡ Some identity) ↔ IsIdentityBody body identity }
+    ensures any_layout { (version : ℕ) (body : List ℕ) (identity : IdentityFields)
+        → (identity_of version body ≡ Some identity) ↔ IsIdentityBodyOf version body identity }
 {}
 
 /// A body holds a saved state exactly where it is the state's spelling, and zeros.
@@ -25,7 +27,9 @@ pub fn saved_grammar()
 
 /// A body holds a record exactly where it is the record's spelling, and zeros.
 pub fn fired_grammar()
-    ensures { (body : List ℕ) (fired : FiredFields) → AreBytes body → ((fired_in body ≡ Some fired) ↔ IsFiredBody body fired) }
+    ensures this_layout { (body : List ℕ) (fired : FiredFields) → AreBytes body → ((fired_in body ≡ Some fired) ↔ IsFiredBody body fired) }
+    ensures any_layout { (most : ℕ) (body : List ℕ) (fired : FiredFields) → AreBytes body
+        → ((fired_up_to most body ≡ Some fired) ↔ IsFiredBodyUpTo most body fired) }
 {}
 
 /// Two records whose numbers are less than the ring's length apart have cells of their own.

@@ -1,6 +1,6 @@
 // What a device in memory makes of fuses, stops and changes without room.
 use disk_model::{Disk, DiskFault, MemDisk, Tear};
-use record_codec::ring::{device_cells, record_cell, slot_cell};
+use record_codec::ring::{IDENTITY_CELL, base_cell, device_cells, record_cell, slot_cell};
 use std::test::Fail;
 
 /// What a stop leaves of a written byte in cell 0 and one in cell 1, where 0x11 stood at the last sync and 0x22 was written.
@@ -70,7 +70,6 @@ fn a_change_past_the_room_changes_nothing(rt: HostRuntime) -> Result<(), Fail> {
 /// The largest device that a plant can have: two slots for each of 64 atoms, and a ring of 4,096 records.
 #[test]
 fn there_is_memory_for_the_largest_device(rt: HostRuntime) -> Result<(), Fail> {
-    assert_eq!(rt; slot_cell(63, 1), 130);
     let size = 512 * device_cells(64, 4096);
     assert_eq!(rt; size, 2_164_224);
     let mut disk = MemDisk::with_cells(rt.alloc(), size, 2, 512)?;
@@ -83,6 +82,26 @@ fn there_is_memory_for_the_largest_device(rt: HostRuntime) -> Result<(), Fail> {
     disk.read_at(last, &mut byte)?;
     assert_eq!(rt; byte, [7]);
     Ok(())
+}
+
+/// The device of the sample plant: two atoms, and a ring of eight records.
+#[test]
+fn the_sample_has_fifteen_cells(rt: HostRuntime) {
+    assert_eq!(rt; [IDENTITY_CELL, base_cell(0), base_cell(1)], [0, 1, 2]);
+    let slots = [
+        slot_cell(0, 0),
+        slot_cell(0, 1),
+        slot_cell(1, 0),
+        slot_cell(1, 1),
+    ];
+    assert_eq!(rt; slots, [3, 4, 5, 6]);
+    let records = [
+        record_cell(2, 8, 7),
+        record_cell(2, 8, 8),
+        record_cell(2, 8, 9),
+    ];
+    assert_eq!(rt; records, [14, 7, 8]);
+    assert_eq!(rt; device_cells(2, 8), 15);
 }
 
 #[test]
