@@ -1,5 +1,5 @@
 -- Values that are known from elsewhere, computed by the definitions.
-use Rattle.std.proofs.Common.{◌≡◌, ◌×◌, refl, [], ◌∷◌}
+use Rattle.std.proofs.Common.{◌≡◌, refl, []}
 use Rattle.std.specs.Prelude.{codes}
 use Rattle.bip_bench.specs.Hash.{hash_from}
 use Rattle.bip_bench.specs.Picks.{seeded, shifted, pick_at}

@@ -1,10 +1,9 @@
 -- Which interactions a row of words holds.
-use Rattle.std.specs.Prelude.{◌≡◌, ℕ, ◌*◌, ◌/◌, ◌%◌, ◌<◌, ◌≤◌, Bool, true, false, List, length, filter, nat_eq, slice_index}
+use Rattle.std.specs.Prelude.{ℕ, ◌*◌, ◌/◌, ◌%◌, Bool, List, length, filter, nat_eq, slice_index}
 use Rattle.std.specs.List.{range_with_len}
 use Rattle.std.specs.Int.{bit_at}
 use Rattle.std.specs.Ordering.{nat_cmp}
 use Rattle.std.specs.FinSet.{FinSet, from_list}
-use Rattle.priority_filter.specs.declared.interaction_set.TheConstants.{INTERACTION_LIMIT}
 
 -- bit k of a word is set
 abbrev pub has_bit : ℕ → ℕ → Bool

@@ -295,8 +295,8 @@ fn transitions_of_two_ports_are_kept_apart(rt: HostRuntime) -> Result<(), Fail> 
     }
     let offered = net.offered(&state);
     let counts = net.counts_among(offered);
+    assert_eq!(rt; (counts[0], counts[1], counts[2]), (2, 2, 0));
     for (port, count, second) in [(0, 2, Some(4)), (1, 2, Some(3)), (2, 0, None)] {
-        assert_eq!(rt; counts[usize::from(port)], count, "port {port}");
         assert_eq!(rt; net.offers(&state, port), 0 < count, "port {port}");
         assert_eq!(rt; net.nth_among(offered, port, 1), second, "port {port}");
     }
