@@ -1,6 +1,8 @@
 mod Rows
 pub mod Updates
 pub mod Steps
+pub mod Exits
+pub mod Taken
 pub mod Growing
 pub mod Named
 pub mod Once

@@ -1,6 +1,67 @@
+use Rattle.std.proofs.Common.{◌∙◌, refl, sym, ap, [], Ok, Err}
+use Rattle.std.proofs.lemmas.Result.{IfOk-from_err}
 use Rattle.atom_lines.specs.Draft.{drafted}
+use Rattle.atom_lines.specs.Lookup.{port_number}
+use Rattle.atom_lines.specs.Rows.{port_row, exports_in}
+use Rattle.atom_lines.proofs.Exits.{fails, passes, told_fault, told_memory, at_fault, room_for_port, new_name}
 use Rattle.atom_lines.proofs.SoundParts.{exports_sound}
 use Rattle.atom_lines.proofs.draft.AtomDraft.add_port.Goals as goal
 
+pub returns-in_err-check-clause-added : goal.returns-in_err-check-clause-added
+returns-in_err-check-clause-added c = IfOk-from_err c.from_residual.result _ c.from_residual.ensures.0
+
+pub returns-in_err-check-clause-fault : goal.returns-in_err-check-clause-fault
+returns-in_err-check-clause-fault c =
+    told_fault (port_row c.args.words.now (drafted c.args.self.now)) c.from_residual.result c.in_err-check.field-0.0 c.from_residual.ensures.1
+    (λ _. fails _ (room_for_port c.args.self.now.ports.items c.len.result (Err c.in_err-check.field-0.0) (c.len.ensures ∙ c.args.self.now.ports.ok.0) c.in_err-check.ensures))
+
+pub returns-in_err-check-clause-unchanged : goal.returns-in_err-check-clause-unchanged
+returns-in_err-check-clause-unchanged c = at_fault c.from_residual.result refl
+
+pub returns-in_err-name-clause-added : goal.returns-in_err-name-clause-added
+returns-in_err-name-clause-added c = IfOk-from_err c.from_residual-in_err-name.result _ c.from_residual-in_err-name.ensures.0
+
+pub returns-in_err-name-clause-fault : goal.returns-in_err-name-clause-fault
+returns-in_err-name-clause-fault c =
+    told_fault (port_row c.args.words.now (drafted c.args.self.now)) c.from_residual-in_err-name.result c.in_err-name.field-0.0 c.from_residual-in_err-name.ensures.1
+    (λ _. passes _ (room_for_port c.args.self.now.ports.items c.len.result (Ok c.in_ok-check.field-0) (c.len.ensures ∙ c.args.self.now.ports.ok.0) c.in_ok-check.ensures) (fails _ (sym c.in_err-name.ensures.name)))
+
+pub returns-in_err-name-clause-unchanged : goal.returns-in_err-name-clause-unchanged
+returns-in_err-name-clause-unchanged c = at_fault c.from_residual-in_err-name.result refl
+
+pub returns-in_err-check-2-clause-added : goal.returns-in_err-check-2-clause-added
+returns-in_err-check-2-clause-added c = IfOk-from_err c.from_residual-in_err-check-2.result _ c.from_residual-in_err-check-2.ensures.0
+
+pub returns-in_err-check-2-clause-fault : goal.returns-in_err-check-2-clause-fault
+returns-in_err-check-2-clause-fault c =
+    told_fault (port_row c.args.words.now (drafted c.args.self.now)) c.from_residual-in_err-check-2.result c.in_err-check-2.field-0.0 c.from_residual-in_err-check-2.ensures.1
+    (λ _. passes _ (room_for_port c.args.self.now.ports.items c.len.result (Ok c.in_ok-check.field-0) (c.len.ensures ∙ c.args.self.now.ports.ok.0) c.in_ok-check.ensures) (passes _ (sym c.in_ok-name.ensures.name) (fails _ (new_name (port_number (drafted c.args.self.now)) c.in_ok-name.name c.as_bytes.result.now c.find_port.result c.is_none.result (Err c.in_err-check-2.field-0.0) c.as_bytes.ensures c.find_port.ensures c.is_none.ensures c.in_err-check-2.ensures))))
+
+pub returns-in_err-check-2-clause-unchanged : goal.returns-in_err-check-2-clause-unchanged
+returns-in_err-check-2-clause-unchanged c = at_fault c.from_residual-in_err-check-2.result refl
+
+pub returns-in_err-exports-clause-added : goal.returns-in_err-exports-clause-added
+returns-in_err-exports-clause-added c = IfOk-from_err c.from_residual-in_err-exports.result _ c.from_residual-in_err-exports.ensures.0
+
+pub returns-in_err-exports-clause-fault : goal.returns-in_err-exports-clause-fault
+returns-in_err-exports-clause-fault c =
+    told_fault (port_row c.args.words.now (drafted c.args.self.now)) c.from_residual-in_err-exports.result c.in_err-exports.field-0.0 c.from_residual-in_err-exports.ensures.1
+    (λ other. passes _ (room_for_port c.args.self.now.ports.items c.len.result (Ok c.in_ok-check.field-0) (c.len.ensures ∙ c.args.self.now.ports.ok.0) c.in_ok-check.ensures) (passes _ (sym c.in_ok-name.ensures.name) (passes _ (new_name (port_number (drafted c.args.self.now)) c.in_ok-name.name c.as_bytes.result.now c.find_port.result c.is_none.result (Ok c.in_ok-check-2.field-0) c.as_bytes.ensures c.find_port.ensures c.is_none.ensures c.in_ok-check-2.ensures) (fails _ (ap (exports_in (drafted c.args.self.now) []) (sym c.next_name.ensures.taken) ∙ c.in_err-exports.ensures.fault other)))))
+
+pub returns-in_err-exports-clause-unchanged : goal.returns-in_err-exports-clause-unchanged
+returns-in_err-exports-clause-unchanged c = at_fault c.from_residual-in_err-exports.result refl
+
 pub push_port-requires-clause-sound : goal.push_port-requires-clause-sound
 push_port-requires-clause-sound c = exports_sound (drafted c.args.self.now) c.next_name.new.words c.in_ok-name.name c.in_ok-exports.exports.items c.in_ok-exports.ensures.exports
+
+pub returns-in_err-push_port-clause-added : goal.returns-in_err-push_port-clause-added
+returns-in_err-push_port-clause-added c = IfOk-from_err c.from_residual-in_err-push_port.result _ c.from_residual-in_err-push_port.ensures.0
+
+pub returns-in_err-push_port-clause-fault : goal.returns-in_err-push_port-clause-fault
+returns-in_err-push_port-clause-fault c = told_memory (port_row c.args.words.now (drafted c.args.self.now)) c.from_residual-in_err-push_port.result c.from_residual-in_err-push_port.ensures.1
+
+pub returns-in_err-push_port-clause-unchanged : goal.returns-in_err-push_port-clause-unchanged
+returns-in_err-push_port-clause-unchanged c = at_fault c.from_residual-in_err-push_port.result c.in_err-push_port.ensures.unchanged
+
+pub returns-clause-added : goal.returns-clause-added
+returns-clause-added c = passes _ (room_for_port c.args.self.now.ports.items c.len.result (Ok c.in_ok-check.field-0) (c.len.ensures ∙ c.args.self.now.ports.ok.0) c.in_ok-check.ensures) (passes _ (sym c.in_ok-name.ensures.name) (passes _ (new_name (port_number (drafted c.args.self.now)) c.in_ok-name.name c.as_bytes.result.now c.find_port.result c.is_none.result (Ok c.in_ok-check-2.field-0) c.as_bytes.ensures c.find_port.ensures c.is_none.ensures c.in_ok-check-2.ensures) (passes _ (ap (exports_in (drafted c.args.self.now) []) (sym c.next_name.ensures.taken) ∙ c.in_ok-exports.ensures.exports) (ap Ok (sym c.in_ok-push_port.ensures.pushed)))))
