@@ -13,6 +13,13 @@ pub leads-told : {X : Type 0} (say : X → List ℕ) (xs : List X) (i : ℕ) (d 
 leads-told say xs i d start now next all within l p =
     leads-more _ _ _ _ _ _ (leads-same l (ap (flat_map say) (drop_more xs i d within))) p
 
+-- the same of an element that is at hand
+pub leads-item : {X : Type 0} (say : X → List ℕ) (xs : List X) (i : ℕ) (x : X) (start now next : Option (List ℕ)) (all : List ℕ)
+    → i < length xs → x ≡ get_or xs i x → Leads start now (flat_map say (drop i xs)) all → Appends now next (say x)
+    → Leads start next (flat_map say (drop (i + 1) xs)) all
+leads-item say xs i x start now next all within here l p =
+    leads-told say xs i x start now next all within l (subst (λ y. Appends now next (say y)) here p)
+
 -- a numbered element is told as what a function makes of it
 pub leads-mapped : {X D : Type 0} (f : X → D) (say : ℕ → D → List ℕ) (xs : List X) (i : ℕ) (x : X) (start now next : Option (List ℕ)) (all : List ℕ)
     → i < length xs → x ≡ get_or xs i x → Leads start now (numbered say i (drop i (map f xs))) all → Appends now next (say i (f x))

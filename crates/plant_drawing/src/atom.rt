@@ -65,12 +65,20 @@ fn print_variables<W: Write>(variables: &[Variable], output: &mut W) -> Result<(
         (flat_map variable_text variables.now)) }
 {
     for variable in variables {
-        print_text(output, b"\\n")?;
-        print_text(output, variable.name.as_bytes())?;
-        print_text(output, b" = ")?;
-        print_signed(output, variable.first)?;
+        print_variable(variable, output)?;
     }
     Ok(())
+}
+
+/// Prints a variable with its first value on a line of its own.
+fn print_variable<W: Write>(variable: &Variable, output: &mut W) -> Result<(), WriteFault>
+    ensures { OnOk result (Appends (W.contents output.old) (W.contents output.new)
+        (variable_text variable.now)) }
+{
+    print_text(output, b"\\n")?;
+    print_text(output, variable.name.as_bytes())?;
+    print_text(output, b" = ")?;
+    print_signed(output, variable.first)
 }
 
 /// Prints the places of an atom.
