@@ -24,6 +24,7 @@ use Rattle.wire_lines.specs.Rows.{Named, whole_expression, has_target, has_targe
 use Rattle.wire_lines.specs.Parts.{Passes}
 use Rattle.wire_lines.proofs.Expressions.{expression_is_kept}
 use Rattle.wire_lines.proofs.Kept.{transfer_is_kept}
+use Rattle.wire_lines.proofs.Targets.{same_both_ways}
 
 -- what holds of each, and of one more
 all_and_one : {X : Type 0} (p : X → Bool) (xs : List X) (x : X) → list_all p xs ≡ true → p x ≡ true → list_all p (xs ++ x ∷ []) ≡ true
@@ -87,10 +88,6 @@ transfer_is_new named before words t told =
     let value = led_on (whole_expression named (drop 1 (drop 1 words))) (made target.0) t assigns.2 in
     let same : record { target = target.0; value = value.0 } ≡ t = same_end (record { target = target.0; value = value.0 }) t value.2 in
     subst (λ s. has_target before s.target ≡ false) same (target_is_new named before words target.0 target.1)
-
--- one is the same as another exactly where the other is the same as it
-same_both_ways : (one other : Export) → is_same_export one other ≡ is_same_export other one
-same_both_ways one other = grind arith
 
 -- one more transfer, to a target that is new
 once_and_one : (transfers : List TransferDefinition) (t : TransferDefinition) → has_targets_once transfers ≡ true →

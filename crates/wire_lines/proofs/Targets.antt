@@ -1,7 +1,8 @@
 -- Targets of transfers.
-use Rattle.std.proofs.Common.{◌≡◌, ◌∙◌, ap, refl, arith, ◌||◌, Bool, true, false, if◌then◌else◌, List, [], ◌∷◌, ◌++◌, map}
+use Rattle.std.proofs.Common.{◌≡◌, ◌∙◌, ap, refl, sym, ℕ, ◌==◌, ◌&&◌, ◌||◌, Bool, true, false, if◌then◌else◌, List, [], ◌∷◌, ◌++◌, map}
 use Rattle.std.specs.List.{list_any}
 use Rattle.std.proofs.lemmas.Bool.{and_from, and_parts, or_from, or_parts, not-true, not_from_false}
+use Rattle.std.proofs.lemmas.Bool.Decides.{Decides-eqb, Decides-like, same_from_decides}
 use Rattle.std.proofs.lemmas.List.{map-append}
 use Rattle.std.proofs.lemmas.List.Folds.{list_any-append}
 use Rattle.petri_atom.specs.Definition.{is_each_once}
@@ -17,9 +18,15 @@ use Rattle.wire_lines.specs.Rows.{has_target, has_targets_once}
 pub has_target_of : (transfers : List Transfer) (target : Export) → has_target (map transfer_of transfers) target ≡ list_any (λ t. is_same_export t.target target) transfers
 has_target_of transfers target = list_any-map (λ t. is_same_export t.target target) transfer_of transfers
 
+-- the test of two numbers is the same in either order
+same_numbers : (m n : ℕ) → (m == n) ≡ (n == m)
+same_numbers m n = same_from_decides _ _ (Decides-eqb m n) (Decides-like _ sym sym (Decides-eqb n m))
+
 -- one is the same as another exactly where the other is the same as it
-same_both_ways : (one other : Export) → is_same_export one other ≡ is_same_export other one
-same_both_ways one other = grind arith
+pub same_both_ways : (one other : Export) → is_same_export one other ≡ is_same_export other one
+same_both_ways one other =
+    ap (λ same. same && (one.export == other.export)) (same_numbers one.leaf other.leaf)
+    ∙ ap (λ same. (other.leaf == one.leaf) && same) (same_numbers one.export other.export)
 
 -- exported variables are all different, and another one is none of them
 once_with_another : (exports : List Export) (another : Export) → is_each_once is_same_export exports ≡ true → list_any (λ e. is_same_export e another) exports ≡ false → is_each_once is_same_export (exports ++ another ∷ []) ≡ true
