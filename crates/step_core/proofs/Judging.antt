@@ -18,6 +18,16 @@ pub atom-there : (atoms : List Atom) (n : ℕ) (atom : Atom) → n < length atom
 atom-there atoms n atom within here =
     slice_get-map definition_of atoms n ∙ ap (option_map definition_of) (slice_get_read atoms (length atoms) n atom refl within here)
 
+-- the same where the number stands in a machine word
+pub atom-at : (atoms : List Atom) (n k : ℕ) (atom : Atom) → n ≡ k → n < length atoms → atom ≡ get_or atoms n atom → slice_get (map definition_of atoms) k ≡ Some (definition_of atom)
+atom-at atoms n k atom same within here =
+    ap (slice_get (map definition_of atoms)) (sym same) ∙ atom-there atoms n atom within here
+
+-- and there is none from the number of atoms on
+pub atom-past : (atoms : List Atom) (n k : ℕ) → n ≡ k → length atoms ≤ n → slice_get (map definition_of atoms) k ≡ None
+atom-past atoms n k same past =
+    slice_get_past (map definition_of atoms) k (omega (arith, length-map atoms definition_of))
+
 pub some_state : Local
 some_state = record { marking = 0; values = [] }
 

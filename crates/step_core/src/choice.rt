@@ -3,7 +3,7 @@ use connector_tree::{MAX_LEAVES, Mask};
 use std::marker::Model;
 
 /// What one participant of a choice does: a transition of an atom, both by number.
-#[derive(Clone, Copy, Debug, PartialEq, Eq)]
+#[derive(Clone, Copy, PartialEq, Eq)]
 pub struct Move {
     pub atom: u16,
     pub transition: u16,
@@ -11,7 +11,7 @@ pub struct Move {
 
 /// The moves of a choice, in rising order of their atoms; at most as many as a connector has leaves. It takes no memory. In a
 /// contract it is the list of the moves.
-#[derive(Debug, Drop)]
+#[derive(Drop)]
 pub struct Moves {
     row: [Move; MAX_LEAVES],
     count: usize,
@@ -66,7 +66,7 @@ impl Moves {
 }
 
 /// A choice: an interaction by its connector's number and its mask, and one offered transition for each of its ports.
-#[derive(Debug, Drop)]
+#[derive(Drop)]
 pub struct Choice {
     pub connector: u16,
     pub mask: Mask,

@@ -5,7 +5,7 @@ ghost use Rattle.connector_tree.specs.declared.tree.TheConstants.{MAX_LEAVES};
 use connector_tree::{Mask, Port};
 
 /// An interaction: the number of its connector, its leaves as a mask, and its ports in rising order of their atoms.
-#[derive(Debug, Drop)]
+#[derive(Drop)]
 pub struct Interaction {
     pub connector: u16,
     pub mask: Mask,

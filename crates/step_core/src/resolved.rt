@@ -12,14 +12,14 @@ use petri_atom::{Atom, Expression};
 use std::alloc::{AllocError, Global};
 
 /// A variable of an atom, by the numbers of both.
-#[derive(Clone, Copy, Debug, PartialEq, Eq)]
+#[derive(Clone, Copy)]
 pub(crate) struct AtomVariable {
     pub(crate) atom: u16,
     pub(crate) variable: u8,
 }
 
 /// A guard clause, with the leaves that it names: bit j for leaf j, and bit 16 for any that no mask has room for.
-#[derive(Debug, Drop)]
+#[derive(Drop)]
 pub(crate) struct Clause {
     pub(crate) leaves: u32,
     pub(crate) value: Expression<AtomVariable>,
@@ -27,7 +27,7 @@ pub(crate) struct Clause {
 
 /// A transfer, with the leaves that it names, as in a clause; its target's is one of them, and `before` are those on the left of
 /// that. The target is an exported variable of the leaf's atom.
-#[derive(Debug, Drop)]
+#[derive(Drop)]
 pub(crate) struct Delivery {
     pub(crate) leaves: u32,
     pub(crate) before: u32,
@@ -37,7 +37,7 @@ pub(crate) struct Delivery {
 }
 
 /// The guard clauses and the transfers of a wire, in written order.
-#[derive(Debug, Drop)]
+#[derive(Drop)]
 pub(crate) struct Resolved {
     pub(crate) clauses: Vec<Clause>,
     pub(crate) deliveries: Vec<Delivery>,

@@ -10,7 +10,7 @@ use std::alloc::{AllocError, Global};
 use std::marker::Model;
 
 /// The states of a plant's atoms, by the atoms' numbers. In a contract it is the list of the local states.
-#[derive(Debug, Drop)]
+#[derive(Drop)]
 pub struct PlantState {
     pub(crate) states: Vec<AtomState>,
 }

@@ -23,7 +23,7 @@ use priority_filter::{InteractionSet, Order};
 /// It keeps each rule of a plant, so that what can be asked of it cannot fail. It has all interactions at hand, the
 /// leaves of each connector, its guard clauses and transfers with their variables found, for each interaction the row of those
 /// above it, and which have none above them, so that no step takes memory.
-#[derive(Debug, Drop)]
+#[derive(Drop)]
 pub struct System {
     pub(crate) atoms: Vec<Atom>,
     pub(crate) wires: Vec<Wire>,

@@ -1,7 +1,10 @@
 use Rattle.std.proofs.Common.{◌<◌, ◌^◌, ◌∙◌, sym, ap, eqb, arith}
 use Rattle.std.proofs.lemmas.Bool.{le-ltb}
-use Rattle.std.proofs.lemmas.Nat.Bits.{bit_at_above}
+use Rattle.std.proofs.lemmas.Nat.Bits.{bit_at_above, shr_and_one}
 use Rattle.step_core.proofs.interactions.has_leaf.Goals as goal
+
+pub returns-then-leaf-lt16 : goal.returns-then-leaf-lt16
+returns-then-leaf-lt16 c = ap (λ x. eqb x 1) (shr_and_one c.args.mask c.args.leaf)
 
 pub returns-else-leaf-lt16 : goal.returns-else-leaf-lt16
 returns-else-leaf-lt16 c =
