@@ -1,15 +1,17 @@
-use Rattle.std.proofs.Common.{◌≡◌, ℕ, zero, suc, ◌≤◌, ℤ, Bool, true, false, not, ◌&&◌, ◌||◌, ltb, refl, sym, ◌∙◌, ap, List, [], ◌∷◌, length, map, Option, Some, None, subst, ⊎_elim}
+use Rattle.std.proofs.Common.{◌≡◌, ℕ, zero, suc, ◌≤◌, ℤ, Bool, true, false, cond, not, ◌&&◌, ◌||◌, ltb, refl, sym, ◌∙◌, ap, List, [], ◌∷◌, length, map, Option, Some, None, subst, ⊎_elim}
 use Rattle.std.specs.Prelude.{slice_get, slice_set}
 use Rattle.std.specs.List.{list_all}
 use Rattle.std.specs.Option.{option_map_or}
 use Rattle.std.proofs.lemmas.Bool.{leb-true, and_parts, and_from, cases_lt, le-ltb, false≢true, false_from_ne_true}
 use Rattle.std.proofs.lemmas.List.{length-set, length-map}
+use Rattle.std.proofs.lemmas.Option.{none-some}
 use Rattle.petri_atom.specs.Local.{Local, has, is_in, set_below, moved, delivered_value}
-use Rattle.petri_atom.specs.Definition.{AtomDefinition, TransitionDefinition, UpdateDefinition, Fits, fired, fired_by, exports_of, updated, delivered_to, is_well_formed, is_within_limits, has_each_once, has_known_numbers, has_known_numbers_in, exports_known, has_sources_and_targets, are_below}
+use Rattle.petri_atom.specs.Definition.{AtomDefinition, TransitionDefinition, UpdateDefinition, Fits, fired, fired_by, exports_of, updated, delivered_to, is_well_formed, fault_of, is_within_limits, has_each_once, has_known_numbers, has_known_numbers_in, exports_known, has_sources_and_targets, are_below}
 use Rattle.petri_atom.specs.Atom.{definition_of}
 use Rattle.petri_atom.specs.Parts.{port_of}
 use Rattle.petri_atom.specs.Transition.{transition_of}
 use Rattle.petri_atom.specs.declared.atom.Atom.{Atom}
+use Rattle.petri_atom.specs.declared.fault.AtomFault.TheVariants.{Limit, Twice, Unknown, NoPlace}
 use Rattle.petri_atom.specs.declared.state.Delivered.{Delivered}
 use Rattle.petri_atom.proofs.Sets.{has-above, set_below-lt, has-set_below}
 use Rattle.petri_atom.proofs.Markings.{list_all-at}
@@ -57,6 +59,18 @@ all_weaker f g weaker [] all = refl
 all_weaker f g weaker (x ∷ xs) all =
     let parts = and_parts (f x) (list_all f xs) all in
     and_from (g x) (list_all g xs) (weaker x parts.0) (all_weaker f g weaker xs parts.1)
+
+-- an atom that breaks no rule is well formed
+pub formed-when-sound : (a : AtomDefinition) → fault_of a ≡ None → is_well_formed a ≡ true
+formed-when-sound a sound =
+    each (is_within_limits a) (has_each_once a) (has_known_numbers a) (has_sources_and_targets a) sound
+  where
+    each : (w x y z : Bool) → cond (not w) (Some Limit) (cond (not x) (Some Twice) (cond (not y) (Some Unknown) (cond (not z) (Some NoPlace) None))) ≡ None → (w && x && y && z) ≡ true
+    each true true true true e = refl
+    each true true true false e = absurd (none-some NoPlace (sym e))
+    each true true false z e = absurd (none-some Unknown (sym e))
+    each true false y z e = absurd (none-some Twice (sym e))
+    each false x y z e = absurd (none-some Limit (sym e))
 
 -- a well-formed atom keeps the limit of transitions
 pub few_transitions : (a : AtomDefinition) → is_well_formed a ≡ true → length a.transitions ≤ 128

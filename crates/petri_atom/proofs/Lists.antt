@@ -1,6 +1,9 @@
-use Rattle.std.proofs.Common.{◌≡◌, ℕ, ◌-◌, ◌^◌, min, Bool, not, ◌&&◌, ◌||◌, leb, refl, ap, ◌∙◌, arith, List, [], ◌∷◌, map}
+use Rattle.std.proofs.Common.{◌≡◌, ℕ, ◌-◌, ◌^◌, ◌<◌, ◌≤◌, min, Bool, not, ◌&&◌, ◌||◌, leb, refl, sym, ap, ◌∙◌, arith, List, [], ◌∷◌, map, length, get_or}
+use Rattle.std.specs.Prelude.{Some, None, option_map, slice_get}
 use Rattle.std.specs.List.{list_all, list_any}
 use Rattle.std.proofs.lemmas.Bool.Decides.{nat_tests}
+use Rattle.std.proofs.lemmas.List.{length-map}
+use Rattle.std.proofs.lemmas.Option.{slice_get-map, slice_get_read, slice_get_past}
 use Rattle.petri_atom.specs.Definition.{is_each_once}
 
 -- a test of all that a function makes of a list is a test of the list
@@ -25,3 +28,14 @@ pub is_each_once-map : {X Y : Type 0} (same : Y → Y → Bool) (g : X → Y) (x
 is_each_once-map same g [] = refl
 is_each_once-map same g (x ∷ xs) =
     both (ap not (list_any-map (λ y. same y (g x)) g xs)) (is_each_once-map same g xs)
+
+-- what a function makes of the element with a number k, which stands in a machine word as n
+pub mapped-at : {X Y : Type 0} (f : X → Y) (xs ys : List X) (n k : ℕ) (x : X) → ys ≡ xs → n ≡ k → n < length ys → x ≡ get_or ys n x → slice_get (map f xs) k ≡ Some (f x)
+mapped-at f xs ys n k x same number within here =
+    slice_get-map f xs k ∙
+    ap (option_map f) (ap (λ zs. slice_get zs k) (sym same) ∙ ap (slice_get ys) (sym number) ∙ slice_get_read ys (length ys) n x refl within here)
+
+-- and there is none from the number of elements on
+pub mapped-past : {X Y : Type 0} (f : X → Y) (xs ys : List X) (n k : ℕ) → ys ≡ xs → n ≡ k → length ys ≤ n → slice_get (map f xs) k ≡ None
+mapped-past f xs ys n k same number past =
+    slice_get_past (map f xs) k (omega (arith, length-map xs f, ap length same))

@@ -22,7 +22,7 @@ use std::alloc::{AllocError, Global};
 /// an atom, so that what can be asked of it cannot fail. For each port it has the set of the port's transitions, so that what
 /// a set of transitions has of a port is one operation. Transitions that ask the same of a
 /// marking are a group, so that it is tested once for all of them; to find all that is offered, no guard that is a number other than 0 is looked at.
-#[derive(Debug, Drop)]
+#[derive(Drop)]
 pub struct Atom {
     name: Name,
     places: Vec<Place>,

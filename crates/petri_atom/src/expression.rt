@@ -61,7 +61,7 @@ pub trait VariableTest<V> {
 }
 
 /// An expression: a number, a variable, or an operator over expressions.
-#[derive(Debug, Drop)]
+#[derive(Drop)]
 pub enum Expression<V> {
     Number(i64),
     Variable(V),

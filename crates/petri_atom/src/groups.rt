@@ -9,7 +9,7 @@ use crate::transition::Transition;
 use std::alloc::{AllocError, Global};
 
 /// Transitions that ask the same of a marking: all places of one set marked, and none of another.
-#[derive(Clone, Copy, Debug, Drop)]
+#[derive(Clone, Copy, Drop)]
 pub(crate) struct Group {
     sources: u64,
     blocking: u64,

@@ -9,7 +9,7 @@ pub const MAX_NAME: usize = 32;
 
 /// A name: a letter, and then letters, digits or `_`, of 1 to 32 bytes and no reserved word of the plant text
 /// (`from to when do init at min max`). In a contract it is the list of its bytes.
-#[derive(Debug, Drop)]
+#[derive(Drop)]
 pub struct Name {
     bytes: [u8; MAX_NAME],
     len: u8,

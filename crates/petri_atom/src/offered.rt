@@ -12,7 +12,7 @@ use crate::state::AtomState;
 use std::marker::Model;
 
 /// A set of transitions of one atom, by their numbers. In a contract it is the number whose bits they are.
-#[derive(Clone, Copy, Debug, PartialEq, Eq, Drop)]
+#[derive(Clone, Copy, PartialEq, Eq, Drop)]
 pub struct TransitionSet {
     word: u128,
 }

@@ -16,7 +16,7 @@ pub const MAX_UPDATES: usize = 16;
 pub const MAX_WORDS: usize = 64;
 
 /// A place: its name, and whether it is marked at first.
-#[derive(Debug, Drop)]
+#[derive(Drop)]
 pub struct Place {
     /// The name of the place.
     pub name: Name,
@@ -25,7 +25,7 @@ pub struct Place {
 }
 
 /// A variable: its name and its first value.
-#[derive(Debug, Drop)]
+#[derive(Drop)]
 pub struct Variable {
     /// The name of the variable.
     pub name: Name,
@@ -34,7 +34,7 @@ pub struct Variable {
 }
 
 /// A port: its name, and the numbers of the variables that it exports, in order.
-#[derive(Debug, Drop)]
+#[derive(Drop)]
 pub struct Port {
     /// The name of the port.
     pub name: Name,

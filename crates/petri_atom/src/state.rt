@@ -17,7 +17,7 @@ pub const MAX_VARIABLES: usize = 16;
 pub const MAX_EXPORTS: usize = 4;
 
 /// The state of one atom: the marked places, bit k for place k, and the values of its variables.
-#[derive(Debug, Drop)]
+#[derive(Drop)]
 pub struct AtomState {
     places: u64,
     used: u8,

@@ -13,7 +13,7 @@ use crate::parts::{MAX_UPDATES, are_below, numbers_stand_once};
 use crate::state::{AtomState, MAX_PLACES};
 
 /// An update: the variable with this number gets the value of the expression.
-#[derive(Debug, Drop)]
+#[derive(Drop)]
 pub struct Update {
     pub variable: u8,
     pub value: Expression<u8>,
@@ -22,7 +22,7 @@ pub struct Update {
 /// A transition of an atom.
 ///
 /// Beside its lists of places it keeps each as a machine word, so that a test of a marking is two operations.
-#[derive(Debug, Drop)]
+#[derive(Drop)]
 pub struct Transition {
     pub(crate) port: u16,
     pub(crate) sources: Vec<u8>,
