@@ -1,6 +1,5 @@
 //! What no clause says: that the clauses mean what they should, on values, runs, drawings and texts worked out by hand.
 mod atoms;
-mod connectors;
 mod drawings;
 mod orders;
 mod runs;

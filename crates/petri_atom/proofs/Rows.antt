@@ -1,10 +1,12 @@
 -- Worked examples of the definitions, as computed facts.
-use Rattle.std.proofs.Common.{◌≡◌, ℕ, ◌-◌, ◌^◌, pos, negsuc, true, false, refl, [], ◌∷◌, Some, None}
+use Rattle.std.proofs.Common.{◌≡◌, ℕ, ℤ, ◌-◌, ◌^◌, pos, negsuc, true, false, refl, List, [], ◌∷◌, map, replicate, Some, None, codes}
 use Rattle.std.specs.Int.{int_wrap}
 use Rattle.petri_atom.specs.Expression.{Tree, number, variable, negation, operation, operated, value_of, word_count}
-use Rattle.petri_atom.specs.Local.{set_below, moved, value_in}
-use Rattle.petri_atom.specs.Definition.{TransitionDefinition, can_move, offers, fired_by, numbers_of, first_from}
-use Rattle.petri_atom.specs.declared.expression.Operator.TheVariants.{Add, Subtract, Multiply, Less, Equal, And, Or}
+use Rattle.petri_atom.specs.Local.{set_below, moved, value_in, has}
+use Rattle.petri_atom.specs.Name.{is_name}
+use Rattle.petri_atom.specs.Definition.{TransitionDefinition, AtomDefinition, can_move, offers, offers_port, offered_set, enabled, fired_by, delivered_to, fault_of, numbers_of, first_from}
+use Rattle.petri_atom.specs.declared.expression.Operator.TheVariants.{Add, Subtract, Multiply, Min, Max, Less, LessOrEqual, Equal, NotEqual, And, Or}
+use Rattle.petri_atom.specs.declared.fault.AtomFault.TheVariants.{Limit, Twice, Unknown, NoPlace}
 use Rattle.petri_atom.specs.declared.state.Delivered.{Delivered}
 
 -- the guard `&& < n 10 ! == n 3`: n is below 10 and not 3
@@ -44,6 +46,35 @@ wraps_in_a_product = refl
 -- any value but 0 is true
 or_of_a_negative : operated Or (pos 0) (negsuc 2) ≡ pos 1
 or_of_a_negative = refl
+
+-- negsuc n is the number -1 - n
+sums : (operated Add (pos 2) (pos 3) ≡ pos 5) × (operated Add (negsuc (2 ^ 63 - 1)) (negsuc 0) ≡ pos (2 ^ 63 - 1)) × (operated Subtract (pos 2) (pos 3) ≡ negsuc 0) × (operated Subtract (pos (2 ^ 63 - 1)) (negsuc 0) ≡ negsuc (2 ^ 63 - 1))
+unfolding int_wrap
+sums = (refl, refl, refl, refl)
+
+products : (operated Multiply (negsuc 3) (pos 3) ≡ negsuc 11) × (operated Multiply (negsuc (2 ^ 63 - 1)) (negsuc 0) ≡ negsuc (2 ^ 63 - 1))
+unfolding int_wrap
+products = (refl, refl)
+
+smaller_and_larger : (operated Min (negsuc 3) (pos 3) ≡ negsuc 3) × (operated Min (pos 4) (pos 3) ≡ pos 3) × (operated Max (negsuc 3) (pos 3) ≡ pos 3) × (operated Max (pos 4) (pos 3) ≡ pos 4)
+smaller_and_larger = (refl, refl, refl, refl)
+
+-- 1 for true and 0 for false
+compared : (operated Less (pos 2) (pos 3) ≡ pos 1) × (operated Less (pos 3) (pos 3) ≡ pos 0) × (operated Less (negsuc 0) (pos 0) ≡ pos 1) × (operated LessOrEqual (pos 3) (pos 3) ≡ pos 1) × (operated LessOrEqual (pos 4) (pos 3) ≡ pos 0)
+compared = (refl, refl, refl, refl, refl)
+
+equal_or_not : (operated Equal (pos 3) (pos 3) ≡ pos 1) × (operated Equal (pos 3) (negsuc 2) ≡ pos 0) × (operated NotEqual (pos 3) (pos 3) ≡ pos 0) × (operated NotEqual (pos 3) (negsuc 2) ≡ pos 1)
+equal_or_not = (refl, refl, refl, refl)
+
+both_or_one : (operated And (pos 2) (negsuc 2) ≡ pos 1) × (operated And (pos 2) (pos 0) ≡ pos 0) × (operated And (pos 0) (pos 0) ≡ pos 0) × (operated Or (pos 0) (pos 0) ≡ pos 0)
+both_or_one = (refl, refl, refl, refl)
+
+-- `!` with one operand
+abbrev negated : ℤ → Tree ℕ
+negated z = negation (number z)
+
+negations : (value_of (value_in []) (negated (pos 0)) ≡ pos 1) × (value_of (value_in []) (negated (pos 1)) ≡ pos 0) × (value_of (value_in []) (negated (negsuc 6)) ≡ pos 0) × (word_count (negated (pos 0)) ≡ 2)
+negations = (refl, refl, refl, refl)
 
 -- nothing is delivered
 nothing : Delivered
@@ -108,3 +139,130 @@ first_from_five = refl
 numbers_by_port : numbers_of 0 (count ∷ move ∷ []) ≡ 0 ∷ 1 ∷ []
 unfolding count move
 numbers_by_port = refl
+
+-- ---- the transitions of a port
+
+-- a transition of a port that stays at its place, with a number for its guard
+abbrev staying : ℕ → ℤ → TransitionDefinition
+staying port guard = record {
+  port = port;
+  sources = 0 ∷ [];
+  targets = 0 ∷ [];
+  guard = number guard;
+  updates = [];
+}
+
+-- an atom A with the place p, the variable a, and the ports t, which exports it, and u
+abbrev atom_of : List TransitionDefinition → AtomDefinition
+atom_of transitions = record {
+  name = codes "A";
+  places = record { name = codes "p"; marked = true } ∷ [];
+  variables = record { name = codes "a"; first = pos 0 } ∷ [];
+  ports = record { name = codes "t"; exports = 0 ∷ [] } ∷ record { name = codes "u"; exports = [] } ∷ [];
+  transitions = transitions;
+}
+
+-- four transitions of port 0, of which the second is never offered
+four : AtomDefinition
+four = atom_of (staying 0 (pos 1) ∷ staying 0 (pos 0) ∷ staying 0 (pos 1) ∷ staying 0 (pos 1) ∷ [])
+
+offered_of_four : enabled four (record { marking = 1; values = pos 0 ∷ [] }) 0 ≡ 0 ∷ 2 ∷ 3 ∷ []
+unfolding four
+offered_of_four = refl
+
+-- the same as a set: bits 0, 2 and 3
+set_of_four : (offered_set four (record { marking = 1; values = pos 0 ∷ [] }) ≡ 13) × (map (has 13) (0 ∷ 1 ∷ 2 ∷ 3 ∷ 4 ∷ 128 ∷ []) ≡ true ∷ false ∷ true ∷ true ∷ false ∷ false ∷ []) × (has 0 0 ≡ false)
+unfolding four set_below
+set_of_four = (refl, refl, refl)
+
+first_of_four : map (λ low. first_from low (0 ∷ 2 ∷ 3 ∷ [])) (0 ∷ 1 ∷ 2 ∷ 3 ∷ 4 ∷ 65535 ∷ []) ≡ Some 0 ∷ Some 2 ∷ Some 2 ∷ Some 3 ∷ None ∷ None ∷ []
+first_of_four = refl
+
+-- port 1 has no transition, and port 2 is not there
+other_ports_of_four : map (offers_port four (record { marking = 1; values = pos 0 ∷ [] })) (0 ∷ 1 ∷ 2 ∷ []) ≡ true ∷ false ∷ false ∷ []
+unfolding four
+other_ports_of_four = refl
+
+-- where the place is not marked nothing is offered
+none_of_four : offers_port four (record { marking = 0; values = pos 0 ∷ [] }) 0 ≡ false
+unfolding four
+none_of_four = refl
+
+-- transitions of two ports in turn, of which the third is never offered
+in_turn : AtomDefinition
+in_turn = atom_of (staying 0 (pos 1) ∷ staying 1 (pos 1) ∷ staying 0 (pos 0) ∷ staying 1 (pos 1) ∷ staying 0 (pos 1) ∷ [])
+
+offered_in_turn : map (enabled in_turn (record { marking = 1; values = pos 0 ∷ [] })) (0 ∷ 1 ∷ 2 ∷ []) ≡ (0 ∷ 4 ∷ []) ∷ (1 ∷ 3 ∷ []) ∷ [] ∷ []
+unfolding in_turn
+offered_in_turn = refl
+
+-- ---- what is delivered
+
+-- a port exports variables 3, 1, 0 and 2; each bit of a mask delivers the value at its place, and a fifth bit nothing
+abbrev delivered_with : ℕ → List ℤ
+delivered_with mask = delivered_to (record { mask = mask; values = pos 10 ∷ pos 20 ∷ pos 30 ∷ pos 40 ∷ [] }) 0 (3 ∷ 1 ∷ 0 ∷ 2 ∷ []) (pos 7 ∷ pos 7 ∷ pos 7 ∷ pos 7 ∷ [])
+
+by_no_bit : (delivered_with 0 ≡ pos 7 ∷ pos 7 ∷ pos 7 ∷ pos 7 ∷ []) × (delivered_with 16 ≡ pos 7 ∷ pos 7 ∷ pos 7 ∷ pos 7 ∷ [])
+by_no_bit = (refl, refl)
+
+by_each_bit : (delivered_with 1 ≡ pos 7 ∷ pos 7 ∷ pos 7 ∷ pos 10 ∷ []) × (delivered_with 10 ≡ pos 7 ∷ pos 20 ∷ pos 40 ∷ pos 7 ∷ []) × (delivered_with 15 ≡ pos 30 ∷ pos 20 ∷ pos 40 ∷ pos 10 ∷ [])
+by_each_bit = (refl, refl, refl)
+
+-- `trans t from p to q do b := a ; a := + a 1`: b gets what was delivered to a, and then a is one more
+hand_on : TransitionDefinition
+hand_on = record {
+  port = 0;
+  sources = 0 ∷ [];
+  targets = 1 ∷ [];
+  guard = number (pos 1);
+  updates = record { variable = 1; value = variable 0 } ∷ record { variable = 0; value = operation Add (variable 0) (number (pos 1)) } ∷ [];
+}
+
+updates_in_order : fired_by hand_on (0 ∷ []) (record { mask = 1; values = pos 10 ∷ [] }) (record { marking = 1; values = pos 3 ∷ pos 0 ∷ [] }) ≡ record { marking = 2; values = pos 11 ∷ pos 10 ∷ [] }
+unfolding hand_on moved set_below int_wrap
+updates_in_order = refl
+
+-- ---- faults
+
+-- a transition with these sources and targets whose guard is a variable
+abbrev guarded : List ℕ → List ℕ → ℕ → TransitionDefinition
+guarded sources targets guard = record {
+  port = 0;
+  sources = sources;
+  targets = targets;
+  guard = variable guard;
+  updates = [];
+}
+
+sound_transition : fault_of (atom_of (guarded (0 ∷ []) (0 ∷ []) 0 ∷ [])) ≡ None
+sound_transition = refl
+
+place_twice : (fault_of (atom_of (guarded (0 ∷ 0 ∷ []) (0 ∷ []) 0 ∷ [])) ≡ Some Twice) × (fault_of (atom_of (guarded (0 ∷ []) (0 ∷ 0 ∷ []) 0 ∷ [])) ≡ Some Twice)
+place_twice = (refl, refl)
+
+no_place : (fault_of (atom_of (guarded [] (0 ∷ []) 0 ∷ [])) ≡ Some NoPlace) × (fault_of (atom_of (guarded (0 ∷ []) [] 0 ∷ [])) ≡ Some NoPlace)
+no_place = (refl, refl)
+
+-- variable 1, and place 1
+not_there : (fault_of (atom_of (guarded (0 ∷ []) (0 ∷ []) 1 ∷ [])) ≡ Some Unknown) × (fault_of (atom_of (guarded (0 ∷ []) (1 ∷ []) 0 ∷ [])) ≡ Some Unknown)
+not_there = (refl, refl)
+
+-- twice before what is not there, and that before a place that is missing
+first_of_two_faults : (fault_of (atom_of (guarded (0 ∷ 0 ∷ []) (0 ∷ []) 1 ∷ [])) ≡ Some Twice) × (fault_of (atom_of (guarded [] (0 ∷ []) 1 ∷ [])) ≡ Some Unknown)
+first_of_two_faults = (refl, refl)
+
+-- one transition more than an atom may have
+transition_too_many : (fault_of (atom_of (replicate 128 (guarded (0 ∷ []) (0 ∷ []) 0))) ≡ None) × (fault_of (atom_of (replicate 129 (guarded (0 ∷ []) (0 ∷ []) 0))) ≡ Some Limit)
+transition_too_many = (refl, refl)
+
+-- ---- names
+
+names : map is_name (codes "a" ∷ codes "Valve_2" ∷ codes "tot" ∷ replicate 32 97 ∷ []) ≡ true ∷ true ∷ true ∷ true ∷ []
+names = refl
+
+-- nothing, one byte too many, another first byte than a letter, and another byte than a letter, a digit or `_`
+no_names : map is_name ([] ∷ replicate 33 97 ∷ codes "2a" ∷ codes "_a" ∷ codes "a-b" ∷ codes "a.b" ∷ []) ≡ false ∷ false ∷ false ∷ false ∷ false ∷ false ∷ []
+no_names = refl
+
+reserved : map is_name (codes "from" ∷ codes "to" ∷ codes "when" ∷ codes "do" ∷ codes "init" ∷ codes "at" ∷ codes "min" ∷ codes "max" ∷ []) ≡ replicate 8 false
+reserved = refl

@@ -1,12 +1,14 @@
 -- Worked examples of the definitions: connector 0 is `tick`, connector 1 is `send`, connector 2 is `stop`.
-use Rattle.std.proofs.Common.{◌≡◌, ◌==◌, ℕ, List, [], ◌∷◌, true, false, Some, None, refl, ⊎_elim, subst, arith}
+use Rattle.std.proofs.Common.{◌≡◌, ◌==◌, ◌+◌, ◌^◌, ℕ, List, [], ◌∷◌, map, filter, codes, true, false, Some, None, refl, ⊎_elim, subst, arith}
 use Rattle.std.specs.FinSet.{contains}
+use Rattle.std.specs.Fmt.{digits}
 use Rattle.std.proofs.lemmas.Bool.{cases_eq}
 use Rattle.priority_filter.specs.declared.rule.Side.TheVariants.{Whole, One}
 use Rattle.priority_filter.specs.declared.rule.Rule.{Rule}
 use Rattle.priority_filter.specs.declared.rule.Rule.TheVariants.{Under, Maximal}
-use Rattle.priority_filter.specs.declared.fault.OrderFault.TheVariants.{Cycle, UnknownName}
-use Rattle.priority_filter.specs.Members.{members_of}
+use Rattle.priority_filter.specs.declared.fault.OrderFault.TheVariants.{Cycle, UnknownName, Memory}
+use Rattle.priority_filter.specs.Fault.{message_of}
+use Rattle.priority_filter.specs.Members.{holds, members_of}
 use Rattle.priority_filter.specs.Rule.{IsProperSubset, IsOn, Puts}
 use Rattle.priority_filter.specs.Order.{interaction_at, rule_at, IsRuleStep, IsBelow, IsFirstCyclic, IsKnown, IsFirstUnknown}
 use Rattle.priority_filter.specs.Decided.{is_on, is_proper_subset, puts, is_rule_step, is_below, is_overruled, order_fault}
@@ -141,10 +143,20 @@ computed_ladder : (is_rule_step ladder plant 0 2 ≡ false) × (is_below ladder 
 unfolding is_below
 computed_ladder = (refl, refl, refl, refl)
 
+-- the order in which rules are written says nothing
+computed_ladder_from_above : is_below (Under (Whole 1) (Whole 2) ∷ Under (Whole 0) (Whole 1) ∷ []) plant 0 2 ≡ true
+unfolding is_below
+computed_ladder_from_above = refl
+
 -- a number past the list is below nothing
 computed_past : (is_below ladder plant 3 2 ≡ false) × (is_below ladder plant 0 3 ≡ false)
 unfolding is_below
 computed_past = (refl, refl)
+
+-- nor is it below itself, or overruled by anything
+computed_past_itself : (is_below ladder plant 3 3 ≡ false) × (is_below ladder plant 65535 0 ≡ false) × (is_overruled ladder plant (λ b. true) 3 ≡ false)
+unfolding is_below is_overruled
+computed_past_itself = (refl, refl, refl)
 
 -- where no rule stands nothing is below anything
 computed_no_rules : (is_below [] plant 0 1 ≡ false) × (is_below [] plant 0 2 ≡ false) × (is_below [] plant 1 2 ≡ false) × (order_fault [] plant ≡ None)
@@ -155,6 +167,22 @@ computed_no_rules = (refl, refl, refl, refl)
 computed_maximal : (is_below (Maximal 1 ∷ []) ((1, 1) ∷ (1, 3) ∷ []) 0 1 ≡ true) × (is_below (Maximal 1 ∷ []) ((1, 1) ∷ (1, 3) ∷ []) 1 0 ≡ false)
 unfolding is_below
 computed_maximal = (refl, refl)
+
+-- connector 4 of five interactions, and connector 5 of two
+abbrev five_and_two : List (ℕ × ℕ)
+five_and_two = (4, 1) ∷ (4, 3) ∷ (4, 5) ∷ (4, 7) ∷ (4, 15) ∷ (5, 1) ∷ (5, 3) ∷ []
+
+-- what the rule puts each of them below
+abbrev put_above : Rule → List (List (ℕ × ℕ))
+put_above rule = map (λ i. filter (puts rule i) five_and_two) five_and_two
+
+-- proper subsets alone, and those of the one connector
+computed_maximal_of_five : put_above (Maximal 4) ≡ ((4, 3) ∷ (4, 5) ∷ (4, 7) ∷ (4, 15) ∷ []) ∷ ((4, 7) ∷ (4, 15) ∷ []) ∷ ((4, 7) ∷ (4, 15) ∷ []) ∷ ((4, 15) ∷ []) ∷ [] ∷ [] ∷ [] ∷ []
+computed_maximal_of_five = refl
+
+-- one interaction below a whole connector
+computed_one_below_two : put_above (Under (One 4 5) (Whole 5)) ≡ [] ∷ [] ∷ ((5, 1) ∷ (5, 3) ∷ []) ∷ [] ∷ [] ∷ [] ∷ [] ∷ []
+computed_one_below_two = refl
 
 -- tick is overruled where stop is possible, with send or without; by itself it is not, and nothing overrules stop
 computed_overruled : (is_overruled ladder plant (λ b. b == 2) 0 ≡ true) × (is_overruled ladder plant (λ b. b == 0) 0 ≡ false) × (is_overruled ladder plant (λ b. true) 2 ≡ false)
@@ -190,7 +218,26 @@ computed_unknown : (order_fault (Maximal 1 ∷ Maximal 3 ∷ []) plant ≡ Some 
 unfolding is_below order_fault
 computed_unknown = (refl, refl)
 
+-- an interaction below each one of its connector, and so below itself
+computed_one_under_whole : order_fault (Under (One 0 3) (Whole 0) ∷ []) ((0, 1) ∷ (0, 3) ∷ []) ≡ Some (Cycle 1)
+unfolding is_below order_fault
+computed_one_under_whole = refl
+
+-- a side that is no interaction, a connector that has none, and of two unknown names the first
+computed_unknown_sides : (order_fault (Under (One 0 2) (Whole 0) ∷ []) ((0, 1) ∷ (0, 3) ∷ []) ≡ Some (UnknownName 0)) × (order_fault (Maximal 0 ∷ []) [] ≡ Some (UnknownName 0)) × (order_fault (Maximal 0 ∷ Maximal 8 ∷ Maximal 9 ∷ []) ((0, 1) ∷ (0, 3) ∷ []) ≡ Some (UnknownName 1))
+unfolding is_below order_fault
+computed_unknown_sides = (refl, refl, refl)
+
+-- what the faults say
+messages : (message_of (Cycle 5) ≡ codes "the rules put interaction 5 below itself") × (message_of (UnknownName 2) ≡ codes "rule 2 names no interaction of the plant") × (message_of Memory ≡ codes "out of memory")
+unfolding digits
+messages = (refl, refl, refl)
+
 -- ---- bits
+
+-- the first and the last bits of three words
+ends_of_words : map (holds ((2 ^ 63 + 1) ∷ 1 ∷ 2 ^ 63 ∷ [])) (0 ∷ 1 ∷ 62 ∷ 63 ∷ 64 ∷ 65 ∷ 127 ∷ 128 ∷ 190 ∷ 191 ∷ 192 ∷ []) ≡ true ∷ false ∷ false ∷ true ∷ true ∷ false ∷ false ∷ false ∷ false ∷ true ∷ false ∷ []
+ends_of_words = refl
 
 -- bit 1 of the second word stands for interaction 65
 bit_65 : contains (members_of (0 ∷ 2 ∷ [])) 65 ≡ true
