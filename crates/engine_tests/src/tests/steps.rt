@@ -1,48 +1,32 @@
 //! What the program never asks of a plant and its states.
-use petri_atom::AtomState;
+ghost use Rattle.step_core.specs.Fitting.{IsOf};
+ghost use Rattle.step_core.specs.System.{plant_of};
+
 use plant_text::plant_of_text;
 use std::test::Fail;
-use step_core::{PlantState, Stepper};
+use step_core::{PlantState, System};
 
-/// A counts in n up to 100, by tick alone and by send with B.
-const COUNTING: &[u8] =
-    b"atom A\nplace s init\nvar n 0\nport t n\ntrans t from s to s when < n 100 do n := + n 1\natom B\nplace s init\nport u\ntrans u from s to s\nconnector tick A.t\nconnector send A.t B.u\n";
+/// Two choices: of A alone, and of A with B.
+const BROADCAST: &[u8] =
+    b"atom A\nplace s init\nport t\ntrans t from s to s\natom B\nplace s init\nport u\ntrans u from s to s\nconnector bc A.t' B.u\n";
 
-#[test]
-fn a_state_tells_its_choices(rt: HostRuntime) -> Result<(), Fail> {
-    let alloc = rt.alloc();
-    let system = plant_of_text(alloc, COUNTING)?;
-    let states = PlantState::init(alloc, &system)?;
-    assert_eq!(rt; (states.len(), states.is_empty()), (2, false));
-    let count = system.count_allowed(&states);
-    if count == 0 {
-        return Err("nothing is possible".into());
+/// How many choices the state has, and the mask of the second one, if there is one.
+fn second_choice(system: &System, states: &PlantState) -> Option<(u128, u16)>
+    requires { IsOf (plant_of system.now) states.now }
+{
+    let count = system.count_allowed(states);
+    if 1 < count {
+        Some((count, system.nth_allowed(states, 1).mask))
+    } else {
+        None
     }
-    let last = system.nth_allowed(&states, count - 1);
-    assert_eq!(rt;
-        (count, last.connector, last.mask, last.moves.as_slice().len()),
-        (2, 1, 3, 2)
-    );
-    Ok(())
 }
 
 #[test]
-fn a_plant_runs_on_from_a_state(rt: HostRuntime) -> Result<(), Fail> {
-    let alloc = rt.alloc();
-    let system = plant_of_text(alloc, COUNTING)?;
-    let mut states = PlantState::init(alloc, &system)?;
-    if states.len() != 2 {
-        return Err("not the states of both atoms".into());
-    }
-    let mut values = [0; 16];
-    values[0] = 99;
-    states.set(0, AtomState::of(1, 1, values));
-    let mut run = Stepper::at(alloc, &system, states)?;
-    if run.count() == 0 {
-        return Err("nothing is possible".into());
-    }
-    let choice = run.nth(0);
-    run.fire(&choice);
-    assert_eq!(rt; run.count(), 0);
+fn a_state_tells_its_choices(rt: HostRuntime) -> Result<(), Fail> {
+    let system = plant_of_text(rt.alloc(), BROADCAST)?;
+    let states = PlantState::init(rt.alloc(), &system)?;
+    assert!(rt; states.len() == 2 && !states.is_empty());
+    assert!(rt; second_choice(&system, &states) == Some((2, 3)));
     Ok(())
 }
