@@ -127,12 +127,20 @@ a_variable_that_another_port_exports : export_number exporting 0 (codes "n") ≡
 unfolding sample exporting
 a_variable_that_another_port_exports = refl
 
+a_port_that_is_not_there : export_number exporting 2 (codes "n") ≡ None
+unfolding sample exporting
+a_port_that_is_not_there = refl
+
 -- ---- transitions
 
 -- places p and q
 moving : AtomDefinition
 unfolding sample
 moving = record sample { places = record { name = codes "p"; marked = true } ∷ record { name = codes "q"; marked = false } ∷ [] }
+
+a_place_by_its_number : place_number moving (codes "q") ≡ Some 1
+unfolding sample moving
+a_place_by_its_number = refl
 
 places_by_number_and_the_guard_1 : transition_row (words_of (codes "t from q p to q")) moving ≡ Ok (with_transition moving (record { port = 0; sources = 1 ∷ 0 ∷ []; targets = 1 ∷ []; guard = number (pos 1); updates = [] }))
 unfolding sample moving updates_from

@@ -26,6 +26,10 @@ operands_keep_their_order : read (codes "- 3 4") ≡ Ok (operation Subtract (num
 unfolding read
 operands_keep_their_order = refl
 
+a_negative_operand : read (codes "- -7 n do") ≡ Ok (operation Subtract (number (negsuc 6)) (variable 0), codes "do" ∷ [])
+unfolding read
+a_negative_operand = refl
+
 a_negative_number : read (codes "-3") ≡ Ok (number (negsuc 2), [])
 unfolding read
 a_negative_number = refl
@@ -62,6 +66,10 @@ a_reserved_word : read (codes "when") ≡ Err BadExpression
 unfolding read
 a_reserved_word = refl
 
+a_name_with_a_quote : read (codes "! ! n'") ≡ Err BadExpression
+unfolding read
+a_name_with_a_quote = refl
+
 a_number_of_twenty_digits : read (codes "+ 00000000000000000007") ≡ Err BadNumber
 unfolding read
 a_number_of_twenty_digits = refl
@@ -69,6 +77,10 @@ a_number_of_twenty_digits = refl
 a_number_past_the_largest : read (codes "9223372036854775808") ≡ Err BadNumber
 unfolding read
 a_number_past_the_largest = refl
+
+a_number_below_the_least : read (codes "-9223372036854775809") ≡ Err BadNumber
+unfolding read
+a_number_below_the_least = refl
 
 -- an expression of so many words `!` and a variable behind them
 denied : ℕ → List (List ℕ)

@@ -1,5 +1,6 @@
 -- Worked texts and lines, as computed facts.
 use Rattle.std.proofs.Common.{◌≡◌, refl, ℕ, pos, List, [], ◌∷◌, ◌++◌, codes, replicate, true, false, Some, None, Ok, Err}
+use Rattle.std.specs.Fmt.{digits}
 use Rattle.petri_atom.specs.Definition.{AtomDefinition}
 use Rattle.petri_atom.specs.Expression.{number, variable}
 use Rattle.connector_tree.specs.declared.faults.TreeFault.TheVariants.{SameAtom}
@@ -10,12 +11,12 @@ use Rattle.priority_filter.specs.declared.rule.Side.TheVariants.{Whole, One}
 use Rattle.plant_trees.specs.declared.token.Token.TheVariants.{Leaf}
 use Rattle.plant_text.specs.Text.{WireText, PlantText}
 use Rattle.plant_text.specs.Names.{port_named, export_named}
-use Rattle.plant_text.specs.Fault.{of_no_line}
+use Rattle.plant_text.specs.Fault.{of_no_line, placed_message_of}
 use Rattle.plant_text.specs.Rows.{line_row}
 use Rattle.plant_text.specs.Interactions.{interactions_of}
 use Rattle.plant_text.specs.Meaning.{nothing, lines_row, with_an_order, meaning}
 use Rattle.plant_text.specs.declared.fault.Fault.{Fault}
-use Rattle.plant_text.specs.declared.fault.Fault.TheVariants.{NotAscii, UnknownWord, Misplaced, BadName, Twice, UnknownName, Shape, Tree, Order, Limit, NoAtom}
+use Rattle.plant_text.specs.declared.fault.Fault.TheVariants.{NotAscii, TooLong, UnknownWord, Misplaced, BadName, Twice, UnknownName, BadExpression, Shape, Tree, Order, Limit, NoAtom}
 use Rattle.plant_text.specs.declared.fault.PlantFault.{PlantFault}
 
 -- an atom with a place s, a variable, and a port that exports it
@@ -171,3 +172,24 @@ lines_that_say_nothing_count = refl
 
 the_first_fault_is_told : lines_row 1 (codes "foo" ∷ codes "place p" ∷ []) nothing ≡ Err (at 1 UnknownWord)
 the_first_fault_is_told = refl
+
+-- ---- what faults say
+
+a_fault_of_a_line_is_told_with_its_line : placed_message_of (at 14 BadExpression) ≡ codes "line 14: an expression is malformed"
+unfolding digits
+a_fault_of_a_line_is_told_with_its_line = refl
+
+a_fault_of_no_line_is_told_alone : placed_message_of (of_no_line NoAtom) ≡ codes "there is no atom"
+a_fault_of_no_line_is_told_alone = refl
+
+a_text_that_is_too_long : placed_message_of (of_no_line TooLong) ≡ codes "the text has more than 1048576 bytes"
+unfolding digits
+a_text_that_is_too_long = refl
+
+a_fault_of_a_tree : placed_message_of (at 3 (Tree SameAtom)) ≡ codes "line 3: an atom may stand only once in a connector"
+unfolding digits
+a_fault_of_a_tree = refl
+
+a_cycle : placed_message_of (of_no_line (Order (Cycle 5))) ≡ codes "the rules put interaction 5 below itself"
+unfolding digits
+a_cycle = refl

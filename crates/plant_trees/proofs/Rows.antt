@@ -59,6 +59,10 @@ the_other_port : read (codes "c.q'") ≡ Ok (Leaf (record { atom = 2; port = 1 }
 unfolding read
 the_other_port = refl
 
+ports_around_a_bracket : read (codes "c.q' [ a.p' z.p ] b.p") ≡ Ok (Leaf (record { atom = 2; port = 1 }) true ∷ Open ∷ trigger 0 ∷ synchron 25 ∷ Close false ∷ synchron 1 ∷ [])
+unfolding read synchron trigger
+ports_around_a_bracket = refl
+
 -- ---- faults of words
 
 no_words : read [] ≡ Err Shape
@@ -154,3 +158,7 @@ followers_together_only = refl
 a_leading_bracket : interactions_in (Open ∷ trigger 0 ∷ synchron 1 ∷ Close false ∷ synchron 2 ∷ []) ≡ 5 ∷ 7 ∷ []
 unfolding synchron trigger
 a_leading_bracket = refl
+
+a_bracket_between_followers : interactions_in (trigger 2 ∷ Open ∷ trigger 0 ∷ synchron 25 ∷ Close false ∷ synchron 1 ∷ []) ≡ 1 ∷ 3 ∷ 7 ∷ 9 ∷ 11 ∷ 15 ∷ []
+unfolding synchron trigger
+a_bracket_between_followers = refl

@@ -1,5 +1,7 @@
 -- Worked examples of the definitions, as computed facts.
 use Rattle.std.proofs.Common.{◌≡◌, true, false, refl, [], ◌∷◌, codes, ◌++◌, Some, None, pos, negsuc}
+use Rattle.std.specs.Prelude.{position}
+use Rattle.petri_atom.specs.Name.{is_same_text}
 use Rattle.plant_words.specs.Lines.{lines_of, is_legal_line}
 use Rattle.plant_words.specs.Words.{words_of, is_passed_over}
 use Rattle.plant_words.specs.Numbers.{is_numeric, int_in, pick_in}
@@ -28,6 +30,12 @@ one_return_alone_is_passed_over = refl
 
 a_return_without_a_line_feed_stays : lines_of (97 ∷ 13 ∷ 98 ∷ 13 ∷ []) ≡ (97 ∷ 13 ∷ 98 ∷ 13 ∷ []) ∷ []
 a_return_without_a_line_feed_stays = refl
+
+a_text_of_five_lines : lines_of (codes "a b\n\nc" ++ 13 ∷ 10 ∷ 13 ∷ 13 ∷ 10 ∷ 100 ∷ 13 ∷ []) ≡ codes "a b" ∷ [] ∷ codes "c" ∷ (13 ∷ []) ∷ (100 ∷ 13 ∷ []) ∷ []
+a_text_of_five_lines = refl
+
+one_return_is_passed_over_at_the_end_too : lines_of (codes "c" ++ 10 ∷ 13 ∷ 13 ∷ 10 ∷ 100 ∷ 13 ∷ 13 ∷ 10 ∷ []) ≡ codes "c" ∷ (13 ∷ []) ∷ (100 ∷ 13 ∷ []) ∷ []
+one_return_is_passed_over_at_the_end_too = refl
 
 spaces_and_tabs_are_legal : is_legal_line (32 ∷ 9 ∷ 126 ∷ []) ≡ true
 spaces_and_tabs_are_legal = refl
@@ -102,6 +110,12 @@ a_plus_is_no_sign = refl
 two_signs_are_no_number : int_in (codes "--1") ≡ None
 two_signs_are_no_number = refl
 
+no_number_in_the_empty_word : int_in [] ≡ None
+no_number_in_the_empty_word = refl
+
+the_empty_word_is_not_numeric : is_numeric [] ≡ false
+the_empty_word_is_not_numeric = refl
+
 a_pick_of_twenty_three_digits : pick_in (codes "00018446744073709551615") ≡ Some 18446744073709551615
 a_pick_of_twenty_three_digits = refl
 
@@ -113,6 +127,9 @@ no_pick_in_the_empty_word = refl
 
 a_pick_has_no_sign : pick_in (codes "-1") ≡ None
 a_pick_has_no_sign = refl
+
+a_byte_past_the_digits : pick_in (49 ∷ 255 ∷ []) ≡ None
+a_byte_past_the_digits = refl
 
 -- ---- names and words of several parts
 
@@ -146,14 +163,40 @@ no_port_without_a_name = refl
 no_port_without_an_atom : port_in (codes ".p") ≡ None
 no_port_without_an_atom = refl
 
+no_port_in_the_empty_word : port_in [] ≡ None
+no_port_in_the_empty_word = refl
+
+no_port_in_a_bracket : port_in (codes "[") ≡ None
+no_port_in_a_bracket = refl
+
+no_port_in_the_end_of_a_bracket : port_in (codes "]'") ≡ None
+no_port_in_the_end_of_a_bracket = refl
+
 an_export : export_in (codes "A.n") ≡ Some (codes "A", codes "n")
 an_export = refl
 
 a_quote_is_part_of_an_export : export_in (codes "A.n'") ≡ Some (codes "A", codes "n'")
 a_quote_is_part_of_an_export = refl
 
+no_export_in_the_empty_word : export_in [] ≡ None
+no_export_in_the_empty_word = refl
+
 a_named_mask : named_mask_in (codes "link:3") ≡ Some (codes "link", codes "3")
 a_named_mask = refl
 
 two_colons_make_no_named_mask : named_mask_in (codes "link:3:") ≡ None
 two_colons_make_no_named_mask = refl
+
+no_named_mask_in_the_empty_word : named_mask_in [] ≡ None
+no_named_mask_in_the_empty_word = refl
+
+no_named_mask_without_a_colon : named_mask_in (codes "A.n") ≡ None
+no_named_mask_without_a_colon = refl
+
+-- ---- names by their place, of q2 and q
+
+a_name_by_its_place : position (λ known. is_same_text known (codes "q")) (codes "q2" ∷ codes "q" ∷ []) ≡ Some 1
+a_name_by_its_place = refl
+
+the_empty_name_has_no_place : position (λ known. is_same_text known []) (codes "q2" ∷ codes "q" ∷ []) ≡ None
+the_empty_name_has_no_place = refl

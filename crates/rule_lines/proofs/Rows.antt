@@ -37,6 +37,10 @@ a_connector_below_an_interaction : priority_in connector_named has_interaction (
 unfolding connector_named has_interaction
 a_connector_below_an_interaction = refl
 
+a_connector_below_itself : priority_in connector_named has_interaction (words_of (codes "bc < bc")) ≡ Ok (Under (Whole 2) (Whole 2))
+unfolding connector_named has_interaction
+a_connector_below_itself = refl
+
 -- ---- sides that are none
 
 an_unknown_left_side : priority_in connector_named has_interaction (words_of (codes "no < send")) ≡ Err UnknownName
@@ -70,6 +74,14 @@ a_mask_with_a_sign = refl
 a_mask_past_the_largest : priority_in connector_named has_interaction (words_of (codes "bc:70000 < tick")) ≡ Err UnknownName
 unfolding connector_named has_interaction
 a_mask_past_the_largest = refl
+
+the_greatest_mask_of_64_bits : priority_in connector_named has_interaction (words_of (codes "bc:18446744073709551615 < tick")) ≡ Err UnknownName
+unfolding connector_named has_interaction
+the_greatest_mask_of_64_bits = refl
+
+a_mask_past_64_bits : priority_in connector_named has_interaction (words_of (codes "bc:18446744073709551616 < tick")) ≡ Err BadNumber
+unfolding connector_named has_interaction
+a_mask_past_64_bits = refl
 
 an_unknown_name_before_its_mask : priority_in connector_named has_interaction (words_of (codes "no:x < tick")) ≡ Err UnknownName
 unfolding connector_named has_interaction

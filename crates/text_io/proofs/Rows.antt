@@ -49,3 +49,8 @@ digest_of_abc = refl
 digest_of_nothing : sha256 [] ≡ 227 ∷ 176 ∷ 196 ∷ 66 ∷ 152 ∷ 252 ∷ 28 ∷ 20 ∷ 154 ∷ 251 ∷ 244 ∷ 200 ∷ 153 ∷ 111 ∷ 185 ∷ 36 ∷ 39 ∷ 174 ∷ 65 ∷ 228 ∷ 100 ∷ 155 ∷ 147 ∷ 76 ∷ 164 ∷ 149 ∷ 153 ∷ 27 ∷ 120 ∷ 82 ∷ 184 ∷ 85 ∷ []
 unfolding sha256 digest_bytes hash_after compress first_words schedule rounds
 digest_of_nothing = refl
+
+-- and of the sample plant, as `sha256sum` tells it
+digest_of_the_sample : sha256 (codes "atom A\nplace s init\nvar n 0\nport t n\ntrans t from s to s do n := + n 1\natom B\nplace s init\nvar m 0\nport u m\ntrans u from s to s\nconnector tick A.t\nconnector send A.t B.u\nmove B.m := A.n\n") ≡ 156 ∷ 126 ∷ 17 ∷ 69 ∷ 201 ∷ 174 ∷ 8 ∷ 196 ∷ 35 ∷ 240 ∷ 247 ∷ 202 ∷ 144 ∷ 228 ∷ 51 ∷ 16 ∷ 224 ∷ 174 ∷ 219 ∷ 217 ∷ 76 ∷ 189 ∷ 191 ∷ 184 ∷ 37 ∷ 160 ∷ 221 ∷ 239 ∷ 178 ∷ 8 ∷ 27 ∷ 72 ∷ []
+unfolding sha256 digest_bytes hash_after compress first_words schedule rounds
+digest_of_the_sample = refl

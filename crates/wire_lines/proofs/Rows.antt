@@ -43,6 +43,14 @@ a_variable_of_the_second_leaf : variable_in atom_named export_named link_leaves 
 unfolding atom_named export_named
 a_variable_of_the_second_leaf = refl
 
+-- port 7 exports k as its variable 95
+late_export : Port → List ℕ → Option ℕ
+late_export port name = if port.port == 7 && is_same_text name (codes "k") then Some 95 else None
+
+a_variable_is_its_leaf_and_its_place_in_the_port : variable_in atom_named late_export (record { atom = 2; port = 2 } ∷ record { atom = 0; port = 7 } ∷ []) (codes "A.k") ≡ Some (of_leaf 1 95)
+unfolding atom_named late_export
+a_variable_is_its_leaf_and_its_place_in_the_port = refl
+
 -- what a line says of the connector, by the leaves that it has
 guarded : (c : Connector) → leaves c ≡ link_leaves → (line : List ℕ) (guards : List (Tree Export)) (transfers : List TransferDefinition) →
     guard_row atom_named export_named (words_of line) (link c guards transfers) ≡ guard_added (variable_in atom_named export_named link_leaves) (words_of line) (link c guards transfers)

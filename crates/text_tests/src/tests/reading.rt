@@ -92,24 +92,3 @@ fn what_keeps_a_text_from_being_read_is_told_at_once(rt: HostRuntime) -> Result<
     }
     Ok(())
 }
-
-#[test]
-fn a_slice_is_read_too(rt: HostRuntime) -> Result<(), Fail> {
-    let mut reader: &[u8] = b"place A";
-    let text = read_text(rt.alloc(), &mut reader)?;
-    assert!(rt; text.as_slice() == b"place A".as_slice());
-    assert!(rt; reader.is_empty());
-    Ok(())
-}
-
-#[test]
-fn faults_say_what_is_wrong(rt: HostRuntime) -> Result<(), Fail> {
-    for (fault, said) in [
-        (TextFault::TooLong, "the text has more than 1048576 bytes"),
-        (TextFault::Memory, "not enough memory for the text"),
-        (TextFault::Read, "the text could not be read"),
-    ] {
-        assert_eq!(rt; fault.to_string(rt.alloc())?.as_str(), said);
-    }
-    Ok(())
-}
