@@ -77,18 +77,32 @@ fn a_text_is_read_to_its_end(rt: HostRuntime) -> Result<(), Fail> {
 #[test]
 fn what_keeps_a_text_from_being_read_is_told_at_once(rt: HostRuntime) -> Result<(), Fail> {
     let alloc = rt.alloc();
-    for (fails_at, left) in [(1, 5), (2, 4), (3, 3), (4, 2), (5, 1), (6, 0)] {
-        let wanted = (fails_at, left, Some(TextFault::Read));
-        assert!(&rt;
-            is_read(alloc, (b"12345", 1, fails_at), wanted),
-            "at {fails_at}"
-        );
-    }
-    assert!(&rt; is_read(alloc, (b"12345", 1, 7), (6, 0, None)));
     let long = filled(alloc, 1_048_580)?;
-    for (step, reads) in [(1, 1_048_577), (4_096, 257)] {
-        let wanted = (reads, 3, Some(TextFault::TooLong));
-        assert!(&rt; is_read(alloc, (&long, step, 0), wanted), "{reads} reads");
+    for (text, step, fails_at, wanted) in [
+        (b"12345".as_slice(), 1, 1, (1, 5, Some(TextFault::Read))),
+        (b"12345", 1, 2, (2, 4, Some(TextFault::Read))),
+        (b"12345", 1, 3, (3, 3, Some(TextFault::Read))),
+        (b"12345", 1, 4, (4, 2, Some(TextFault::Read))),
+        (b"12345", 1, 5, (5, 1, Some(TextFault::Read))),
+        (b"12345", 1, 6, (6, 0, Some(TextFault::Read))),
+        (b"12345", 1, 7, (6, 0, None)),
+        (
+            long.as_slice(),
+            1,
+            0,
+            (1_048_577, 3, Some(TextFault::TooLong)),
+        ),
+        (
+            long.as_slice(),
+            4_096,
+            0,
+            (257, 3, Some(TextFault::TooLong)),
+        ),
+    ] {
+        assert!(&rt;
+            is_read(alloc, (text, step, fails_at), wanted),
+            "{step} by {fails_at}"
+        );
     }
     Ok(())
 }

@@ -1,6 +1,6 @@
-//! Printing to a writer that fails, and printing without memory.
+//! Printing to a writer that fails.
 use plant_drawing::draw_to;
-use plant_text::read_plant;
+use plant_text::plant_of_text;
 use run_text::{Format, TraceFault, trace_as};
 use std::alloc::Global;
 use std::io;
@@ -134,8 +134,7 @@ fn is_cut_off(
 #[test]
 fn a_failure_at_any_byte_is_told(rt: HostRuntime) -> Result<(), Fail> {
     let alloc = rt.alloc();
-    let mut reader = PLANT;
-    let system = read_plant(alloc, &mut reader)?;
+    let system = plant_of_text(alloc, PLANT)?;
     for (format, text) in PRINTED {
         let text = text.as_bytes();
         for step in [1, 7, PAGE] {
@@ -145,22 +144,6 @@ fn a_failure_at_any_byte_is_told(rt: HostRuntime) -> Result<(), Fail> {
                     "{room} by {step}"
                 );
             }
-        }
-    }
-    Ok(())
-}
-
-// With each allocation refused in turn this shows the answer where the states have no memory.
-#[test]
-fn want_of_memory_is_told_before_anything_is_written(rt: HostRuntime) -> Result<(), Fail> {
-    let alloc = rt.alloc();
-    let mut reader = PLANT;
-    let system = read_plant(alloc, &mut reader)?;
-    for (format, text) in PRINTED {
-        let mut page = Page::new(PAGE, PAGE);
-        match print(alloc, &system, format, &mut page) {
-            Ok(()) => assert!(rt; page.is(text.as_bytes())),
-            Err(fault) => assert!(rt; fault == TraceFault::Memory && page.is(b"")),
         }
     }
     Ok(())
