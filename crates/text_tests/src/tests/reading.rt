@@ -77,7 +77,7 @@ fn a_text_is_read_to_its_end(rt: HostRuntime) -> Result<(), Fail> {
 #[test]
 fn what_keeps_a_text_from_being_read_is_told_at_once(rt: HostRuntime) -> Result<(), Fail> {
     let alloc = rt.alloc();
-    let long = filled(alloc, 1_048_580)?;
+    let long = filled(alloc, MAX_TEXT + 4)?;
     for (text, step, fails_at, wanted) in [
         (b"12345".as_slice(), 1, 1, (1, 5, Some(TextFault::Read))),
         (b"12345", 1, 2, (2, 4, Some(TextFault::Read))),

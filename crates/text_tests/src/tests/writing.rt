@@ -101,6 +101,11 @@ const PRINTED: [(Option<Format>, &str); 4] = [
     (None, DRAWING),
 ];
 
+/// Prints the drawing of the plant.
+fn draw(system: &System, page: &mut Page) -> Result<(), TraceFault> {
+    Ok(draw_to(system, page)?)
+}
+
 /// Prints the run of the plant in the format, or its drawing.
 fn print(
     alloc: Global,
@@ -109,10 +114,9 @@ fn print(
     page: &mut Page,
 ) -> Result<(), TraceFault> {
     match format {
-        Some(format) => trace_as(alloc, system, &[0, 1], format, page)?,
-        None => draw_to(system, page)?,
+        Some(format) => trace_as(alloc, system, &[0, 1], format, page),
+        None => draw(system, page),
     }
-    Ok(())
 }
 
 /// Whether it is printed to its end where there is room for it, so many bytes at a write, and is otherwise cut off there and told.
