@@ -1,7 +1,8 @@
-//! Tests of the crates from atoms to steps, in a crate of their own: a crate that holds tests is proved once more with them.
+//! Tests of the crates from atoms to runs, in a crate of their own: a crate that holds tests is proved once more with them.
 //!
-//! They show what no clause says: that what may want memory succeeds where there is memory, and that the clauses mean what they
-//! should, on examples worked out by hand.
+//! They show what no clause says and no run of the program either: that what only other programs ask is answered, what happens
+//! where a reader or a writer fails at any byte, that few bytes at a time are as good as many, and that a line may be as long as a
+//! text.
 #![tactic(auto)]
 
 #[cfg(test)]

@@ -1,8 +1,0 @@
-//! Tests of the reading and printing of texts, in a crate of their own: a crate that holds tests is proved once more with them.
-//!
-//! They show what no clause says and no run of the program either: what is answered where a reader or a writer fails at any byte,
-//! that few bytes at a time are as good as many, and that a line may be as long as a text.
-#![tactic(auto)]
-
-#[cfg(test)]
-mod tests;
