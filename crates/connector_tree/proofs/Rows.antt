@@ -1,5 +1,5 @@
 -- The port sets of small connectors, as masks of their leaves, computed from the definition.
-use Rattle.std.proofs.Common.{◌≡◌, ◌+◌, max, ◌∙◌, ap, ℕ, Bool, true, false, List, [], ◌∷◌, map, length, nat_lt, if◌then◌else◌, codes, Option, Some, None, refl}
+use Rattle.std.proofs.Common.{◌≡◌, ◌+◌, max, ◌∙◌, ap, ℕ, Bool, true, false, List, [], ◌∷◌, map, codes, Some, refl}
 use Rattle.std.specs.List.{range_with_len}
 use Rattle.std.specs.Fmt.{digits}
 use Rattle.connector_tree.specs.declared.tree.Port.{Port}
@@ -9,11 +9,9 @@ use Rattle.connector_tree.specs.declared.tree.Connector.{Connector}
 use Rattle.connector_tree.specs.declared.tree.Child.{Child}
 use Rattle.connector_tree.specs.declared.tree.Node.{Node}
 use Rattle.connector_tree.specs.declared.tree.Node.TheVariants.{Leaf, Fusion}
-use Rattle.connector_tree.specs.declared.tree.TheConstants.{MAX_LEAVES, MAX_DEPTH}
-use Rattle.connector_tree.specs.declared.faults.TreeFault.{TreeFault}
 use Rattle.connector_tree.specs.declared.faults.TreeFault.TheVariants.{TooManyLeaves, TooDeep, SameAtom, Empty, Memory}
-use Rattle.connector_tree.specs.Tree.{node_leaves, leaves_of, leaves, depth_of, depth, has_empty_of}
-use Rattle.connector_tree.specs.Faults.{has_repeat, atoms, fault_of, message_of}
+use Rattle.connector_tree.specs.Tree.{node_leaves, leaves_of, leaves, depth_of, depth}
+use Rattle.connector_tree.specs.Faults.{has_repeat, fault_of, message_of}
 use Rattle.connector_tree.specs.PortSets.{Sets, Part, fused, node_sets, sets_of, port_sets}
 use Rattle.connector_tree.specs.Masks.{masks_of, interactions_of}
 use Rattle.connector_tree.proofs.Trees.{leaves-leaf, leaves-fusion, depth-leaf, depth-fusion, sets-leaf, sets-fusion}
@@ -114,18 +112,9 @@ leaves_from_left_to_right root inner at_root inside =
     let bracket_leaves : node_leaves (Fusion inner) ≡ leaf 5 ∷ leaf 2 ∷ [] = leaves-fusion inner ∙ ap leaves_of inside ∙ simp leaves-leaf in
     ap leaves_of at_root ∙ simp (leaves-leaf, bracket_leaves)
 
--- the fault of a root with these children
-abbrev fault_at : List Child → Option TreeFault
-fault_at children =
-    if nat_lt MAX_LEAVES (length (leaves_of children)) then Some TooManyLeaves
-    else (if nat_lt MAX_DEPTH (depth_of children) then Some TooDeep
-    else (if has_repeat (atoms (leaves_of children)) then Some SameAtom
-    else (if has_empty_of children then Some Empty
-    else None)))
-
 -- a root without children, which no text can write
 empty_root : (root : Vec Child Global) → root.items ≡ [] → fault_of (record { root = root }) ≡ Some Empty
-empty_root root none = ap fault_at none
+empty_root root none = simp none
 
 -- what the faults say
 messages : (message_of TooManyLeaves ≡ codes "a connector may have at most 8 ports") × (message_of TooDeep ≡ codes "a connector may nest at most 8 levels, the root included") × (message_of SameAtom ≡ codes "an atom may stand only once in a connector") × (message_of Empty ≡ codes "a connector and its brackets may not be empty") × (message_of Memory ≡ codes "not enough memory to list a connector's interactions")
