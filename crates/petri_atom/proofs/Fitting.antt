@@ -5,14 +5,13 @@ use Rattle.std.specs.Option.{option_map_or}
 use Rattle.std.proofs.lemmas.Bool.{leb-true, and_parts, and_from, cases_lt, le-ltb, false≢true, false_from_ne_true}
 use Rattle.std.proofs.lemmas.List.{length-set, length-map}
 use Rattle.std.proofs.lemmas.Option.{none-some}
-use Rattle.petri_atom.specs.Local.{Local, has, is_in, set_below, moved, delivered_value}
+use Rattle.petri_atom.specs.Local.{Local, has, is_in, set_below, moved, Row, delivered_value}
 use Rattle.petri_atom.specs.Definition.{AtomDefinition, TransitionDefinition, UpdateDefinition, Fits, fired, fired_by, exports_of, updated, delivered_to, is_well_formed, fault_of, is_within_limits, has_each_once, has_known_numbers, has_known_numbers_in, exports_known, has_sources_and_targets, are_below}
 use Rattle.petri_atom.specs.Atom.{definition_of}
 use Rattle.petri_atom.specs.Parts.{port_of}
 use Rattle.petri_atom.specs.Transition.{transition_of}
 use Rattle.petri_atom.specs.declared.atom.Atom.{Atom}
 use Rattle.petri_atom.specs.declared.fault.AtomFault.TheVariants.{Limit, Twice, Unknown, NoPlace}
-use Rattle.petri_atom.specs.declared.state.Delivered.{Delivered}
 use Rattle.petri_atom.proofs.Sets.{has-above, set_below-lt, has-set_below}
 use Rattle.petri_atom.proofs.Markings.{list_all-at}
 
@@ -25,7 +24,7 @@ length-assigned : (o : Option ℤ) (values : List ℤ) (v : ℕ) → length (opt
 length-assigned None values v = refl
 length-assigned (Some x) values v = length-set values v x
 
-length-delivered_to : (d : Delivered) (j : ℕ) (vs : List ℕ) (values : List ℤ) → length (delivered_to d j vs values) ≡ length values
+length-delivered_to : (d : Row) (j : ℕ) (vs : List ℕ) (values : List ℤ) → length (delivered_to d j vs values) ≡ length values
 length-delivered_to d j [] values = refl
 length-delivered_to d j (v ∷ vs) values =
     length-delivered_to d (suc j) vs _ ∙ length-assigned (delivered_value d j) values v
@@ -112,7 +111,7 @@ known_targets ports places variables t known =
     (and_parts _ _ (and_parts _ _ (and_parts _ _ known).0).0).1
 
 -- the state after a firing fits the atom that the state before fitted
-pub fired-fits : (a : AtomDefinition) (n : ℕ) (d : Delivered) (state : Local) → is_well_formed a ≡ true → Fits a state → Fits a (fired a n d state)
+pub fired-fits : (a : AtomDefinition) (n : ℕ) (d : Row) (state : Local) → is_well_formed a ≡ true → Fits a state → Fits a (fired a n d state)
 fired-fits a n d state formed fits =
     each (slice_get a.transitions n) (λ t there. all_get _ a.transitions n t (known_numbers a formed) there)
   where

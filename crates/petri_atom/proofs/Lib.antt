@@ -1,6 +1,7 @@
 pub mod States
 pub mod Sets
 pub mod Markings
+pub mod Within
 pub mod Lists
 pub mod Numbers
 pub mod Fitting

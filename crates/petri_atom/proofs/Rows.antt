@@ -2,12 +2,14 @@
 use Rattle.std.proofs.Common.{◌≡◌, ℕ, ℤ, ◌-◌, ◌^◌, pos, negsuc, true, false, refl, List, [], ◌∷◌, map, replicate, Some, None, codes}
 use Rattle.std.specs.Int.{int_wrap}
 use Rattle.petri_atom.specs.Expression.{Tree, number, variable, negation, operation, operated, value_of, word_count}
-use Rattle.petri_atom.specs.Local.{set_below, moved, value_in, has}
+use Rattle.petri_atom.specs.Local.{set_below, moved, value_in, has, Row, mask_of, row_in, given}
 use Rattle.petri_atom.specs.Name.{is_name}
 use Rattle.petri_atom.specs.Definition.{TransitionDefinition, AtomDefinition, can_move, offers, offers_port, offered_set, enabled, fired_by, delivered_to, fault_of, numbers_of, first_from}
 use Rattle.petri_atom.specs.declared.expression.Operator.TheVariants.{Add, Subtract, Multiply, Min, Max, Less, LessOrEqual, Equal, NotEqual, And, Or}
 use Rattle.petri_atom.specs.declared.fault.AtomFault.TheVariants.{Limit, Twice, Unknown, NoPlace}
-use Rattle.petri_atom.specs.declared.state.Delivered.{Delivered}
+use Rattle.petri_atom.specs.declared.state.TheConstants.{MAX_PLACES, MAX_VARIABLES, MAX_EXPORTS}
+use Rattle.petri_atom.specs.declared.parts.TheConstants.{MAX_PORTS, MAX_TRANSITIONS, MAX_UPDATES, MAX_WORDS}
+use Rattle.petri_atom.specs.declared.name.TheConstants.{MAX_NAME}
 
 -- the guard `&& < n 10 ! == n 3`: n is below 10 and not 3
 below_ten_and_not_three : Tree ℕ
@@ -77,8 +79,8 @@ negations : (value_of (value_in []) (negated (pos 0)) ≡ pos 1) × (value_of (v
 negations = (refl, refl, refl, refl)
 
 -- nothing is delivered
-nothing : Delivered
-nothing = record { mask = 0; values = pos 0 ∷ pos 0 ∷ pos 0 ∷ pos 0 ∷ [] }
+nothing : Row
+nothing = replicate 4 None
 
 -- a transition that stays at its place and counts: `trans t from s to s do n := + n 1`
 count : TransitionDefinition
@@ -125,7 +127,7 @@ unfolding count nothing moved set_below int_wrap
 counted_once = refl
 
 -- what is delivered comes before the updates
-counted_from_what_is_delivered : fired_by count (0 ∷ []) (record { mask = 1; values = pos 41 ∷ [] }) (record { marking = 1; values = pos 0 ∷ [] }) ≡ record { marking = 1; values = pos 42 ∷ [] }
+counted_from_what_is_delivered : fired_by count (0 ∷ []) (Some (pos 41) ∷ []) (record { marking = 1; values = pos 0 ∷ [] }) ≡ record { marking = 1; values = pos 42 ∷ [] }
 unfolding count moved set_below int_wrap
 counted_from_what_is_delivered = refl
 
@@ -198,15 +200,21 @@ offered_in_turn = refl
 
 -- ---- what is delivered
 
--- a port exports variables 3, 1, 0 and 2; each bit of a mask delivers the value at its place, and a fifth bit nothing
-abbrev delivered_with : ℕ → List ℤ
-delivered_with mask = delivered_to (record { mask = mask; values = pos 10 ∷ pos 20 ∷ pos 30 ∷ pos 40 ∷ [] }) 0 (3 ∷ 1 ∷ 0 ∷ 2 ∷ []) (pos 7 ∷ pos 7 ∷ pos 7 ∷ pos 7 ∷ [])
+-- a port exports variables 3, 1, 0 and 2, and gets these
+abbrev delivered_with : Row → List ℤ
+delivered_with row = delivered_to row 0 (3 ∷ 1 ∷ 0 ∷ 2 ∷ []) (pos 7 ∷ pos 7 ∷ pos 7 ∷ pos 7 ∷ [])
 
-by_no_bit : (delivered_with 0 ≡ pos 7 ∷ pos 7 ∷ pos 7 ∷ pos 7 ∷ []) × (delivered_with 16 ≡ pos 7 ∷ pos 7 ∷ pos 7 ∷ pos 7 ∷ [])
-by_no_bit = (refl, refl)
+values_at_their_variables : (delivered_with (None ∷ None ∷ None ∷ None ∷ []) ≡ pos 7 ∷ pos 7 ∷ pos 7 ∷ pos 7 ∷ []) × (delivered_with (Some (pos 10) ∷ None ∷ None ∷ None ∷ []) ≡ pos 7 ∷ pos 7 ∷ pos 7 ∷ pos 10 ∷ []) × (delivered_with (None ∷ Some (pos 20) ∷ None ∷ Some (pos 40) ∷ []) ≡ pos 7 ∷ pos 20 ∷ pos 40 ∷ pos 7 ∷ []) × (delivered_with (Some (pos 10) ∷ Some (pos 20) ∷ Some (pos 30) ∷ Some (pos 40) ∷ []) ≡ pos 30 ∷ pos 20 ∷ pos 40 ∷ pos 10 ∷ [])
+values_at_their_variables = (refl, refl, refl, refl)
 
-by_each_bit : (delivered_with 1 ≡ pos 7 ∷ pos 7 ∷ pos 7 ∷ pos 10 ∷ []) × (delivered_with 10 ≡ pos 7 ∷ pos 20 ∷ pos 40 ∷ pos 7 ∷ []) × (delivered_with 15 ≡ pos 30 ∷ pos 20 ∷ pos 40 ∷ pos 10 ∷ [])
-by_each_bit = (refl, refl, refl)
+-- bit k of the mask is of the value at place k, and a fifth bit of none
+kept_values : (row_in 10 (pos 0 ∷ pos 20 ∷ pos 0 ∷ pos 40 ∷ []) ≡ None ∷ Some (pos 20) ∷ None ∷ Some (pos 40) ∷ []) × (row_in 16 (pos 1 ∷ pos 2 ∷ pos 3 ∷ pos 4 ∷ []) ≡ None ∷ None ∷ None ∷ None ∷ []) × (mask_of (None ∷ Some (pos 20) ∷ None ∷ Some (pos 40) ∷ []) ≡ 10)
+unfolding set_below
+kept_values = (refl, refl, refl)
+
+-- the first value stays, and there is no fifth
+given_once : (given 1 (pos 5) (None ∷ None ∷ None ∷ None ∷ []) ≡ None ∷ Some (pos 5) ∷ None ∷ None ∷ []) × (given 1 (pos 6) (None ∷ Some (pos 5) ∷ None ∷ None ∷ []) ≡ None ∷ Some (pos 5) ∷ None ∷ None ∷ []) × (given 4 (pos 5) (None ∷ None ∷ None ∷ None ∷ []) ≡ None ∷ None ∷ None ∷ None ∷ [])
+given_once = (refl, refl, refl)
 
 -- `trans t from p to q do b := a ; a := + a 1`: b gets what was delivered to a, and then a is one more
 hand_on : TransitionDefinition
@@ -218,7 +226,7 @@ hand_on = record {
   updates = record { variable = 1; value = variable 0 } ∷ record { variable = 0; value = operation Add (variable 0) (number (pos 1)) } ∷ [];
 }
 
-updates_in_order : fired_by hand_on (0 ∷ []) (record { mask = 1; values = pos 10 ∷ [] }) (record { marking = 1; values = pos 3 ∷ pos 0 ∷ [] }) ≡ record { marking = 2; values = pos 11 ∷ pos 10 ∷ [] }
+updates_in_order : fired_by hand_on (0 ∷ []) (Some (pos 10) ∷ []) (record { marking = 1; values = pos 3 ∷ pos 0 ∷ [] }) ≡ record { marking = 2; values = pos 11 ∷ pos 10 ∷ [] }
 unfolding hand_on moved set_below int_wrap
 updates_in_order = refl
 
@@ -266,3 +274,29 @@ no_names = refl
 
 reserved : map is_name (codes "from" ∷ codes "to" ∷ codes "when" ∷ codes "do" ∷ codes "init" ∷ codes "at" ∷ codes "min" ∷ codes "max" ∷ []) ≡ replicate 8 false
 reserved = refl
+
+-- ---- limits
+
+a_marking_has_64_places : MAX_PLACES ≡ 64
+a_marking_has_64_places = refl
+
+sixteen_variables_at_most : MAX_VARIABLES ≡ 16
+sixteen_variables_at_most = refl
+
+four_exports_at_most : MAX_EXPORTS ≡ 4
+four_exports_at_most = refl
+
+thirty_two_ports_at_most : MAX_PORTS ≡ 32
+thirty_two_ports_at_most = refl
+
+one_hundred_and_twenty_eight_transitions_at_most : MAX_TRANSITIONS ≡ 128
+one_hundred_and_twenty_eight_transitions_at_most = refl
+
+updates_at_most : MAX_UPDATES ≡ 16
+updates_at_most = refl
+
+words_at_most : MAX_WORDS ≡ 64
+words_at_most = refl
+
+bytes_of_a_name_at_most : MAX_NAME ≡ 32
+bytes_of_a_name_at_most = refl

@@ -2,11 +2,10 @@ use Rattle.std.specs.Prelude.{◌≡◌, ◌≤◌, ℕ, suc, ℤ, pos, Bool, tr
 use Rattle.std.specs.List.{list_all, list_any}
 use Rattle.std.specs.Option.{option_map_or}
 use Rattle.petri_atom.specs.Expression.{Tree, value_of, is_true, word_count, has_variables_below}
-use Rattle.petri_atom.specs.Local.{Local, has, set_below, all_marked, is_blocked, moved, value_in, delivered_value}
+use Rattle.petri_atom.specs.Local.{Local, has, set_below, all_marked, is_blocked, moved, value_in, Row, delivered_value}
 use Rattle.petri_atom.specs.Name.{is_same_text}
 use Rattle.petri_atom.specs.declared.fault.AtomFault.{AtomFault}
 use Rattle.petri_atom.specs.declared.fault.AtomFault.TheVariants.{Limit, Twice, Unknown, NoPlace, Memory}
-use Rattle.petri_atom.specs.declared.state.Delivered.{Delivered}
 use Rattle.petri_atom.specs.declared.parts.Place.{Place}
 use Rattle.petri_atom.specs.declared.parts.Variable.{Variable}
 use Rattle.petri_atom.specs.declared.state.TheConstants.{MAX_PLACES, MAX_VARIABLES, MAX_EXPORTS}
@@ -83,7 +82,7 @@ first_from low numbers = find (λ n. nat_le low n) numbers
 -- ---- firing
 
 -- the values after the delivered ones were assigned to the exported variables, the first of which is number j of its port
-abbrev pub delivered_to : Delivered → ℕ → List ℕ → List ℤ → List ℤ
+abbrev pub delivered_to : Row → ℕ → List ℕ → List ℤ → List ℤ
 delivered_to d j [] values = values
 delivered_to d j (v ∷ vs) values =
     delivered_to d (suc j) vs (option_map_or (slice_set values v) (delivered_value d j) values)
@@ -103,14 +102,14 @@ exported_value a state port export =
     option_map_or (value_in state.values) (slice_get (exports_of a port) export) (pos 0)
 
 -- the local state after a transition: the delivered values are assigned, then the updates run in order, and the marking loses the sources and gains the targets
-abbrev pub fired_by : TransitionDefinition → List ℕ → Delivered → Local → Local
+abbrev pub fired_by : TransitionDefinition → List ℕ → Row → Local → Local
 fired_by t exports d state = record {
   marking = moved state.marking t.sources t.targets;
   values = updated t.updates (delivered_to d 0 exports state.values);
 }
 
 -- the same of the transition with a number
-abbrev pub fired : AtomDefinition → ℕ → Delivered → Local → Local
+abbrev pub fired : AtomDefinition → ℕ → Row → Local → Local
 fired a n d state =
     option_map_or (λ t. fired_by t (exports_of a t.port) d state) (slice_get a.transitions n) state
 

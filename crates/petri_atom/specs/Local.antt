@@ -1,9 +1,8 @@
 use Rattle.std.specs.Prelude.{◌≡◌, ℕ, zero, suc, ◌+◌, ◌^◌, ◌≤◌, ℤ, pos, Bool, cond, not, ◌&&◌, ◌||◌, List, slice_index_or, slice_get, slice_set, ◌==◌, nat_lt, Option, None, Some, if◌then◌else◌, length, filter, map, unwrap_or, is_some}
-use Rattle.petri_atom.specs.declared.state.Delivered.{Delivered}
 use Rattle.std.specs.Int.{bit_at}
 use Rattle.std.specs.List.{list_all, list_any, range_with_len}
 use Rattle.std.specs.Option.{option_or}
-use Rattle.petri_atom.specs.declared.state.TheConstants.{MAX_PLACES}
+use Rattle.petri_atom.specs.declared.state.TheConstants.{MAX_PLACES, MAX_EXPORTS}
 
 -- a local state: the set of marked places, as the number whose bit k says that place k is marked, and the variables' values
 pub record Local : Type 0 where
@@ -52,17 +51,29 @@ value_in values variable = slice_index_or values variable (pos 0)
 abbrev pub IsZeroFrom : ℕ → List ℤ → Type 0
 IsZeroFrom low values = (k : ℕ) → low ≤ k → value_in values k ≡ pos 0
 
--- what is delivered where each exported variable gets a value or none: the mask says which do, and the values of the others are 0
-abbrev pub delivered_of : List (Option ℤ) → Delivered
-delivered_of row = record {
-  mask = set_below (length row) (λ j. is_some (slice_index_or row j None));
-  values = map (λ value. unwrap_or value (pos 0)) row;
-}
+-- what is delivered to an atom is a row: for each exported variable of a port, from number 0 on, its value or none
+abbrev pub Row : Type 0
+Row = List (Option ℤ)
+
+-- a row is kept as a mask, which says who gets a value, and as the values, 0 of those that get none
+abbrev pub mask_of : Row → ℕ
+mask_of row = set_below (length row) (λ j. is_some (slice_index_or row j None))
+
+abbrev pub values_of : Row → List ℤ
+values_of row = map (λ value. unwrap_or value (pos 0)) row
+
+-- the row that is kept so
+abbrev pub row_in : ℕ → List ℤ → Row
+row_in mask values = map (λ j. if has mask j then slice_get values j else None) (range_with_len 0 MAX_EXPORTS)
+
+-- a mask and values are those of a row, with nothing else in them
+abbrev pub AreOfRow : ℕ → List ℤ → Type 0
+AreOfRow mask values = (mask ≡ mask_of (row_in mask values)) × (values ≡ values_of (row_in mask values))
 
 -- a row of values in which the exported variable with a number has the value, unless it had one before
-abbrev pub given : ℕ → ℤ → List (Option ℤ) → List (Option ℤ)
+abbrev pub given : ℕ → ℤ → Row → Row
 given export value row = slice_set row export (option_or (slice_index_or row export None) (Some value))
 
--- what is delivered to the exported variable number j of a port: its value where the mask has bit j
-abbrev pub delivered_value : Delivered → ℕ → Option ℤ
-delivered_value d j = if has d.mask j then slice_get d.values j else None
+-- what is delivered to the exported variable number j of a port, if anything is
+abbrev pub delivered_value : Row → ℕ → Option ℤ
+delivered_value row j = slice_index_or row j None

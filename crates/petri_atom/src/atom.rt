@@ -8,6 +8,7 @@ ghost use Rattle.petri_atom.specs.declared.parts.TheConstants.{MAX_PORTS, MAX_TR
 
 use crate::fault::AtomFault;
 use crate::groups::{Group, groups_of};
+use crate::marking::is_within;
 use crate::name::Name;
 use crate::parts::{MAX_PORTS, MAX_TRANSITIONS, Place, Port, Variable};
 use crate::rules;
@@ -79,6 +80,14 @@ impl Atom {
         ensures fits { Fits (definition_of self.now) result }
     {
         AtomState::first(&self.places, &self.variables)
+    }
+
+    /// Whether the state is one of this atom: it has as many values as the atom has variables, and marks no place that the atom hasn't.
+    pub fn fits(&self, state: &AtomState) -> bool
+        ensures { IsTrue result ↔ Fits (definition_of self.now) state.now }
+    {
+        usize::from(state.used()) == self.variables.len()
+            && is_within(state.places(), self.places.len())
     }
 
     /// Whether the two atoms have the same definition: the same name, and the same parts in the same order.

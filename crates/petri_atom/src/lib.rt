@@ -18,6 +18,7 @@
 //! - `marking`: lists of places as machine words.
 //! - `rules`: the rules that the parts keep, as tests. `fault`: which kind of rule is broken.
 //! - `state`: local states, and what is delivered to one. `same`: whether two parts are the same.
+//! - `laws`: what the definitions say of one another.
 //!
 //! After an atom is made, nothing here takes memory, and nothing can fail.
 #![tactic(auto)]
@@ -26,6 +27,7 @@ mod atom;
 mod expression;
 mod fault;
 mod groups;
+pub mod laws;
 mod marking;
 mod name;
 mod offered;

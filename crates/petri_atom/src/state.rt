@@ -1,6 +1,6 @@
 //! Local states of atoms, and the values that a firing delivers to one.
-ghost use Rattle.std.specs.Prelude.{◌≡◌, ℕ, ℤ, List, Option, ◌≤◌, ◌↔◌, take, map, pos, None, IsTrue, length, is_some, unwrap_or, slice_index_or, slice_set};
-ghost use Rattle.petri_atom.specs.Local.{has, set_below, value_in, IsZeroFrom, delivered_of, delivered_value, given};
+ghost use Rattle.std.specs.Prelude.{◌≡◌, ◌≤◌, ◌↔◌, take, map, IsTrue, length, slice_set};
+ghost use Rattle.petri_atom.specs.Local.{has, set_below, value_in, IsZeroFrom, mask_of, values_of, delivered_value, given};
 ghost use Rattle.petri_atom.specs.declared.state.TheConstants.{MAX_EXPORTS};
 ghost use Rattle.petri_atom.specs.Definition.{delivered_to, is_marked_first};
 ghost use Rattle.std.specs.Option.{option_map_or};
@@ -36,11 +36,26 @@ impl Model for AtomState {
     ghost invariant = { λ s. (s.used ≤ MAX_VARIABLES) × IsZeroFrom s.used s.vars };
 }
 
-/// What a firing delivers to an atom: for each exported variable of its port whose bit is set in the mask, a value.
+/// What a firing delivers to an atom: for each exported variable of its port, in their order, a value or none.
+///
+/// It is kept as a mask, bit k for exported variable k, and as the values, 0 where there is none, so that equal deliveries are
+/// equal values.
 #[derive(Clone, Copy, Debug, PartialEq, Eq)]
 pub struct Delivered {
-    pub mask: u8,
-    pub values: [i64; MAX_EXPORTS],
+    mask: u8,
+    values: [i64; MAX_EXPORTS],
+}
+
+impl Model for Delivered {
+    ghost use Rattle.petri_atom.specs.Local.{Row, row_in, mask_of, values_of, AreOfRow};
+
+    ghost Value = { Row };
+
+    ghost view = { λ d. row_in d.mask d.values };
+
+    ghost invariant = { λ d. AreOfRow d.mask d.values };
+
+    ghost inverse = { λ row. record { mask = mask_of row; values = values_of row } };
 }
 
 /// The word whose bits are the places that are marked at first.
@@ -68,6 +83,17 @@ fn first_values(variables: &[Variable]) -> [i64; MAX_VARIABLES]
     values
 }
 
+/// The values, and zeros after them.
+fn padded(values: &[i64]) -> [i64; MAX_VARIABLES]
+    requires { length values.now ≤ MAX_VARIABLES }
+    ensures values { take (length values.now) result ≡ values.now }
+    ensures zeros { IsZeroFrom (length values.now) result }
+{
+    let mut all = [0; MAX_VARIABLES];
+    all[..values.len()].copy_from_slice(values);
+    all
+}
+
 impl AtomState {
     /// The first state of an atom with these places and variables.
     pub(crate) fn first(places: &[Place], variables: &[Variable]) -> Self
@@ -88,6 +114,15 @@ impl AtomState {
         ensures values { result.values ≡ take used vars }
     {
         AtomState { places, used, vars }
+    }
+
+    /// The state with these marked places, bit k for place k, and these values, one for each variable.
+    pub fn with(places: u64, values: &[i64]) -> Self
+        requires { length values.now ≤ MAX_VARIABLES }
+        ensures marking { result.marking ≡ places }
+        ensures values { result.values ≡ values.now }
+    {
+        AtomState::of(places, values.len() as u8, padded(values))
     }
 
     /// A second state that is equal to this one.
@@ -181,7 +216,7 @@ impl AtomState {
 
 /// The word whose bits are the variables that get a value.
 fn delivered_mask(values: &[Option<i64>; MAX_EXPORTS]) -> u8
-    ensures { result ≡ set_below MAX_EXPORTS (λ j. is_some (slice_index_or values.now j None)) }
+    ensures { result ≡ mask_of values.now }
 {
     let mut mask = 0;
     for number in 0..MAX_EXPORTS {
@@ -192,7 +227,8 @@ fn delivered_mask(values: &[Option<i64>; MAX_EXPORTS]) -> u8
 
 /// The values, 0 where there is none.
 fn delivered_values(values: &[Option<i64>; MAX_EXPORTS]) -> [i64; MAX_EXPORTS]
-    ensures { result ≡ map (λ value. unwrap_or value (pos 0)) values.now }
+    ensures values { result ≡ values_of values.now }
+    ensures four { length values.now ≡ MAX_EXPORTS }
 {
     let mut all = [0; MAX_EXPORTS];
     for number in 0..MAX_EXPORTS {
@@ -204,7 +240,7 @@ fn delivered_values(values: &[Option<i64>; MAX_EXPORTS]) -> [i64; MAX_EXPORTS]
 impl Delivered {
     /// What is delivered where each exported variable gets a value or none.
     pub fn of(values: [Option<i64>; MAX_EXPORTS]) -> Self
-        ensures { result ≡ delivered_of values }
+        ensures { result ≡ values }
     {
         Delivered {
             mask: delivered_mask(&values),
@@ -212,9 +248,17 @@ impl Delivered {
         }
     }
 
+    /// What each exported variable gets.
+    pub fn row(&self) -> [Option<i64>; MAX_EXPORTS]
+        ensures { result ≡ self.now }
+    {
+        let _ = &self.mask;
+        [self.value(0), self.value(1), self.value(2), self.value(3)]
+    }
+
     /// Gives the exported variable with this number the value, unless it has one; a number that no port exports is passed over.
     pub fn give(&mut self, export: u8, value: i64)
-        ensures { (row : List (Option ℤ)) → length row ≡ MAX_EXPORTS → self.old ≡ delivered_of row → self.new ≡ delivered_of (given export value row) }
+        ensures { self.new ≡ given export value self.old }
     {
         let place = usize::from(export);
         if place < MAX_EXPORTS && !has_bit(self.mask, place) {
