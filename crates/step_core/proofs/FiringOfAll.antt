@@ -8,10 +8,9 @@ use Rattle.std.proofs.lemmas.List.{length-map, take_more, length-set, same_lists
 use Rattle.std.proofs.lemmas.List.Folds.{find-append}
 use Rattle.std.proofs.lemmas.Option.{slice_get-get_or, slice_get_within, slice_get_past, get_or_from_slice_get, same_Some}
 use Rattle.petri_atom.specs.Atom.{definition_of}
-use Rattle.petri_atom.specs.Local.{Local}
+use Rattle.petri_atom.specs.Local.{Local, Row}
 use Rattle.petri_atom.specs.Definition.{AtomDefinition, Fits, fired, offers_number}
 use Rattle.petri_atom.specs.declared.atom.Atom.{Atom}
-use Rattle.petri_atom.specs.declared.state.Delivered.{Delivered}
 use Rattle.step_core.specs.Choice.{ChoiceDefinition, IsAllowed, choices}
 use Rattle.step_core.specs.Fitting.{AllFit}
 use Rattle.step_core.specs.Plant.{PlantDefinition, of_atom}
@@ -22,7 +21,7 @@ use Rattle.step_core.proofs.Told.{or_none}
 use Rattle.step_core.proofs.Stepping.{no_move, length-stepped, stepped-at, all-at, is_offered_move, offered-choices}
 
 -- before the first move nothing has changed
-pub none-fired : (atoms : List AtomDefinition) (d : ℕ → Delivered) (n : ℕ) (states : List Local) → stepped_from atoms [] d n states ≡ states
+pub none-fired : (atoms : List AtomDefinition) (d : ℕ → Row) (n : ℕ) (states : List Local) → stepped_from atoms [] d n states ≡ states
 none-fired atoms d n [] = refl
 none-fired atoms d n (s ∷ states) = ap (λ x. x ∷ stepped_from atoms [] d (suc n) states) (each (slice_get atoms n)) ∙ ap (λ xs. s ∷ xs) (none-fired atoms d (suc n) states)
   where
@@ -45,7 +44,7 @@ atom-within atoms states m offered = ⊎_elim
     (cases_lt m.atom (length atoms))
 
 -- the states after the first moves, and the next move, whose atom none of them is of
-module _ (atoms : List Atom) (old : List Local) (moves : List Move) (d : ℕ → Delivered) (as_many : length old ≡ length (map definition_of atoms)) (k n : ℕ) (more : k < length moves) (same : n ≡ (get_or moves k no_move).atom) (fresh : find (λ j. j.atom == n) (take k moves) ≡ None) (atom : Atom) (within : n < length atoms) (here : atom ≡ get_or atoms n atom) where
+module _ (atoms : List Atom) (old : List Local) (moves : List Move) (d : ℕ → Row) (as_many : length old ≡ length (map definition_of atoms)) (k n : ℕ) (more : k < length moves) (same : n ≡ (get_or moves k no_move).atom) (fresh : find (λ j. j.atom == n) (take k moves) ≡ None) (atom : Atom) (within : n < length atoms) (here : atom ≡ get_or atoms n atom) where
   abbrev after : ℕ → List Local
   after i = stepped_from (map definition_of atoms) (take i moves) d 0 old
 

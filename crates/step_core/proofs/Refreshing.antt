@@ -3,9 +3,8 @@ use Rattle.std.specs.Prelude.{Option, Some, None, slice_get, find}
 use Rattle.std.specs.Option.{option_map_or}
 use Rattle.std.proofs.lemmas.Bool.{cases_eq, cases_lt, ne_eqb}
 use Rattle.std.proofs.lemmas.Option.{slice_get-get_or, slice_get_past, slice_get_within, get_or_from_slice_get}
-use Rattle.petri_atom.specs.Local.{Local}
+use Rattle.petri_atom.specs.Local.{Local, Row}
 use Rattle.petri_atom.specs.Definition.{AtomDefinition, fired, offered_set}
-use Rattle.petri_atom.specs.declared.state.Delivered.{Delivered}
 use Rattle.step_core.specs.Choice.{ChoiceDefinition}
 use Rattle.step_core.specs.Offers.{AreOffered, AreOfferedBut}
 use Rattle.step_core.specs.Plant.{PlantDefinition}
@@ -15,7 +14,7 @@ use Rattle.step_core.proofs.Judging.{some_state}
 use Rattle.step_core.proofs.Stepping.{length-stepped, stepped-at}
 
 -- an atom that no move is of keeps its state
-still : (atoms : List AtomDefinition) (moves : List Move) (d : ℕ → Delivered) (n : ℕ) (s : Local) → find (λ m. m.atom == n) moves ≡ None → stepped atoms moves d n s ≡ s
+still : (atoms : List AtomDefinition) (moves : List Move) (d : ℕ → Row) (n : ℕ) (s : Local) → find (λ m. m.atom == n) moves ≡ None → stepped atoms moves d n s ≡ s
 still atoms moves d n s none = each (slice_get atoms n)
   where
     each : (o : Option AtomDefinition) → option_map_or (λ a. moved_by a moves (d n) n s) o s ≡ s

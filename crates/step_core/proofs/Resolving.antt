@@ -8,7 +8,7 @@ use Rattle.std.proofs.lemmas.Bool.{cases_lt, cases_eq, false≢true, and_parts, 
 use Rattle.std.proofs.lemmas.Nat.{or_lt, pow_below}
 use Rattle.std.proofs.lemmas.Nat.Bits.{bit_at-pow_same, bit_at-pow_other}
 use Rattle.petri_atom.specs.Expression.{Tree, number, variable, negation, operation, all_variables, is_true, operated, truth, value_of}
-use Rattle.petri_atom.specs.Local.{Local, delivered_of, has, value_in}
+use Rattle.petri_atom.specs.Local.{Local, has, value_in}
 use Rattle.petri_atom.specs.Definition.{AtomDefinition, exported_value, exports_of}
 use Rattle.petri_atom.proofs.Markings.{same_answer}
 use Rattle.petri_atom.proofs.Sets.{has-and, has-or, has-above, same_set}
@@ -187,5 +187,4 @@ module _ (m : ℕ) (small : m < 2 ^ 16) where
     -- and an atom gets the same
     pub given-found : (ts : List TransferDefinition) (atom : ℕ) → given_for states (map (delivery_by atoms ports) ts) m atom ≡ delivered_by atoms states ports ts m atom
     given-found ts atom =
-        ap delivered_of
-        (four-values (value_for-found atom 0 ts) (value_for-found atom 1 ts) (value_for-found atom 2 ts) (value_for-found atom 3 ts))
+        four-values (value_for-found atom 0 ts) (value_for-found atom 1 ts) (value_for-found atom 2 ts) (value_for-found atom 3 ts)

@@ -1,11 +1,10 @@
 -- Worked steps of a plant of two atoms, as computed facts of the definitions.
-use Rattle.std.proofs.Common.{◌≡◌, ℕ, ℤ, pos, refl, true, false, List, [], ◌∷◌}
+use Rattle.std.proofs.Common.{◌≡◌, ℕ, ℤ, pos, refl, true, false, List, [], ◌∷◌, Some, None}
 use Rattle.std.specs.Int.{int_wrap}
 use Rattle.petri_atom.specs.Expression.{Tree, number, variable, operation}
-use Rattle.petri_atom.specs.Local.{Local, set_below, moved}
+use Rattle.petri_atom.specs.Local.{Local, Row, set_below, moved}
 use Rattle.petri_atom.specs.Definition.{AtomDefinition}
 use Rattle.petri_atom.specs.declared.expression.Operator.TheVariants.{Add, Less}
-use Rattle.petri_atom.specs.declared.state.Delivered.{Delivered}
 use Rattle.connector_tree.specs.declared.tree.Port.{Port}
 use Rattle.step_core.specs.Plant.{TransferDefinition}
 use Rattle.step_core.specs.Exports.{guards_hold}
@@ -50,7 +49,7 @@ send_leaves = record { atom = 0; port = 0 } ∷ record { atom = 1; port = 0 } �
 abbrev send_transfers : List TransferDefinition
 send_transfers = record { target = record { leaf = 1; export = 0 }; value = variable (record { leaf = 0; export = 0 }) } ∷ []
 
-abbrev sent : List Local → ℕ → Delivered
+abbrev sent : List Local → ℕ → Row
 sent states = delivered_by sample states send_leaves send_transfers 3
 
 -- tick, then send: B gets the value from before A counts on
@@ -72,7 +71,7 @@ unfolding sample counts holds moved set_below int_wrap
 send_the_other_way_round = refl
 
 -- what is delivered: to B the value 1, to A nothing; and nothing to B where A does not take part
-delivered_to_the_holder : sent (at (pos 1) (pos 0)) 1 ≡ record { mask = 1; values = pos 1 ∷ pos 0 ∷ pos 0 ∷ pos 0 ∷ [] }
+delivered_to_the_holder : sent (at (pos 1) (pos 0)) 1 ≡ Some (pos 1) ∷ None ∷ None ∷ None ∷ []
 unfolding sample counts holds set_below
 delivered_to_the_holder = refl
 

@@ -3,9 +3,8 @@ use Rattle.std.specs.Prelude.{Option, Some, None, slice_get, filter, flat_map}
 use Rattle.std.specs.List.{list_all}
 use Rattle.std.specs.Option.{option_map_or}
 use Rattle.std.proofs.lemmas.Bool.{and_parts, and_from}
-use Rattle.petri_atom.specs.Local.{Local}
+use Rattle.petri_atom.specs.Local.{Local, Row}
 use Rattle.petri_atom.specs.Definition.{AtomDefinition, enabled, offers_number}
-use Rattle.petri_atom.specs.declared.state.Delivered.{Delivered}
 use Rattle.connector_tree.specs.declared.tree.Port.{Port}
 use Rattle.step_core.specs.Plant.{PlantDefinition, of_atom}
 use Rattle.step_core.specs.Choice.{Interaction, ChoiceDefinition, move_of, moves_of, combinations, choices_of, choices_at, choices, is_allowed_at, flat_from, plant_interactions}
@@ -13,11 +12,11 @@ use Rattle.step_core.specs.Step.{stepped, stepped_from}
 use Rattle.step_core.specs.declared.choice.Move.{Move}
 
 -- the states after the moves, by number
-pub length-stepped : (atoms : List AtomDefinition) (moves : List Move) (d : ℕ → Delivered) (n : ℕ) (states : List Local) → length (stepped_from atoms moves d n states) ≡ length states
+pub length-stepped : (atoms : List AtomDefinition) (moves : List Move) (d : ℕ → Row) (n : ℕ) (states : List Local) → length (stepped_from atoms moves d n states) ≡ length states
 length-stepped atoms moves d n [] = refl
 length-stepped atoms moves d n (s ∷ states) = ap suc (length-stepped atoms moves d (suc n) states)
 
-pub stepped-at : (atoms : List AtomDefinition) (moves : List Move) (d : ℕ → Delivered) (n i : ℕ) (states : List Local) (x : Local) → i < length states → get_or (stepped_from atoms moves d n states) i x ≡ stepped atoms moves d (n + i) (get_or states i x)
+pub stepped-at : (atoms : List AtomDefinition) (moves : List Move) (d : ℕ → Row) (n i : ℕ) (states : List Local) (x : Local) → i < length states → get_or (stepped_from atoms moves d n states) i x ≡ stepped atoms moves d (n + i) (get_or states i x)
 stepped-at atoms moves d n i [] x within = absurd (omega arith)
 stepped-at atoms moves d n zero (s ∷ states) x within = ap (λ k. stepped atoms moves d k s) (omega arith)
 stepped-at atoms moves d n (suc i) (s ∷ states) x within =

@@ -8,9 +8,8 @@ use Rattle.std.proofs.lemmas.Bool.{cases_eq, cases_lt, eq-eqb, ne_eqb, false≢t
 use Rattle.std.proofs.lemmas.List.{take_more, map-append, length-replicate, get_or-replicate, length-set, set_past}
 use Rattle.std.proofs.lemmas.List.Folds.{find-append}
 use Rattle.std.proofs.lemmas.Option.{same_Some, slice_get-get_or, get_or_from_slice_get, slice_get_within}
-use Rattle.petri_atom.specs.Local.{Local, delivered_of, given}
+use Rattle.petri_atom.specs.Local.{Local, Row, given}
 use Rattle.petri_atom.specs.Expression.{tree_of, value_of}
-use Rattle.petri_atom.specs.declared.state.Delivered.{Delivered}
 use Rattle.petri_atom.specs.declared.state.TheConstants.{MAX_EXPORTS}
 use Rattle.step_core.specs.Delivery.{AreDelivered, IsFirstOfAtom, IsGiven}
 use Rattle.step_core.specs.Resolved.{value_there, DeliveryDefinition, delivery_of, has_all, is_for, value_for, given_for}
@@ -106,32 +105,30 @@ module _ (states : List Local) (deliveries : List Delivery) (mask i : ℕ) (t : 
       each None false = refl
 
   -- what an atom gets, where it is the target's, and where it is not
-  changed : (atom : ℕ) (b : Bool) → is_its atom ≡ b → has_all mask t.leaves ≡ true → delivered_of (if b then given t.export value (map (value_for states (front i) mask atom) (range_with_len 0 MAX_EXPORTS)) else map (value_for states (front i) mask atom) (range_with_len 0 MAX_EXPORTS)) ≡ given_for states (front (i + 1)) mask atom
+  changed : (atom : ℕ) (b : Bool) → is_its atom ≡ b → has_all mask t.leaves ≡ true → (if b then given t.export value (map (value_for states (front i) mask atom) (range_with_len 0 MAX_EXPORTS)) else map (value_for states (front i) mask atom) (range_with_len 0 MAX_EXPORTS)) ≡ given_for states (front (i + 1)) mask atom
   changed atom true its told =
-      ap delivered_of
       (row-given (value_for states (front i) mask atom) (value_for states (front (i + 1)) mask atom) value t.export
       (λ e small. one-more atom e ∙
       ap (λ b. option_or (value_for states (front i) mask atom e) (some_if b value)) (ap (λ b. b && is_for atom e (delivery_of t)) told ∙ ap (λ b. t.export == e && b) its ∙ and-true (t.export == e))))
   changed atom false its told =
-      ap delivered_of
-      (four-values (same 0) (same 1) (same 2) (same 3))
+      four-values (same 0) (same 1) (same 2) (same 3)
     where
       same : (e : ℕ) → value_for states (front i) mask atom e ≡ value_for states (front (i + 1)) mask atom e
       same e =
           sym (one-more atom e ∙ ap (λ b. option_or (value_for states (front i) mask atom e) (some_if b value)) (ap (λ b. b && is_for atom e (delivery_of t)) told ∙ ap (λ b. t.export == e && b) its ∙ and_false (t.export == e)) ∙ or_none (value_for states (front i) mask atom e))
 
-  module _ (moves : List Move) (old new : List Delivered) (so_far : AreDelivered moves (given_for states (front i) mask) old) where
+  module _ (moves : List Move) (old new : List Row) (so_far : AreDelivered moves (given_for states (front i) mask) old) where
     -- it applies, and is delivered
     pub delivered-more : has_all mask t.leaves ≡ true → IsGiven moves is_its t.export value old new → AreDelivered moves (given_for states (front (i + 1)) mask) new
     delivered-more told done place m there first =
-        done place m (map (value_for states (front i) mask m.atom) (range_with_len 0 MAX_EXPORTS)) there first refl (so_far place m there first) ∙
+        done place m (map (value_for states (front i) mask m.atom) (range_with_len 0 MAX_EXPORTS)) there first (so_far place m there first) ∙
         ap Some (changed m.atom (is_its m.atom) refl told)
 
     -- or it does not
     pub delivered-same : has_all mask t.leaves ≡ false → new ≡ old → AreDelivered moves (given_for states (front (i + 1)) mask) new
     delivered-same told same place m there first =
         ap (λ row. slice_get row place) same ∙ so_far place m there first ∙
-        ap (λ row. Some (delivered_of row)) (four-values (as_was 0) (as_was 1) (as_was 2) (as_was 3))
+        ap Some (four-values (as_was 0) (as_was 1) (as_was 2) (as_was 3))
       where
         as_was : (e : ℕ) → value_for states (front i) mask m.atom e ≡ value_for states (front (i + 1)) mask m.atom e
         as_was e =
@@ -142,27 +139,27 @@ pub everywhere : {X : Type 0} (x : X) (n : ℕ) (place : ℕ) → place < n → 
 everywhere x n place within = slice_get-get_or (replicate n x) place x (omega (arith, length-replicate n x)) ∙ ap Some (get_or-replicate n place x x within)
 
 -- the first move of an atom gets a value for one of its variables
-module _ (moves : List Move) (atom export : ℕ) (value : ℤ) (row : List Delivered) where
+module _ (moves : List Move) (atom export : ℕ) (value : ℤ) (row : List Row) where
   -- nothing is given where no move is of the atom
   pub given-none : (n : ℕ) → length moves ≤ n → find (λ k. k.atom == atom) (take n moves) ≡ None → IsGiven moves (λ other. atom == other) export value row row
-  given-none n long none place m values there first four old =
+  given-none n long none place m values there first old =
       let other : (m.atom == atom) ≡ false = none-at (λ k. k.atom == atom) moves n place m none (omega (arith, slice_get_within moves place m there)) there in
-      old ∙ ap (λ b. Some (delivered_of (if b then given export value values else values))) (sym (ne_eqb atom m.atom (λ same. false≢true (sym other ∙ eq-eqb m.atom atom (sym same)))))
+      old ∙ ap (λ b. Some (if b then given export value values else values)) (sym (ne_eqb atom m.atom (λ same. false≢true (sym other ∙ eq-eqb m.atom atom (sym same)))))
 
   -- and where one is, what stands at its place is given the value
-  module _ (n : ℕ) (its : Move) (here : slice_get moves n ≡ Some its) (same : its.atom ≡ atom) (none : find (λ k. k.atom == atom) (take n moves) ≡ None) (within : n < length row) (after : Delivered) (told : (values : List (Option ℤ)) → length values ≡ MAX_EXPORTS → get_or row n after ≡ delivered_of values → after ≡ delivered_of (given export value values)) where
-    at-place : (place : ℕ) (m : Move) (values : List (Option ℤ)) → slice_get moves place ≡ Some m → place ≡ n → length values ≡ MAX_EXPORTS → slice_get row place ≡ Some (delivered_of values) → slice_get (set row n after) place ≡ Some (delivered_of (if atom == m.atom then given export value values else values))
-    at-place place m values there at four old =
+  module _ (n : ℕ) (its : Move) (here : slice_get moves n ≡ Some its) (same : its.atom ≡ atom) (none : find (λ k. k.atom == atom) (take n moves) ≡ None) (within : n < length row) (after : Row) (told : (values : Row) → get_or row n after ≡ values → after ≡ given export value values) where
+    at-place : (place : ℕ) (m : Move) (values : Row) → slice_get moves place ≡ Some m → place ≡ n → slice_get row place ≡ Some values → slice_get (set row n after) place ≡ Some (if atom == m.atom then given export value values else values)
+    at-place place m values there at old =
         let is_its : its ≡ m = same_Some its m (sym here ∙ ap (slice_get moves) (sym at) ∙ there) in
         let yes : (atom == m.atom) ≡ true = eq-eqb atom m.atom (sym same ∙ ap (λ k. k.atom) is_its) in
         ap (slice_get (set row n after)) at ∙
         slice_get-get_or (set row n after) n after (omega (arith, within, length-set row n after)) ∙
-        ap Some (get_or-set_same row n after after within ∙ told values four (get_or_from_slice_get row n (delivered_of values) after (ap (slice_get row) (sym at) ∙ old))) ∙
-        ap (λ b. Some (delivered_of (if b then given export value values else values))) (sym yes)
+        ap Some (get_or-set_same row n after after within ∙ told values (get_or_from_slice_get row n values after (ap (slice_get row) (sym at) ∙ old))) ∙
+        ap (λ b. Some (if b then given export value values else values)) (sym yes)
 
-    elsewhere : (place : ℕ) (m : Move) (values : List (Option ℤ)) → slice_get moves place ≡ Some m → IsFirstOfAtom moves place m → place ≢ n → slice_get row place ≡ Some (delivered_of values) → slice_get (set row n after) place ≡ Some (delivered_of (if atom == m.atom then given export value values else values))
+    elsewhere : (place : ℕ) (m : Move) (values : Row) → slice_get moves place ≡ Some m → IsFirstOfAtom moves place m → place ≢ n → slice_get row place ≡ Some values → slice_get (set row n after) place ≡ Some (if atom == m.atom then given export value values else values)
     elsewhere place m values there first other old =
-        let inside : place < length row = slice_get_within row place (delivered_of values) old in
+        let inside : place < length row = slice_get_within row place values old in
         let no : (atom == m.atom) ≡ false = ne_eqb atom m.atom (λ equal.
         ⊎_elim
         (λ before. false≢true (sym (none-at (λ k. k.atom == atom) moves n place m none before there) ∙ eq-eqb m.atom atom (sym equal)))
@@ -170,8 +167,8 @@ module _ (moves : List Move) (atom export : ℕ) (value : ℤ) (row : List Deliv
         (cases_lt place n)) in
         slice_get-get_or (set row n after) place after (omega (arith, inside, length-set row n after)) ∙
         ap Some (get_or-set_other row n place after after other) ∙ sym (slice_get-get_or row place after inside) ∙ old ∙
-        ap (λ b. Some (delivered_of (if b then given export value values else values))) (sym no)
+        ap (λ b. Some (if b then given export value values else values)) (sym no)
 
     pub given-here : IsGiven moves (λ other. atom == other) export value row (set row n after)
-    given-here place m values there first four old =
-        ⊎_elim (λ at. at-place place m values there at four old) (λ other. elsewhere place m values there first other old) (cases_eq place n)
+    given-here place m values there first old =
+        ⊎_elim (λ at. at-place place m values there at old) (λ other. elsewhere place m values there first other old) (cases_eq place n)

@@ -3,9 +3,8 @@ use Rattle.std.specs.Prelude.{◌≡◌, ℕ, ℤ, pos, ◌^◌, ◌<◌, Bool, 
 use Rattle.std.specs.List.{list_all, range_with_len}
 use Rattle.std.specs.Option.{option_map_or}
 use Rattle.petri_atom.specs.Expression.{Tree, tree_of, number, variable, negation, operation, is_true, value_of}
-use Rattle.petri_atom.specs.Local.{Local, delivered_of, value_in}
+use Rattle.petri_atom.specs.Local.{Local, Row, value_in}
 use Rattle.petri_atom.specs.Definition.{AtomDefinition, exports_of}
-use Rattle.petri_atom.specs.declared.state.Delivered.{Delivered}
 use Rattle.petri_atom.specs.declared.state.TheConstants.{MAX_EXPORTS}
 use Rattle.connector_tree.specs.Tree.{leaves}
 use Rattle.connector_tree.specs.declared.tree.Port.{Port}
@@ -116,8 +115,8 @@ value_for states deliveries mask atom export =
     option_map (λ d. value_of (value_there states) d.value) (find (λ d. has_all mask d.leaves && is_for atom export d) deliveries)
 
 -- what the deliveries that apply give to an atom
-abbrev pub given_for : List Local → List DeliveryDefinition → ℕ → ℕ → Delivered
-given_for states deliveries mask atom = delivered_of (map (value_for states deliveries mask atom) (range_with_len 0 MAX_EXPORTS))
+abbrev pub given_for : List Local → List DeliveryDefinition → ℕ → ℕ → Row
+given_for states deliveries mask atom = map (value_for states deliveries mask atom) (range_with_len 0 MAX_EXPORTS)
 
 -- what is found of wires says of guards, in each global state and of each mask, what the wires say
 abbrev pub AreGuarding : List AtomDefinition → List WireDefinition → List Resolved → Type 0

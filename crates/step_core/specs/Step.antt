@@ -1,11 +1,10 @@
 -- What a choice leaves of a state.
-use Rattle.std.specs.Prelude.{ℕ, suc, ℤ, Bool, false, ◌&&◌, ◌==◌, List, [], ◌∷◌, map, find, slice_get, Option, None, option_map}
+use Rattle.std.specs.Prelude.{ℕ, suc, ℤ, Bool, false, ◌&&◌, ◌==◌, List, [], ◌∷◌, map, replicate, find, slice_get, Option, None, option_map}
 use Rattle.std.specs.List.{range_with_len}
 use Rattle.std.specs.Option.{option_map_or}
 use Rattle.petri_atom.specs.Expression.{all_variables, value_of}
-use Rattle.petri_atom.specs.Local.{Local, delivered_of}
+use Rattle.petri_atom.specs.Local.{Local, Row}
 use Rattle.petri_atom.specs.Definition.{AtomDefinition, fired, initial}
-use Rattle.petri_atom.specs.declared.state.Delivered.{Delivered}
 use Rattle.petri_atom.specs.declared.state.TheConstants.{MAX_EXPORTS}
 use Rattle.connector_tree.specs.Tree.{leaves}
 use Rattle.connector_tree.specs.declared.tree.Port.{Port}
@@ -41,30 +40,30 @@ value_to atoms states ports transfers mask atom export =
     option_map (λ t. value_of (value_at atoms states ports) t.value) (transfer_to ports transfers mask atom export)
 
 -- what a firing delivers to an atom: to each exported variable its value, or none
-abbrev pub delivered_by : List AtomDefinition → List Local → List Port → List TransferDefinition → ℕ → ℕ → Delivered
+abbrev pub delivered_by : List AtomDefinition → List Local → List Port → List TransferDefinition → ℕ → ℕ → Row
 delivered_by atoms states ports transfers mask atom =
-    delivered_of (map (value_to atoms states ports transfers mask atom) (range_with_len 0 MAX_EXPORTS))
+    map (value_to atoms states ports transfers mask atom) (range_with_len 0 MAX_EXPORTS)
 
 -- nothing delivered
-abbrev pub nothing_delivered : Delivered
-nothing_delivered = delivered_of (map (λ export. None) (range_with_len 0 MAX_EXPORTS))
+abbrev pub nothing_delivered : Row
+nothing_delivered = replicate MAX_EXPORTS None
 
 -- what a choice delivers to an atom
-abbrev pub transfer : PlantDefinition → List Local → ChoiceDefinition → ℕ → Delivered
+abbrev pub transfer : PlantDefinition → List Local → ChoiceDefinition → ℕ → Row
 transfer plant states c atom =
     option_map_or (λ w. delivered_by plant.atoms states (leaves w.connector) w.transfers c.mask atom) (slice_get plant.wires c.connector) nothing_delivered
 
 -- what the moves of a choice leave of the state of the atom with a number: the first of them that is the atom's fires, with what is delivered to it
-abbrev pub moved_by : AtomDefinition → List Move → Delivered → ℕ → Local → Local
+abbrev pub moved_by : AtomDefinition → List Move → Row → ℕ → Local → Local
 moved_by a moves d n state = option_map_or (λ m. fired a m.transition d state) (find (λ m. m.atom == n) moves) state
 
 -- the same of the atom with a number in a plant; `delivered` tells what each atom gets
-abbrev pub stepped : List AtomDefinition → List Move → (ℕ → Delivered) → ℕ → Local → Local
+abbrev pub stepped : List AtomDefinition → List Move → (ℕ → Row) → ℕ → Local → Local
 stepped atoms moves delivered n state =
     option_map_or (λ a. moved_by a moves (delivered n) n state) (slice_get atoms n) state
 
 -- the same of the states of all atoms from the number n on
-abbrev pub stepped_from : List AtomDefinition → List Move → (ℕ → Delivered) → ℕ → List Local → List Local
+abbrev pub stepped_from : List AtomDefinition → List Move → (ℕ → Row) → ℕ → List Local → List Local
 stepped_from atoms moves delivered n [] = []
 stepped_from atoms moves delivered n (state ∷ states) =
     stepped atoms moves delivered n state ∷ stepped_from atoms moves delivered (suc n) states

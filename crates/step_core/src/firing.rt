@@ -1,14 +1,18 @@
 //! Firing a choice: the transition of each move, with what is delivered to its atom from the values before the firing.
-ghost use Rattle.std.specs.Prelude.{◌≡◌};
+ghost use Rattle.std.specs.Prelude.{◌≡◌, replicate};
+ghost use Rattle.connector_tree.specs.declared.tree.TheConstants.{MAX_LEAVES};
 ghost use Rattle.step_core.specs.Choice.{IsAllowed};
 ghost use Rattle.step_core.specs.Chosen.{choice_of};
+ghost use Rattle.step_core.specs.Delivery.{IsTold};
 ghost use Rattle.step_core.specs.Fitting.{IsOf, AllFit};
-ghost use Rattle.step_core.specs.Step.{next};
+ghost use Rattle.step_core.specs.Step.{next, nothing_delivered, transfer};
 
 use crate::choice::Choice;
 use crate::state::PlantState;
 use crate::system::System;
 use crate::transfers::nothing_at_all;
+use connector_tree::MAX_LEAVES;
+use petri_atom::Delivered;
 
 impl System {
     ghost use Rattle.step_core.specs.System.{plant_of};
@@ -22,8 +26,27 @@ impl System {
         ensures next { states.new ≡ next (plant_of self.now) states.old (choice_of choice.now) }
         ensures fits { AllFit (plant_of self.now) states.old → AllFit (plant_of self.now) states.new }
     {
-        let mut delivered = nothing_at_all();
-        self.deliver(states, choice, &mut delivered);
+        let mut told = nothing_at_all();
+        self.fire(states, choice, &mut told);
+    }
+
+    /// The same, and tells what the choice delivered, in a row in which nothing is yet: at the place of each move, what its
+    /// atom got.
+    pub(crate) fn fire(
+        &self,
+        states: &mut PlantState,
+        choice: &Choice,
+        delivered: &mut [Delivered; MAX_LEAVES],
+    )
+        requires of_plant { IsOf (plant_of self.now) states.old }
+        requires allowed { IsAllowed (plant_of self.now) states.old (choice_of choice.now) }
+        requires nothing { delivered.old ≡ replicate MAX_LEAVES nothing_delivered }
+        ensures of_plant { IsOf (plant_of self.now) states.new }
+        ensures next { states.new ≡ next (plant_of self.now) states.old (choice_of choice.now) }
+        ensures fits { AllFit (plant_of self.now) states.old → AllFit (plant_of self.now) states.new }
+        ensures told { IsTold choice.now.moves (transfer (plant_of self.now) states.old (choice_of choice.now)) delivered.new }
+    {
+        self.deliver(states, choice, delivered);
         let moves = choice.moves.as_slice();
         for place in 0..moves.len() {
             let step = moves[place];

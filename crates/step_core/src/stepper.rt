@@ -1,14 +1,16 @@
 //! A plant that runs: its present state, with what that state offers, judged once.
-ghost use Rattle.std.specs.Prelude.{◌≡◌, ◌↔◌, ◌*◌, ◌<◌, Some, IfOk, map, length, slice_get};
+ghost use Rattle.std.specs.Prelude.{◌≡◌, ◌↔◌, ◌*◌, ◌<◌, Some, IfOk, map, length, replicate, slice_get};
+ghost use Rattle.connector_tree.specs.declared.tree.TheConstants.{MAX_LEAVES};
 ghost use Rattle.step_core.specs.Choice.{choices, IsAllowed, IsStuck};
 ghost use Rattle.step_core.specs.Chosen.{choice_of};
+ghost use Rattle.step_core.specs.Delivery.{IsTold};
 ghost use Rattle.step_core.specs.Fitting.{IsOf, AllFit};
 ghost use Rattle.step_core.specs.Interaction.{interaction_of};
 ghost use Rattle.step_core.specs.Judgement.{IsJudgement};
 ghost use Rattle.step_core.specs.Touching.{AreTouching, AreOnPorts};
 ghost use Rattle.step_core.specs.Wire.{wire_of};
 ghost use Rattle.step_core.specs.declared.touching.TheConstants.{ATOM_ROWS};
-ghost use Rattle.step_core.specs.Step.{initial_states, next};
+ghost use Rattle.step_core.specs.Step.{initial_states, next, nothing_delivered, transfer};
 ghost use Rattle.step_core.specs.System.{plant_of};
 
 use crate::choice::Choice;
@@ -16,6 +18,9 @@ use crate::judgement::Judgement;
 use crate::state::PlantState;
 use crate::system::System;
 use crate::touching::touching_rows;
+use crate::transfers::nothing_at_all;
+use connector_tree::MAX_LEAVES;
+use petri_atom::Delivered;
 use priority_filter::InteractionSet;
 use std::alloc::{AllocError, Global};
 
@@ -112,7 +117,32 @@ impl<'s> Stepper<'s> {
         ensures next { states_in self.new ≡ next (plant_in self.old) (states_in self.old) (choice_of choice.now) }
         ensures fits { AllFit (plant_in self.old) (states_in self.old) → AllFit (plant_in self.new) (states_in self.new) }
     {
-        self.system.next(&mut self.states, choice);
+        let mut told = nothing_at_all();
+        self.step(choice, &mut told);
+    }
+
+    /// Fires the choice as [`Stepper::fire`] does, and tells what it delivered: at the place of each move, what its atom got.
+    pub fn fire_telling(&mut self, choice: &Choice, told: &mut [Delivered; MAX_LEAVES])
+        requires { IsAllowed (plant_in self.old) (states_in self.old) (choice_of choice.now) }
+        ensures plant { plant_in self.new ≡ plant_in self.old }
+        ensures next { states_in self.new ≡ next (plant_in self.old) (states_in self.old) (choice_of choice.now) }
+        ensures fits { AllFit (plant_in self.old) (states_in self.old) → AllFit (plant_in self.new) (states_in self.new) }
+        ensures told { IsTold choice.now.moves (transfer (plant_in self.old) (states_in self.old) (choice_of choice.now)) told.new }
+    {
+        *told = nothing_at_all();
+        self.step(choice, told);
+    }
+
+    /// The same, with a row in which nothing is yet.
+    fn step(&mut self, choice: &Choice, told: &mut [Delivered; MAX_LEAVES])
+        requires allowed { IsAllowed (plant_in self.old) (states_in self.old) (choice_of choice.now) }
+        requires nothing { told.old ≡ replicate MAX_LEAVES nothing_delivered }
+        ensures plant { plant_in self.new ≡ plant_in self.old }
+        ensures next { states_in self.new ≡ next (plant_in self.old) (states_in self.old) (choice_of choice.now) }
+        ensures fits { AllFit (plant_in self.old) (states_in self.old) → AllFit (plant_in self.new) (states_in self.new) }
+        ensures told { IsTold choice.now.moves (transfer (plant_in self.old) (states_in self.old) (choice_of choice.now)) told.new }
+    {
+        self.system.fire(&mut self.states, choice, told);
         self.system.judge_again(
             &self.states,
             &self.touching,

@@ -20,7 +20,7 @@ loop-delivery-preserved c =
     let i = c.loop-delivery.delivery-index in
     let so_far = c.loop-delivery.invariant in
     elim c.if-has_all.branch [
-      | then-has_all w ↦ delivered-more states c.args.deliveries.now c.args.mask i item.result c.loop-delivery-test.true item.is c.args.moves.now c.loop-delivery.delivered c.if-has_all.delivered so_far (sym c.has_all.ensures ∙ w.if-has_all.true) (λ place m row there first four old. ap (λ ds. slice_get ds place) w.delivered-is ∙ w.deliver_one.ensures place m row there first four old)
+      | then-has_all w ↦ delivered-more states c.args.deliveries.now c.args.mask i item.result c.loop-delivery-test.true item.is c.args.moves.now c.loop-delivery.delivered c.if-has_all.delivered so_far (sym c.has_all.ensures ∙ w.if-has_all.true) (λ place m row there first old. ap (λ ds. slice_get ds place) w.delivered-is ∙ w.deliver_one.ensures place m row there first old)
       | else-has_all w ↦ delivered-same states c.args.deliveries.now c.args.mask i item.result c.loop-delivery-test.true item.is c.args.moves.now c.loop-delivery.delivered c.if-has_all.delivered so_far (sym c.has_all.ensures ∙ w.if-has_all.false) w.delivered-is
     ]
 

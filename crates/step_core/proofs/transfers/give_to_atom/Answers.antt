@@ -6,22 +6,22 @@ use Rattle.std.proofs.lemmas.Int.{to_z-of_z}
 use Rattle.std.proofs.lemmas.List.{take_more, get_or_default}
 use Rattle.std.proofs.lemmas.List.Folds.{find-append}
 use Rattle.std.proofs.lemmas.Option.{slice_get-get_or}
-use Rattle.petri_atom.specs.Local.{delivered_of, given}
+use Rattle.petri_atom.specs.Local.{given}
 use Rattle.step_core.proofs.Stepping.{no_move}
 use Rattle.step_core.proofs.ValueRows.{given-here, given-none}
 use Rattle.step_core.proofs.transfers.give_to_atom.Goals as goal
 
 pub returns-then-moves-place : goal.returns-then-moves-place
-returns-then-moves-place c place m row there first four old =
+returns-then-moves-place c place m row there first old =
     let moves = c.args.moves.now in
     let delivered = c.loop-place.delivered in
     let n = c.loop-place.place in
     let within : n < length delivered = omega (arith, c.requires.few, c.loop-place-test.true, c.told-delivered, ap length c.loop-place.invariant.1) in
     given-here moves c.args.atom c.args.export c.args.value delivered n (get_or moves n no_move) (slice_get-get_or moves n no_move c.loop-place-test.true) c.if-moves-place.true c.loop-place.invariant.0 within c.give-then-moves-place.new.self
-    (λ values long is.
-    c.give-then-moves-place.ensures values long (get_or_default delivered n _ c.give-then-moves-place.new.self within ∙ is) ∙
-    ap (λ v. delivered_of (given c.args.export v values)) (to_z-of_z w64 c.args.value c.ranges.value))
-    place m row there first four (ap (λ ds. slice_get ds place) c.loop-place.invariant.1 ∙ old)
+    (λ values is.
+    c.give-then-moves-place.ensures ∙ ap (given c.args.export _) (get_or_default delivered n _ c.give-then-moves-place.new.self within ∙ is) ∙
+    ap (λ v. given c.args.export v values) (to_z-of_z w64 c.args.value c.ranges.value))
+    place m row there first (ap (λ ds. slice_get ds place) c.loop-place.invariant.1 ∙ old)
 
 pub loop-place-preserved : goal.loop-place-preserved
 loop-place-preserved c =
@@ -36,12 +36,12 @@ loop-place-preserved c =
     )
 
 pub returns : goal.returns
-returns c place m row there first four old =
+returns c place m row there first old =
     ap (λ ds. slice_get ds place) c.loop-place.invariant.1 ∙
-    given-none c.args.moves.now c.args.atom c.args.export c.args.value c.args.delivered.now c.loop-place.place c.loop-place-test.false c.loop-place.invariant.0 place m row there first four old
+    given-none c.args.moves.now c.args.atom c.args.export c.args.value c.args.delivered.now c.loop-place.place c.loop-place-test.false c.loop-place.invariant.0 place m row there first old
 
 pub returns-then-moves-expected : goal.returns-then-moves-expected
-returns-then-moves-expected c place m row there first four old =
+returns-then-moves-expected c place m row there first old =
     let moves = c.args.moves.now in
     let delivered = c.args.delivered.now in
     let n = c.args.expected in
@@ -50,7 +50,7 @@ returns-then-moves-expected c place m row there first four old =
     let none = ap (λ a. find (λ k. k.atom == a) (take n moves)) (sym c.if-moves-expected.true) ∙ c.requires.apart n its here in
     let within : n < length delivered = omega (arith, c.requires.few, c.if-expected-moves.true, c.told-delivered) in
     given-here moves c.args.atom c.args.export c.args.value delivered n its here c.if-moves-expected.true none within c.give.new.self
-    (λ values long is.
-    c.give.ensures values long (get_or_default delivered n _ c.give.new.self within ∙ is) ∙
-    ap (λ v. delivered_of (given c.args.export v values)) (to_z-of_z w64 c.args.value c.ranges.value))
-    place m row there first four old
+    (λ values is.
+    c.give.ensures ∙ ap (given c.args.export _) (get_or_default delivered n _ c.give.new.self within ∙ is) ∙
+    ap (λ v. given c.args.export v values) (to_z-of_z w64 c.args.value c.ranges.value))
+    place m row there first old

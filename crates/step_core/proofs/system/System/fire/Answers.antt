@@ -1,4 +1,4 @@
-use Rattle.std.proofs.Common.{◌≡◌, ◌==◌, ◌<◌, ◌∙◌, refl, sym, ap, subst, arith, length, map, take, get_or, set, []}
+use Rattle.std.proofs.Common.{◌≡◌, ◌==◌, ◌<◌, ◌∙◌, refl, sym, ap, subst, arith, length, map, take, get_or, set}
 use Rattle.std.specs.Prelude.{Some, slice_get, find}
 use Rattle.std.proofs.lemmas.List.{length-map, take_all}
 use Rattle.std.proofs.lemmas.Option.{slice_get-get_or, slice_get_within, get_or_from_slice_get}
@@ -12,7 +12,7 @@ use Rattle.step_core.proofs.FiringOfAll.{none-fired, offered-at, atom-within, of
 use Rattle.step_core.proofs.Judging.{atom-there}
 use Rattle.step_core.proofs.OwnAtoms.{no-earlier}
 use Rattle.step_core.proofs.Stepping.{no_move, length-stepped}
-use Rattle.step_core.proofs.system.System.next.Goals as goal
+use Rattle.step_core.proofs.system.System.fire.Goals as goal
 
 pub deliver-requires-clause-apart : goal.deliver-requires-clause-apart
 deliver-requires-clause-apart c place m there =
@@ -83,7 +83,7 @@ loop-place-preserved c =
     let read = c.index_mut.ensures.value ∙ ap (λ xs. get_or xs n now) c.loop-place.invariant.0 in
     let its : slice_get moves k ≡ Some m = slice_get-get_or moves k no_move c.loop-place-test.true in
     let first = ap (λ n. find (λ j. j.atom == n) (take k moves)) (sym c.from-number.ensures) ∙ fresh in
-    let delivered = get_or_from_slice_get c.deliver.new.delivered k (gets m.atom) (record { mask = 0; values = [] }) (c.deliver.ensures k m (ap (λ ms. slice_get ms k) (sym c.as_slice-moves.ensures.moves) ∙ its) (ap (λ ms. find (λ j. j.atom == m.atom) (take k ms)) (sym c.as_slice-moves.ensures.moves) ∙ first)) in
+    let delivered = get_or_from_slice_get c.deliver.new.delivered k (gets m.atom) c.index-delivered-place.result (c.deliver.ensures k m (ap (λ ms. slice_get ms k) (sym c.as_slice-moves.ensures.moves) ∙ its) (ap (λ ms. find (λ j. j.atom == m.atom) (take k ms)) (sym c.as_slice-moves.ensures.moves) ∙ first)) in
     let told : new ≡ fired (definition_of c.index.result.now) m.transition (gets n) now =
     c.apply.ensures.fired ∙ ap (λ d. fired (definition_of c.index.result.now) m.transition d now) (delivered ∙ ap gets (sym c.from-number.ensures)) in
     let long : length items ≡ length old = ap length c.loop-place.invariant.0 ∙ length-stepped (map definition_of system.atoms.items) (take k moves) gets 0 old in
@@ -106,3 +106,12 @@ returns-clause-next c =
     let gets = transfer (plant_of system) c.args.states.now (choice_of c.args.choice.now) in
     c.loop-place.invariant.0 ∙
     ap (λ ms. stepped_from (map definition_of system.atoms.items) ms gets 0 c.args.states.now) (take_all c.loop-place.place c.as_slice-moves.result.now c.loop-place-test.false ∙ c.as_slice-moves.ensures.moves)
+
+pub returns-clause-told : goal.returns-clause-told
+returns-clause-told c place m there =
+    let system = c.args.self.now in
+    let choice = choice_of c.args.choice.now in
+    let within = slice_get_within choice.moves place m there in
+    c.deliver.ensures place m there
+    (no-earlier (plant_of system) c.args.states.now choice system.valid c.requires.allowed choice.moves refl place no_move within m.atom
+    (sym (ap (λ k. k.atom) (get_or_from_slice_get choice.moves place m no_move there))))

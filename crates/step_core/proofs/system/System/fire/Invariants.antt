@@ -4,7 +4,7 @@ use Rattle.step_core.specs.Chosen.{choice_of}
 use Rattle.step_core.specs.Fitting.{AllFit}
 use Rattle.step_core.specs.Step.{stepped_from, transfer}
 use Rattle.step_core.specs.System.{plant_of}
-use Rattle.step_core.proofs.system.System.next.Given as goal
+use Rattle.step_core.proofs.system.System.fire.Given as goal
 
 -- the moves so far are made
 abbrev pub invariant-loop-place : goal.invariant-loop-place

@@ -6,7 +6,7 @@ use Rattle.step_core.specs.System.{plant_of}
 use Rattle.step_core.specs.Touching.{AreTouching}
 use Rattle.step_core.specs.Wire.{wire_of}
 use Rattle.step_core.proofs.Refreshing.{stays}
-use Rattle.step_core.proofs.stepper.Stepper.fire.Goals as goal
+use Rattle.step_core.proofs.stepper.Stepper.step.Goals as goal
 
 pub judge_again-requires-clause-behind : goal.judge_again-requires-clause-behind
 judge_again-requires-clause-behind c =
@@ -16,8 +16,8 @@ judge_again-requires-clause-behind c =
     record {
       before = run.states;
       judged = run.judged;
-      as_many = run.of_plant ∙ sym c.next.ensures.of_plant;
-      stays = λ n none. ap (λ states. slice_get states n) c.next.ensures.next ∙ stays plant run.states choice n (ap (find (λ m. m.atom == n)) (sym c.as_slice.ensures.moves) ∙ none);
+      as_many = run.of_plant ∙ sym c.fire.ensures.of_plant;
+      stays = λ n none. ap (λ states. slice_get states n) c.fire.ensures.next ∙ stays plant run.states choice n (ap (find (λ m. m.atom == n)) (sym c.as_slice.ensures.moves) ∙ none);
     }
 
 pub judge_again-requires-clause-touching : goal.judge_again-requires-clause-touching
