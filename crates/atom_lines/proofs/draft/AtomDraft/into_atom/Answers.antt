@@ -8,3 +8,6 @@ want_of_memory-requires c = memory_alone (fault_of (drafted c.args.self)) c.in-E
 
 pub returns-clause-sound : goal.returns-clause-sound
 returns-clause-sound c = draft_breaks_no_rule c.args.self
+
+pub returns-in-Ok-clause-made : goal.returns-in-Ok-clause-made
+returns-in-Ok-clause-made c = c.in-Ok.ensures.made

@@ -1,0 +1,4 @@
+use Rattle.plant_words.proofs.splits.split_mask.Goals as goal
+
+pub returns : goal.returns
+returns c = c.sides.ensures
