@@ -1,57 +1,42 @@
--- The laws of the algebra, over lists of children.
+-- The laws of the algebra.
 use Rattle.std.proofs.Common.{◌≡◌, ◌+◌, ◌-◌, ◌^◌, ◌<◌, ℕ, Bool, true, false, ◌||◌, ◌&&◌, not, cond, List, [], ◌∷◌, ◌++◌, map, length, refl, ap, sym, ◌∙◌, subst, inl, inr, arith, append_assoc}
 use Rattle.std.specs.List.{list_any}
-use Rattle.std.specs.declared.vec.Vec.{Vec}
-use Rattle.std.specs.declared.alloc.Global.{Global}
-use Rattle.std.proofs.lemmas.Bool.{or_cases, or_parts, or_left, or_right, or_from, and_from, both_ways, false_from_ne_true, cases_Bool, eq-eqb}
+use Rattle.std.proofs.lemmas.Bool.{or_cases, or_parts, or_right, or_from, and_parts, and_from, both_ways, not-true, false_from_ne_true, cases_Bool, eq-eqb}
 use Rattle.std.proofs.Math.Bool.{or-false}
 use Rattle.std.proofs.lemmas.Nat.{pow_pos}
 use Rattle.std.proofs.lemmas.Nat.Bits.{bit_at_ones}
 use Rattle.std.proofs.lemmas.List.{map-append, append-nil}
-use Rattle.connector_tree.specs.declared.tree.Connector.{Connector}
 use Rattle.connector_tree.specs.declared.tree.Port.{Port}
-use Rattle.connector_tree.specs.declared.tree.Child.{Child}
-use Rattle.connector_tree.specs.declared.tree.Node.{Node}
-use Rattle.connector_tree.specs.declared.tree.Node.TheVariants.{Leaf, Fusion}
-use Rattle.connector_tree.specs.Tree.{node_leaves, leaves_of, leaves, some_true, node_has_empty, has_empty_of, has_empty}
-use Rattle.connector_tree.specs.PortSets.{Sets, Part, same_set, one, unions, product, optional, sum_behind, fused, node_sets, part_of, sets_of, port_sets, is_port_set}
+use Rattle.connector_tree.specs.Tree.{Tree, no_child, child, Branch, leaf, bracket, leaves, branch_leaves, has_empty_bracket, is_empty_inside, has_empty}
+use Rattle.connector_tree.specs.PortSets.{Sets, Part, same_set, one, unions, product, optional, sum_behind, fused, parts, branch_sets, port_sets, is_port_set}
 use Rattle.connector_tree.specs.Masks.{is_set, chosen, ports_of, IsInteraction}
 use Rattle.connector_tree.specs.Faults.{has_repeat, atoms}
-use Rattle.connector_tree.specs.Walk.{seen, seen_child, every_takes, every_may, some_leads, takes}
-use Rattle.connector_tree.specs.Ports.{IsPort, IsTriggerPort, AreSynchrons, AreSynchronPorts}
+use Rattle.connector_tree.specs.Walk.{seen, seen_children, every_takes, every_may, some_leads}
+use Rattle.connector_tree.specs.Ports.{beside, are_synchrons, is_port, are_ports}
 use Rattle.connector_tree.proofs.Sets.{Among, among_left, among_right, among_cases, among_unions, among_unions_back}
-use Rattle.connector_tree.proofs.Trees.{leaves-leaf, leaves-fusion, sets-leaf, sets-fusion, seen-leaf, empty-fusion, Each, OfChild, by_nodes}
+use Rattle.connector_tree.proofs.Trees.{beside_assoc, parts-beside, Each}
 use Rattle.connector_tree.proofs.Exact.{takes_is, all_has, found, finds}
 
--- the port that a node is
-abbrev port_at : ℕ → ℕ → Port
-port_at atom port = record { atom = atom; port = port }
-
 -- ---- synchrons act together
-no_trigger : (cs : List Child) → AreSynchrons cs → list_any (λ part. part.trigger) (map part_of cs) ≡ false
-no_trigger [] h = refl
-no_trigger (c ∷ cs) h = or_from _ _ h.0 (no_trigger cs h.1)
+no_trigger : (tree : Tree) → are_synchrons tree ≡ true → list_any (λ part. part.trigger) (parts tree) ≡ false
+no_trigger no_child h = refl
+no_trigger (child trigger branch rest) h = let both = and_parts _ _ h in or_from _ _ (not-true trigger both.0) (no_trigger rest both.1)
+
+-- the sets of each child
+abbrev all_sets : Tree → List Sets
+all_sets tree = map (λ part. part.sets) (parts tree)
 
 -- the sets of synchrons are their product
-synchrons-product : (cs : List Child) → AreSynchrons cs → sets_of cs ≡ product (map (λ part. part.sets) (map part_of cs))
-synchrons-product cs h = ap (λ b. cond b (sum_behind [] (map part_of cs)) (product (map (λ part. part.sets) (map part_of cs)))) (no_trigger cs h)
+synchrons-product : (tree : Tree) → are_synchrons tree ≡ true → port_sets tree ≡ product (all_sets tree)
+synchrons-product tree h = ap (λ b. cond b (sum_behind [] (parts tree)) (product (all_sets tree))) (no_trigger tree h)
 
-are_synchrons : (cs : List Child) → AreSynchronPorts cs → AreSynchrons cs
-are_synchrons [] h = tt
-are_synchrons (c ∷ cs) h = (h.0.0, are_synchrons cs h.1)
+product_of_ports : (tree : Tree) → are_ports tree ≡ true → product (all_sets tree) ≡ leaves tree ∷ []
+product_of_ports no_child h = refl
+product_of_ports (child trigger (leaf atom port) rest) h = ap (unions ((record { atom = atom; port = port } ∷ []) ∷ [])) (product_of_ports rest h)
+product_of_ports (child trigger (bracket tree) rest) h = absurd (both_ways false refl h)
 
-product_of_ports : (cs : List Child) → AreSynchronPorts cs → product (map (λ part. part.sets) (map part_of cs)) ≡ leaves_of cs ∷ []
-product_of_ports [] h = refl
-product_of_ports (c ∷ cs) h =
-    let p = port_at h.0.1.0 h.0.1.1 in
-    let sets = ap node_sets h.0.1.2 ∙ sets-leaf h.0.1.0 h.0.1.1 in
-    let ports = ap node_leaves h.0.1.2 ∙ leaves-leaf h.0.1.0 h.0.1.1 in
-    ap (λ x. unions x (product (map (λ part. part.sets) (map part_of cs)))) sets
-    ∙ ap (λ x. unions ((p ∷ []) ∷ []) x) (product_of_ports cs h.1)
-    ∙ ap (λ ps. (ps ++ leaves_of cs) ∷ []) (sym ports)
-
-pub synchrons_together : (cs : List Child) → AreSynchronPorts cs → sets_of cs ≡ leaves_of cs ∷ []
-synchrons_together cs h = synchrons-product cs (are_synchrons cs h) ∙ product_of_ports cs h
+pub synchrons_together : (tree : Tree) → are_synchrons tree ≡ true → are_ports tree ≡ true → port_sets tree ≡ leaves tree ∷ []
+synchrons_together tree h ports = synchrons-product tree h ∙ product_of_ports tree ports
 
 -- ---- a bracket of synchrons among synchrons
 unions-append : (xs ys zs : Sets) → unions (xs ++ ys) zs ≡ unions xs zs ++ unions ys zs
@@ -87,29 +72,24 @@ product-append : (xs ys : List Sets) → product (xs ++ ys) ≡ unions (product 
 product-append [] ys = sym (one-unions (product ys))
 product-append (x ∷ xs) ys = ap (unions x) (product-append xs ys) ∙ sym (unions_assoc x (product xs) (product ys))
 
--- the sets of each child
-abbrev all_sets : List Child → List Sets
-all_sets cs = map (λ part. part.sets) (map part_of cs)
+all_sets-beside : (one other : Tree) → all_sets (beside one other) ≡ all_sets one ++ all_sets other
+all_sets-beside one other = ap (map (λ part. part.sets)) (parts-beside one other) ∙ map-append (λ part. part.sets) (parts one) (parts other)
 
-all_sets-append : (xs ys : List Child) → all_sets (xs ++ ys) ≡ all_sets xs ++ all_sets ys
-all_sets-append [] ys = refl
-all_sets-append (c ∷ xs) ys = ap (λ r. node_sets c.node ∷ r) (all_sets-append xs ys)
+product-beside : (one other : Tree) → product (all_sets (beside one other)) ≡ unions (product (all_sets one)) (product (all_sets other))
+product-beside one other = ap product (all_sets-beside one other) ∙ product-append (all_sets one) (all_sets other)
 
-synchrons_both : (xs ys : List Child) → AreSynchrons xs → AreSynchrons ys → AreSynchrons (xs ++ ys)
-synchrons_both [] ys h k = k
-synchrons_both (c ∷ xs) ys h k = (h.0, synchrons_both xs ys h.1 k)
+synchrons_both : (one other : Tree) → are_synchrons one ≡ true → are_synchrons other ≡ true → are_synchrons (beside one other) ≡ true
+synchrons_both no_child other h k = k
+synchrons_both (child trigger branch rest) other h k = let both = and_parts _ _ h in and_from _ _ both.0 (synchrons_both rest other both.1 k)
 
-pub flatten : (before after : List Child) (inner : Vec Child Global) (bracket : Child) → bracket.trigger ≡ false → bracket.node ≡ Fusion inner → AreSynchrons before → AreSynchrons inner.items → AreSynchrons after → sets_of (before ++ (bracket ∷ after)) ≡ sets_of (before ++ (inner.items ++ after))
-flatten before after inner bracket t is b i a =
-    let inside = ap node_sets is ∙ sets-fusion inner ∙ synchrons-product inner.items i in
-    let joined = product-append (all_sets inner.items) (all_sets after) in
-    let flat = ap product (all_sets-append inner.items after) ∙ joined in
-    synchrons-product (before ++ (bracket ∷ after)) (synchrons_both before (bracket ∷ after) b (t, a))
-    ∙ ap product (all_sets-append before (bracket ∷ after)) ∙ product-append (all_sets before) (all_sets (bracket ∷ after))
-    ∙ ap (λ x. unions (product (all_sets before)) (unions x (product (all_sets after)))) inside
-    ∙ ap (unions (product (all_sets before))) (sym flat)
-    ∙ sym (ap product (all_sets-append before (inner.items ++ after)) ∙ product-append (all_sets before) (all_sets (inner.items ++ after)))
-    ∙ sym (synchrons-product (before ++ (inner.items ++ after)) (synchrons_both before (inner.items ++ after) b (synchrons_both inner.items after i a)))
+pub flatten : (before inner after : Tree) → are_synchrons before ≡ true → are_synchrons inner ≡ true → are_synchrons after ≡ true → port_sets (beside before (child false (bracket inner) after)) ≡ port_sets (beside before (beside inner after))
+flatten before inner after b i a =
+    synchrons-product (beside before (child false (bracket inner) after)) (synchrons_both before (child false (bracket inner) after) b a)
+    ∙ product-beside before (child false (bracket inner) after)
+    ∙ ap (λ x. unions (product (all_sets before)) (unions x (product (all_sets after)))) (synchrons-product inner i)
+    ∙ ap (unions (product (all_sets before))) (sym (product-beside inner after))
+    ∙ sym (product-beside before (beside inner after))
+    ∙ sym (synchrons-product (beside before (beside inner after)) (synchrons_both before (beside inner after) b (synchrons_both inner after i a)))
 
 -- ---- a bracket round one child
 unions-one : (xs : Sets) → unions xs one ≡ xs
@@ -123,61 +103,64 @@ one_part part = by_trigger part.trigger
     by_trigger true = append-nil (unions part.sets one) ∙ unions-one part.sets
     by_trigger false = unions-one part.sets
 
-pub bracket_of_one : (children : Vec Child Global) (child : Child) → children.items ≡ child ∷ [] → node_sets (Fusion children) ≡ node_sets child.node
-bracket_of_one children child e = sets-fusion children ∙ ap sets_of e ∙ one_part (part_of child)
+pub bracket_of_one : (trigger : Bool) (branch : Branch) → branch_sets (bracket (child trigger branch no_child)) ≡ branch_sets branch
+bracket_of_one trigger branch = one_part (record { trigger = trigger; sets = branch_sets branch })
 
 -- ---- all ports together
-abbrev IsFull : Node → Type 0
-IsFull node = Among (node_leaves node) (node_sets node)
+abbrev IsFull : Branch → Type 0
+IsFull branch = Among (branch_leaves branch) (branch_sets branch)
 
-full_product : (cs : List Child) → Each (OfChild IsFull) cs → Among (leaves_of cs) (product (map (λ part. part.sets) (map part_of cs)))
-full_product [] h = inl refl
-full_product (c ∷ cs) h = among_unions (node_leaves c.node) (leaves_of cs) (node_sets c.node) _ h.0 (full_product cs h.1)
+full_product : (tree : Tree) → Each IsFull tree → Among (leaves tree) (product (all_sets tree))
+full_product no_child h = inl refl
+full_product (child trigger branch rest) h = among_unions (branch_leaves branch) (leaves rest) (branch_sets branch) _ h.0 (full_product rest h.1)
 
-full_optional : (cs : List Child) → Each (OfChild IsFull) cs → Among (leaves_of cs) (product (map optional (map part_of cs)))
-full_optional [] h = inl refl
-full_optional (c ∷ cs) h = among_unions (node_leaves c.node) (leaves_of cs) (optional (part_of c)) _ (inr h.0) (full_optional cs h.1)
+full_optional : (tree : Tree) → Each IsFull tree → Among (leaves tree) (product (map optional (parts tree)))
+full_optional no_child h = inl refl
+full_optional (child trigger branch rest) h = among_unions (branch_leaves branch) (leaves rest) (one ++ branch_sets branch) _ (inr h.0) (full_optional rest h.1)
 
-full_led : (before : List Child) (c : Child) (after : List Child) → Each (OfChild IsFull) (before ++ (c ∷ after)) → Among (leaves_of (before ++ (c ∷ after))) (product (map optional (map part_of before) ++ (node_sets c.node ∷ map optional (map part_of after))))
-full_led [] c after h = among_unions (node_leaves c.node) (leaves_of after) (node_sets c.node) _ h.0 (full_optional after h.1)
-full_led (b ∷ before) c after h = among_unions (node_leaves b.node) (leaves_of (before ++ (c ∷ after))) (optional (part_of b)) _ (inr h.0) (full_led before c after h.1)
+full_led : (before : Tree) (trigger : Bool) (branch : Branch) (after : Tree) → Each IsFull (beside before (child trigger branch after)) → Among (leaves (beside before (child trigger branch after))) (product (map optional (parts before) ++ (branch_sets branch ∷ map optional (parts after))))
+full_led no_child trigger branch after h = among_unions (branch_leaves branch) (leaves after) (branch_sets branch) _ h.0 (full_optional after h.1)
+full_led (child t b before) trigger branch after h = among_unions (branch_leaves b) (leaves (beside before (child trigger branch after))) (one ++ branch_sets b) _ (inr h.0) (full_led before trigger branch after h.1)
 
-full_sum : (before after : List Child) → Each (OfChild IsFull) (before ++ after) → list_any (λ part. part.trigger) (map part_of after) ≡ true → Among (leaves_of (before ++ after)) (sum_behind (map part_of before) (map part_of after))
-full_sum before [] h t = absurd (both_ways false refl t)
-full_sum before (c ∷ after) h t = elim (cases_Bool c.trigger) [
-  | inl e ↦ among_left _ _ _ (subst (λ b. Among (leaves_of (before ++ (c ∷ after))) (cond b led [])) (sym e) (full_led before c after h))
+full_sum : (before after : Tree) → Each IsFull (beside before after) → list_any (λ part. part.trigger) (parts after) ≡ true → Among (leaves (beside before after)) (sum_behind (parts before) (parts after))
+full_sum before no_child h t = absurd (both_ways false refl t)
+full_sum before (child trigger branch after) h t = elim (cases_Bool trigger) [
+  | inl e ↦ among_left _ _ _ (subst (λ b. Among (leaves whole) (cond b led [])) (sym e) (full_led before trigger branch after h))
   | inr e ↦
-      let shift = append_assoc before (c ∷ []) after in
-      let later = elim (or_cases c.trigger _ t) as (λ _. list_any (λ part. part.trigger) (map part_of after) ≡ true) [ inl k ↦ absurd (both_ways c.trigger e k) | inr k ↦ k ] in
-      let there = full_sum (before ++ (c ∷ [])) after (subst (Each (OfChild IsFull)) (sym shift) h) later in
-      let moved = subst (λ cs. Among (leaves_of cs) (sum_behind (map part_of (before ++ (c ∷ []))) (map part_of after))) shift there in
-      among_right _ (cond c.trigger led []) _ (subst (λ ps. Among (leaves_of (before ++ (c ∷ after))) (sum_behind ps (map part_of after))) (map-append part_of before (c ∷ [])) moved)
+      let shift = beside_assoc before after trigger branch in
+      let later = elim (or_cases trigger _ t) as (λ _. list_any (λ part. part.trigger) (parts after) ≡ true) [ inl k ↦ absurd (both_ways trigger e k) | inr k ↦ k ] in
+      let there = full_sum (beside before (child trigger branch no_child)) after (subst (Each IsFull) (sym shift) h) later in
+      let moved = subst (λ tree. Among (leaves tree) (sum_behind (parts (beside before (child trigger branch no_child))) (parts after))) shift there in
+      among_right _ (cond trigger led []) _ (subst (λ ps. Among (leaves whole) (sum_behind ps (parts after))) (parts-beside before (child trigger branch no_child)) moved)
 ]
   where
+    whole : Tree
+    whole = beside before (child trigger branch after)
+
     led : Sets
-    led = product (map optional (map part_of before) ++ (node_sets c.node ∷ map optional (map part_of after)))
+    led = product (map optional (parts before) ++ (branch_sets branch ∷ map optional (parts after)))
 
-full_fused : (cs : List Child) → Each (OfChild IsFull) cs → Among (leaves_of cs) (sets_of cs)
-full_fused cs h = by_trigger (list_any (λ part. part.trigger) (map part_of cs)) (full_sum [] cs h)
+full_fused : (tree : Tree) → Each IsFull tree → Among (leaves tree) (port_sets tree)
+full_fused tree h = by_trigger (list_any (λ part. part.trigger) (parts tree)) (full_sum no_child tree h)
   where
-    by_trigger : (b : Bool) → (b ≡ true → Among (leaves_of cs) (sum_behind [] (map part_of cs))) → Among (leaves_of cs) (cond b (sum_behind [] (map part_of cs)) (product (map (λ part. part.sets) (map part_of cs))))
+    by_trigger : (b : Bool) → (b ≡ true → Among (leaves tree) (sum_behind [] (parts tree))) → Among (leaves tree) (cond b (sum_behind [] (parts tree)) (product (all_sets tree)))
     by_trigger true f = f refl
-    by_trigger false f = full_product cs h
+    by_trigger false f = full_product tree h
 
-full_node : (node : Node) → IsFull node
-full_node = by_nodes IsFull
-    (λ atom port. subst (λ x. Among x (node_sets (Leaf atom port))) (sym (leaves-leaf atom port)) (subst (Among (port_at atom port ∷ [])) (sym (sets-leaf atom port)) (inl refl)))
-    (λ children each. subst (λ x. Among x (node_sets (Fusion children))) (sym (leaves-fusion children)) (subst (Among (leaves_of children.items)) (sym (sets-fusion children)) (full_fused children.items each)))
+mutual
+  full_branch : (branch : Branch) → IsFull branch
+  full_branch (leaf atom port) = inl refl
+  full_branch (bracket tree) = full_fused tree (full_each tree)
 
-full_each : (cs : List Child) → Each (OfChild IsFull) cs
-full_each [] = tt
-full_each (c ∷ cs) = (full_node c.node, full_each cs)
+  full_each : (tree : Tree) → Each IsFull tree
+  full_each no_child = tt
+  full_each (child trigger branch rest) = (full_branch branch, full_each rest)
 
 same_set-refl : (s : List Port) → same_set s s ≡ true
 same_set-refl s = and_from _ _ (all_has s s (λ p m. m)) (all_has s s (λ p m. m))
 
-pub full_among : (connector : Connector) → is_port_set connector (leaves connector) ≡ true
-full_among connector = finds (leaves connector) (leaves connector) (port_sets connector) (full_fused connector.root.items (full_each connector.root.items)) (same_set-refl (leaves connector))
+pub full_among : (tree : Tree) → is_port_set tree (leaves tree) ≡ true
+full_among tree = finds (leaves tree) (leaves tree) (port_sets tree) (full_fused tree (full_each tree)) (same_set-refl (leaves tree))
 
 -- ---- the full mask
 chosen_all : (mask j : ℕ) (ps : List Port) → ((k : ℕ) → k < j + length ps → is_set mask k ≡ true) → chosen mask j ps ≡ ps
@@ -186,71 +169,65 @@ chosen_all mask j (p ∷ ps) h =
     ap (λ b. cond b (p ∷ chosen mask (j + 1) ps) (chosen mask (j + 1) ps)) (h j (omega arith))
     ∙ ap (λ rest. p ∷ rest) (chosen_all mask (j + 1) ps (λ k below. h k (omega arith)))
 
-full_mask : (connector : Connector) → ports_of connector (2 ^ length (leaves connector) - 1) ≡ leaves connector
-full_mask connector =
-    let n = length (leaves connector) in
-    chosen_all (2 ^ n - 1) 0 (leaves connector) (λ k below. eq-eqb _ _ (bit_at_ones n k (omega arith)))
+full_mask : (tree : Tree) → ports_of tree (2 ^ length (leaves tree) - 1) ≡ leaves tree
+full_mask tree =
+    let n = length (leaves tree) in
+    chosen_all (2 ^ n - 1) 0 (leaves tree) (λ k below. eq-eqb _ _ (bit_at_ones n k (omega arith)))
 
-pub full_interaction : (connector : Connector) → IsInteraction connector (2 ^ length (leaves connector) - 1)
-full_interaction connector =
-    (let positive = pow_pos (length (leaves connector)) in omega arith, ap (is_port_set connector) (full_mask connector) ∙ full_among connector)
+pub full_interaction : (tree : Tree) → IsInteraction tree (2 ^ length (leaves tree) - 1)
+full_interaction tree =
+    (let positive = pow_pos (length (leaves tree)) in omega arith, ap (is_port_set tree) (full_mask tree) ∙ full_among tree)
 
 -- ---- one trigger leads
-port_seen : (node : Node) → (port : IsPort node) → seen node ≡ record { count = 1; some = λ f at. f at; takes = λ f at. f at }
-port_seen node port = ap seen port.2 ∙ seen-leaf port.0 port.1
-
 not_or : (b : Bool) → (b || not b) ≡ true
 not_or true = refl
 not_or false = refl
 
-ports_may : (cs : List Child) → Each (OfChild IsPort) cs → (f : ℕ → Bool) (at : ℕ) → every_may f at (map seen_child cs) ≡ true
-ports_may [] h f at = refl
-ports_may (c ∷ cs) h f at =
-    ap (λ s. (s.takes f at || not (s.some f at)) && every_may f (at + s.count) (map seen_child cs)) (port_seen c.node h.0)
-    ∙ and_from _ _ (not_or (f at)) (ports_may cs h.1 f (at + 1))
+ports_may : (tree : Tree) → are_ports tree ≡ true → (f : ℕ → Bool) (at : ℕ) → every_may f at (seen_children tree) ≡ true
+ports_may no_child h f at = refl
+ports_may (child trigger (leaf atom port) rest) h f at = and_from _ _ (not_or (f at)) (ports_may rest h f (at + 1))
+ports_may (child trigger (bracket tree) rest) h f at = absurd (both_ways false refl h)
 
-synchrons_lead_none : (cs : List Child) → AreSynchronPorts cs → (f : ℕ → Bool) (at : ℕ) → some_leads f at (map seen_child cs) ≡ false
-synchrons_lead_none [] h f at = refl
-synchrons_lead_none (c ∷ cs) h f at =
-    ap (λ t. (t && (seen c.node).takes f at) || some_leads f (at + (seen c.node).count) (map seen_child cs)) h.0.0
-    ∙ synchrons_lead_none cs h.1 f (at + (seen c.node).count)
+synchrons_lead_none : (tree : Tree) → are_synchrons tree ≡ true → (f : ℕ → Bool) (at : ℕ) → some_leads f at (seen_children tree) ≡ false
+synchrons_lead_none no_child h f at = refl
+synchrons_lead_none (child trigger branch rest) h f at =
+    let both = and_parts _ _ h in
+    ap (λ t. (t && (seen branch).takes f at) || some_leads f (at + (seen branch).count) (seen_children rest)) (not-true trigger both.0)
+    ∙ synchrons_lead_none rest both.1 f (at + (seen branch).count)
 
-leader_leads : (before : List Child) (leader : Child) (after : List Child) → AreSynchronPorts before → IsTriggerPort leader → AreSynchronPorts after → (f : ℕ → Bool) (at : ℕ) → some_leads f at (map seen_child (before ++ (leader ∷ after))) ≡ f (at + length before)
-leader_leads [] leader after b l a f at =
+port_leads : (leader : Branch) (after : Tree) → is_port leader ≡ true → are_synchrons after ≡ true → (f : ℕ → Bool) (at : ℕ) → some_leads f at (seen_children (child true leader after)) ≡ f at
+port_leads (leaf atom port) after l a f at = ap (λ x. f at || x) (synchrons_lead_none after a f (at + 1)) ∙ or-false (f at)
+port_leads (bracket tree) after l a f at = absurd (both_ways false refl l)
+
+leader_leads : (before : Tree) (leader : Branch) (after : Tree) → are_synchrons before ≡ true → are_ports before ≡ true → is_port leader ≡ true → are_synchrons after ≡ true → (f : ℕ → Bool) (at : ℕ) → some_leads f at (seen_children (beside before (child true leader after))) ≡ f (at + length (leaves before))
+leader_leads no_child leader after b p l a f at =
     let e : at ≡ at + 0 = omega arith in
-    ap (λ t. (t && (seen leader.node).takes f at) || some_leads f (at + (seen leader.node).count) (map seen_child after)) l.0
-    ∙ ap (λ s. s.takes f at || some_leads f (at + s.count) (map seen_child after)) (port_seen leader.node l.1)
-    ∙ ap (λ x. f at || x) (synchrons_lead_none after a f (at + 1))
-    ∙ or-false (f at) ∙ ap f e
-leader_leads (c ∷ before) leader after b l a f at =
-    let e : (at + 1) + length before ≡ at + length (c ∷ before) = omega arith in
-    ap (λ t. (t && (seen c.node).takes f at) || some_leads f (at + (seen c.node).count) (map seen_child (before ++ (leader ∷ after)))) b.0.0
-    ∙ ap (λ s. some_leads f (at + s.count) (map seen_child (before ++ (leader ∷ after)))) (port_seen c.node b.0.1)
-    ∙ leader_leads before leader after b.1 l a f (at + 1)
+    port_leads leader after l a f at ∙ ap f e
+leader_leads (child trigger (leaf atom port) before) leader after b p l a f at =
+    let e : (at + 1) + length (leaves before) ≡ at + length (leaves (child trigger (leaf atom port) before)) = omega arith in
+    let both = and_parts _ _ b in
+    ap (λ t. (t && f at) || some_leads f (at + 1) (seen_children (beside before (child true leader after)))) (not-true trigger both.0)
+    ∙ leader_leads before leader after both.1 p l a f (at + 1)
     ∙ ap f e
+leader_leads (child trigger (bracket tree) before) leader after b p l a f at = absurd (both_ways false refl p)
 
-leader_triggers : (before : List Child) (leader : Child) (after : List Child) → IsTriggerPort leader → list_any (λ c. c.trigger) (map seen_child (before ++ (leader ∷ after))) ≡ true
-leader_triggers [] leader after l = or_left _ _ l.0
-leader_triggers (c ∷ before) leader after l = or_right c.trigger _ (leader_triggers before leader after l)
+leader_triggers : (before : Tree) (leader : Branch) (after : Tree) → list_any (λ c. c.trigger) (seen_children (beside before (child true leader after))) ≡ true
+leader_triggers no_child leader after = refl
+leader_triggers (child trigger branch before) leader after = or_right trigger _ (leader_triggers before leader after)
 
-all_ports : (before : List Child) (leader : Child) (after : List Child) → AreSynchronPorts before → IsTriggerPort leader → AreSynchronPorts after → Each (OfChild IsPort) (before ++ (leader ∷ after))
-all_ports [] leader after b l a = (l.1, synchrons after a)
-  where
-    synchrons : (cs : List Child) → AreSynchronPorts cs → Each (OfChild IsPort) cs
-    synchrons [] h = tt
-    synchrons (c ∷ cs) h = (h.0.1, synchrons cs h.1)
-all_ports (c ∷ before) leader after b l a = (b.0.1, all_ports before leader after b.1 l a)
+all_ports : (before : Tree) (leader : Branch) (after : Tree) → are_ports before ≡ true → is_port leader ≡ true → are_ports after ≡ true → are_ports (beside before (child true leader after)) ≡ true
+all_ports no_child leader after b l a = and_from _ _ l a
+all_ports (child trigger branch before) leader after b l a = let both = and_parts _ _ b in and_from _ _ both.0 (all_ports before leader after both.1 l a)
 
-pub one_trigger : (connector : Connector) (before after : List Child) (leader : Child) → connector.root.items ≡ before ++ (leader ∷ after) → AreSynchronPorts before → IsTriggerPort leader → AreSynchronPorts after → has_repeat (atoms (leaves connector)) ≡ false → (mask : ℕ) → is_port_set connector (ports_of connector mask) ≡ is_set mask (length before)
-one_trigger connector before after leader e b l a apart mask =
+pub one_trigger : (before after : Tree) (leader : Branch) → are_synchrons before ≡ true → are_ports before ≡ true → is_port leader ≡ true → are_synchrons after ≡ true → are_ports after ≡ true → has_repeat (atoms (leaves (beside before (child true leader after)))) ≡ false → (mask : ℕ) → is_port_set (beside before (child true leader after)) (ports_of (beside before (child true leader after)) mask) ≡ is_set mask (length (leaves before))
+one_trigger before after leader b p l a q apart mask =
     let f = is_set mask in
-    let cs = before ++ (leader ∷ after) in
-    let z : 0 + length before ≡ length before = omega arith in
-    takes_is connector apart mask
-    ∙ ap (λ items. takes items mask) e
-    ∙ ap (λ t. cond t (every_may f 0 (map seen_child cs) && some_leads f 0 (map seen_child cs)) (every_takes f 0 (map seen_child cs))) (leader_triggers before leader after l)
-    ∙ ap (λ x. x && some_leads f 0 (map seen_child cs)) (ports_may cs (all_ports before leader after b l a) f 0)
-    ∙ leader_leads before leader after b l a f 0
+    let tree = beside before (child true leader after) in
+    let z : 0 + length (leaves before) ≡ length (leaves before) = omega arith in
+    takes_is tree apart mask
+    ∙ ap (λ t. cond t (every_may f 0 (seen_children tree) && some_leads f 0 (seen_children tree)) (every_takes f 0 (seen_children tree))) (leader_triggers before leader after)
+    ∙ ap (λ x. x && some_leads f 0 (seen_children tree)) (ports_may tree (all_ports before leader after p l q) f 0)
+    ∙ leader_leads before leader after b p l a f 0
     ∙ ap f z
 
 -- ---- some port acts
@@ -279,44 +256,40 @@ lacks_if : (b : Bool) (xs : Sets) → LacksEmpty xs → LacksEmpty (cond b xs []
 lacks_if true xs h = h
 lacks_if false xs h = λ m. m
 
--- none of a node's sets is empty, where no bracket of it is
-abbrev Lacks : Node → Type 0
-Lacks node = node_has_empty node ≡ false → LacksEmpty (node_sets node)
+-- none of a branch's sets is empty, where no bracket of it is
+abbrev Lacks : Branch → Type 0
+Lacks branch = is_empty_inside branch ≡ false → LacksEmpty (branch_sets branch)
 
-abbrev NoneEmpty : List Child → Type 0
-NoneEmpty cs = some_true (map (λ child. node_has_empty child.node) cs) ≡ false
-
-lacks_sum : (before after : List Child) → Each (OfChild Lacks) after → NoneEmpty after → LacksEmpty (sum_behind (map part_of before) (map part_of after))
-lacks_sum before [] h e = λ m. m
-lacks_sum before (c ∷ after) h e =
+lacks_sum : (before : List Part) (after : Tree) → Each Lacks after → has_empty_bracket after ≡ false → LacksEmpty (sum_behind before (parts after))
+lacks_sum before no_child h e = λ m. m
+lacks_sum before (child trigger branch after) h e =
     let here = or_parts _ _ e in
-    let later = lacks_sum (before ++ (c ∷ [])) after h.1 here.1 in
     lacks_both _ _
-    (lacks_if c.trigger _ (lacks_led (map optional (map part_of before)) (node_sets c.node) (map optional (map part_of after)) (h.0 here.0)))
-    (subst (λ ps. LacksEmpty (sum_behind ps (map part_of after))) (map-append part_of before (c ∷ [])) later)
+    (lacks_if trigger _ (lacks_led (map optional before) (branch_sets branch) (map optional (parts after)) (h.0 here.0)))
+    (lacks_sum (before ++ (record { trigger = trigger; sets = branch_sets branch } ∷ [])) after h.1 here.1)
 
-lacks_fused : (cs : List Child) → Each (OfChild Lacks) cs → has_empty_of cs ≡ false → LacksEmpty (sets_of cs)
-lacks_fused [] h e = absurd (both_ways true e refl)
-lacks_fused (c ∷ cs) h e = by_trigger (list_any (λ part. part.trigger) (map part_of (c ∷ cs)))
+lacks_fused : (tree : Tree) → Each Lacks tree → has_empty tree ≡ false → LacksEmpty (port_sets tree)
+lacks_fused no_child h e = absurd (both_ways true e refl)
+lacks_fused (child trigger branch rest) h e = by_trigger (list_any (λ part. part.trigger) (parts (child trigger branch rest)))
   where
-    by_trigger : (b : Bool) → LacksEmpty (cond b (sum_behind [] (map part_of (c ∷ cs))) (product (map (λ part. part.sets) (map part_of (c ∷ cs)))))
-    by_trigger true = lacks_sum [] (c ∷ cs) h e
-    by_trigger false = lacks_left (node_sets c.node) _ (h.0 (or_parts _ _ e).0)
+    by_trigger : (b : Bool) → LacksEmpty (cond b (sum_behind [] (parts (child trigger branch rest))) (product (all_sets (child trigger branch rest))))
+    by_trigger true = lacks_sum [] (child trigger branch rest) h e
+    by_trigger false = lacks_left (branch_sets branch) _ (h.0 (or_parts _ _ e).0)
 
-lacks_node : (node : Node) → Lacks node
-lacks_node = by_nodes Lacks
-    (λ atom port e. subst LacksEmpty (sym (sets-leaf atom port)) (λ m. elim m [ inl is ↦ absurd (cc is) | inr k ↦ k ]))
-    (λ children each e. subst LacksEmpty (sym (sets-fusion children)) (lacks_fused children.items each (sym (empty-fusion children) ∙ e)))
+mutual
+  lacks_branch : (branch : Branch) → Lacks branch
+  lacks_branch (leaf atom port) e = λ m. elim m [ inl is ↦ absurd (cc is) | inr k ↦ k ]
+  lacks_branch (bracket tree) e = lacks_fused tree (lacks_each tree) e
 
-lacks_each : (cs : List Child) → Each (OfChild Lacks) cs
-lacks_each [] = tt
-lacks_each (c ∷ cs) = (lacks_node c.node, lacks_each cs)
+  lacks_each : (tree : Tree) → Each Lacks tree
+  lacks_each no_child = tt
+  lacks_each (child trigger branch rest) = (lacks_branch branch, lacks_each rest)
 
 same_as_empty : (t : List Port) → same_set [] t ≡ true → [] ≡ t
 same_as_empty [] h = refl
 same_as_empty (p ∷ t) h = absurd (both_ways false refl h)
 
-pub never_empty : (connector : Connector) → has_empty connector ≡ false → is_port_set connector [] ≡ false
-never_empty connector e = false_from_ne_true _ (λ h.
-    let r = found [] (port_sets connector) h in
-    lacks_fused connector.root.items (lacks_each connector.root.items) e (subst (λ t. Among t (port_sets connector)) (sym (same_as_empty r.0 r.2)) r.1))
+pub never_empty : (tree : Tree) → has_empty tree ≡ false → is_port_set tree [] ≡ false
+never_empty tree e = false_from_ne_true _ (λ h.
+    let r = found [] (port_sets tree) h in
+    lacks_fused tree (lacks_each tree) e (subst (λ t. Among t (port_sets tree)) (sym (same_as_empty r.0 r.2)) r.1))

@@ -1,19 +1,18 @@
 -- The walk over a mask answers whether the mask's ports are a port set.
-use Rattle.std.proofs.Common.{◌↔◌, ◌≡◌, ◌+◌, ◌^◌, ℕ, Bool, true, false, cond, List, [], ◌∷◌, map, length, refl, sym, ◌∙◌, subst, inl, inr}
+use Rattle.std.proofs.Common.{◌↔◌, ◌≡◌, ◌+◌, ◌^◌, ℕ, Bool, true, false, cond, List, [], ◌∷◌, length, refl, sym, ◌∙◌, subst, inl, inr}
 use Rattle.std.specs.List.{list_any, list_all, Contains}
 use Rattle.std.specs.List.Sorted.{IsStrictlyIncreasing}
 use Rattle.std.proofs.lemmas.Bool.{or_cases, or_left, or_right, and_parts, and_from, both_ways, false_from_ne_true}
-use Rattle.connector_tree.specs.declared.tree.Connector.{Connector}
 use Rattle.connector_tree.specs.declared.tree.Port.{Port}
-use Rattle.connector_tree.specs.Tree.{leaves}
+use Rattle.connector_tree.specs.Tree.{Tree, bracket, leaves}
 use Rattle.connector_tree.specs.PortSets.{Sets, same_port, has, same_set, port_sets, is_port_set}
 use Rattle.connector_tree.specs.Masks.{is_set, chosen, ports_of, interactions_of, IsInteraction}
 use Rattle.connector_tree.specs.Faults.{has_repeat, atoms}
-use Rattle.connector_tree.specs.Walk.{seen_child, takes_all, takes}
+use Rattle.connector_tree.specs.Walk.{seen_children, takes_all, takes}
 use Rattle.connector_tree.proofs.Sets.{Among, Inside, Agrees, agrees_by, agrees_same, same_port-refl, same_port-true, distinct}
 use Rattle.connector_tree.proofs.Filtered.{passing, passing_is, is_passing, passing_rises}
 use Rattle.connector_tree.proofs.Gives.{Tells}
-use Rattle.connector_tree.proofs.Walks.{fused_tells, are_seen}
+use Rattle.connector_tree.proofs.Walks.{is_seen}
 
 inside_tail : (q : Port) (s t : List Port) → Inside (q ∷ s) t → Inside s t
 inside_tail q s t h p m = h p (or_right (same_port p q) _ m)
@@ -86,44 +85,44 @@ chosen_agrees mask j (p ∷ ps) h =
     agrees_more (is_set mask) j (is_set mask j) p (chosen mask (j + 1) ps) ps (d.apart p (or_left _ _ (same_port-refl p))) (chosen_inside mask (j + 1) ps) refl (chosen_agrees mask (j + 1) ps d.right)
 
 -- the walk takes exactly the masks whose ports are a port set
-pub takes_is : (connector : Connector) → has_repeat (atoms (leaves connector)) ≡ false → (mask : ℕ) → is_port_set connector (ports_of connector mask) ≡ takes connector.root.items mask
-takes_is connector h mask = same_bool _ _
+pub takes_is : (tree : Tree) → has_repeat (atoms (leaves tree)) ≡ false → (mask : ℕ) → is_port_set tree (ports_of tree mask) ≡ takes tree mask
+takes_is tree h mask = same_bool _ _
     (λ e.
-    let r = found set (port_sets connector) e in
+    let r = found set (port_sets tree) e in
     tells.sound (is_set mask) 0 r.0 r.1 (agrees_by (is_set mask) 0 ps (has set) (has r.0) (λ p m. same_set_has set r.0 r.2 p) agrees))
     (λ e.
     let r = tells.complete (is_set mask) 0 e in
     let on_leaves = agrees_same (is_set mask) 0 ps (has set) (has r.0) agrees r.2 in
     let there : Inside set r.0 = λ p m. sym (on_leaves p (chosen_inside mask 0 ps p m)) ∙ m in
     let back : Inside r.0 set = λ p m. on_leaves p (tells.inside r.0 r.1 p m) ∙ m in
-    finds set r.0 (port_sets connector) r.1 (and_from _ _ (all_has set r.0 there) (all_has r.0 set back)))
+    finds set r.0 (port_sets tree) r.1 (and_from _ _ (all_has set r.0 there) (all_has r.0 set back)))
   where
     ps : List Port
-    ps = leaves connector
+    ps = leaves tree
 
     set : List Port
-    set = ports_of connector mask
+    set = ports_of tree mask
 
-    tells : Tells (port_sets connector) ps (λ f at. takes_all f at (map seen_child connector.root.items))
-    tells = fused_tells connector.root.items (are_seen connector.root.items) h
+    tells : Tells (port_sets tree) ps (λ f at. takes_all f at (seen_children tree))
+    tells = (is_seen (bracket tree)).takes h
 
     agrees : Agrees (is_set mask) 0 ps (has set)
     agrees = chosen_agrees mask 0 ps h
 
 -- the interactions are the masks that the walk takes
-pub interactions_are : (connector : Connector) → has_repeat (atoms (leaves connector)) ≡ false → interactions_of connector ≡ passing (takes connector.root.items) (2 ^ length (leaves connector))
-interactions_are connector h = λ i. passing (λ mask. takes_is connector h mask i) (2 ^ length (leaves connector))
+pub interactions_are : (tree : Tree) → has_repeat (atoms (leaves tree)) ≡ false → interactions_of tree ≡ passing (takes tree) (2 ^ length (leaves tree))
+interactions_are tree h = λ i. passing (λ mask. takes_is tree h mask i) (2 ^ length (leaves tree))
 
 -- a list of the interactions holds each mask that is one
-pub interactions_exact : (connector : Connector) (masks : List ℕ) → masks ≡ interactions_of connector → (mask : ℕ) → Contains masks mask ↔ IsInteraction connector mask
-interactions_exact connector masks same mask =
-    let test : ℕ → Bool = λ m. is_port_set connector (ports_of connector m) in
-    let n = 2 ^ length (leaves connector) in (
+pub interactions_exact : (tree : Tree) (masks : List ℕ) → masks ≡ interactions_of tree → (mask : ℕ) → Contains masks mask ↔ IsInteraction tree mask
+interactions_exact tree masks same mask =
+    let test : ℕ → Bool = λ m. is_port_set tree (ports_of tree m) in
+    let n = 2 ^ length (leaves tree) in (
       (λ h. passing_is test n mask (subst (λ ms. Contains ms mask) same h)),
       (λ h. subst (λ ms. Contains ms mask) (sym same) (is_passing test n mask h.0 h.1)),
     )
 
 -- and it rises
-pub interactions_rise : (connector : Connector) (masks : List ℕ) → masks ≡ interactions_of connector → IsStrictlyIncreasing masks
-interactions_rise connector masks same =
-    subst IsStrictlyIncreasing (sym same) (passing_rises (λ m. is_port_set connector (ports_of connector m)) (2 ^ length (leaves connector)))
+pub interactions_rise : (tree : Tree) (masks : List ℕ) → masks ≡ interactions_of tree → IsStrictlyIncreasing masks
+interactions_rise tree masks same =
+    subst IsStrictlyIncreasing (sym same) (passing_rises (λ m. is_port_set tree (ports_of tree m)) (2 ^ length (leaves tree)))

@@ -2,12 +2,11 @@
 use Rattle.std.specs.Prelude.{◌≡◌, ◌≤◌, ℕ, ◌==◌, nat_lt, Bool, false, ◌||◌, if◌then◌else◌, List, [], ◌∷◌, ◌++◌, codes, map, length, Option, Some, None, Result, Ok, Err}
 use Rattle.std.specs.List.{list_any}
 use Rattle.std.specs.Fmt.{decimal}
-use Rattle.connector_tree.specs.declared.tree.Connector.{Connector}
 use Rattle.connector_tree.specs.declared.tree.Port.{Port}
 use Rattle.connector_tree.specs.declared.tree.TheConstants.{MAX_LEAVES, MAX_DEPTH}
 use Rattle.connector_tree.specs.declared.faults.TreeFault.{TreeFault}
 use Rattle.connector_tree.specs.declared.faults.TreeFault.TheVariants.{TooManyLeaves, TooDeep, SameAtom, Empty, Memory}
-use Rattle.connector_tree.specs.Tree.{leaves, depth, has_empty}
+use Rattle.connector_tree.specs.Tree.{Tree, leaves, depth, has_empty}
 
 -- whether a number stands twice in the list
 abbrev pub has_repeat : List ℕ → Bool
@@ -19,20 +18,20 @@ abbrev pub atoms : List Port → List ℕ
 atoms ports = map (λ port. port.atom) ports
 
 -- the first fault of a connector in the order of their numbers; Memory is none of the tree's
-abbrev pub fault_of : Connector → Option TreeFault
-fault_of connector =
-    if nat_lt MAX_LEAVES (length (leaves connector)) then Some TooManyLeaves
-    else (if nat_lt MAX_DEPTH (depth connector) then Some TooDeep
-    else (if has_repeat (atoms (leaves connector)) then Some SameAtom
-    else (if has_empty connector then Some Empty
+abbrev pub fault_of : Tree → Option TreeFault
+fault_of tree =
+    if nat_lt MAX_LEAVES (length (leaves tree)) then Some TooManyLeaves
+    else (if nat_lt MAX_DEPTH (depth tree) then Some TooDeep
+    else (if has_repeat (atoms (leaves tree)) then Some SameAtom
+    else (if has_empty tree then Some Empty
     else None)))
 
 -- no fault applies
-pub record IsSound (connector : Connector) : Type 0 where
-  pub few_leaves : length (leaves connector) ≤ MAX_LEAVES
-  pub shallow : depth connector ≤ MAX_DEPTH
-  pub distinct_atoms : has_repeat (atoms (leaves connector)) ≡ false
-  pub none_empty : has_empty connector ≡ false
+pub record IsSound (tree : Tree) : Type 0 where
+  pub few_leaves : length (leaves tree) ≤ MAX_LEAVES
+  pub shallow : depth tree ≤ MAX_DEPTH
+  pub distinct_atoms : has_repeat (atoms (leaves tree)) ≡ false
+  pub none_empty : has_empty tree ≡ false
 
 -- the fault of the tree that a result tells; want of memory tells none
 abbrev pub fault_told : {X : Type 0} → Result X TreeFault → Option TreeFault

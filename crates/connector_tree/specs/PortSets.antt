@@ -7,11 +7,8 @@
 -- set. The root means what a bracket of its children does.
 use Rattle.std.specs.Prelude.{◌==◌, Bool, ◌&&◌, if◌then◌else◌, List, [], ◌∷◌, ◌++◌, map}
 use Rattle.std.specs.List.{flat_map, list_any, list_all}
-use Rattle.connector_tree.specs.declared.tree.Connector.{Connector}
 use Rattle.connector_tree.specs.declared.tree.Port.{Port}
-use Rattle.connector_tree.specs.declared.tree.Child.{Child, Child-F}
-use Rattle.connector_tree.specs.declared.tree.Node.{Node, Node-F, fold-Node}
-use Rattle.connector_tree.specs.declared.tree.Node.TheOpen.{Leaf, Fusion}
+use Rattle.connector_tree.specs.Tree.{Tree, no_child, child, Branch, leaf, bracket}
 
 -- whether both are the same port of the same atom
 abbrev pub same_port : Port → Port → Bool
@@ -65,34 +62,24 @@ fused parts =
     if list_any (λ part. part.trigger) parts then sum_behind [] parts
     else product (map (λ part. part.sets) parts)
 
--- one node, with the part of each child in its place
-abbrev pub sets_step : Node-F Sets Part → Sets
-sets_step (Leaf atom port) = (record { atom = atom; port = port } ∷ []) ∷ []
-sets_step (Fusion parts) = fused parts.items
+-- |x| of a branch: {{p}} for a port p, and for a bracket the fusion of its children, each as a part
+abbrev mutual
+  pub parts : Tree → List Part
+  parts no_child = []
+  parts (child trigger branch rest) = record { trigger = trigger; sets = branch_sets branch } ∷ parts rest
 
-abbrev pub part_step : Child-F Sets Part → Part
-part_step child = record { trigger = child.trigger; sets = child.node }
-
--- |x| of a node: {{p}} for a port p, and a fusion of its children for a bracket
-abbrev pub node_sets : Node → Sets
-node_sets = fold-Node Sets Part sets_step part_step
-
--- a child as a part
-abbrev pub part_of : Child → Part
-part_of child = record { trigger = child.trigger; sets = node_sets child.node }
-
--- |x| of a bracket with these children
-abbrev pub sets_of : List Child → Sets
-sets_of children = fused (map part_of children)
+  pub branch_sets : Branch → Sets
+  branch_sets (leaf atom port) = (record { atom = atom; port = port } ∷ []) ∷ []
+  branch_sets (bracket tree) = fused (parts tree)
 
 -- |x| of a connector: the root is a fusion of its children
-abbrev pub port_sets : Connector → Sets
-port_sets connector = sets_of connector.root.items
+abbrev pub port_sets : Tree → Sets
+port_sets tree = fused (parts tree)
 
 -- whether the set is one of these
 abbrev pub is_among : Sets → List Port → Bool
 is_among sets set = list_any (same_set set) sets
 
 -- whether the set is one of the connector's port sets
-abbrev pub is_port_set : Connector → List Port → Bool
-is_port_set connector set = is_among (port_sets connector) set
+abbrev pub is_port_set : Tree → List Port → Bool
+is_port_set tree set = is_among (port_sets tree) set

@@ -1,26 +1,23 @@
 -- Synchrons and ports, of which the laws speak.
-use Rattle.std.specs.Prelude.{◌≡◌, ℕ, true, false, List}
-use Rattle.std.specs.List.{AllByRecursion}
-use Rattle.connector_tree.specs.declared.tree.Child.{Child}
-use Rattle.connector_tree.specs.declared.tree.Node.{Node}
-use Rattle.connector_tree.specs.declared.tree.Node.TheVariants.{Leaf}
+use Rattle.std.specs.Prelude.{Bool, true, false, ◌&&◌, not}
+use Rattle.connector_tree.specs.Tree.{Tree, no_child, child, Branch, leaf, bracket}
+
+-- the children of the one, and behind them those of the other
+abbrev pub beside : Tree → Tree → Tree
+beside no_child other = other
+beside (child trigger branch rest) other = child trigger branch (beside rest other)
 
 -- no child is a trigger
-abbrev pub AreSynchrons : List Child → Type 0
-AreSynchrons children = AllByRecursion (λ child. child.trigger ≡ false) children
+abbrev pub are_synchrons : Tree → Bool
+are_synchrons no_child = true
+are_synchrons (child trigger branch rest) = not trigger && are_synchrons rest
 
--- the node is a port
-abbrev pub IsPort : Node → Type 0
-IsPort node = (atom : ℕ) × (port : ℕ) × (node ≡ Leaf atom port)
+-- the branch is a port
+abbrev pub is_port : Branch → Bool
+is_port (leaf atom port) = true
+is_port (bracket tree) = false
 
--- the child is a port and no trigger
-abbrev pub IsSynchronPort : Child → Type 0
-IsSynchronPort child = (child.trigger ≡ false) × IsPort child.node
-
--- the child is a port and a trigger
-abbrev pub IsTriggerPort : Child → Type 0
-IsTriggerPort child = (child.trigger ≡ true) × IsPort child.node
-
--- each child is a port and no trigger
-abbrev pub AreSynchronPorts : List Child → Type 0
-AreSynchronPorts children = AllByRecursion IsSynchronPort children
+-- each child is a port
+abbrev pub are_ports : Tree → Bool
+are_ports no_child = true
+are_ports (child trigger branch rest) = is_port branch && are_ports rest

@@ -1,4 +1,5 @@
--- What a tree of ports has: its leaves in order, its depth, and whether a bracket is empty.
+-- A connector as a tree of ports, without the addresses of its memory, and what the tree has: its leaves in order, its
+-- depth, and whether a bracket is empty.
 use Rattle.std.specs.Prelude.{ℕ, ◌+◌, max, Bool, true, false, ◌||◌, List, [], ◌∷◌, ◌++◌, map}
 use Rattle.connector_tree.specs.declared.tree.Connector.{Connector}
 use Rattle.connector_tree.specs.declared.tree.Port.{Port}
@@ -6,69 +7,80 @@ use Rattle.connector_tree.specs.declared.tree.Child.{Child}
 use Rattle.connector_tree.specs.declared.tree.Node.{Node, Node-F, fold-Node}
 use Rattle.connector_tree.specs.declared.tree.Node.TheOpen.{Leaf, Fusion}
 
--- the lists, one after another
-abbrev pub joined : List (List Port) → List Port
-joined [] = []
-joined (ps ∷ rest) = ps ++ joined rest
+-- A tree is the children of the root or of a bracket, from left to right, each with whether it is a trigger. A branch is
+-- a port, by the numbers of its atom and of the port, or a bracket.
+mutual
+  pub data Tree : Type 0 where
+    no_child : Tree
+    child : Bool → Branch → Tree → Tree
 
-abbrev pub leaves_step : Node-F (List Port) (List Port) → List Port
-leaves_step (Leaf atom port) = record { atom = atom; port = port } ∷ []
-leaves_step (Fusion children) = joined children.items
+  pub data Branch : Type 0 where
+    leaf : ℕ → ℕ → Branch
+    bracket : Tree → Branch
 
--- the leaves of a node, from left to right
-abbrev pub node_leaves : Node → List Port
-node_leaves = fold-Node (List Port) (List Port) leaves_step (λ child. child.node)
+-- the children in a list
+abbrev pub Row : Type 0
+Row = List (Bool × Branch)
 
--- the leaves of several children, from left to right
-abbrev pub leaves_of : List Child → List Port
-leaves_of children = joined (map (λ child. node_leaves child.node) children)
+abbrev pub tree_with : Row → Tree
+tree_with [] = no_child
+tree_with (c ∷ cs) = child c.0 c.1 (tree_with cs)
 
--- the leaves of a connector: leaf j is the entry at j
-abbrev pub leaves : Connector → List Port
-leaves connector = leaves_of connector.root.items
+abbrev pub branch_step : Node-F Branch (Bool × Branch) → Branch
+branch_step (Leaf atom port) = leaf atom port
+branch_step (Fusion children) = bracket (tree_with children.items)
 
--- the largest of the numbers, or 0
-abbrev pub greatest : List ℕ → ℕ
-greatest [] = 0
-greatest (n ∷ ns) = max n (greatest ns)
+-- a node in memory as a branch
+abbrev pub branch_of : Node → Branch
+branch_of = fold-Node Branch (Bool × Branch) branch_step (λ child. (child.trigger, child.node))
 
-abbrev pub depth_step : Node-F ℕ ℕ → ℕ
-depth_step (Leaf atom port) = 0
-depth_step (Fusion children) = 1 + greatest children.items
+-- children in memory as a tree
+abbrev pub tree_in : List Child → Tree
+tree_in children = tree_with (map (λ child. (child.trigger, branch_of child.node)) children)
 
--- the levels of brackets of a node: none for a port, one more than its deepest child for a bracket
-abbrev pub node_depth : Node → ℕ
-node_depth = fold-Node ℕ ℕ depth_step (λ child. child.node)
+-- what a connector in memory is
+abbrev pub tree_of : Connector → Tree
+tree_of connector = tree_in connector.root.items
 
--- the levels of a bracket with these children, its own the first
-abbrev pub depth_of : List Child → ℕ
-depth_of children = 1 + greatest (map (λ child. node_depth child.node) children)
+-- the leaves from left to right: leaf j is the entry at j
+abbrev mutual
+  pub leaves : Tree → List Port
+  leaves no_child = []
+  leaves (child trigger branch rest) = branch_leaves branch ++ leaves rest
+
+  pub branch_leaves : Branch → List Port
+  branch_leaves (leaf atom port) = record { atom = atom; port = port } ∷ []
+  branch_leaves (bracket tree) = leaves tree
+
+-- the most levels of brackets in one of the children: none in a port, and in a bracket one more than in its children
+abbrev mutual
+  pub deepest : Tree → ℕ
+  deepest no_child = 0
+  deepest (child trigger branch rest) = max (branch_depth branch) (deepest rest)
+
+  pub branch_depth : Branch → ℕ
+  branch_depth (leaf atom port) = 0
+  branch_depth (bracket tree) = 1 + deepest tree
 
 -- the root is depth 1, and each bracket adds 1
-abbrev pub depth : Connector → ℕ
-depth connector = depth_of connector.root.items
+abbrev pub depth : Tree → ℕ
+depth tree = 1 + deepest tree
 
--- whether some of them holds
-abbrev pub some_true : List Bool → Bool
-some_true [] = false
-some_true (b ∷ bs) = b || some_true bs
+-- whether there are no children
+abbrev pub is_empty : Tree → Bool
+is_empty no_child = true
+is_empty (child trigger branch rest) = false
 
-abbrev pub is_empty : {X : Type 0} → List X → Bool
-is_empty [] = true
-is_empty (x ∷ xs) = false
+-- whether one of the children is, or has inside it, a bracket without children
+abbrev mutual
+  pub has_empty_bracket : Tree → Bool
+  has_empty_bracket no_child = false
+  has_empty_bracket (child trigger branch rest) = is_empty_inside branch || has_empty_bracket rest
 
-abbrev pub empty_step : Node-F Bool Bool → Bool
-empty_step (Leaf atom port) = false
-empty_step (Fusion children) = is_empty children.items || some_true children.items
-
--- whether the node is, or has inside it, a bracket without children
-abbrev pub node_has_empty : Node → Bool
-node_has_empty = fold-Node Bool Bool empty_step (λ child. child.node)
-
--- the same of a bracket with these children
-abbrev pub has_empty_of : List Child → Bool
-has_empty_of children = is_empty children || some_true (map (λ child. node_has_empty child.node) children)
+  pub is_empty_inside : Branch → Bool
+  is_empty_inside (leaf atom port) = false
+  is_empty_inside (bracket tree) = is_empty tree || has_empty_bracket tree
 
 -- whether the root or a bracket has no children
-abbrev pub has_empty : Connector → Bool
-has_empty connector = has_empty_of connector.root.items
+abbrev pub has_empty : Tree → Bool
+has_empty tree = is_empty tree || has_empty_bracket tree

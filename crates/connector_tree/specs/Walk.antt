@@ -1,12 +1,10 @@
 -- What one walk down a tree finds of a choice of its leaves, given as a test of leaf numbers.
-use Rattle.std.specs.Prelude.{ℕ, ◌+◌, Bool, true, false, ◌||◌, ◌&&◌, not, if◌then◌else◌, List, [], ◌∷◌, map}
+use Rattle.std.specs.Prelude.{ℕ, ◌+◌, Bool, true, false, ◌||◌, ◌&&◌, not, if◌then◌else◌, List, [], ◌∷◌}
 use Rattle.std.specs.List.{list_any}
 use Rattle.connector_tree.specs.Masks.{is_set}
-use Rattle.connector_tree.specs.declared.tree.Child.{Child, Child-F}
-use Rattle.connector_tree.specs.declared.tree.Node.{Node, Node-F, fold-Node}
-use Rattle.connector_tree.specs.declared.tree.Node.TheOpen.{Leaf, Fusion}
+use Rattle.connector_tree.specs.Tree.{Tree, no_child, child, Branch, leaf, bracket}
 
--- of a node: its number of leaves; whether one of them is chosen; whether the chosen ones are one of its sets
+-- of a branch: its number of leaves; whether one of them is chosen; whether the chosen ones are one of its sets
 pub record Seen : Type 0 where
   pub count : ℕ
   pub some : (ℕ → Bool) → ℕ → Bool
@@ -45,23 +43,23 @@ takes_all f at cs =
     if list_any (λ c. c.trigger) cs then every_may f at cs && some_leads f at cs
     else every_takes f at cs
 
-abbrev pub seen_step : Node-F Seen SeenChild → Seen
-seen_step (Leaf atom port) = record { count = 1; some = λ f at. f at; takes = λ f at. f at }
-seen_step (Fusion cs) = record {
-  count = count_all cs.items;
-  some = λ f at. some_all f at cs.items;
-  takes = λ f at. takes_all f at cs.items;
+-- what a walk sees of a bracket with these children
+abbrev pub seen_all : List SeenChild → Seen
+seen_all cs = record {
+  count = count_all cs;
+  some = λ f at. some_all f at cs;
+  takes = λ f at. takes_all f at cs;
 }
 
-abbrev pub seen_child_step : Child-F Seen SeenChild → SeenChild
-seen_child_step child = record { trigger = child.trigger; seen = child.node }
+abbrev mutual
+  pub seen_children : Tree → List SeenChild
+  seen_children no_child = []
+  seen_children (child trigger branch rest) = record { trigger = trigger; seen = seen branch } ∷ seen_children rest
 
-abbrev pub seen : Node → Seen
-seen = fold-Node Seen SeenChild seen_step seen_child_step
-
-abbrev pub seen_child : Child → SeenChild
-seen_child child = record { trigger = child.trigger; seen = seen child.node }
+  pub seen : Branch → Seen
+  seen (leaf atom port) = record { count = 1; some = λ f at. f at; takes = λ f at. f at }
+  seen (bracket tree) = seen_all (seen_children tree)
 
 -- whether the walk over the bits of a mask takes the chosen leaves
-abbrev pub takes : List Child → ℕ → Bool
-takes children mask = takes_all (is_set mask) 0 (map seen_child children)
+abbrev pub takes : Tree → ℕ → Bool
+takes tree mask = takes_all (is_set mask) 0 (seen_children tree)

@@ -1,12 +1,12 @@
 ghost use Rattle.std.specs.Prelude.{◌≡◌, ◌++◌, IfOk, OnOk};
-ghost use Rattle.connector_tree.specs.Tree.{leaves, leaves_of, node_leaves};
+ghost use Rattle.connector_tree.specs.Tree.{tree_of, tree_in, branch_of, leaves, branch_leaves};
 
 use crate::tree::{Child, Connector, Node, Port};
 use std::alloc::{AllocError, Global};
 
 /// The leaves of a connector, from left to right: leaf j is the entry at j.
 pub fn leaves(alloc: Global, connector: &Connector) -> Result<Vec<Port>, AllocError>
-    ensures { IfOk result (λ ports. ports.items ≡ leaves connector.now) }
+    ensures { IfOk result (λ ports. ports.items ≡ leaves (tree_of connector.now)) }
 {
     let mut ports = Vec::new(alloc);
     push_leaves(&connector.root, &mut ports)?;
@@ -15,7 +15,7 @@ pub fn leaves(alloc: Global, connector: &Connector) -> Result<Vec<Port>, AllocEr
 
 #[cycle(push_leaves)]
 fn push_leaves(children: &[Child], ports: &mut Vec<Port>) -> Result<(), AllocError>
-    ensures { OnOk result (ports.new.items ≡ ports.old.items ++ leaves_of children.now) }
+    ensures { OnOk result (ports.new.items ≡ ports.old.items ++ leaves (tree_in children.now)) }
 {
     for child in children {
         push_node(&child.node, ports)?;
@@ -25,7 +25,7 @@ fn push_leaves(children: &[Child], ports: &mut Vec<Port>) -> Result<(), AllocErr
 
 #[cycle(push_leaves)]
 fn push_node(node: &Node, ports: &mut Vec<Port>) -> Result<(), AllocError>
-    ensures { OnOk result (ports.new.items ≡ ports.old.items ++ node_leaves node.now) }
+    ensures { OnOk result (ports.new.items ≡ ports.old.items ++ branch_leaves (branch_of node.now)) }
 {
     match node {
         Node::Leaf { atom, port } => ports.push(Port {

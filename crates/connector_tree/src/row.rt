@@ -1,6 +1,6 @@
 //! The leaves of a connector in a row of fixed size.
 ghost use Rattle.std.specs.Prelude.{◌≡◌, ◌+◌, ◌≤◌, ◌++◌, [], ◌∷◌, length};
-ghost use Rattle.connector_tree.specs.Tree.{leaves, leaves_of, node_leaves};
+ghost use Rattle.connector_tree.specs.Tree.{tree_of, tree_in, branch_of, leaves, branch_leaves};
 ghost use Rattle.connector_tree.specs.declared.tree.TheConstants.{MAX_LEAVES};
 
 use crate::tree::{Child, Connector, MAX_LEAVES, Node, Port};
@@ -28,8 +28,8 @@ impl Model for LeafRow {
 impl LeafRow {
     /// The leaves of the connector.
     pub fn of(connector: &Connector) -> LeafRow
-        requires { length (leaves connector.now) ≤ MAX_LEAVES }
-        ensures { result ≡ leaves connector.now }
+        requires { length (leaves (tree_of connector.now)) ≤ MAX_LEAVES }
+        ensures { result ≡ leaves (tree_of connector.now) }
     {
         let mut found = LeafRow::new();
         gather(&connector.root, &mut found);
@@ -63,8 +63,8 @@ impl LeafRow {
 
 #[cycle(gather)]
 fn gather(children: &[Child], found: &mut LeafRow)
-    requires { length found.old + length (leaves_of children.now) ≤ MAX_LEAVES }
-    ensures { found.new ≡ found.old ++ leaves_of children.now }
+    requires { length found.old + length (leaves (tree_in children.now)) ≤ MAX_LEAVES }
+    ensures { found.new ≡ found.old ++ leaves (tree_in children.now) }
 {
     for child in children {
         gather_node(&child.node, found);
@@ -73,8 +73,8 @@ fn gather(children: &[Child], found: &mut LeafRow)
 
 #[cycle(gather)]
 fn gather_node(node: &Node, found: &mut LeafRow)
-    requires { length found.old + length (node_leaves node.now) ≤ MAX_LEAVES }
-    ensures { found.new ≡ found.old ++ node_leaves node.now }
+    requires { length found.old + length (branch_leaves (branch_of node.now)) ≤ MAX_LEAVES }
+    ensures { found.new ≡ found.old ++ branch_leaves (branch_of node.now) }
 {
     match node {
         Node::Leaf { atom, port } => found.push(Port {

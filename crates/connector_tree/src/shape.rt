@@ -1,6 +1,6 @@
 ghost use Rattle.std.specs.Prelude.{◌≡◌, ◌+◌, ◌≤◌, ◌==◌, min, nat_lt, IfNone, length};
 ghost use Rattle.std.specs.List.{list_any};
-ghost use Rattle.connector_tree.specs.Tree.{leaves, leaves_of, node_leaves, depth_of, node_depth, has_empty_of, node_has_empty};
+ghost use Rattle.connector_tree.specs.Tree.{tree_of, tree_in, branch_of, leaves, branch_leaves, depth, branch_depth, has_empty, is_empty_inside};
 ghost use Rattle.connector_tree.specs.Faults.{fault_of, has_repeat, atoms, IsSound};
 ghost use Rattle.connector_tree.specs.declared.tree.TheConstants.{MAX_LEAVES};
 
@@ -11,8 +11,8 @@ use crate::tree::{Child, Connector, MAX_DEPTH, MAX_LEAVES, Node, Port};
 /// The first fault of a tree, in the order of their numbers; never `Memory`.
 #[tactic(auto, using(crate::proofs::Sound::sound))]
 pub fn first_fault(connector: &Connector) -> Option<TreeFault>
-    ensures fault { result ≡ fault_of connector.now }
-    ensures sound { IfNone result (IsSound connector.now) }
+    ensures fault { result ≡ fault_of (tree_of connector.now) }
+    ensures sound { IfNone result (IsSound (tree_of connector.now)) }
 {
     if count_leaves(&connector.root) > MAX_LEAVES {
         return Some(TreeFault::TooManyLeaves);
@@ -32,7 +32,7 @@ pub fn first_fault(connector: &Connector) -> Option<TreeFault>
 /// The number of leaves, or the first number that is too many.
 #[cycle(count)]
 pub(crate) fn count_leaves(children: &[Child]) -> usize
-    ensures { result ≡ min (length (leaves_of children.now)) (MAX_LEAVES + 1) }
+    ensures { result ≡ min (length (leaves (tree_in children.now))) (MAX_LEAVES + 1) }
 {
     let mut count = 0;
     for child in children {
@@ -43,7 +43,7 @@ pub(crate) fn count_leaves(children: &[Child]) -> usize
 
 #[cycle(count)]
 fn count_node(node: &Node) -> usize
-    ensures { result ≡ min (length (node_leaves node.now)) (MAX_LEAVES + 1) }
+    ensures { result ≡ min (length (branch_leaves (branch_of node.now))) (MAX_LEAVES + 1) }
 {
     match node {
         Node::Leaf { .. } => 1,
@@ -54,7 +54,7 @@ fn count_node(node: &Node) -> usize
 /// Whether a bracket with these children has more levels than these, its own the first.
 #[cycle(deeper)]
 fn is_deeper(children: &[Child], levels: usize) -> bool
-    ensures { result ≡ nat_lt levels (depth_of children.now) }
+    ensures { result ≡ nat_lt levels (depth (tree_in children.now)) }
 {
     if levels == 0 {
         return true;
@@ -69,7 +69,7 @@ fn is_deeper(children: &[Child], levels: usize) -> bool
 
 #[cycle(deeper)]
 fn is_node_deeper(node: &Node, levels: usize) -> bool
-    ensures { result ≡ nat_lt levels (node_depth node.now) }
+    ensures { result ≡ nat_lt levels (branch_depth (branch_of node.now)) }
 {
     match node {
         Node::Leaf { .. } => false,
@@ -80,7 +80,7 @@ fn is_node_deeper(node: &Node, levels: usize) -> bool
 /// Whether a bracket with these children, or one inside it, has no children.
 #[cycle(empty)]
 fn has_empty(children: &[Child]) -> bool
-    ensures { result ≡ has_empty_of children.now }
+    ensures { result ≡ has_empty (tree_in children.now) }
 {
     if children.is_empty() {
         return true;
@@ -95,7 +95,7 @@ fn has_empty(children: &[Child]) -> bool
 
 #[cycle(empty)]
 fn is_node_empty(node: &Node) -> bool
-    ensures { result ≡ node_has_empty node.now }
+    ensures { result ≡ is_empty_inside (branch_of node.now) }
 {
     match node {
         Node::Leaf { .. } => false,
@@ -105,8 +105,8 @@ fn is_node_empty(node: &Node) -> bool
 
 /// Whether two of the leaves are of one atom.
 fn has_same_atom(connector: &Connector) -> bool
-    requires { length (leaves connector.now) ≤ MAX_LEAVES }
-    ensures { result ≡ has_repeat (atoms (leaves connector.now)) }
+    requires { length (leaves (tree_of connector.now)) ≤ MAX_LEAVES }
+    ensures { result ≡ has_repeat (atoms (leaves (tree_of connector.now))) }
 {
     has_repeat(LeafRow::of(connector).as_slice())
 }

@@ -1,17 +1,16 @@
 -- The fault that is told of the tokens of a connector is the connector's.
 use Rattle.std.proofs.Common.{◌≡◌, ℕ, Bool, nat_lt, ◌||◌, if◌then◌else◌, List, length, Option, Some, None, ap, ◌∙◌}
-use Rattle.connector_tree.specs.declared.tree.Connector.{Connector}
 use Rattle.connector_tree.specs.declared.tree.Port.{Port}
 use Rattle.connector_tree.specs.declared.tree.TheConstants.{MAX_LEAVES, MAX_DEPTH}
 use Rattle.connector_tree.specs.declared.faults.TreeFault.{TreeFault}
 use Rattle.connector_tree.specs.declared.faults.TreeFault.TheVariants.{TooManyLeaves, TooDeep, SameAtom, Empty}
-use Rattle.connector_tree.specs.Tree.{leaves, depth, is_empty}
+use Rattle.connector_tree.specs.Tree.{Tree, leaves, depth}
 use Rattle.connector_tree.specs.Faults.{has_repeat, atoms, fault_of}
 use Rattle.plant_trees.specs.Connectors.{tokens_of}
-use Rattle.plant_trees.specs.Shape.{deepest, has_empty_bracket, fault_in}
-use Rattle.plant_trees.proofs.Leaves.{ports-connector}
-use Rattle.plant_trees.proofs.Depth.{deepest-connector}
-use Rattle.plant_trees.proofs.Empties.{empty-connector}
+use Rattle.plant_trees.specs.Shape.{deepest, is_empty, has_empty_bracket, fault_in}
+use Rattle.plant_trees.proofs.Leaves.{ports-tree}
+use Rattle.plant_trees.proofs.Depth.{deepest-tree}
+use Rattle.plant_trees.proofs.Empties.{empty-tree}
 
 -- the fault of a tree with these ports, this depth, and an empty bracket or none
 fault_at : List Port → ℕ → Bool → Option TreeFault
@@ -22,9 +21,9 @@ fault_at ports levels empty =
     else (if empty then Some Empty
     else None)))
 
-pub fault-connector : (connector : Connector) → fault_in (tokens_of connector) ≡ fault_of connector
+pub fault-tree : (tree : Tree) → fault_in (tokens_of tree) ≡ fault_of tree
 unfolding fault_at
-fault-connector connector =
-    ap (λ ports. fault_at ports (deepest 1 (tokens_of connector)) (is_empty (tokens_of connector) || has_empty_bracket (tokens_of connector))) (ports-connector connector)
-    ∙ ap (λ levels. fault_at (leaves connector) levels (is_empty (tokens_of connector) || has_empty_bracket (tokens_of connector))) (deepest-connector connector)
-    ∙ ap (λ empty. fault_at (leaves connector) (depth connector) empty) (empty-connector connector)
+fault-tree tree =
+    ap (λ ports. fault_at ports (deepest 1 (tokens_of tree)) (is_empty (tokens_of tree) || has_empty_bracket (tokens_of tree))) (ports-tree tree)
+    ∙ ap (λ levels. fault_at (leaves tree) levels (is_empty (tokens_of tree) || has_empty_bracket (tokens_of tree))) (deepest-tree tree)
+    ∙ ap (λ empty. fault_at (leaves tree) (depth tree) empty) (empty-tree tree)

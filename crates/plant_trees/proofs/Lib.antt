@@ -4,6 +4,7 @@ pub mod Depth
 pub mod Empties
 pub mod Agreement
 pub mod Meaning
+pub mod OneTree
 pub mod Readings
 pub mod Named
 pub mod Drafting

@@ -1,5 +1,7 @@
 -- Laws of readings.
-use Rattle.std.proofs.Common.{◌≡◌, ℕ, ◌==◌, Bool, true, false, if◌then◌else◌, List, [], ◌∷◌, ◌++◌, Option, Some, None, Result, Ok, Err, IfOk, refl, ap, subst, ◌∙◌}
+use Rattle.std.proofs.Common.{◌≡◌, ℕ, ◌+◌, ◌<◌, ◌==◌, Bool, true, false, if◌then◌else◌, List, [], ◌∷◌, ◌++◌, length, get_or, drop, Option, Some, None, IsSome, Result, Ok, Err, IfOk, refl, ap, sym, subst, ◌∙◌}
+use Rattle.std.proofs.lemmas.Bool.{both_ways}
+use Rattle.std.proofs.lemmas.List.{drop_more}
 use Rattle.std.specs.Option.{option_map_or}
 use Rattle.plant_trees.specs.declared.token.Token.{Token}
 use Rattle.plant_trees.specs.declared.fault.TreeWordsFault.{TreeWordsFault}
@@ -43,3 +45,13 @@ at_words named (word ∷ words) level = at_word (word_in named word) level (λ n
 pub balanced : (named : Names) (words : List (List ℕ)) (level : ℕ) (tokens : List Token) → tokens_in named level words ≡ Ok tokens → is_balanced level tokens ≡ true
 unfolding IsBalanced
 balanced named words level tokens h = subst (λ r. IsBalanced level r) h (at_words named words level)
+
+is_some : (o : Option ℕ) (test : ℕ → Bool) → option_map_or test o false ≡ true → IsSome o
+is_some None test h = absurd (both_ways false refl h)
+is_some (Some level) test h = refl
+
+-- where brackets are balanced behind some tokens, the next token closes none that isn't open
+pub next_level : (i level : ℕ) (tokens : List Token) (token : Token) → i < length tokens → is_balanced level (drop i tokens) ≡ true → IsSome (level_behind (get_or tokens i token) level)
+next_level i level tokens token within balanced =
+    is_some (level_behind (get_or tokens i token) level) (λ next. is_balanced next (drop (i + 1) tokens))
+    (ap (is_balanced level) (sym (drop_more tokens i token within)) ∙ balanced)

@@ -1,34 +1,27 @@
 -- A connector as its tokens.
 use Rattle.std.specs.Prelude.{Bool, List, [], ◌∷◌, ◌++◌}
-use Rattle.std.specs.List.{flat_map}
-use Rattle.connector_tree.specs.declared.tree.Connector.{Connector}
-use Rattle.connector_tree.specs.declared.tree.Child.{Child, Child-F}
-use Rattle.connector_tree.specs.declared.tree.Node.{Node, Node-F, fold-Node}
-use Rattle.connector_tree.specs.declared.tree.Node.TheOpen as open_node
+use Rattle.connector_tree.specs.declared.tree.Child.{Child}
+use Rattle.connector_tree.specs.declared.tree.Node.{Node}
+use Rattle.connector_tree.specs.Tree as connectors
+use Rattle.connector_tree.specs.Tree.{Tree, no_child, child, Branch, leaf, bracket}
 use Rattle.plant_trees.specs.declared.token.Token.{Token}
 use Rattle.plant_trees.specs.declared.token.Token.TheVariants.{Leaf, Open, Close}
 
--- one node, with the tokens of each child in its place
-abbrev pub node_step : Node-F (Bool → List Token) (List Token) → Bool → List Token
-node_step (open_node.Leaf atom port) = λ trigger. Leaf (record { atom = atom; port = port }) trigger ∷ []
-node_step (open_node.Fusion children) = λ trigger. Open ∷ (flat_map (λ tokens. tokens) children.items ++ Close trigger ∷ [])
+-- The tokens of a connector: those of the root's children, from left to right. A branch that is a trigger or is none has as its
+-- tokens: a port itself; a bracket its begin, its children and its end, which has the mark.
+abbrev mutual
+  pub tokens_of : Tree → List Token
+  tokens_of no_child = []
+  tokens_of (child trigger branch rest) = branch_tokens branch trigger ++ tokens_of rest
 
-abbrev pub child_step : Child-F (Bool → List Token) (List Token) → List Token
-child_step child = child.node child.trigger
+  pub branch_tokens : Branch → Bool → List Token
+  branch_tokens (leaf atom port) trigger = Leaf (record { atom = atom; port = port }) trigger ∷ []
+  branch_tokens (bracket tree) trigger = Open ∷ (tokens_of tree ++ Close trigger ∷ [])
 
--- the tokens of a node that is a trigger or is none: a port as it is; a bracket as its begin, its children and its end, which
--- has the mark
+-- the tokens of a node in memory, which is a trigger or is none
 abbrev pub node_tokens : Node → Bool → List Token
-node_tokens = fold-Node (Bool → List Token) (List Token) node_step child_step
+node_tokens node trigger = branch_tokens (connectors.branch_of node) trigger
 
--- the tokens of a child
-abbrev pub child_tokens : Child → List Token
-child_tokens child = node_tokens child.node child.trigger
-
--- the tokens of several children, from left to right
+-- the tokens of several children in memory
 abbrev pub children_tokens : List Child → List Token
-children_tokens children = flat_map child_tokens children
-
--- the tokens of a connector: those of the root's children
-abbrev pub tokens_of : Connector → List Token
-tokens_of connector = children_tokens connector.root.items
+children_tokens children = tokens_of (connectors.tree_in children)

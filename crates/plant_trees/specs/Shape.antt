@@ -4,10 +4,13 @@ use Rattle.connector_tree.specs.declared.tree.Port.{Port}
 use Rattle.connector_tree.specs.declared.tree.TheConstants.{MAX_LEAVES, MAX_DEPTH}
 use Rattle.connector_tree.specs.declared.faults.TreeFault.{TreeFault}
 use Rattle.connector_tree.specs.declared.faults.TreeFault.TheVariants.{TooManyLeaves, TooDeep, SameAtom, Empty}
-use Rattle.connector_tree.specs.Tree.{is_empty}
 use Rattle.connector_tree.specs.Faults.{has_repeat, atoms}
 use Rattle.plant_trees.specs.declared.token.Token.{Token}
 use Rattle.plant_trees.specs.declared.token.Token.TheVariants.{Leaf, Open, Close}
+
+abbrev pub is_empty : List Token → Bool
+is_empty [] = true
+is_empty (token ∷ tokens) = false
 
 abbrev pub is_leaf : Token → Bool
 is_leaf (Leaf port trigger) = true

@@ -1,5 +1,6 @@
 //! A connector made from its tokens.
 ghost use Rattle.std.specs.Prelude.{◌≡◌, true, IfOk, None};
+ghost use Rattle.connector_tree.specs.Tree.{tree_of};
 ghost use Rattle.plant_trees.specs.Tokens.{is_balanced};
 ghost use Rattle.plant_trees.specs.Shape.{fault_in};
 ghost use Rattle.plant_trees.specs.Connectors.{tokens_of};
@@ -14,7 +15,7 @@ use std::mem;
 pub(crate) fn connector(alloc: Global, tokens: &[Token]) -> Result<Connector, AllocError>
     requires balanced { is_balanced 0 tokens.now ≡ true }
     requires judged { fault_in tokens.now ≡ None }
-    ensures { IfOk result (λ connector. tokens_of connector ≡ tokens.now) }
+    ensures { IfOk result (λ connector. tokens_of (tree_of connector) ≡ tokens.now) }
 {
     let mut draft = Draft::new(alloc);
     for token in tokens {
@@ -102,7 +103,7 @@ impl Draft {
 
     fn finish(self) -> Connector
         requires { level_of self ≡ 0 }
-        ensures { tokens_of result ≡ tokens_made self }
+        ensures { tokens_of (tree_of result) ≡ tokens_made self }
     {
         Connector {
             root: self.children,

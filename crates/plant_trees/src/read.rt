@@ -1,5 +1,6 @@
 //! Reading the tree of a connector from the words of a line.
 ghost use Rattle.std.specs.Prelude.{◌≡◌, [], IfOk, IfErr, OnOk, None, Ok, Err};
+ghost use Rattle.connector_tree.specs.Tree.{tree_of};
 ghost use Rattle.connector_tree.specs.Faults.{fault_of};
 ghost use Rattle.plant_trees.specs.Tokens.{tokens_in};
 ghost use Rattle.plant_trees.specs.Trees.{tree_in};
@@ -21,10 +22,10 @@ pub fn read_tree<N: Ports>(
     names: &N,
 ) -> Result<Connector, TreeWordsFault>
     ensures tree { IfOk result
-        (λ connector. tree_in (N.port_named names.now) words.old ≡ Ok (tokens_of connector)) }
+        (λ connector. tree_in (N.port_named names.now) words.old ≡ Ok (tokens_of (tree_of connector))) }
     ensures fault { IfErr result
         (λ fault. ¬ (fault ≡ TreeWordsFault.Memory) → tree_in (N.port_named names.now) words.old ≡ Err fault) }
-    ensures sound { IfOk result (λ connector. fault_of connector ≡ None) }
+    ensures sound { IfOk result (λ connector. fault_of (tree_of connector) ≡ None) }
     ensures taken { OnOk result (words.new ≡ []) }
 {
     if words.peek().is_none() {

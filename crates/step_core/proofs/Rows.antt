@@ -1,14 +1,13 @@
 -- Worked examples of the definitions, as computed facts.
-use Rattle.std.proofs.Common.{◌≡◌, ◌&&◌, ap, ℕ, ℤ, pos, true, false, refl, List, [], ◌∷◌, map, replicate, codes, Option, Some, None}
+use Rattle.std.proofs.Common.{◌≡◌, ◌&&◌, ℕ, ℤ, pos, true, false, refl, List, [], ◌∷◌, map, replicate, codes, Option, Some, None}
 use Rattle.std.specs.List.{list_all}
 use Rattle.petri_atom.specs.Expression.{Tree, number, variable, operation, all_variables}
 use Rattle.petri_atom.specs.Local.{Local}
 use Rattle.petri_atom.specs.Definition.{AtomDefinition, TransitionDefinition, is_each_once}
 use Rattle.petri_atom.specs.declared.expression.Operator.TheVariants.{Less}
 use Rattle.connector_tree.specs.Faults as tree
-use Rattle.connector_tree.specs.Tree.{leaves}
+use Rattle.connector_tree.specs.Tree as connectors
 use Rattle.connector_tree.specs.declared.faults.TreeFault.{TreeFault}
-use Rattle.connector_tree.specs.declared.tree.Connector.{Connector}
 use Rattle.connector_tree.specs.declared.tree.Port.{Port}
 use Rattle.priority_filter.specs.declared.rule.Rule.TheVariants.{Maximal}
 use Rattle.step_core.specs.Choice.{Interaction, ChoiceDefinition, interaction_by, is_possible, combinations, choices_of}
@@ -120,20 +119,20 @@ abbrev transfer : ℕ → ℕ → TransferDefinition
 transfer target source = record { target = export target; value = variable (export source) }
 
 -- a connector called c with these clauses and transfers
-abbrev wire : Connector → List (Tree Export) → List TransferDefinition → WireDefinition
+abbrev wire : connectors.Tree → List (Tree Export) → List TransferDefinition → WireDefinition
 wire connector guards transfers = record { name = codes "c"; connector = connector; guards = guards; transfers = transfers }
 
 no_atom_is_a_limit : early_fault (record { atoms = []; wires = []; rules = [] }) ≡ Some Limit
 no_atom_is_a_limit = refl
 
 -- one clause, transfer, connector and rule more than there may be
-clause_too_many : (c : Connector) → early_fault (record { atoms = a_and_b; wires = wire c (replicate 9 (number (pos 1))) [] ∷ []; rules = [] }) ≡ Some Limit
+clause_too_many : (c : connectors.Tree) → early_fault (record { atoms = a_and_b; wires = wire c (replicate 9 (number (pos 1))) [] ∷ []; rules = [] }) ≡ Some Limit
 clause_too_many c = refl
 
-transfer_too_many : (c : Connector) → early_fault (record { atoms = a_and_b; wires = wire c [] (replicate 33 (transfer 1 0)) ∷ []; rules = [] }) ≡ Some Limit
+transfer_too_many : (c : connectors.Tree) → early_fault (record { atoms = a_and_b; wires = wire c [] (replicate 33 (transfer 1 0)) ∷ []; rules = [] }) ≡ Some Limit
 transfer_too_many c = refl
 
-connector_too_many : (c : Connector) → early_fault (record { atoms = a_and_b; wires = replicate 65 (wire c [] []); rules = [] }) ≡ Some Limit
+connector_too_many : (c : connectors.Tree) → early_fault (record { atoms = a_and_b; wires = replicate 65 (wire c [] []); rules = [] }) ≡ Some Limit
 connector_too_many c = refl
 
 rules_up_to_the_limit : (early_fault (record { atoms = a_and_b; wires = []; rules = replicate 1024 (Maximal 0) }) ≡ None) × (early_fault (record { atoms = a_and_b; wires = []; rules = replicate 1025 (Maximal 0) }) ≡ Some Limit)
@@ -143,15 +142,15 @@ interactions_up_to_the_limit : (fault_of_count 1024 ≡ None) × (fault_of_count
 interactions_up_to_the_limit = (refl, refl)
 
 -- the second of two atoms of one name is told, before any connector
-atom_twice : (c : Connector) → early_fault (record { atoms = named (codes "B") ∷ a_and_b; wires = wire c [] [] ∷ []; rules = [] }) ≡ Some (BadAtom 2)
+atom_twice : (c : connectors.Tree) → early_fault (record { atoms = named (codes "B") ∷ a_and_b; wires = wire c [] [] ∷ []; rules = [] }) ≡ Some (BadAtom 2)
 atom_twice c = refl
 
 -- a tree is told by its own fault
-tree_with_a_fault : (c : Connector) (fault : TreeFault) → tree.fault_of c ≡ Some fault → early_fault (record { atoms = a_and_b; wires = wire c [] [] ∷ []; rules = [] }) ≡ Some (BadConnector 0 fault)
+tree_with_a_fault : (c : connectors.Tree) (fault : TreeFault) → tree.fault_of c ≡ Some fault → early_fault (record { atoms = a_and_b; wires = wire c [] [] ∷ []; rules = [] }) ≡ Some (BadConnector 0 fault)
 tree_with_a_fault c fault told = simp told
 
 -- the second of two connectors of one name
-connector_twice : (c d : Connector) → fault_of_wire a_and_b (wire c [] [] ∷ []) (wire d [] []) ≡ Some NameTwice
+connector_twice : (c d : connectors.Tree) → fault_of_wire a_and_b (wire c [] [] ∷ []) (wire d [] []) ≡ Some NameTwice
 connector_twice c d = refl
 
 -- what a connector with these leaves breaks, where no earlier one has its name
@@ -163,8 +162,8 @@ broken guards transfers ports =
     (is_each_once is_same_export (map (λ t. t.target) transfers))
 
 -- that is what the rules of a plant tell of it
-broken_is_told : (c : Connector) (guards : List (Tree Export)) (transfers : List TransferDefinition) (ports : List Port) → leaves c ≡ ports → fault_of_wire a_and_b [] (wire c guards transfers) ≡ broken guards transfers ports
-broken_is_told c guards transfers ports here = ap (broken guards transfers) here
+broken_is_told : (c : connectors.Tree) (guards : List (Tree Export)) (transfers : List TransferDefinition) → fault_of_wire a_and_b [] (wire c guards transfers) ≡ broken guards transfers (connectors.leaves c)
+broken_is_told c guards transfers = refl
 
 abbrev both : List Port
 both = port_of_atom 0 ∷ port_of_atom 1 ∷ []

@@ -5,9 +5,8 @@ use Rattle.std.specs.Option.{option_map_or}
 use Rattle.petri_atom.specs.Local.{Local}
 use Rattle.petri_atom.specs.Definition.{AtomDefinition, enabled, offers_port}
 use Rattle.connector_tree.specs.Masks.{interactions_of, chosen}
-use Rattle.connector_tree.specs.Tree.{leaves}
+use Rattle.connector_tree.specs.Tree.{Tree, leaves}
 use Rattle.connector_tree.specs.declared.tree.Port.{Port}
-use Rattle.connector_tree.specs.declared.tree.Connector.{Connector}
 use Rattle.priority_filter.specs.Decided.{is_overruled}
 use Rattle.step_core.specs.Plant.{WireDefinition, PlantDefinition, of_atom}
 use Rattle.step_core.specs.Exports.{guards_hold}
@@ -29,9 +28,9 @@ abbrev pub interaction_by : ℕ → ℕ → List Port → ℕ → Interaction
 interaction_by atoms k leaves mask = record { connector = k; mask = mask; ports = by_atom atoms (chosen mask 0 leaves) }
 
 -- the interactions of the connector with this number
-abbrev pub interactions_of_connector : ℕ → ℕ → Connector → List Interaction
-interactions_of_connector atoms k connector =
-    map (interaction_by atoms k (leaves connector)) (interactions_of connector)
+abbrev pub interactions_of_connector : ℕ → ℕ → Tree → List Interaction
+interactions_of_connector atoms k tree =
+    map (interaction_by atoms k (leaves tree)) (interactions_of tree)
 
 -- the interactions of wires that are numbered from k on
 abbrev pub interactions_from : ℕ → ℕ → List WireDefinition → List Interaction

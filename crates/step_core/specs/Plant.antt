@@ -4,7 +4,7 @@ use Rattle.std.specs.Option.{option_map_or}
 use Rattle.petri_atom.specs.Local.{Local}
 use Rattle.petri_atom.specs.Expression.{Tree}
 use Rattle.petri_atom.specs.Definition.{AtomDefinition}
-use Rattle.connector_tree.specs.declared.tree.Connector.{Connector}
+use Rattle.connector_tree.specs.Tree as connectors
 use Rattle.priority_filter.specs.declared.rule.Rule.{Rule}
 use Rattle.step_core.specs.declared.wire.Export.{Export}
 
@@ -16,7 +16,7 @@ pub record TransferDefinition : Type 0 where
 -- a wire: a connector with its name, its guard clauses and its transfers
 pub record WireDefinition : Type 0 where
   pub name : List ℕ
-  pub connector : Connector
+  pub connector : connectors.Tree
   pub guards : List (Tree Export)
   pub transfers : List TransferDefinition
 

@@ -1,5 +1,6 @@
 use Rattle.std.specs.Prelude.{map}
 use Rattle.petri_atom.specs.Expression.{tree_of}
+use Rattle.connector_tree.specs.Tree as connectors
 use Rattle.step_core.specs.Plant.{TransferDefinition, WireDefinition}
 use Rattle.step_core.specs.declared.wire.Transfer.{Transfer}
 use Rattle.step_core.specs.declared.wire.Wire.{Wire}
@@ -12,7 +13,7 @@ transfer_of t = record { target = t.target; value = tree_of t.value }
 abbrev pub wire_of : Wire → WireDefinition
 wire_of w = record {
   name = w.name;
-  connector = w.connector;
+  connector = connectors.tree_of w.connector;
   guards = map tree_of w.guards.items;
   transfers = map transfer_of w.transfers.items;
 }

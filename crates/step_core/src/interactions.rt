@@ -1,5 +1,6 @@
 //! The interactions of a connector in a plant.
 ghost use Rattle.std.specs.Prelude.{◌≡◌, ◌++◌, ◌==◌, ◌≤◌, map, filter, length, IfOk, OnOk};
+ghost use Rattle.connector_tree.specs.Tree.{tree_of};
 ghost use Rattle.connector_tree.specs.Masks.{chosen, is_set};
 ghost use Rattle.connector_tree.specs.Faults.{fault_of, fault_told};
 ghost use Rattle.step_core.specs.Choice.{by_atom, interactions_of_connector};
@@ -17,8 +18,8 @@ pub fn connector_interactions(
     number: u16,
     connector: &Connector,
 ) -> Result<Vec<Interaction>, TreeFault>
-    ensures list { IfOk result (λ all. map interaction_of all.items ≡ interactions_of_connector atoms number connector.now) }
-    ensures fault { fault_told result ≡ fault_of connector.now }
+    ensures list { IfOk result (λ all. map interaction_of all.items ≡ interactions_of_connector atoms number (tree_of connector.now)) }
+    ensures fault { fault_told result ≡ fault_of (tree_of connector.now) }
 {
     let masks = connector_tree::interactions(alloc, connector)?;
     let leaves = connector_tree::leaves(alloc, connector)?;

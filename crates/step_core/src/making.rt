@@ -137,7 +137,7 @@ fn fault_of_count(interactions: usize) -> Option<SystemFault>
 
 /// The leaves of each wire.
 fn leaves_of_wires(alloc: Global, wires: &[Wire]) -> Result<Vec<Vec<Port>>, AllocError>
-    ensures { IfOk result (λ lists. map (λ list. list.items) lists.items ≡ map (λ w. leaves w.connector) wires.now) }
+    ensures { IfOk result (λ lists. map (λ list. list.items) lists.items ≡ map (λ w. leaves (wire_of w).connector) wires.now) }
 {
     let mut lists = Vec::with_capacity(alloc, wires.len())?;
     for wire in wires {

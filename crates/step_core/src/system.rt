@@ -34,7 +34,7 @@ pub struct System {
     pub(crate) order: Order,
     pub(crate) free: InteractionSet,
     ghost valid: { fault_of (plant_by atoms.items wires.items order.rules) ≡ None },
-    ghost leaves: { map (λ list. list.items) ports.items ≡ map (λ w. leaves w.connector) wires.items },
+    ghost leaves: { map (λ list. list.items) ports.items ≡ map (λ w. leaves (wire_of w).connector) wires.items },
     ghost guarding: { AreGuarding (map definition_of atoms.items) (map wire_of wires.items) resolved.items },
     ghost delivering: { AreDelivering (map definition_of atoms.items) (map wire_of wires.items) resolved.items },
     ghost listed: { map interaction_of interactions.items ≡ plant_interactions (plant_by atoms.items wires.items order.rules) },

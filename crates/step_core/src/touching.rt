@@ -79,7 +79,7 @@ fn note_guards(
     number: u16,
 )
     requires number { number < MAX_INTERACTIONS }
-    requires leaves { map (λ list. list.items) ports.now ≡ map (λ w. leaves w.connector) wires.now }
+    requires leaves { map (λ list. list.items) ports.now ≡ map (λ w. leaves (wire_of w).connector) wires.now }
     ensures noted { AreGuardsNoted (map wire_of wires.now) connector rows.new number }
     ensures only { (n k : ℕ) → IsOfPort k → is_in_row rows.new n k ≡ is_in_row rows.old n k }
     ensures kept { KeepsNoted rows.old rows.new }
@@ -102,7 +102,7 @@ fn note_interaction(
     number: u16,
 )
     requires number { number < MAX_INTERACTIONS }
-    requires leaves { map (λ list. list.items) ports.now ≡ map (λ w. leaves w.connector) wires.now }
+    requires leaves { map (λ list. list.items) ports.now ≡ map (λ w. leaves (wire_of w).connector) wires.now }
     ensures noted { IsNoted (map wire_of wires.now) (interaction_of interaction.now) rows.new number }
     ensures only { (n k : ℕ) → IsOfPort k → (n ≡ number → has_row interaction.now.ports.items k ≡ false) → is_in_row rows.new n k ≡ is_in_row rows.old n k }
     ensures kept { KeepsNoted rows.old rows.new }
@@ -119,7 +119,7 @@ fn note_all(
     interactions: &[Interaction],
 )
     requires few { length interactions.now ≤ MAX_INTERACTIONS }
-    requires leaves { map (λ list. list.items) ports.now ≡ map (λ w. leaves w.connector) wires.now }
+    requires leaves { map (λ list. list.items) ports.now ≡ map (λ w. leaves (wire_of w).connector) wires.now }
     ensures touching { AreTouching (map wire_of wires.now) (map interaction_of interactions.now) rows.new }
     ensures only { (n k : ℕ) → IsOfPort k → is_on_row (map interaction_of interactions.now) n k ≡ false → is_in_row rows.new n k ≡ is_in_row rows.old n k }
 {
@@ -138,7 +138,7 @@ pub(crate) fn touching_rows(
 ) -> Result<Vec<InteractionSet>, AllocError>
     requires atoms { atoms ≤ MAX_ATOMS }
     requires few { length interactions.now ≤ MAX_INTERACTIONS }
-    requires leaves { map (λ list. list.items) ports.now ≡ map (λ w. leaves w.connector) wires.now }
+    requires leaves { map (λ list. list.items) ports.now ≡ map (λ w. leaves (wire_of w).connector) wires.now }
     ensures rows { IfOk result (λ rows. length rows.items ≡ atoms * ATOM_ROWS) }
     ensures touching { IfOk result (λ rows. AreTouching (map wire_of wires.now) (map interaction_of interactions.now) rows.items) }
     ensures only { IfOk result (λ rows. AreOnPorts (map interaction_of interactions.now) rows.items) }

@@ -40,7 +40,7 @@ fn wire_fault(
 ) -> Option<SystemFault>
     requires few { length wires.now ≤ MAX_WIRES }
     requires there { number < length wires.now }
-    requires ports { ports.now ≡ leaves wire.now.connector }
+    requires ports { ports.now ≡ leaves (wire_of wire.now).connector }
     ensures { result ≡ wire_fault (map definition_of atoms.now) (map wire_of wires.now) number (wire_of wire.now) }
 {
     match fault_of_wire(atoms, &wires[..number], wire, ports) {
@@ -51,7 +51,7 @@ fn wire_fault(
 
 /// The first rule that the wire breaks; `earlier` are the wires before it.
 fn fault_of_wire(atoms: &[Atom], earlier: &[Wire], wire: &Wire, ports: &[Port]) -> Option<WireFault>
-    requires { ports.now ≡ leaves wire.now.connector }
+    requires { ports.now ≡ leaves (wire_of wire.now).connector }
     ensures { result ≡ fault_of_wire (map definition_of atoms.now) (map wire_of earlier.now) (wire_of wire.now) }
 {
     let known = Exported { atoms, ports };

@@ -1,8 +1,7 @@
-use Rattle.std.proofs.Common.{◌≡◌, map, drop}
-use Rattle.connector_tree.specs.Tree.{some_true, node_has_empty}
+use Rattle.std.proofs.Common.{◌≡◌, drop}
+use Rattle.connector_tree.specs.Tree.{tree_in, has_empty_bracket}
 use Rattle.connector_tree.proofs.shape.+empty.Given as goal
 
 abbrev pub invariant-has_empty-loop-child : goal.invariant-has_empty-loop-child
 invariant-has_empty-loop-child l =
-    some_true (map (λ child. node_has_empty child.node) (drop l.child-index l.children))
-    ≡ some_true (map (λ child. node_has_empty child.node) l.children)
+    has_empty_bracket (tree_in (drop l.child-index l.children)) ≡ has_empty_bracket (tree_in l.children)

@@ -1,14 +1,15 @@
-use Rattle.std.proofs.Common.{◌≡◌, ◌+◌, ◌||◌, ◌&&◌, map, drop}
+use Rattle.std.proofs.Common.{◌≡◌, ◌+◌, ◌||◌, ◌&&◌, drop}
 use Rattle.std.specs.List.{list_any}
+use Rattle.connector_tree.specs.Tree.{tree_in}
 use Rattle.connector_tree.specs.Masks.{is_set}
-use Rattle.connector_tree.specs.Walk.{seen_child, count_all, some_all, every_takes, every_may, some_leads}
+use Rattle.connector_tree.specs.Walk.{seen_children, count_all, some_all, every_takes, every_may, some_leads}
 use Rattle.connector_tree.proofs.walk.+find.Given as goal
 
 abbrev pub invariant-find_all-loop-child : goal.invariant-find_all-loop-child
 invariant-find_all-loop-child l =
     let f = is_set l.mask in
-    let all = map seen_child l.children in
-    let rest = map seen_child (drop l.child-index l.children) in
+    let all = seen_children (tree_in l.children) in
+    let rest = seen_children (tree_in (drop l.child-index l.children)) in
     record {
       next : l.next + count_all rest ≡ l.at + count_all all;
       some : (l.some || some_all f l.next rest) ≡ some_all f l.at all;

@@ -1,4 +1,5 @@
 use Rattle.std.proofs.Common.{sym, ap, ◌∙◌}
+use Rattle.connector_tree.specs.Tree.{tree_in}
 use Rattle.connector_tree.specs.Walk.{takes}
 use Rattle.connector_tree.proofs.Filtered.{passing_keeps, passing_skips}
 use Rattle.connector_tree.proofs.walk.masks_taken.Goals as goal
@@ -6,7 +7,7 @@ use Rattle.connector_tree.proofs.walk.masks_taken.Goals.{then-find_all+in_ok-pus
 
 pub loop-mask-preserved : goal.loop-mask-preserved
 loop-mask-preserved c =
-    let test = takes c.args.children.now in
+    let test = takes (tree_in c.args.children.now) in
     elim c.if-find_all.branch [
       | then-find_all+in_ok-push w ↦
           ap (λ masks. masks.items) w.masks-is ∙ w.in_ok-push.ensures.items

@@ -1,5 +1,5 @@
-use Rattle.plant_trees.proofs.Agreement.{fault-connector}
+use Rattle.plant_trees.proofs.Agreement.{fault-tree}
 use Rattle.plant_trees.proofs.laws.tokens_have_the_fault.Goals as goal
 
 pub returns : goal.returns
-returns c = fault-connector
+returns c = fault-tree

@@ -7,5 +7,5 @@ pub invariant_of-interaction : goal.invariant_of-interaction
 invariant_of-interaction c =
     let mask = get_or c.deref-mask-items.result.now c.loop-mask.mask-index 0 in
     let leaves = c.deref.result.now in
-    let lent : length leaves ≡ length (tree.leaves c.args.connector.now) = ap length (c.deref.ensures.value ∙ c.in_ok-leaves.ensures) in
+    let lent : length leaves ≡ length (tree.leaves (tree.tree_of c.args.connector.now)) = ap length (c.deref.ensures.value ∙ c.in_ok-leaves.ensures) in
     record { few = omega (arith, ap length c.in_ok-ports.ensures, few_ports c.args.atoms mask leaves, lent, c.in_ok-masks.ensures.sound.few_leaves) }

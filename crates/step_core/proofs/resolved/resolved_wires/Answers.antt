@@ -1,10 +1,31 @@
-use Rattle.std.proofs.Common.{◌∙◌, ap, map}
-use Rattle.std.proofs.lemmas.List.{take_all}
+use Rattle.std.proofs.Common.{◌≡◌, ◌∙◌, ℕ, ◌+◌, ◌<◌, List, [], ◌∷◌, ◌++◌, ap, sym, map, length, get_or, take}
+use Rattle.std.proofs.lemmas.List.{take_all, take_more, map-append}
 use Rattle.petri_atom.specs.Atom.{definition_of}
-use Rattle.step_core.specs.Resolved.{resolved_by}
+use Rattle.petri_atom.specs.Definition.{AtomDefinition}
+use Rattle.step_core.specs.Resolved.{ResolvedDefinition, resolved_of, resolved_by}
 use Rattle.step_core.specs.Wire.{wire_of}
+use Rattle.step_core.specs.declared.resolved.Resolved.{Resolved}
+use Rattle.step_core.specs.declared.wire.Wire.{Wire}
 use Rattle.step_core.proofs.Guarding.{guarding-found, delivering-found}
 use Rattle.step_core.proofs.resolved.resolved_wires.Goals as goal
+
+-- what is found of one more wire, behind what was found of those before it
+one_more : (atoms : List AtomDefinition) (wires : List Wire) (i : ℕ) (wire : Wire) (before after : List Resolved) (made : Resolved) → i < length wires → wire ≡ get_or wires i wire → after ≡ before ++ made ∷ [] → resolved_of made ≡ resolved_by atoms (wire_of wire)
+    → map resolved_of before ≡ map (resolved_by atoms) (map wire_of (take i wires)) → map resolved_of after ≡ map (resolved_by atoms) (map wire_of (take (i + 1) wires))
+one_more atoms wires i wire before after made within here joined found so_far =
+    let by : Wire → ResolvedDefinition = λ w. resolved_by atoms (wire_of w) in
+    ap (map resolved_of) joined
+    ∙ map-append resolved_of before (made ∷ [])
+    ∙ ap (λ rs. rs ++ resolved_of made ∷ []) so_far
+    ∙ ap (λ r. map (resolved_by atoms) (map wire_of (take i wires)) ++ r ∷ []) (found ∙ ap by here)
+    ∙ sym (ap (λ ws. map (resolved_by atoms) (map wire_of ws)) (take_more wires i wire within)
+    ∙ ap (map (resolved_by atoms)) (map-append wire_of (take i wires) (get_or wires i wire ∷ []))
+    ∙ map-append (resolved_by atoms) (map wire_of (take i wires)) (wire_of (get_or wires i wire) ∷ []))
+
+pub loop-wire-preserved : goal.loop-wire-preserved
+loop-wire-preserved c =
+    one_more (map definition_of c.args.atoms.now) c.args.wires.now c.loop-wire.wire-index c.wire-item.result c.loop-wire.all.items c.push.new.self.items c.in_ok-of.field-0
+    c.loop-wire-test.true c.wire-item.is c.in_ok-push.ensures.items c.in_ok-of.ensures c.loop-wire.invariant
 
 pub returns-clause-guarding : goal.returns-clause-guarding
 returns-clause-guarding c =

@@ -31,7 +31,7 @@ returns-then-not-is_empty-clause-noted c w known guarded =
     let n = c.from-place.result in
     let there = slice_get-map wire_of wires n ∙ ap (option_map wire_of) (slice_get_read wires (length wires) n wire refl found.3.0 found.1) in
     let its : wire_of wire ≡ w = same_Some (wire_of wire) w (sym there ∙ ap (slice_get (map wire_of wires)) c.from-place.ensures ∙ known) in
-    let lent : c.deref.result.now ≡ leaves wire.connector = c.deref.ensures.value ∙ same_at (λ list. list.items) (λ v. leaves v.connector) c.args.ports.now wires c.requires.leaves n c.index-ports-place.result wire found.3.0 c.index-ports-place.is found.1 in
+    let lent : c.deref.result.now ≡ leaves (wire_of wire).connector = c.deref.ensures.value ∙ same_at (λ list. list.items) (λ v. leaves (wire_of v).connector) c.args.ports.now wires c.requires.leaves n c.index-ports-place.result wire found.3.0 c.index-ports-place.is found.1 in
     ap (are_noted c.note_read.new.rows c.args.number at_guards) (ap (λ v. leaves v.connector) (sym its) ∙ sym lent) ∙ c.note_read.ensures.noted
 
 pub returns-in_default-clause-noted : goal.returns-in_default-clause-noted
