@@ -1,22 +1,18 @@
 -- Worked lines of a drawing, as computed facts of the definitions.
-use Rattle.std.proofs.Common.{◌≡◌, ◌++◌, ◌∷◌, [], ℕ, List, pos, negsuc, true, false, refl, ap, codes}
-use Rattle.std.specs.Prelude.{flat_map}
+use Rattle.std.proofs.Common.{◌≡◌, ◌∷◌, [], ℕ, List, pos, negsuc, true, false, refl, codes}
 use Rattle.std.specs.Fmt.{digits}
 use Rattle.petri_atom.specs.Expression.{Tree, number, variable, negation, operation}
 use Rattle.petri_atom.specs.Definition.{AtomDefinition}
 use Rattle.petri_atom.specs.declared.expression.Operator.TheVariants.{Add, LessOrEqual, And}
 use Rattle.petri_atom.specs.declared.parts.Variable.{Variable}
-use Rattle.connector_tree.specs.declared.tree.Connector.{Connector}
+use Rattle.connector_tree.specs.Tree as connectors
 use Rattle.connector_tree.specs.declared.tree.Port.{Port}
-use Rattle.plant_trees.specs.declared.token.Token.{Token}
-use Rattle.plant_trees.specs.declared.token.Token.TheVariants.{Leaf, Open, Close}
-use Rattle.plant_trees.specs.Connectors.{tokens_of}
 use Rattle.priority_filter.specs.declared.rule.Side.TheVariants.{Whole, One}
 use Rattle.priority_filter.specs.declared.rule.Rule.TheVariants.{Under, Maximal}
 use Rattle.step_core.specs.Plant.{WireDefinition}
 use Rattle.plant_drawing.specs.Expression.{expression_text, variable_name}
 use Rattle.plant_drawing.specs.Atom.{atom_lines, place_line, port_line, transition_lines}
-use Rattle.plant_drawing.specs.Connector.{connector_lines, guard_line, spaced_word, port_edge, transfer_line}
+use Rattle.plant_drawing.specs.Connector.{connector_lines, guard_line, transfer_line}
 use Rattle.plant_drawing.specs.Export.{export_name}
 use Rattle.plant_drawing.specs.Rule.{rule_line}
 use Rattle.plant_drawing.specs.Drawing.{drawing_of}
@@ -76,17 +72,14 @@ cluster : atom_lines 2 sample ≡ codes "  subgraph cluster_2 {\n    label=\"A\\
 unfolding sample digits
 cluster = refl
 
--- the tokens of `A.t' [ A.t ]'`
-abbrev tokens : List Token
-tokens = Leaf (record { atom = 0; port = 0 }) true ∷ Open ∷ Leaf (record { atom = 0; port = 0 }) false ∷ Close true ∷ []
+-- the tree `A.t' [ A.t ]'`
+abbrev tree : connectors.Tree
+tree = connectors.child true (connectors.leaf 0 0) (connectors.child true (connectors.bracket (connectors.child false (connectors.leaf 0 0) connectors.no_child)) connectors.no_child)
 
--- whatever tree writes them
-connector_of_tokens : (connector : Connector) → tokens_of connector ≡ tokens
-    → connector_lines (sample ∷ []) 1 (record { name = codes "c"; connector = connector; guards = []; transfers = [] })
+connector_with_a_bracket : connector_lines (sample ∷ []) 1 (record { name = codes "c"; connector = tree; guards = []; transfers = [] })
     ≡ codes "  connector_1 [shape=box, style=\"rounded,filled\", fillcolor=lightyellow, label=\"c\\n A.t' [ A.t ]' \"];\n  connector_1 -> port_0_0 [arrowhead=normal];\n  connector_1 -> port_0_0 [arrowhead=dot];\n"
 unfolding sample digits
-connector_of_tokens connector written =
-    ap (λ ts. codes "  connector_1 [shape=box, style=\"rounded,filled\", fillcolor=lightyellow, label=\"c\\n" ++ (flat_map (spaced_word (sample ∷ [])) ts ++ codes " " ++ [] ++ []) ++ codes "\"];\n" ++ flat_map (port_edge 1) ts) written
+connector_with_a_bracket = refl
 
 -- an atom B whose port u exports m and then n
 exporter : AtomDefinition
@@ -120,7 +113,7 @@ unfolding sample exporter digits
 transfer = refl
 
 -- rules between the connectors low and high
-module _ (connector : Connector) where
+module _ (connector : connectors.Tree) where
   abbrev wires : List WireDefinition
   wires = record { name = codes "low"; connector = connector; guards = []; transfers = [] } ∷ record { name = codes "high"; connector = connector; guards = []; transfers = [] } ∷ []
 

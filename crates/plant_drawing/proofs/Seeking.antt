@@ -2,7 +2,7 @@
 use Rattle.std.proofs.Common.{◌≡◌, ℕ, zero, suc, ◌+◌, ◌<◌, ◌∙◌, refl, ap, sym, List, [], ◌∷◌, ◌++◌, length, drop, get_or}
 use Rattle.std.specs.Prelude.{slice_get}
 use Rattle.std.proofs.lemmas.List.{drop_more}
-use Rattle.connector_tree.specs.Tree.{leaves_of, node_leaves}
+use Rattle.connector_tree.specs.Tree.{tree_in, branch_of, leaves, branch_leaves}
 use Rattle.connector_tree.specs.declared.tree.Child.{Child}
 use Rattle.connector_tree.specs.declared.tree.Port.{Port}
 use Rattle.plant_drawing.specs.Sought.{sought, found}
@@ -22,11 +22,11 @@ sought-further (suc number) (x ∷ xs) ys = sought-further number xs ys
 
 -- a child's leaves are sought before those of its siblings
 pub sought-child : (children : List Child) (i : ℕ) (child : Child) (number : ℕ) → i < length children → child ≡ get_or children i child
-    → sought number (leaves_of (drop i children)) ≡ further (sought number (node_leaves child.node)) (leaves_of (drop (i + 1) children))
+    → sought number (leaves (tree_in (drop i children))) ≡ further (sought number (branch_leaves (branch_of child.node))) (leaves (tree_in (drop (i + 1) children)))
 sought-child children i child number within here =
-    ap (λ cs. sought number (leaves_of cs)) (drop_more children i child within)
-    ∙ ap (λ c. sought number (node_leaves c.node ++ leaves_of (drop (i + 1) children))) (sym here)
-    ∙ sought-further number (node_leaves child.node) (leaves_of (drop (i + 1) children))
+    ap (λ cs. sought number (leaves (tree_in cs))) (drop_more children i child within)
+    ∙ ap (λ c. sought number (branch_leaves (branch_of c.node) ++ leaves (tree_in (drop (i + 1) children)))) (sym here)
+    ∙ sought-further number (branch_leaves (branch_of child.node)) (leaves (tree_in (drop (i + 1) children)))
 
 -- the leaf that is found is the entry with the number
 pub found-entry : (number : ℕ) (ports : List Port) → found (sought number ports) ≡ slice_get ports number

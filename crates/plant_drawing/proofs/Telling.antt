@@ -11,7 +11,7 @@ use Rattle.connector_tree.specs.declared.tree.Child.{Child}
 use Rattle.connector_tree.specs.declared.tree.Node.TheVariants as node
 use Rattle.plant_trees.specs.declared.token.Token.{Token}
 use Rattle.plant_trees.specs.declared.token.Token.TheVariants.{Leaf, Open, Close}
-use Rattle.plant_trees.specs.Connectors.{node_tokens, child_tokens, children_tokens}
+use Rattle.plant_trees.specs.Connectors.{node_tokens, children_tokens}
 use Rattle.plant_trees.proofs.Written.{tokens-leaf, tokens-fusion}
 use Rattle.run_text.proofs.Leading.{Leads, leads-more, leads-same}
 
@@ -30,13 +30,13 @@ told-fusion say children trigger =
 -- a child is told, and its siblings are left
 pub leads-child : (say : Token → List ℕ) (children : List Child) (i : ℕ) (child : Child) (start now next : Option (List ℕ)) (all : List ℕ)
     → i < length children → child ≡ get_or children i child → Leads start now (flat_map say (children_tokens (drop i children))) all
-    → Appends now next (flat_map say (child_tokens child)) → Leads start next (flat_map say (children_tokens (drop (i + 1) children))) all
+    → Appends now next (flat_map say (node_tokens child.node child.trigger)) → Leads start next (flat_map say (children_tokens (drop (i + 1) children))) all
 leads-child say children i child start now next all within here l p =
     let later : List Token = children_tokens (drop (i + 1) children) in
-    let told : flat_map say (children_tokens (drop i children)) ≡ flat_map say (child_tokens child) ++ flat_map say later =
+    let told : flat_map say (children_tokens (drop i children)) ≡ flat_map say (node_tokens child.node child.trigger) ++ flat_map say later =
     ap (λ cs. flat_map say (children_tokens cs)) (drop_more children i child within)
-    ∙ flat_map-append say (child_tokens (get_or children i child)) later
-    ∙ ap (λ c. flat_map say (child_tokens c) ++ flat_map say later) (sym here) in
+    ∙ flat_map-append say (node_tokens (get_or children i child).node (get_or children i child).trigger) later
+    ∙ ap (λ c. flat_map say (node_tokens c.node c.trigger) ++ flat_map say later) (sym here) in
     leads-more _ _ _ _ _ _ (leads-same l told) p
 
 -- a bracket is printed: its begin, its children and its end

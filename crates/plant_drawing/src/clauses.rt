@@ -3,7 +3,7 @@ ghost use Rattle.std.specs.Prelude.{OnOk, flat_map, map};
 ghost use Rattle.std.specs.Io.KnownBytes.{Appends};
 ghost use Rattle.petri_atom.specs.Atom.{definition_of};
 ghost use Rattle.petri_atom.specs.Expression.{tree_of};
-ghost use Rattle.connector_tree.specs.Tree.{leaves};
+ghost use Rattle.connector_tree.specs.Tree as connectors;
 ghost use Rattle.step_core.specs.Wire.{transfer_of};
 ghost use Rattle.plant_drawing.specs.Connector.{guard_line, transfer_line};
 
@@ -21,7 +21,7 @@ pub(crate) fn print_guards<W: Write>(
     output: &mut W,
 ) -> Result<(), WriteFault>
     ensures { OnOk result (Appends (W.contents output.old) (W.contents output.new)
-        (flat_map (guard_line (map definition_of exports.now.atoms.now) (leaves exports.now.connector.now)) (map tree_of guards.now))) }
+        (flat_map (guard_line (map definition_of exports.now.atoms.now) (connectors.leaves (connectors.tree_of exports.now.connector.now))) (map tree_of guards.now))) }
 {
     for guard in guards {
         print_guard(exports, guard, output)?;
@@ -36,7 +36,7 @@ fn print_guard<W: Write>(
     output: &mut W,
 ) -> Result<(), WriteFault>
     ensures { OnOk result (Appends (W.contents output.old) (W.contents output.new)
-        (guard_line (map definition_of exports.now.atoms.now) (leaves exports.now.connector.now) (tree_of guard.now))) }
+        (guard_line (map definition_of exports.now.atoms.now) (connectors.leaves (connectors.tree_of exports.now.connector.now)) (tree_of guard.now))) }
 {
     print_text(output, b"\\nguard ")?;
     print_expression(guard, exports, output)
@@ -49,7 +49,7 @@ pub(crate) fn print_transfers<W: Write>(
     output: &mut W,
 ) -> Result<(), WriteFault>
     ensures { OnOk result (Appends (W.contents output.old) (W.contents output.new)
-        (flat_map (transfer_line (map definition_of exports.now.atoms.now) (leaves exports.now.connector.now)) (map transfer_of transfers.now))) }
+        (flat_map (transfer_line (map definition_of exports.now.atoms.now) (connectors.leaves (connectors.tree_of exports.now.connector.now))) (map transfer_of transfers.now))) }
 {
     for transfer in transfers {
         print_transfer(exports, transfer, output)?;
@@ -64,7 +64,7 @@ fn print_transfer<W: Write>(
     output: &mut W,
 ) -> Result<(), WriteFault>
     ensures { OnOk result (Appends (W.contents output.old) (W.contents output.new)
-        (transfer_line (map definition_of exports.now.atoms.now) (leaves exports.now.connector.now) (transfer_of transfer.now))) }
+        (transfer_line (map definition_of exports.now.atoms.now) (connectors.leaves (connectors.tree_of exports.now.connector.now)) (transfer_of transfer.now))) }
 {
     print_text(output, b"\\n")?;
     exports.print_name(&transfer.target, output)?;

@@ -76,8 +76,8 @@ fn print_tree<W: Write>(atoms: &[Atom], wire: &Wire, output: &mut W) -> Result<(
 /// Prints the guard clauses of a connector, and then its transfers.
 fn print_clauses<W: Write>(atoms: &[Atom], wire: &Wire, output: &mut W) -> Result<(), WriteFault>
     ensures { OnOk result (Appends (W.contents output.old) (W.contents output.new)
-        (flat_map (guard_line (map definition_of atoms.now) (leaves wire.now.connector)) (wire_of wire.now).guards ++
-        flat_map (transfer_line (map definition_of atoms.now) (leaves wire.now.connector)) (wire_of wire.now).transfers)) }
+        (flat_map (guard_line (map definition_of atoms.now) (leaves (wire_of wire.now).connector)) (wire_of wire.now).guards ++
+        flat_map (transfer_line (map definition_of atoms.now) (leaves (wire_of wire.now).connector)) (wire_of wire.now).transfers)) }
 {
     let exports = Exports {
         atoms,

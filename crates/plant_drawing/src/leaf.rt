@@ -1,6 +1,6 @@
 //! The leaf of a connector with a number.
 ghost use Rattle.std.specs.Prelude.{◌≡◌, slice_get};
-ghost use Rattle.connector_tree.specs.Tree.{leaves, leaves_of, node_leaves};
+ghost use Rattle.connector_tree.specs.Tree.{tree_of, tree_in, branch_of, leaves, branch_leaves};
 ghost use Rattle.plant_drawing.specs.Sought.{sought};
 
 use connector_tree::{Child, Connector, Node, Port};
@@ -16,7 +16,7 @@ pub(crate) enum Sought {
 
 /// The leaf of the connector with this number; `None` where it is not there.
 pub(crate) fn leaf_at(connector: &Connector, number: usize) -> Option<Port>
-    ensures { result ≡ slice_get (leaves connector.now) number }
+    ensures { result ≡ slice_get (leaves (tree_of connector.now)) number }
 {
     match seek(&connector.root, number) {
         Sought::Found(port) => Some(port),
@@ -27,7 +27,7 @@ pub(crate) fn leaf_at(connector: &Connector, number: usize) -> Option<Port>
 /// Seeks a leaf among those of several children of a tree.
 #[cycle(seek)]
 fn seek(children: &[Child], number: usize) -> Sought
-    ensures { result ≡ sought number (leaves_of children.now) }
+    ensures { result ≡ sought number (leaves (tree_in children.now)) }
 {
     let mut left = number;
     for child in children {
@@ -42,7 +42,7 @@ fn seek(children: &[Child], number: usize) -> Sought
 /// Seeks a leaf among those of a node of a tree.
 #[cycle(seek)]
 fn seek_in(node: &Node, number: usize) -> Sought
-    ensures { result ≡ sought number (node_leaves node.now) }
+    ensures { result ≡ sought number (branch_leaves (branch_of node.now)) }
 {
     match node {
         Node::Leaf { atom, port } => {

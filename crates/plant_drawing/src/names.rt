@@ -57,10 +57,10 @@ pub(crate) struct Exports<'a> {
 impl Names<Export> for Exports<'_> {
     ghost use Rattle.std.specs.Prelude.{map};
     ghost use Rattle.petri_atom.specs.Atom.{definition_of};
-    ghost use Rattle.connector_tree.specs.Tree.{leaves};
+    ghost use Rattle.connector_tree.specs.Tree.{tree_of, leaves};
     ghost use Rattle.plant_drawing.specs.Export.{export_name};
 
-    ghost name_of = { λ names export. export_name (map definition_of names.atoms.now) (leaves names.connector.now) export };
+    ghost name_of = { λ names export. export_name (map definition_of names.atoms.now) (leaves (tree_of names.connector.now)) export };
 
     fn print_name<W: Write>(&self, variable: &Export, output: &mut W) -> Result<(), WriteFault> {
         match leaf_at(self.connector, usize::from(variable.leaf)) {

@@ -3,15 +3,15 @@ use Rattle.std.proofs.Common.{◌≡◌, ◌∙◌, sym, ap, refl, ℕ, List, Re
 use Rattle.std.specs.Prelude.{OnOk, OnErr}
 use Rattle.petri_atom.specs.Expression.{Tree}
 use Rattle.petri_atom.specs.Definition.{AtomDefinition}
+use Rattle.connector_tree.specs.Tree as connectors
 use Rattle.connector_tree.specs.Tree.{leaves}
-use Rattle.connector_tree.specs.declared.tree.Connector.{Connector}
 use Rattle.connector_tree.specs.declared.tree.Port.{Port}
 use Rattle.step_core.specs.Plant.{TransferDefinition, WireDefinition}
 use Rattle.step_core.specs.declared.wire.Export.{Export}
 use Rattle.atom_lines.specs.declared.fault.LineFault.{LineFault}
 use Rattle.atom_lines.specs.Reading as line
 use Rattle.plant_trees.specs.Connectors.{tokens_of}
-use Rattle.plant_trees.proofs.Leaves.{ports-connector}
+use Rattle.plant_trees.proofs.Leaves.{ports-tree}
 use Rattle.wire_lines.specs.Names.{variable_in}
 use Rattle.wire_lines.specs.Rows.{guards_with, transfers_with, guard_row, transfer_row}
 use Rattle.plant_text.specs.Text.{WireText, wire_text_of}
@@ -40,14 +40,14 @@ transfers_written w (Err fault) = refl
 guard_written : (atoms : List AtomDefinition) (words : List (List ℕ)) (w : WireDefinition) →
     wire_part_row Guard atoms words (wire_text_of w) ≡ written (guard_row (atom_number atoms) (export_named atoms) words w)
 guard_written atoms words w =
-    ap (λ (ports : List Port). guards_with (variable_in (atom_number atoms) (export_named atoms) ports) words w.guards >>= λ guards. Ok (record (wire_text_of w) { guards = guards })) (ports-connector w.connector) ∙
+    ap (λ (ports : List Port). guards_with (variable_in (atom_number atoms) (export_named atoms) ports) words w.guards >>= λ guards. Ok (record (wire_text_of w) { guards = guards })) (ports-tree w.connector) ∙
     guards_written w (guards_with (variable_in (atom_number atoms) (export_named atoms) (leaves w.connector)) words w.guards)
 
 -- a line `move` says the same of a connector and of how it is written
 transfer_written : (atoms : List AtomDefinition) (words : List (List ℕ)) (w : WireDefinition) →
     wire_part_row Transfer atoms words (wire_text_of w) ≡ written (transfer_row (atom_number atoms) (export_named atoms) words w)
 transfer_written atoms words w =
-    ap (λ (ports : List Port). transfers_with (variable_in (atom_number atoms) (export_named atoms) ports) words w.transfers >>= λ transfers. Ok (record (wire_text_of w) { transfers = transfers })) (ports-connector w.connector) ∙
+    ap (λ (ports : List Port). transfers_with (variable_in (atom_number atoms) (export_named atoms) ports) words w.transfers >>= λ transfers. Ok (record (wire_text_of w) { transfers = transfers })) (ports-tree w.connector) ∙
     transfers_written w (transfers_with (variable_in (atom_number atoms) (export_named atoms) (leaves w.connector)) words w.transfers)
 
 -- what a line `guard` makes of a connector
@@ -67,7 +67,7 @@ pub transfer_refused : (atoms : List AtomDefinition) (words : List (List ℕ)) (
 transfer_refused atoms words w fault says = transfer_written atoms words w ∙ ap written says
 
 -- the tree of what was read, or another one where nothing was
-abbrev tree_behind : Connector → Result WireDefinition LineFault → Connector
+abbrev tree_behind : connectors.Tree → Result WireDefinition LineFault → connectors.Tree
 tree_behind before (Ok w) = w.connector
 tree_behind before (Err fault) = before
 

@@ -13,3 +13,4 @@ pub mod Systems
 pub mod Marked
 pub mod Written
 pub mod Taking
+pub mod OnePlant

@@ -10,8 +10,7 @@ use Rattle.std.proofs.lemmas.Simd.{map-map}
 use Rattle.petri_atom.specs.Name.{is_same_text}
 use Rattle.connector_tree.specs.Faults as tree
 use Rattle.connector_tree.specs.Masks as mask
-use Rattle.connector_tree.specs.Tree.{leaves}
-use Rattle.connector_tree.specs.declared.tree.Connector.{Connector}
+use Rattle.connector_tree.specs.Tree.{Tree, leaves}
 use Rattle.priority_filter.specs.Decided.{order_fault}
 use Rattle.priority_filter.specs.declared.fault.OrderFault.{OrderFault}
 use Rattle.step_core.specs.Choice as choice
@@ -28,7 +27,7 @@ use Rattle.plant_text.specs.Text.{wire_text_of, text_of}
 -- ---- interactions
 
 -- those of one connector
-of_connector : (atoms k : ℕ) (c : Connector) → map choice.named (choice.interactions_of_connector atoms k c) ≡ interactions_at k (tokens_of c)
+of_connector : (atoms k : ℕ) (c : Tree) → map choice.named (choice.interactions_of_connector atoms k c) ≡ interactions_at k (tokens_of c)
 of_connector atoms k c =
     map-map choice.named (choice.interaction_by atoms k (leaves c)) (mask.interactions_of c) ∙
     ap (map (λ mask. (k, mask))) (sym (connector.interactions_written c))

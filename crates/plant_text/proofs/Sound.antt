@@ -19,8 +19,8 @@ use Rattle.step_core.specs.declared.limits.TheConstants.{MAX_ATOMS, MAX_WIRES, M
 use Rattle.step_core.proofs.Told.{four}
 use Rattle.text_io.specs.declared.reading.TheConstants.{MAX_TEXT}
 use Rattle.plant_words.specs.Lines.{lines_of}
-use Rattle.plant_trees.proofs.Agreement.{fault-connector}
-use Rattle.plant_trees.proofs.Leaves.{ports-connector}
+use Rattle.plant_trees.proofs.Agreement.{fault-tree}
+use Rattle.plant_trees.proofs.Leaves.{ports-tree}
 use Rattle.plant_text.specs.Text.{PlantText, wire_text_of, text_of}
 use Rattle.plant_text.specs.Interactions.{interactions_of}
 use Rattle.plant_text.specs.Fault.{of_no_line}
@@ -38,7 +38,7 @@ use Rattle.plant_text.proofs.SoundLines.{HasNewName, SoundText, text_sound}
 wire_keeps : (atoms : List AtomDefinition) (before : List WireDefinition) (w : WireDefinition) → SoundBehind atoms (map wire_text_of before) (wire_text_of w) → fault_of_wire atoms before w ≡ None
 wire_keeps atoms before w sound =
     let named : list_any (λ v. is_same_text v.name w.name) before ≡ false = sym (list_any-map (λ v. is_same_text v.name w.name) wire_text_of before) ∙ sound.name in
-    let leaves = ports-connector w.connector in
+    let leaves = ports-tree w.connector in
     let ports = subst (λ ports. list_all (is_known_port atoms) ports ≡ true) leaves sound.sound.ports in
     let variables = subst (λ ports. (list_all (all_variables (is_known_export atoms ports)) w.guards && list_all (names_known atoms ports) w.transfers) ≡ true) leaves
     (and_from _ _ sound.sound.guards.passing sound.sound.transfers.passing) in
@@ -65,7 +65,7 @@ module _ (plant : PlantDefinition) (sound : SoundText (text_of plant)) where
       let names : first_told (atom_fault plant.atoms) 0 plant.atoms ≡ None =
       none_told (atom_fault plant.atoms) HasNewName plant.atoms (λ n a new. ap (λ b. if b then Some (BadAtom n) else None) new) [] plant.atoms refl sound.names in
       let trees : first_told tree_fault 0 plant.wires ≡ None =
-      none_told tree_fault Holds plant.wires (λ k w holds. ap (option_map (BadConnector k)) (sym (fault-connector w.connector) ∙ holds.sound.tree)) [] plant.wires refl each in
+      none_told tree_fault Holds plant.wires (λ k w holds. ap (option_map (BadConnector k)) (sym (fault-tree w.connector) ∙ holds.sound.tree)) [] plant.wires refl each in
       ap (λ b. if not b then Some Limit else first_of (first_told (atom_fault plant.atoms) 0 plant.atoms) (first_told tree_fault 0 plant.wires)) (within some) ∙
       ap (λ o. first_of o (first_told tree_fault 0 plant.wires)) names ∙ trees
 

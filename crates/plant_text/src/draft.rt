@@ -2,6 +2,7 @@
 ghost use Rattle.std.specs.Prelude.{◌≡◌, ◌<◌, ◌≤◌, [], ◌∷◌, ◌++◌, length, map, false, is_ok, IfOk, IfErr, IfNone, IfSome, OnOk, Ok, None};
 ghost use Rattle.petri_atom.specs.Parts.{definition_by};
 ghost use Rattle.step_core.specs.declared.limits.TheConstants.{MAX_ATOMS, MAX_WIRES, MAX_RULES};
+ghost use Rattle.connector_tree.specs.Tree.{tree_of};
 ghost use Rattle.connector_tree.specs.Faults.{fault_of};
 ghost use Rattle.atom_lines.specs.Draft.{drafted as atom_drafted};
 ghost use Rattle.plant_trees.specs.Connectors.{tokens_of};
@@ -214,9 +215,9 @@ impl PlantDraft {
 
     /// The tree that the words are, over ports of the atoms so far.
     fn read_tree(&self, words: &mut Words) -> Result<Connector, Fault>
-        ensures tree { IfOk result (λ connector. told_tree (tree_in (port_named (drafted self.now).atoms) words.old) ≡ Ok (tokens_of connector)) }
+        ensures tree { IfOk result (λ connector. told_tree (tree_in (port_named (drafted self.now).atoms) words.old) ≡ Ok (tokens_of (tree_of connector))) }
         ensures fault { IfErr result (IsFaultOf (told_tree (tree_in (port_named (drafted self.now).atoms) words.old))) }
-        ensures sound { IfOk result (λ connector. fault_of connector ≡ None) }
+        ensures sound { IfOk result (λ connector. fault_of (tree_of connector) ≡ None) }
     {
         Ok(read_tree(self.alloc, words, &self.table())?)
     }

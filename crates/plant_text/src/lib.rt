@@ -14,10 +14,10 @@
 //! lines. Each byte must be printed ASCII, a space or a tab, also in a comment.
 //!
 //! What a text means is one definition, `meaning` (`specs/Meaning.antt`): the plant as it was written, or the first line
-//! with a fault. It applies a row for each kind of line (`specs/Rows.antt`) to the plant so far, line by line. No
-//! definition can make a connector, whose children are held in vectors; so a connector is written as the tokens of its
-//! tree, and `text_of` (`specs/Text.antt`) says how a plant is written. [`read_plant`] and [`plant_of_text`] give a system
-//! whose plant is written as the text means, with the SHA-256 of the text as its digest.
+//! with a fault. It applies a row for each kind of line (`specs/Rows.antt`) to the plant so far, line by line. A connector
+//! is written as the tokens of its tree, and `text_of` (`specs/Text.antt`) says how a plant is written. No two plants are
+//! written alike, so a text means one plant: [`read_plant`] and [`plant_of_text`] give a system of that plant, with the
+//! SHA-256 of the text as its digest.
 //!
 //! - A fault ([`PlantFault`]) is the one of the text's meaning, or want of memory, or that the reader failed. Within a
 //!   line the first word from the left that is at fault is told; an illegal byte before all words; one atom, connector or

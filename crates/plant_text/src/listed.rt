@@ -1,5 +1,6 @@
 //! A connector so far, with its interactions.
 ghost use Rattle.std.specs.Prelude.{◌≡◌, map, IfOk, IfErr, OnOk, Ok, None, []};
+ghost use Rattle.connector_tree.specs.Tree.{tree_of};
 ghost use Rattle.connector_tree.specs.Faults.{fault_of};
 ghost use Rattle.atom_lines.specs.Draft.{drafted};
 ghost use Rattle.atom_lines.specs.Fault.{IsFaultOf};
@@ -32,8 +33,8 @@ impl ListedWire {
 
     /// The connector with the name, and neither guard clauses nor transfers.
     pub(crate) fn new(alloc: Global, name: Name, connector: Connector) -> Result<Self, Fault>
-        requires { fault_of connector ≡ None }
-        ensures wire { IfOk result (λ wire. wire_listed wire ≡ record { name = name; tree = tokens_of connector; guards = []; transfers = [] }) }
+        requires { fault_of (tree_of connector) ≡ None }
+        ensures wire { IfOk result (λ wire. wire_listed wire ≡ record { name = name; tree = tokens_of (tree_of connector); guards = []; transfers = [] }) }
         ensures fault { IfErr result (λ told. told ≡ fault.Memory) }
     {
         let masks = masks_of(alloc, &connector)?;
@@ -58,8 +59,8 @@ impl ListedWire {
 
 /// The interactions of a connector.
 fn masks_of(alloc: Global, connector: &Connector) -> Result<Vec<Mask>, Fault>
-    requires { fault_of connector.now ≡ None }
-    ensures masks { IfOk result (λ masks. masks.items ≡ interactions_in (tokens_of connector.now)) }
+    requires { fault_of (tree_of connector.now) ≡ None }
+    ensures masks { IfOk result (λ masks. masks.items ≡ interactions_in (tokens_of (tree_of connector.now))) }
     ensures fault { IfErr result (λ told. told ≡ fault.Memory) }
 {
     match interactions(alloc, connector) {

@@ -2,6 +2,7 @@
 ghost use Rattle.std.specs.Prelude.{◌≡◌, ◌≢◌, ◌≤◌, length, IfOk, IfErr, IfSome, OnOk, Ok, Err};
 ghost use Rattle.std.specs.Io.KnownBytes.{IsAtEnd};
 ghost use Rattle.sha2.specs.Sha256.{sha256};
+ghost use Rattle.step_core.specs.Plant.{PlantDefinition};
 ghost use Rattle.step_core.specs.System.{plant_of};
 ghost use Rattle.plant_words.specs.Lines.{lines_of};
 ghost use Rattle.text_io.specs.declared.reading.TheConstants.{MAX_TEXT};
@@ -33,6 +34,10 @@ pub fn read_plant<R: Read>(alloc: Global, reader: &mut R) -> Result<System, Plan
         (λ system. IfSome (R.remaining reader.old) (λ bytes. meaning bytes ≡ Ok (text_of (plant_of system)))) }
     ensures digest { IfOk result
         (λ system. IfSome (R.remaining reader.old) (λ bytes. system.digest ≡ sha256 bytes)) }
+
+    // The text means no other plant.
+    ensures only { IfOk result (λ system. IfSome (R.remaining reader.old)
+        (λ bytes. (plant : PlantDefinition) → meaning bytes ≡ Ok (text_of plant) → plant ≡ plant_of system)) }
     ensures fault { IfErr result
         (λ told. told ≢ of_no_line fault.Memory → told ≢ of_no_line fault.Read → IfSome (R.remaining reader.old) (λ bytes. meaning bytes ≡ Err told)) }
     ensures few { TakesFew (R.remaining reader.old) (R.remaining reader.new) }
@@ -45,6 +50,10 @@ pub fn read_plant<R: Read>(alloc: Global, reader: &mut R) -> Result<System, Plan
 pub fn plant_of_text(alloc: Global, text: &[u8]) -> Result<System, PlantFault>
     ensures plant { IfOk result (λ system. meaning text.now ≡ Ok (text_of (plant_of system))) }
     ensures digest { IfOk result (λ system. system.digest ≡ sha256 text.now) }
+
+    // The text means no other plant.
+    ensures only { IfOk result
+        (λ system. (plant : PlantDefinition) → meaning text.now ≡ Ok (text_of plant) → plant ≡ plant_of system) }
     ensures fault { IfErr result (λ told. told ≢ of_no_line fault.Memory → meaning text.now ≡ Err told) }
 {
     let draft = read_draft(alloc, text)?;

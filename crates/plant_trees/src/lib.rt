@@ -10,10 +10,9 @@
 //! | `[` | the begin of a bracket |
 //! | `]`, `]'` | the end of the bracket that began last, which is a synchron or a trigger |
 //!
-//! A connector holds its children in vectors, so no definition can make one. What words say is therefore told as a flat
-//! list of tokens, one for each word: `tree_in` (`specs/Trees.antt`) gives the tokens of a line, or its fault, and
-//! `tokens_of` (`specs/Connectors.antt`) writes a connector down as its tokens. The connector that is read has exactly
-//! the tokens of the line.
+//! What words say is told as a flat list of tokens, one for each word: `tree_in` (`specs/Trees.antt`) gives the tokens of a
+//! line, or its fault, and `tokens_of` (`specs/Connectors.antt`) writes a connector down as its tokens. The connector that
+//! is read has exactly the tokens of the line, and no other connector has them.
 //!
 //! - The first word from the left with a fault is told. The faults of the tree itself are judged when each word is
 //!   read, in the order in which `connector_tree` tells them, so that [`interactions`](connector_tree::interactions) of

@@ -7,7 +7,7 @@ use Rattle.petri_atom.specs.Local.{delivered_of, set_below}
 use Rattle.petri_atom.specs.Definition.{AtomDefinition}
 use Rattle.petri_atom.specs.declared.parts.Place.{Place}
 use Rattle.petri_atom.specs.declared.parts.Variable.{Variable}
-use Rattle.connector_tree.specs.declared.tree.Connector.{Connector}
+use Rattle.connector_tree.specs.Tree as connectors
 use Rattle.step_core.specs.Plant.{PlantDefinition}
 use Rattle.run_text.specs.Line.{participant, fired_line, state_line}
 use Rattle.run_text.specs.Word.{separated_by}
@@ -59,10 +59,10 @@ unfolding wide digits
 not_there = refl
 
 -- a plant with a connector of this atom
-abbrev plant_by : Connector → PlantDefinition
+abbrev plant_by : connectors.Tree → PlantDefinition
 plant_by connector = record { atoms = wide ∷ []; wires = record { name = codes "go"; connector = connector; guards = []; transfers = [] } ∷ []; rules = [] }
 
-fired_of_a_wire : (connector : Connector) → fired_line (plant_by connector) 12 (record { connector = 0; mask = 1; moves = record { atom = 0; transition = 1 } ∷ [] }) ≡ codes "12 go W.b/1"
+fired_of_a_wire : (connector : connectors.Tree) → fired_line (plant_by connector) 12 (record { connector = 0; mask = 1; moves = record { atom = 0; transition = 1 } ∷ [] }) ≡ codes "12 go W.b/1"
 unfolding wide digits
 fired_of_a_wire connector = refl
 

@@ -1,5 +1,6 @@
 use Rattle.std.specs.Prelude.{map}
 use Rattle.petri_atom.specs.Expression.{tree_of}
+use Rattle.connector_tree.specs.Tree as connectors
 use Rattle.step_core.specs.Plant.{WireDefinition}
 use Rattle.step_core.specs.Wire.{transfer_of}
 use Rattle.wire_lines.specs.declared.draft.WireDraft.{WireDraft}
@@ -8,7 +9,7 @@ use Rattle.wire_lines.specs.declared.draft.WireDraft.{WireDraft}
 abbrev pub drafted : WireDraft → WireDefinition
 drafted d = record {
   name = d.name;
-  connector = d.connector;
+  connector = connectors.tree_of d.connector;
   guards = map tree_of d.guards.items;
   transfers = map transfer_of d.transfers.items;
 }

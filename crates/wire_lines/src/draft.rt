@@ -1,7 +1,7 @@
 //! The connector as its lines have told it so far.
 ghost use Rattle.std.specs.Prelude.{◌≡◌, ◌≤◌, length, vec_len, map, Bool, true, false, IfOk, IfErr, OnOk, OnErr, Ok, []};
 ghost use Rattle.petri_atom.specs.Expression.{tree_of};
-ghost use Rattle.connector_tree.specs.Tree.{leaves};
+ghost use Rattle.connector_tree.specs.Tree as connectors;
 ghost use Rattle.connector_tree.specs.declared.tree.TheConstants.{MAX_LEAVES};
 ghost use Rattle.step_core.specs.Rules.{are_small_guards, are_small_transfers, is_small_wire};
 ghost use Rattle.step_core.specs.Wire.{wire_of, transfer_of};
@@ -29,7 +29,7 @@ pub struct WireDraft {
     ports: Vec<Port>,
     guards: Vec<Expression<Export>>,
     transfers: Vec<Transfer>,
-    ghost are_leaves: { ports.items ≡ leaves connector },
+    ghost are_leaves: { ports.items ≡ connectors.leaves (connectors.tree_of connector) },
     ghost few_leaves: { vec_len ports ≤ MAX_LEAVES },
     ghost small_guards: { are_small_guards (map tree_of guards.items) ≡ true },
     ghost small_transfers: { are_small_transfers (map transfer_of transfers.items) ≡ true },
@@ -41,8 +41,8 @@ impl WireDraft {
 
     /// The connector with the name, and neither guard clauses nor transfers.
     pub fn new(alloc: Global, name: Name, connector: Connector) -> Result<Self, AllocError>
-        requires { length (leaves connector) ≤ MAX_LEAVES }
-        ensures { IfOk result (λ draft. drafted draft ≡ record { name = name; connector = connector; guards = []; transfers = [] }) }
+        requires { length (connectors.leaves (connectors.tree_of connector)) ≤ MAX_LEAVES }
+        ensures { IfOk result (λ draft. drafted draft ≡ record { name = name; connector = connectors.tree_of connector; guards = []; transfers = [] }) }
     {
         let ports = leaves(alloc, &connector)?;
         Ok(WireDraft {
@@ -64,7 +64,7 @@ impl WireDraft {
 
     /// The connector's tree.
     pub fn connector(&self) -> &Connector
-        ensures { result.now ≡ (drafted self.now).connector }
+        ensures { connectors.tree_of result.now ≡ (drafted self.now).connector }
     {
         &self.connector
     }

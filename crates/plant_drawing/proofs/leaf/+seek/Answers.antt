@@ -1,5 +1,5 @@
 use Rattle.std.proofs.Common.{◌≡◌, ◌+◌, ◌∙◌, ap, sym, drop, arith}
-use Rattle.connector_tree.specs.Tree.{leaves_of, node_leaves}
+use Rattle.connector_tree.specs.Tree.{tree_in, branch_of, leaves, branch_leaves}
 use Rattle.plant_drawing.specs.Sought.{sought}
 use Rattle.plant_drawing.specs.declared.leaf.Sought.TheVariants.{Found, Behind}
 use Rattle.plant_drawing.proofs.Seeking.{further, sought-child}
@@ -8,8 +8,8 @@ use Rattle.plant_drawing.proofs.leaf.+seek.Goals as goal
 pub seek-returns-in-Found : goal.seek-returns-in-Found
 seek-returns-in-Found t c =
     let i = c.loop-child.child-index in
-    let rest = leaves_of (drop (i + 1) c.args.children.now) in
-    let told : sought c.loop-child.left (node_leaves c.child-item.result.node) ≡ Found c.in-Found.port = sym c.seek_in.ensures ∙ c.in-Found.is in
+    let rest = leaves (tree_in (drop (i + 1) c.args.children.now)) in
+    let told : sought c.loop-child.left (branch_leaves (branch_of c.child-item.result.node)) ≡ Found c.in-Found.port = sym c.seek_in.ensures ∙ c.in-Found.is in
     sym (sym c.loop-child.invariant
     ∙ sought-child c.args.children.now i c.child-item.result c.loop-child.left (omega arith) c.child-item.is
     ∙ ap (λ s. further s rest) told)
@@ -17,8 +17,8 @@ seek-returns-in-Found t c =
 pub seek-loop-child-preserved : goal.seek-loop-child-preserved
 seek-loop-child-preserved t c =
     let i = c.loop-child.child-index in
-    let rest = leaves_of (drop (i + 1) c.args.children.now) in
-    let told : sought c.loop-child.left (node_leaves c.child-item.result.node) ≡ Behind c.in-Behind.later = sym c.seek_in.ensures ∙ c.in-Behind.is in
+    let rest = leaves (tree_in (drop (i + 1) c.args.children.now)) in
+    let told : sought c.loop-child.left (branch_leaves (branch_of c.child-item.result.node)) ≡ Behind c.in-Behind.later = sym c.seek_in.ensures ∙ c.in-Behind.is in
     sym (sought-child c.args.children.now i c.child-item.result c.loop-child.left (omega arith) c.child-item.is
     ∙ ap (λ s. further s rest) told)
     ∙ c.loop-child.invariant

@@ -1,6 +1,7 @@
 use Rattle.std.proofs.Common.{◌∙◌, sym}
+use Rattle.connector_tree.specs.Tree.{tree_of}
 use Rattle.plant_trees.proofs.Meaning.{interactions_written}
 use Rattle.plant_text.proofs.listed.masks_of.Goals as goal
 
 pub returns-in-Ok-clause-masks : goal.returns-in-Ok-clause-masks
-returns-in-Ok-clause-masks c = c.in-Ok.ensures.list ∙ sym (interactions_written c.args.connector.now)
+returns-in-Ok-clause-masks c = c.in-Ok.ensures.list ∙ sym (interactions_written (tree_of c.args.connector.now))
