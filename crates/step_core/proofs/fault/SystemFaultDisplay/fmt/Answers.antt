@@ -1,0 +1,4 @@
+use Rattle.step_core.proofs.fault.SystemFaultDisplay.fmt.Goals as goal
+
+pub returns-in-BadAtom-clause-writes : goal.returns-in-BadAtom-clause-writes
+returns-in-BadAtom-clause-writes c k plain well = rw k.in-BadAtom.is (k.write.ensures.writes plain well)
