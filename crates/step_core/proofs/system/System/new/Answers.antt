@@ -43,17 +43,15 @@ invariant_of-result c =
     c.in_ok-interactions.ensures ∙ ap (λ k. interactions_from k 0 (map wire_of c.deref-6.result.now)) many ∙ ap (λ ws. interactions_from (length (map definition_of atoms)) 0 (map wire_of ws)) c.deref-6.ensures.value in
     let count : length (plant_interactions plant) ≡ c.len-2.result =
     omega (arith, c.len-2.ensures, all.ok.0, length-map all.items interaction_of, ap length listed) in
-    let names : c.deref-8.result.now ≡ map named (map interaction_of all.items) =
-    c.deref-8.ensures.value ∙ c.in_ok-names_of.ensures ∙ ap (λ xs. map named (map interaction_of xs)) c.deref-7.ensures.value in
     record {
       valid = subst (λ rs. fault_of (plant_by atoms wires rs) ≡ None) (sym order.ensures.rules)
-          (none-told plant none (ap fault_of_count count ∙ sym c.fault_of_count.ensures ∙ c.in_default-fault_of_count.is) (subst (λ xs. order_fault rules xs ≡ None) (names ∙ ap (map named) listed) order.ensures.sound));
+          (none-told plant none (ap fault_of_count count ∙ sym c.fault_of_count.ensures ∙ c.in_default-fault_of_count.is) (subst (λ xs. order_fault rules (map named xs) ≡ None) (ap (map interaction_of) c.deref-7.ensures.value ∙ listed) order.ensures.sound));
       leaves = c.in_ok-ports.ensures ∙ ap (map (λ w. leaves w.connector)) c.deref-3.ensures.value;
       guarding = subst (λ ws. AreGuarding (map definition_of atoms) (map wire_of ws) resolved) c.deref-5.ensures.value
           (subst (λ xs. AreGuarding (map definition_of xs) (map wire_of c.deref-5.result.now) resolved) c.deref-4.ensures.value c.in_ok-resolved.ensures.guarding);
       delivering = subst (λ ws. AreDelivering (map definition_of atoms) (map wire_of ws) resolved) c.deref-5.ensures.value
           (subst (λ xs. AreDelivering (map definition_of xs) (map wire_of c.deref-5.result.now) resolved) c.deref-4.ensures.value c.in_ok-resolved.ensures.delivering);
       listed = listed;
-      ordered = order.ensures.interactions ∙ names;
+      ordered = order.ensures.interactions ∙ ap (λ xs. map named (map interaction_of xs)) c.deref-7.ensures.value;
       unruled = c.free_interactions-free.ensures;
     }
