@@ -1,4 +1,4 @@
-use Rattle.std.proofs.Common.{◌≡◌, ℕ, suc, refl, sym, ◌∙◌, ap, List, [], ◌∷◌, take, length, Bool, true, false, cond, not}
+use Rattle.std.proofs.Common.{◌≡◌, ℕ, suc, refl, sym, ◌∙◌, ap, map, List, [], ◌∷◌, take, length, Bool, true, false, cond, not}
 use Rattle.std.specs.Prelude.{Option, Some, None, option_map}
 use Rattle.std.specs.List.{list_any}
 use Rattle.std.specs.Option.{option_map_or}
@@ -6,10 +6,11 @@ use Rattle.std.proofs.lemmas.Bool.{false≢true}
 use Rattle.petri_atom.specs.Definition.{AtomDefinition}
 use Rattle.petri_atom.specs.Name.{is_same_text}
 use Rattle.connector_tree.specs.Faults as tree
+use Rattle.priority_filter.specs.Decided.{order_fault}
 use Rattle.connector_tree.specs.declared.faults.TreeFault.{TreeFault}
 use Rattle.step_core.specs.Plant.{WireDefinition, PlantDefinition}
 use Rattle.step_core.specs.Rules.{first_of, first_told, atom_fault, tree_fault, is_within_limits, fault_of_wire, wire_fault, fault_of_wires, fault_of_count, early_fault, first_fault, fault_of_order, fault_of, IsFaultOf}
-use Rattle.step_core.specs.Choice.{plant_interactions}
+use Rattle.step_core.specs.Choice.{named, plant_interactions}
 use Rattle.step_core.specs.declared.fault.WireFault.{WireFault}
 use Rattle.step_core.specs.declared.fault.SystemFault.{SystemFault}
 use Rattle.step_core.specs.declared.fault.SystemFault.TheVariants.{Limit, BadAtom, BadConnector, BadWire, Order, Memory}
@@ -81,3 +82,14 @@ first-told fault plant told = each fault told
     each (BadWire k f) told = all (BadWire k f) told
     each (Order f) told = all (Order f) told
     each Memory told = absurd (false≢true (sym (ap tells_rules told) ∙ first_fault-rules plant))
+
+-- where none of some tells a fault, all tell none
+none-of-all : (early wires count order : Option SystemFault) → first_of early wires ≡ None → count ≡ None → order ≡ None → first_of early (first_of (first_of wires count) order) ≡ None
+none-of-all (Some e) wires count order none uncounted unordered = none
+none-of-all None (Some w) count order none uncounted unordered = none
+none-of-all None None count order none uncounted unordered = ap (λ o. first_of o order) uncounted ∙ unordered
+
+-- a plant has no fault where no rule tells one
+pub none-told : (plant : PlantDefinition) → first_fault plant ≡ None → fault_of_count (length (plant_interactions plant)) ≡ None → order_fault plant.rules (map named (plant_interactions plant)) ≡ None → fault_of plant ≡ None
+none-told plant none uncounted unordered =
+    none-of-all (early_fault plant) (fault_of_wires plant) (fault_of_count (length (plant_interactions plant))) (fault_of_order plant) none uncounted (ap (option_map Order) unordered)

@@ -1,13 +1,14 @@
 //! Systems are made of atoms and wires that keep the rules of a plant.
-ghost use Rattle.std.specs.Prelude.{◌≡◌, ◌≤◌, IfOk, IfErr, None, [], map, length};
+ghost use Rattle.std.specs.Prelude.{◌≡◌, ◌≢◌, ◌≤◌, IfOk, IfErr, OnOk, Some, None, [], map, length};
 ghost use Rattle.petri_atom.specs.Atom.{definition_of};
 ghost use Rattle.connector_tree.specs.Tree.{leaves};
+ghost use Rattle.priority_filter.specs.Decided.{order_fault};
 ghost use Rattle.step_core.specs.Choice.{interactions_from, interactions_of_connector, named, plant_interactions};
 ghost use Rattle.step_core.specs.Interaction.{interaction_of};
 ghost use Rattle.step_core.specs.Made.{plant_by};
 ghost use Rattle.step_core.specs.Rules.{first_fault, fault_of, fault_of_count, IsFaultOf};
 ghost use Rattle.step_core.specs.Wire.{wire_of};
-ghost use Rattle.step_core.specs.declared.limits.TheConstants.{MAX_ATOMS, MAX_WIRES};
+ghost use Rattle.step_core.specs.declared.limits.TheConstants.{MAX_ATOMS, MAX_INTERACTIONS, MAX_WIRES};
 
 use crate::fault::SystemFault;
 use crate::free::free_interactions;
@@ -20,7 +21,7 @@ use crate::wire::Wire;
 use crate::{rules, wire_rules};
 use connector_tree::Port;
 use petri_atom::Atom;
-use priority_filter::{Order, Rule};
+use priority_filter::{Order, OrderFault, Rule};
 use std::alloc::{AllocError, Global};
 
 impl System {
@@ -49,7 +50,7 @@ impl System {
         if let Some(fault) = fault_of_count(interactions.len()) {
             return Err(fault);
         }
-        let order = Order::new(alloc, rules, &names_of(alloc, &interactions)?)?;
+        let order = order_of(alloc, rules, &interactions)?;
         let free = free_interactions(&order, interactions.len());
         Ok(System {
             atoms,
@@ -101,6 +102,21 @@ impl System {
     {
         self.order.rules()
     }
+}
+
+/// The order that the rules put on the interactions.
+fn order_of(
+    alloc: Global,
+    rules: &[Rule],
+    interactions: &[Interaction],
+) -> Result<Order, OrderFault>
+    requires { length interactions.now ≤ MAX_INTERACTIONS }
+    ensures rules { IfOk result (λ order. order.rules ≡ rules.now) }
+    ensures interactions { IfOk result (λ order. order.interactions ≡ map named (map interaction_of interactions.now)) }
+    ensures sound { OnOk result (order_fault rules.now (map named (map interaction_of interactions.now)) ≡ None) }
+    ensures fault { IfErr result (λ fault. fault ≢ OrderFault.Memory → order_fault rules.now (map named (map interaction_of interactions.now)) ≡ Some fault) }
+{
+    Order::new(alloc, rules, &names_of(alloc, interactions)?)
 }
 
 /// The interactions as priority rules name them: each by its connector and its mask.

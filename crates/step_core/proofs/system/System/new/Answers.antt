@@ -1,7 +1,16 @@
-use Rattle.std.proofs.Common.{◌∙◌, ap, sym}
+use Rattle.std.proofs.Common.{◌≡◌, ◌∙◌, ap, sym, refl, subst, arith, map, length}
+use Rattle.std.specs.Prelude.{None}
+use Rattle.std.proofs.lemmas.List.{length-map}
+use Rattle.petri_atom.specs.Atom.{definition_of}
+use Rattle.connector_tree.specs.Tree.{leaves}
+use Rattle.priority_filter.specs.Decided.{order_fault}
+use Rattle.step_core.specs.Choice.{interactions_from, named, plant_interactions}
+use Rattle.step_core.specs.Interaction.{interaction_of}
+use Rattle.step_core.specs.Resolved.{AreGuarding, AreDelivering}
+use Rattle.step_core.specs.Wire.{wire_of}
 use Rattle.step_core.specs.Made.{plant_by}
-use Rattle.step_core.specs.Rules.{first_fault}
-use Rattle.step_core.proofs.RuleFaults.{first-told}
+use Rattle.step_core.specs.Rules.{first_fault, fault_of, fault_of_count}
+use Rattle.step_core.proofs.RuleFaults.{first-told, none-told}
 use Rattle.step_core.proofs.system.System.new.Goals as goal
 
 pub returns-in-Some-clause-fault : goal.returns-in-Some-clause-fault
@@ -10,3 +19,39 @@ returns-in-Some-clause-fault c =
     let wires = c.args.wires.items in
     first-told c.in-Some.fault (plant_by atoms wires c.args.rules.now)
     (ap (λ xs. first_fault (plant_by xs wires c.args.rules.now)) (sym c.deref.ensures.value) ∙ ap (λ ws. first_fault (plant_by c.deref.result.now ws c.args.rules.now)) (sym c.deref-2.ensures.value) ∙ sym c.first_fault.ensures ∙ c.in-Some.is)
+
+pub returns-clause-made : goal.returns-clause-made
+returns-clause-made c = ap (plant_by c.args.atoms.items c.args.wires.items) c.in_ok-order.ensures.rules
+
+pub returns-clause-digest : goal.returns-clause-digest
+returns-clause-digest c = refl
+
+pub invariant_of-result : goal.invariant_of-result
+invariant_of-result c =
+    let atoms = c.args.atoms.items in
+    let wires = c.args.wires.items in
+    let rules = c.args.rules.now in
+    let plant = plant_by atoms wires rules in
+    let all = c.in_ok-interactions.interactions in
+    let resolved = c.in_ok-resolved.resolved.items in
+    let order = c.in_ok-order in
+    let none : first_fault plant ≡ None =
+    ap (λ xs. first_fault (plant_by xs wires rules)) (sym c.deref.ensures.value) ∙ ap (λ ws. first_fault (plant_by c.deref.result.now ws rules)) (sym c.deref-2.ensures.value) ∙ sym c.first_fault.ensures ∙ c.in_default.is in
+    let many : c.len.result ≡ length (map definition_of atoms) =
+    omega (arith, c.len.ensures, c.args.atoms.ok.0, length-map atoms definition_of) in
+    let listed : map interaction_of all.items ≡ plant_interactions plant =
+    c.in_ok-interactions.ensures ∙ ap (λ k. interactions_from k 0 (map wire_of c.deref-6.result.now)) many ∙ ap (λ ws. interactions_from (length (map definition_of atoms)) 0 (map wire_of ws)) c.deref-6.ensures.value in
+    let count : length (plant_interactions plant) ≡ c.len-2.result =
+    omega (arith, c.len-2.ensures, all.ok.0, length-map all.items interaction_of, ap length listed) in
+    record {
+      valid = subst (λ rs. fault_of (plant_by atoms wires rs) ≡ None) (sym order.ensures.rules)
+          (none-told plant none (ap fault_of_count count ∙ sym c.fault_of_count.ensures ∙ c.in_default-fault_of_count.is) (subst (λ xs. order_fault rules (map named xs) ≡ None) (ap (map interaction_of) c.deref-7.ensures.value ∙ listed) order.ensures.sound));
+      leaves = c.in_ok-ports.ensures ∙ ap (map (λ w. leaves w.connector)) c.deref-3.ensures.value;
+      guarding = subst (λ ws. AreGuarding (map definition_of atoms) (map wire_of ws) resolved) c.deref-5.ensures.value
+          (subst (λ xs. AreGuarding (map definition_of xs) (map wire_of c.deref-5.result.now) resolved) c.deref-4.ensures.value c.in_ok-resolved.ensures.guarding);
+      delivering = subst (λ ws. AreDelivering (map definition_of atoms) (map wire_of ws) resolved) c.deref-5.ensures.value
+          (subst (λ xs. AreDelivering (map definition_of xs) (map wire_of c.deref-5.result.now) resolved) c.deref-4.ensures.value c.in_ok-resolved.ensures.delivering);
+      listed = listed;
+      ordered = order.ensures.interactions ∙ ap (λ xs. map named (map interaction_of xs)) c.deref-7.ensures.value;
+      unruled = c.free_interactions-free.ensures;
+    }
