@@ -1,4 +1,4 @@
-use Rattle.std.proofs.Common.{arith}
+use Rattle.std.proofs.Common.{arith, rules}
 use Rattle.std.proofs.lemmas.Bool.Decides.{nat_tests}
 use Rattle.record_codec.specs.Saved.{saved_in}
 use Rattle.record_codec.proofs.Numbers.{length-signed_numbers}
@@ -7,3 +7,6 @@ use Rattle.record_codec.proofs.saved.Saved.held.Goals as goal
 pub returns-then-variables-gt-MOST_VARIABLES : goal.returns-then-variables-gt-MOST_VARIABLES
 unfolding saved_in
 returns-then-variables-gt-MOST_VARIABLES c = grind (arith, nat_tests, length-signed_numbers)
+
+pub new-saved-requires : goal.new-saved-requires
+new-saved-requires c = record { atom_within = omega arith; count_within = omega arith; at_within = omega arith; values_within = search rules }

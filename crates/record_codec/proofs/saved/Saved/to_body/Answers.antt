@@ -5,8 +5,11 @@ use Rattle.record_codec.specs.Saved.{IsSaved, SavedFits, saved_bytes, saved_in}
 use Rattle.record_codec.proofs.SavedStates.{saved_reads_back}
 use Rattle.record_codec.proofs.saved.Saved.to_body.Goals as goal
 
+pub returns-clause-spelled : goal.returns-clause-spelled
+returns-clause-spelled c = search rules
+
 pub returns-clause-reads_back : goal.returns-clause-reads_back
 returns-clause-reads_back c =
-    let spelled : c.body.result ≡ padded BODY (saved_bytes c.args.self.now) = search rules in
+    let spelled : c.body.result ≡ padded BODY (saved_bytes c.args.self.now) = returns-clause-spelled c in
     let fits : SavedFits c.args.self.now = record { marking = search rules; values = subst (All (FitsSigned w64)) c.values-values.ensures.values c.signed_run.ensures.fits } in
     ap saved_in spelled ∙ saved_reads_back c.args.self.now BODY (lit≤ tt) (subst IsSaved c.self.view_is c.self.invariant.1) fits

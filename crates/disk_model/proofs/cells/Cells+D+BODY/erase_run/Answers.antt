@@ -1,0 +1,10 @@
+use Rattle.disk_model.proofs.cells.Cells+D+BODY.erase_run.Goals as goal
+
+pub returns-clause-leaves : goal.returns-clause-leaves
+returns-clause-leaves g c = rw c.self.view_is at c.erase_all.ensures.leaves
+
+pub returns-clause-erased : goal.returns-clause-erased
+returns-clause-erased g c = rw c.self.view_is at c.erase_all.ensures.erased
+
+pub returns-clause-only_syncs : goal.returns-clause-only_syncs
+returns-clause-only_syncs g c = rw c.self.view_is at c.erase_all.ensures.only_syncs

@@ -1,0 +1,5 @@
+use Rattle.std.proofs.Common.{refl}
+use Rattle.disk_model.proofs.memory.MemDisk.fuse_once.Goals as goal
+
+pub returns-clause-fuse : goal.returns-clause-fuse
+returns-clause-fuse c = refl
