@@ -13,3 +13,5 @@ pub mod Systems
 pub mod Marked
 pub mod Written
 pub mod Taking
+pub mod Exits
+pub mod Deciding
