@@ -15,3 +15,4 @@ pub mod Written
 pub mod Taking
 pub mod Exits
 pub mod Deciding
+pub mod Listing

@@ -1,5 +1,5 @@
 -- How much of a reader is taken, with a text and without one.
-use Rattle.std.proofs.Common.{◌≡◌, ap, ℕ, ◌+◌, ◌≤◌, ◌<◌, List, length, Option, Some, None, arith}
+use Rattle.std.proofs.Common.{◌≡◌, ap, ℕ, ◌+◌, ◌≤◌, List, length, Option, Some, None, arith}
 use Rattle.std.specs.Prelude.{IfSome}
 use Rattle.std.specs.Io.KnownBytes.{Consumes}
 use Rattle.text_io.specs.Reading.{GivesUp}

@@ -1,4 +1,4 @@
-use Rattle.std.proofs.Common.{◌≡◌, ◌∙◌, sym, ap, ℕ, List, Option, Result, Ok, Err}
+use Rattle.std.proofs.Common.{◌∙◌, sym, ap, ℕ, List, Ok, Err}
 use Rattle.std.proofs.lemmas.Result.{IfOk-from_err}
 use Rattle.atom_lines.specs.Draft.{drafted as atom_drafted}
 use Rattle.atom_lines.specs.Reading.{at_end}

@@ -1,6 +1,5 @@
-use Rattle.std.proofs.Common.{◌≡◌, ◌∙◌, sym, ap, ℕ, List, [], ◌∷◌, ◌++◌, map, Ok, Err}
+use Rattle.std.proofs.Common.{◌∙◌, sym, ap, ℕ, List, [], ◌∷◌, ◌++◌, Ok, Err}
 use Rattle.std.proofs.lemmas.Result.{IfOk-from_err}
-use Rattle.atom_lines.specs.Draft.{drafted as atom_drafted}
 use Rattle.plant_trees.specs.Trees.{tree_in}
 use Rattle.plant_trees.specs.Connectors.{tokens_of}
 use Rattle.step_core.specs.declared.limits.TheConstants.{MAX_WIRES}
@@ -8,7 +7,7 @@ use Rattle.plant_text.specs.Draft.{drafted}
 use Rattle.plant_text.specs.Names.{wire_number, port_named}
 use Rattle.plant_text.specs.Parts.{wire_listed}
 use Rattle.plant_text.specs.Rows.{told_tree, connector_row}
-use Rattle.plant_text.specs.Text.{WireText, PlantText}
+use Rattle.plant_text.specs.Text.{WireText}
 use Rattle.plant_text.proofs.Exits.{fails, passes, told_fault, told_memory, room_for, new_name, room_for_more}
 use Rattle.plant_text.proofs.draft.PlantDraft.add_connector.Goals as goal
 
