@@ -16,3 +16,4 @@ pub mod Taking
 pub mod Exits
 pub mod Deciding
 pub mod Listing
+pub mod Meant

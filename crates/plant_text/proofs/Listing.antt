@@ -2,6 +2,7 @@
 use Rattle.std.proofs.Common.{◌≡◌, ◌≢◌, ◌∙◌, ap, sym, ℕ, ◌+◌, List, [], ◌∷◌, ◌++◌, map, refl, Result, Ok, Err}
 use Rattle.std.proofs.lemmas.List.{map-append}
 use Rattle.plant_text.specs.Fault.{of_no_line, placed}
+use Rattle.plant_text.specs.Marks.{if_refused, faulty_line}
 use Rattle.plant_text.specs.Meaning.{on_line, lines_row}
 use Rattle.plant_text.specs.Rows.{◌>>=◌, line_row}
 use Rattle.plant_text.specs.Text.{PlantText}
@@ -51,3 +52,9 @@ line_refused number lines rest line plant fault told taken is refused other =
     ap (λ (all : List (List ℕ)). lines_row number all plant) taken
     ∙ ap (λ told. told >>= λ next. lines_row (number + 1) rest next) (told_on_line number fault (line_row line plant) refused (λ same. other (is ∙ same)))
     ∙ ap Err (sym is)
+
+-- the first line with a fault is behind one that has none
+pub line_passed : (lines rest : List (List ℕ)) (line : List ℕ) (plant next : PlantText) →
+    lines ≡ line ∷ rest → line_row line plant ≡ Ok next → faulty_line lines plant ≡ faulty_line rest next
+line_passed lines rest line plant next taken says =
+    ap (λ (all : List (List ℕ)). faulty_line all plant) taken ∙ ap (λ told. if_refused told line (faulty_line rest)) says

@@ -1,7 +1,15 @@
-use Rattle.std.proofs.Common.{◌∙◌, ap, sym, length, arith}
+use Rattle.std.proofs.Common.{◌∙◌, ap, sym, length, arith, ℕ, List}
+use Rattle.plant_words.specs.Lines.{lines_of}
 use Rattle.plant_text.specs.Draft.{drafted}
+use Rattle.plant_text.specs.Meaning.{lines_row}
 use Rattle.plant_text.proofs.Listing.{line_read, line_refused, lines_end}
 use Rattle.plant_text.proofs.read.read_lines.Goals as goal
+
+pub loop-line-init : goal.loop-line-init
+loop-line-init c = record {
+  leads = ap (λ (lines : List (List ℕ)). lines_row 1 lines (drafted c.new-draft.result)) c.new-lines.ensures.lines ∙ ap (lines_row 1 (lines_of c.args.text.now)) c.new-draft.ensures;
+  fits = omega (arith, c.new-lines.ensures.count, c.requires);
+}
 
 pub loop-line-preserved : goal.loop-line-preserved
 loop-line-preserved c = record {
