@@ -2,3 +2,4 @@ pub mod Listing
 pub mod Seeking
 pub mod Telling
 mod Rows
+pub mod Naming

@@ -14,3 +14,7 @@ pub mod Marked
 pub mod Written
 pub mod Taking
 pub mod OnePlant
+pub mod Exits
+pub mod Deciding
+pub mod Listing
+pub mod Meant
