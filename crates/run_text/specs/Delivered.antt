@@ -3,7 +3,7 @@ use Rattle.std.specs.Prelude.{ℕ, ℤ, List, [], ◌∷◌, ◌++◌, slice_get
 use Rattle.std.specs.Option.{option_map_or}
 use Rattle.petri_atom.specs.Local.{delivered_value}
 use Rattle.petri_atom.specs.Definition.{AtomDefinition, exports_of}
-use Rattle.petri_atom.specs.declared.state.Delivered.{Delivered}
+use Rattle.petri_atom.specs.Local.{Row}
 use Rattle.run_text.specs.declared.format.Format.{Format}
 use Rattle.run_text.specs.declared.format.Format.TheVariants.{Lines, Csv, Jsonl}
 use Rattle.run_text.specs.Word.{assigned_text}
@@ -32,9 +32,9 @@ abbrev pub export_words : Format → AtomDefinition → ℕ → Option ℤ → L
 export_words format a variable value = option_map_or (λ v. export_text format a variable v ∷ []) value []
 
 -- the word of the variable that is export k of a port, where a value is delivered to it
-abbrev pub delivered_word : Format → AtomDefinition → Delivered → ℕ → ℕ → List (List ℕ)
+abbrev pub delivered_word : Format → AtomDefinition → Row → ℕ → ℕ → List (List ℕ)
 delivered_word format a d k variable = export_words format a variable (delivered_value d k)
 
 -- the words of what is delivered to an atom that fires a transition, in the order of what its port exports
-abbrev pub delivered_words : Format → AtomDefinition → ℕ → Delivered → List (List ℕ)
+abbrev pub delivered_words : Format → AtomDefinition → ℕ → Row → List (List ℕ)
 delivered_words format a transition d = numbered (delivered_word format a d) 0 (exports_by a transition)

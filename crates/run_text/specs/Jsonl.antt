@@ -3,7 +3,7 @@ use Rattle.std.specs.Prelude.{ℕ, List, [], ◌++◌, map, slice_get, codes, de
 use Rattle.std.specs.Option.{option_map_or}
 use Rattle.petri_atom.specs.Local.{Local}
 use Rattle.petri_atom.specs.Definition.{AtomDefinition}
-use Rattle.petri_atom.specs.declared.state.Delivered.{Delivered}
+use Rattle.petri_atom.specs.Local.{Row}
 use Rattle.step_core.specs.Plant.{PlantDefinition}
 use Rattle.step_core.specs.Choice.{ChoiceDefinition}
 use Rattle.step_core.specs.Step.{transfer}
@@ -14,7 +14,7 @@ use Rattle.run_text.specs.Line.{places_text, port_name, value_words, wire_name}
 use Rattle.run_text.specs.Delivered.{delivered_words}
 
 -- a participant: its atom, the port that its transition fires, the transition's number, and the values that were delivered to it
-abbrev pub atom_object : AtomDefinition → ℕ → Delivered → List ℕ
+abbrev pub atom_object : AtomDefinition → ℕ → Row → List ℕ
 atom_object a transition d =
     codes "{\"atom\":" ++ quoted a.name ++ codes ",\"port\":" ++ quoted (port_name a transition) ++
     codes ",\"transition\":" ++ decimal transition ++ codes ",\"delivered\":{" ++

@@ -46,7 +46,7 @@ invariant_of-result c =
     record {
       valid = subst (λ rs. fault_of (plant_by atoms wires rs) ≡ None) (sym order.ensures.rules)
           (none-told plant none (ap fault_of_count count ∙ sym c.fault_of_count.ensures ∙ c.in_default-fault_of_count.is) (subst (λ xs. order_fault rules (map named xs) ≡ None) (ap (map interaction_of) c.deref-7.ensures.value ∙ listed) order.ensures.sound));
-      leaves = c.in_ok-ports.ensures ∙ ap (map (λ w. leaves w.connector)) c.deref-3.ensures.value;
+      leaves = c.in_ok-ports.ensures ∙ ap (map (λ w. leaves (wire_of w).connector)) c.deref-3.ensures.value;
       guarding = subst (λ ws. AreGuarding (map definition_of atoms) (map wire_of ws) resolved) c.deref-5.ensures.value
           (subst (λ xs. AreGuarding (map definition_of xs) (map wire_of c.deref-5.result.now) resolved) c.deref-4.ensures.value c.in_ok-resolved.ensures.guarding);
       delivering = subst (λ ws. AreDelivering (map definition_of atoms) (map wire_of ws) resolved) c.deref-5.ensures.value
