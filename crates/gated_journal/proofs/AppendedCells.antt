@@ -105,7 +105,7 @@ module _ (j : Ring) (ring : IsRing j) (before : List Cell) (whole : IsWhole j be
             ∙ ahead n (record { from = omega arith; to = omega (arith, to_end, some) }))
 
     goes_on : (room : ℕ) → j.last + 1 + room ≡ j.base + j.ring → live j cells ≡ live j before ++ front (λ n. record_in n (cell cells (place j n))) (j.last + 1) room
-    goes_on room to_end = front_splits (λ n. record_in n (cell cells (place j n))) (λ n. record_in n (cell before (place j n))) j.base j.ring (length (live j before)) (j.last + 1) room refl whole (omega (arith, whole, to_end))
+    goes_on room to_end = front_splits (λ n. record_in n (cell cells (place j n))) (λ n. record_in n (cell before (place j n))) j.base j.ring j.ring (length (live j before)) (j.last + 1) room refl whole (omega (arith, whole, to_end))
         (λ n from to. ap (record_in n) (left.others (place j n) (before_places j (j.last + 1) (length bodies) n to (omega (arith, from, fits)))))
 
     pub has_appended : HasAppended j news before cells

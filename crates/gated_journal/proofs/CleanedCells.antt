@@ -9,7 +9,7 @@ use Rattle.gated_journal.specs.declared.ring.Ring.{Ring}
 use Rattle.gated_journal.specs.Live.{record_in, place, live}
 use Rattle.gated_journal.specs.Rings.{IsRing, IsAhead, IsWhole}
 use Rattle.gated_journal.specs.Stops.{IsReady, HasCleaned}
-use Rattle.gated_journal.proofs.Fronts.{front_same, front_ends}
+use Rattle.gated_journal.proofs.Fronts.{front_length, front_same, front_ends}
 use Rattle.gated_journal.proofs.Places.{places, places_length, places_at, none_of_places, before_places}
 
 -- Cells that agree on the live records, and hold none of the next number, read for the same live records.
@@ -17,7 +17,7 @@ pub same_live : (j : Ring) (before cells : List Cell) → IsWhole j before
     → ((n : ℕ) → j.base ≤ n → n ≤ j.last → cell cells (place j n) ≡ cell before (place j n))
     → (IsAhead j (j.last + 1) → record_in (j.last + 1) (cell cells (place j (j.last + 1))) ≡ None)
     → live j cells ≡ live j before
-same_live j before cells whole same next = front_same (λ n. record_in n (cell cells (place j n))) (λ n. record_in n (cell before (place j n))) j.base j.ring (length (live j before)) (j.last + 1) refl whole
+same_live j before cells whole same next = front_same (λ n. record_in n (cell cells (place j n))) (λ n. record_in n (cell before (place j n))) j.base j.ring j.ring (length (live j before)) (j.last + 1) refl (front_length (λ n. record_in n (cell before (place j n))) j.base j.ring) whole
     (λ n from to. ap (record_in n) (same n from (omega (arith, to))))
     (λ some. next (record { from = omega arith; to = some }))
 

@@ -26,33 +26,34 @@ pub front_stops : {X : Type 0} (h : ℕ → Option X) (b n : ℕ) → (0 < n →
 front_stops h b zero none = refl
 front_stops h b (suc n) none = first_is h b n None (none (omega arith))
 
--- Where g agrees with h along the front of h, of c numbers, the front of g goes on behind it.
-pub front_splits : {X : Type 0} (g h : ℕ → Option X) (b n c e m : ℕ) → length (front h b n) ≡ c → b + c ≡ e → n ≡ c + m → ((i : ℕ) → b ≤ i → i < e → g i ≡ h i) → front g b n ≡ front h b n ++ front g e m
-front_splits g h b zero c e m long end rest agrees =
-    let none : m ≡ 0 = omega arith in
-    sym (ap (front g e) none)
-front_splits {X} g h b (suc n) c e m long end rest agrees =
-    elim (h b) as (λ o. h b ≡ o → length (first_then h b n o) ≡ c → front g b (suc n) ≡ first_then h b n o ++ front g e m) [
+-- Where g agrees with h along the front of h, of c numbers, its own front goes on behind it.
+pub front_splits : {X : Type 0} (g h : ℕ → Option X) (b n p c e m : ℕ) → length (front h b n) ≡ c → b + c ≡ e → p ≡ c + m → ((i : ℕ) → b ≤ i → i < e → g i ≡ h i) → front g b p ≡ front h b n ++ front g e m
+front_splits g h b zero p c e m long end rest agrees =
+    let here : b ≡ e = omega arith in
+    let all : p ≡ m = omega arith in
+    ap (λ (k : ℕ). front g k p) here ∙ ap (front g e) all
+front_splits {X} g h b (suc n) p c e m long end rest agrees =
+    elim (h b) as (λ o. h b ≡ o → length (first_then h b n o) ≡ c → front g b p ≡ first_then h b n o ++ front g e m) [
       | None ↦ λ is empty.
           let here : b ≡ e = omega arith in
-          let all : suc n ≡ m = omega arith in
-          ap (λ (k : ℕ). front g k (suc n)) here ∙ ap (front g e) all
+          let all : p ≡ m = omega arith in
+          ap (λ (k : ℕ). front g k p) here ∙ ap (front g e) all
       | Some x ↦ λ is more.
           let l : ℕ = length (front h (b + 1) n) in
+          let q : ℕ = l + m in
           let one : l + 1 ≡ c = omega (arith, more) in
+          let p_is : p ≡ suc q = omega (arith, one, rest) in
           let e_is : (b + 1) + l ≡ e = omega (arith, one, end) in
-          let n_is : n ≡ l + m = omega (arith, one, rest) in
           let same : g b ≡ Some x = agrees b (omega arith) (omega (arith, one, end)) ∙ is in
-          first_is g b n (Some x) same ∙ ap (λ (xs : List X). x ∷ xs) (front_splits g h (b + 1) n l e m refl e_is n_is (λ i from to. agrees i (omega (arith, from)) to))
+          ap (front g b) p_is ∙ first_is g b q (Some x) same ∙ ap (λ (xs : List X). x ∷ xs) (front_splits g h (b + 1) n q l e m refl e_is refl (λ i from to. agrees i (omega (arith, from)) to))
     ] refl long
 
 -- Where g also has no value behind it, the two fronts are one.
-pub front_same : {X : Type 0} (g h : ℕ → Option X) (b n c e : ℕ) → length (front h b n) ≡ c → b + c ≡ e → ((i : ℕ) → b ≤ i → i < e → g i ≡ h i) → (e < b + n → g e ≡ None) → front g b n ≡ front h b n
-front_same {X} g h b n c e long end agrees none =
-    let short : c ≤ n = omega (arith, front_length h b n, long) in
-    let m : ℕ = n - c in
-    let rest : n ≡ c + m = omega (arith, short) in
-    front_splits g h b n c e m long end rest agrees ∙ ap (λ (xs : List X). front h b n ++ xs) (front_stops g e m (λ some. none (omega (arith, some, rest, end)))) ∙ append-nil (front h b n)
+pub front_same : {X : Type 0} (g h : ℕ → Option X) (b n p c e : ℕ) → length (front h b n) ≡ c → c ≤ p → b + c ≡ e → ((i : ℕ) → b ≤ i → i < e → g i ≡ h i) → (e < b + p → g e ≡ None) → front g b p ≡ front h b n
+front_same {X} g h b n p c e long short end agrees none =
+    let m : ℕ = p - c in
+    let rest : p ≡ c + m = omega (arith, short) in
+    front_splits g h b n p c e m long end rest agrees ∙ ap (λ (xs : List X). front h b n ++ xs) (front_stops g e m (λ some. none (omega (arith, some, rest, end)))) ∙ append-nil (front h b n)
 
 -- a front without its first k values
 pub front_drops : {X : Type 0} (h : ℕ → Option X) (b n k e m : ℕ) → k ≤ length (front h b n) → b + k ≡ e → n ≡ k + m → front h e m ≡ drop k (front h b n)

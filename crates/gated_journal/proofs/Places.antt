@@ -1,8 +1,9 @@
 -- The cells of records: which of them meet, and a row of them as a list.
-use Rattle.std.proofs.Common.{◌≡◌, ◌≢◌, ◌⊎◌, inl, inr, ⊎_elim, ℕ, ◌+◌, ◌-◌, ◌*◌, ◌%◌, ◌<◌, ◌≤◌, List, length, map, get_or, refl, sym, ◌∙◌, ap, arith}
+use Rattle.std.proofs.Common.{◌≡◌, ◌≢◌, ◌⊎◌, inl, inr, ⊎_elim, ℕ, ◌+◌, ◌-◌, ◌*◌, ◌/◌, ◌%◌, ◌<◌, ◌≤◌, List, length, map, get_or, refl, sym, ◌∙◌, ap, arith}
 use Rattle.std.specs.List.{range_with_len}
 use Rattle.std.proofs.lemmas.Grind.{common_steps}
-use Rattle.std.proofs.lemmas.Bool.{cases_order}
+use Rattle.std.proofs.lemmas.Bool.{cases_lt, cases_order}
+use Rattle.std.proofs.lemmas.Nat.{mod-mul-add, div-add-mod'}
 use Rattle.std.proofs.lemmas.List.FromFn.{length-map-range_with_len, get_or-map-range_with_len}
 use Rattle.disk_model.specs.DiskState.{DiskState}
 use Rattle.disk_model.specs.Cells.{cell_count, IsNoneOf}
@@ -66,3 +67,23 @@ places_inside size j first count s some inside i within =
 -- A place comes again after a round.
 pub place_round : (j : Ring) (n : ℕ) → place j (n + j.ring) ≡ place j n
 place_round j n = let same : (n + j.ring) % j.ring ≡ n % j.ring = grind (arith, common_steps) in omega (arith, same)
+
+-- Each record cell is the place of one number of the round that begins at any base.
+pub number_of_cell : (j : Ring) (base k : ℕ) → 3 + 2 * j.atoms ≤ k → k < cells_of_ring j → (n : ℕ) × (base ≤ n) × (n < base + j.ring) × (place j n ≡ k)
+number_of_cell j base k from to =
+    let r : ℕ = k - (3 + 2 * j.atoms) in
+    let q : ℕ = base / j.ring in
+    let s : ℕ = base % j.ring in
+    let below : r < j.ring = omega (arith, from, to) in
+    let parts : q * j.ring + s ≡ base = div-add-mod' base j.ring in
+    let rest : s < j.ring = omega (arith, below) in
+    elim (cases_lt r s) [
+      | inl before ↦
+          let n : ℕ = (q + 1) * j.ring + r in
+          let is : n % j.ring ≡ r = mod-mul-add (q + 1) j.ring r below in
+          (n, omega (arith, parts, rest), omega (arith, parts, before), omega (arith, is, from))
+      | inr behind ↦
+          let n : ℕ = q * j.ring + r in
+          let is : n % j.ring ≡ r = mod-mul-add q j.ring r below in
+          (n, omega (arith, parts, behind), omega (arith, parts, below), omega (arith, is, from))
+    ]
