@@ -13,7 +13,7 @@ use Rattle.record_codec.specs.Fired.{FiredFields}
 use Rattle.gated_journal.specs.declared.ring.Ring.{Ring}
 use Rattle.gated_journal.specs.Live.{held_in, if_numbered, record_in, place, live}
 use Rattle.gated_journal.specs.Bases.{base_held, other_cell, IsBased}
-use Rattle.gated_journal.specs.Rings.{IsRing, IsAhead, IsWhole}
+use Rattle.gated_journal.specs.Rings.{IsRing, IsWhole, IsReadFor}
 use Rattle.gated_journal.specs.Stops.{IsReady, IsKept, IsUnmoved, IsMoved, IsMovedOrNot, IsBaseSet, HasMoved, moved}
 use Rattle.gated_journal.proofs.Fronts.{front, front_length, front_same, front_drops, front_some}
 use Rattle.gated_journal.proofs.Places.{places, places_length, places_at, places_differ, place_round, none_of_places}
@@ -49,7 +49,7 @@ held_another : (n : ℕ) (o : Option FiredFields) (r : FiredFields) → o ≡ So
 held_another n o r is ne = ap (option_and_then (if_numbered n)) is ∙ ap (λ (b : Bool). if b then Some r else None) (ne_eqb r.number n ne)
 
 -- The base of the journal j is moved, whose cells were these.
-module _ (j : Ring) (ring : IsRing j) (base : ℕ) (above : j.base < base) (within : base ≤ j.last + 1) (before : List Cell) (based : IsBased j before) (whole : IsWhole j before) (ahead : (n : ℕ) → IsAhead j n → cell before (place j n) ≡ None) where
+module _ (j : Ring) (ring : IsRing j) (base : ℕ) (above : j.base < base) (within : base ≤ j.last + 1) (before : List Cell) (based : IsBased j before) (whole : IsWhole j before) where
 
   place_apart : (n : ℕ) → place j n ≢ other_cell j
   place_apart n = λ same. let from = ring.cell_from in omega (arith, same)
@@ -69,27 +69,28 @@ module _ (j : Ring) (ring : IsRing j) (base : ℕ) (above : j.base < base) (with
   }
 
   module _ (cells : List Cell) (each : (k : ℕ) → k ≢ other_cell j → (cell cells k ≡ cell before k) ⊎ (cell cells k ≡ None)) (others : (k : ℕ) → k ≢ other_cell j → IsKept base j k → cell cells k ≡ cell before k) where
-    -- the cell behind the last record
-    behind : IsAhead (moved base j) (j.last + 1) → (cell cells (place j (j.last + 1)) ≡ None) ⊎ ((r : FiredFields) × (held_in (cell cells (place j (j.last + 1))) ≡ Some r) × (r.number < base))
-    behind next = ⊎_elim
-        (λ same. elim (cases_lt (j.last + 1) (j.base + j.ring)) [
-          | inl free ↦ inl (same ∙ ahead (j.last + 1) (record { from = omega arith; to = free }))
-          | inr full ↦
-              let room = ring.room in
-              let round : j.last + 1 ≡ j.base + j.ring = omega (arith, full, room) in
-              let first : place j (j.last + 1) ≡ place j j.base = ap (place j) round ∙ place_round j j.base in
-              let some = front_some (λ n. record_in n (cell before (place j n))) j.base j.ring 0 j.base (omega (arith, whole, within, above)) (omega arith) in
-              let there = held_there j.base (held_in (cell before (place j j.base))) some.0 some.1 in
-              inr (some.0, ap held_in (same ∙ ap (cell before) first) ∙ there.0, omega (arith, there.1, above))
-        ])
+    -- the cell behind the last record, where the ring was full
+    behind : j.last + 1 ≡ j.base + j.ring → (cell cells (place j (j.last + 1)) ≡ None) ⊎ ((r : FiredFields) × (held_in (cell cells (place j (j.last + 1))) ≡ Some r) × (r.number < base))
+    behind round = ⊎_elim
+        (λ same.
+            let first : place j (j.last + 1) ≡ place j j.base = ap (place j) round ∙ place_round j j.base in
+            let some = front_some (λ n. record_in n (cell before (place j n))) j.base j.ring 0 j.base (omega (arith, whole, within, above)) (omega arith) in
+            let there = held_there j.base (held_in (cell before (place j j.base))) some.0 some.1 in
+            inr (some.0, ap held_in (same ∙ ap (cell before) first) ∙ there.0, omega (arith, there.1, above)))
         (λ empty. inl empty)
         (each (place j (j.last + 1)) (place_apart (j.last + 1)))
 
-    behind_none : IsAhead (moved base j) (j.last + 1) → record_in (j.last + 1) (cell cells (place j (j.last + 1))) ≡ None
-    behind_none next = ⊎_elim
-        (λ empty. ap (record_in (j.last + 1)) empty)
-        (λ dropped. held_another (j.last + 1) (held_in (cell cells (place j (j.last + 1)))) dropped.0 dropped.1 (λ same. omega (arith, same, dropped.2, within)))
-        (behind next)
+    behind_none : record_in (j.last + 1) (cell cells (place j (j.last + 1))) ≡ None
+    behind_none = elim (cases_lt (j.last + 1) (j.base + j.ring)) [
+      | inl free ↦ ⊎_elim
+          (λ same. ap (record_in (j.last + 1)) same ∙ next_is_none j before whole (record { from = omega arith; to = free }))
+          (λ empty. ap (record_in (j.last + 1)) empty)
+          (each (place j (j.last + 1)) (place_apart (j.last + 1)))
+      | inr full ↦ ⊎_elim
+          (λ empty. ap (record_in (j.last + 1)) empty)
+          (λ dropped. held_another (j.last + 1) (held_in (cell cells (place j (j.last + 1)))) dropped.0 dropped.1 (λ same. omega (arith, same, dropped.2, within)))
+          (behind (let room = ring.room in omega (arith, full)))
+    ]
 
     kept : (n : ℕ) → base ≤ n → n ≤ j.last → IsKept base j (place j n)
     kept n from to m m_from m_to = λ same. let room = ring.room in places_differ j m n (omega (arith, from, m_to)) (omega (arith, to, m_from, room)) same
@@ -109,7 +110,7 @@ module _ (j : Ring) (ring : IsRing j) (base : ℕ) (above : j.base < base) (with
         let long : length (front h base m) ≡ c = ap (λ (l : List FiredFields). length l) cut ∙ omega (arith, length-drop k (live j before), whole, from, within) in
         front_same (λ n. record_in n (cell cells (place j n))) h base m j.ring c (j.last + 1) long (omega (arith, within, room, above)) (omega (arith, within))
           (λ n n_from n_to. ap (record_in n) (others (place j n) (place_apart n) (kept n n_from (omega (arith, n_to)))))
-          (λ next. behind_none (record { from = omega arith; to = next }))
+          (λ next. behind_none)
         ∙ cut
 
     pub is_moved : length cells ≡ length before → base_held (cell cells (other_cell j)) ≡ Some base → IsMoved base j before cells
@@ -128,12 +129,12 @@ module _ (j : Ring) (ring : IsRing j) (base : ℕ) (above : j.base < base) (with
 -- ---- the calls
 
 -- The base of the journal j is moved on a device that is ready.
-module _ (j : Ring) (ring : IsRing j) (base : ℕ) (above : j.base < base) (within : base ≤ j.last + 1) (old : DiskState) (ready : IsReady j old) (based : IsBased j (seen_cells (BODY + 1) old)) where
+module _ (j : Ring) (ring : IsRing j) (base : ℕ) (above : j.base < base) (within : base ≤ j.last + 1) (old : DiskState) (read : IsReadFor j (seen_cells (BODY + 1) old)) where
 
   -- emptying the other base cell
   pub empty_leaves : (mid : DiskState) → Leaves (BODY + 1) (OldOrEmptyAt (other_cell j ∷ []) (seen_cells (BODY + 1) old)) old mid → Leaves (BODY + 1) (IsMovedOrNot base j (seen_cells (BODY + 1) old)) old mid
   empty_leaves mid run = leaves_weaker (BODY + 1) (OldOrEmptyAt (other_cell j ∷ []) (seen_cells (BODY + 1) old)) (IsMovedOrNot base j (seen_cells (BODY + 1) old)) old mid
-      (λ cells p. inl (is_unmoved j ring base above within (seen_cells (BODY + 1) old) based ready.whole ready.ahead cells p.count (p.each (other_cell j)) (λ k ne. p.others k (none_of_one (other_cell j) k ne)))) run
+      (λ cells p. inl (is_unmoved j ring base above within (seen_cells (BODY + 1) old) read.based read.whole cells p.count (p.each (other_cell j)) (λ k ne. p.others k (none_of_one (other_cell j) k ne)))) run
 
   module _ (mid : DiskState) (same : size_of mid ≡ size_of old) (erased : Erased (BODY + 1) (other_cell j ∷ []) old mid) (body : List ℕ) (holds : base_in body ≡ Some base) where
     -- and then filling it
@@ -143,8 +144,8 @@ module _ (j : Ring) (ring : IsRing j) (base : ℕ) (above : j.base < base) (with
         let size : length cells ≡ length (seen_cells (BODY + 1) old) = left.count ∙ same_count (BODY + 1) old mid same in
         let others : (k : ℕ) → k ≢ other_cell j → cell cells k ≡ cell (seen_cells (BODY + 1) old) k = λ k ne. left.others k (none_of_one (other_cell j) k ne) ∙ erased.others k (none_of_one (other_cell j) k ne) in
         ⊎_elim
-          (λ empty. inl (is_unmoved j ring base above within (seen_cells (BODY + 1) old) based ready.whole ready.ahead cells size (inr empty) others))
-          (λ full. inr (is_moved j ring base above within (seen_cells (BODY + 1) old) based ready.whole ready.ahead cells (λ k ne. inl (others k ne)) (λ k ne kept. others k ne) size (ap base_held full ∙ holds)))
+          (λ empty. inl (is_unmoved j ring base above within (seen_cells (BODY + 1) old) read.based read.whole cells size (inr empty) others))
+          (λ full. inr (is_moved j ring base above within (seen_cells (BODY + 1) old) read.based read.whole cells (λ k ne. inl (others k ne)) (λ k ne kept. others k ne) size (ap base_held full ∙ holds)))
           (left.each 0 (omega arith))
 
     pub set_leaves : (new : DiskState) → Leaves (BODY + 1) (OldOrEmptyAt (other_cell j ∷ []) (seen_cells (BODY + 1) old)) old mid → Leaves (BODY + 1) (EmptyOrNew (BODY + 1) mid (other_cell j ∷ []) (body ∷ [])) mid new → Leaves (BODY + 1) (IsMovedOrNot base j (seen_cells (BODY + 1) old)) old new
@@ -162,10 +163,10 @@ module _ (j : Ring) (ring : IsRing j) (base : ℕ) (above : j.base < base) (with
   -- emptying the cells of the dropped records
   module _ (mid : DiskState) (set : IsBaseSet base j old mid) (count : ℕ) (row : j.base + count ≡ base) where
     row_apart : IsNoneOf (places j j.base count) (other_cell j)
-    row_apart = none_of_places j j.base count (other_cell j) (λ n from to. place_apart j ring base above within (seen_cells (BODY + 1) old) based ready.whole ready.ahead n)
+    row_apart = none_of_places j j.base count (other_cell j) (λ n from to. place_apart j ring base above within (seen_cells (BODY + 1) old) read.based read.whole n)
 
     drop_left : (cells : List Cell) → OldOrEmptyAt (places j j.base count) (seen_cells (BODY + 1) mid) cells → IsMoved base j (seen_cells (BODY + 1) old) cells
-    drop_left cells left = is_moved j ring base above within (seen_cells (BODY + 1) old) based ready.whole ready.ahead cells
+    drop_left cells left = is_moved j ring base above within (seen_cells (BODY + 1) old) read.based read.whole cells
         (λ k ne. ⊎_elim (λ as_before. inl (as_before ∙ set.others k ne)) (λ empty. inr empty) (left.each k))
         (λ k ne kept. left.others k (none_of_places j j.base count k (λ n from to. kept n from (omega (arith, to, row)))) ∙ set.others k ne)
         (left.count ∙ set.size)
@@ -179,16 +180,20 @@ module _ (j : Ring) (ring : IsRing j) (base : ℕ) (above : j.base < base) (with
     pub has_moved : (new : DiskState) → size_of new ≡ size_of mid → Erased (BODY + 1) (places j j.base count) mid new → OldOrEmptyAt (places j j.base count) (seen_cells (BODY + 1) mid) (seen_cells (BODY + 1) new) → HasMoved base j old new
     has_moved new as_before erased left =
         let is : IsMoved base j (seen_cells (BODY + 1) old) (seen_cells (BODY + 1) new) = drop_left (seen_cells (BODY + 1) new) left in
-        let whole = ready.whole in
+        let whole = read.whole in
+        let still : IsWhole (moved base j) (seen_cells (BODY + 1) new) = omega (arith, ap (λ (l : List FiredFields). length l) is.reads, length-drop (base - j.base) (live j (seen_cells (BODY + 1) old)), whole, above, within) in
         record {
-          ready = record {
+          settled = erased.settled;
+          is = is;
+          whole = still;
+          ready = λ ready. record {
             settled = erased.settled;
-            whole = omega (arith, ap (λ (l : List FiredFields). length l) is.reads, length-drop (base - j.base) (live j (seen_cells (BODY + 1) old)), whole, above, within);
+            whole = still;
             ahead = λ n later. elim (cases_lt n (j.base + j.ring)) [
               | inl free ↦ ⊎_elim
                   (λ same. same ∙ ready.ahead n (record { from = later.from; to = free }))
                   (λ empty. empty)
-                  (is.each (place j n) (place_apart j ring base above within (seen_cells (BODY + 1) old) based ready.whole ready.ahead n))
+                  (is.each (place j n) (place_apart j ring base above within (seen_cells (BODY + 1) old) read.based read.whole n))
               | inr round ↦
                   let m : ℕ = n - j.ring in
                   let some = ring.some in
@@ -201,5 +206,4 @@ module _ (j : Ring) (ring : IsRing j) (base : ℕ) (above : j.base < base) (with
                   subst (λ (k : ℕ). cell (seen_cells (BODY + 1) new) k ≡ None) (places_at j j.base count i m inside at ∙ sym same) (erased.each i inside)
             ];
           };
-          is = is;
         }

@@ -60,14 +60,14 @@ pub record IsUnmoved (j : Ring) (before cells : List Cell) : Type 0 where
   pub other : (cell cells (other_cell j) ≡ cell before (other_cell j)) ⊎ (cell cells (other_cell j) ≡ None)
   pub others : (k : ℕ) → k ≢ other_cell j → cell cells k ≡ cell before k
 
--- The base is the new one, in the other cell, and the live records are the old ones without those before it. The cell
--- behind the last is empty, or holds a record that was dropped. Each cell of a dropped record is as it was or empty, and every
--- other as it was.
+-- The base is the new one, in the other cell, and the live records are the old ones without those before it. Each cell of a
+-- dropped record is as it was or empty, and every other as it was. Where the ring was full, the cell behind the last record is
+-- that of a dropped one.
 pub record IsMoved (base : ℕ) (j : Ring) (before cells : List Cell) : Type 0 where
   pub size : length cells ≡ length before
   pub based : IsBased (moved base j) cells
   pub reads : live (moved base j) cells ≡ drop (base - j.base) (live j before)
-  pub behind : IsAhead (moved base j) (j.last + 1) → (cell cells (place j (j.last + 1)) ≡ None) ⊎ ((r : FiredFields) × (held_in (cell cells (place j (j.last + 1))) ≡ Some r) × (r.number < base))
+  pub behind : j.last + 1 ≡ j.base + j.ring → (cell cells (place j (j.last + 1)) ≡ None) ⊎ ((r : FiredFields) × (held_in (cell cells (place j (j.last + 1))) ≡ Some r) × (r.number < base))
   pub each : (k : ℕ) → k ≢ other_cell j → (cell cells k ≡ cell before k) ⊎ (cell cells k ≡ None)
   pub others : (k : ℕ) → k ≢ other_cell j → IsKept base j k → cell cells k ≡ cell before k
 
@@ -82,10 +82,12 @@ pub record IsBaseSet (base : ℕ) (j : Ring) (old new : DiskState) : Type 0 wher
   pub others : (k : ℕ) → k ≢ other_cell j → cell (seen_cells (BODY + 1) new) k ≡ cell (seen_cells (BODY + 1) old) k
   pub size : length (seen_cells (BODY + 1) new) ≡ length (seen_cells (BODY + 1) old)
 
--- The base is moved, and the journal with it can be appended to.
+-- The base is moved, a stop leaves what a read gives, and where the journal could be appended to, it can be with the new base.
 pub record HasMoved (base : ℕ) (j : Ring) (old new : DiskState) : Type 0 where
-  pub ready : IsReady (moved base j) new
+  pub settled : IsSettled new.now
   pub is : IsMoved base j (seen_cells (BODY + 1) old) (seen_cells (BODY + 1) new)
+  pub whole : IsWhole (moved base j) (seen_cells (BODY + 1) new)
+  pub ready : IsReady j old → IsReady (moved base j) new
 
 -- a count of syncs after so many more
 abbrev pub counted_times : ℕ → ℕ → ℕ

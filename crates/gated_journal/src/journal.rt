@@ -5,7 +5,6 @@ ghost use Rattle.disk_model.specs.Cells.{cell, cell_count, seen_cells, Leaves};
 ghost use Rattle.record_codec.specs.declared.layout.TheConstants.{LAST_NUMBER};
 ghost use Rattle.record_codec.specs.Fired.{FiredFields};
 ghost use Rattle.gated_journal.specs.Live.{record_in, place, AreRecords};
-ghost use Rattle.gated_journal.specs.Bases.{IsBased};
 ghost use Rattle.gated_journal.specs.Rings.{IsRing, IsWhole, IsReadFor, cells_of_ring, appended};
 ghost use Rattle.gated_journal.specs.Stops.{IsReady, HasAppended, HasAppendedAll, HasCleaned, IsMovedOrNot, HasMoved, CountsUpTo, moved};
 
@@ -155,8 +154,8 @@ impl Journal {
         requires above { self.old.base < base }
         requires within { base ≤ self.old.last + 1 }
         requires inside { cells_of_ring self.old ≤ cell_count (BODY + 1) cells.old }
-        requires ready { cells.old.keeps ≡ true → IsReady self.old cells.old }
-        requires based { cells.old.keeps ≡ true → IsBased self.old (seen_cells (BODY + 1) cells.old) }
+        requires settled { cells.old.keeps ≡ true → IsSettled cells.old.now }
+        requires read { cells.old.keeps ≡ true → IsReadFor self.old (seen_cells (BODY + 1) cells.old) }
         ensures journal { self.new ≡ (if is_ok result then moved base self.old else self.old) }
         ensures counts { CountsUpTo (is_err result) 4 cells.old cells.new }
         ensures leaves { cells.old.keeps ≡ true

@@ -2,9 +2,8 @@
 ghost use Rattle.std.specs.Prelude.{◌≡◌, ◌∷◌, [], ◌+◌, ◌<◌, ◌≤◌, true, length, is_ok, is_err, OnOk};
 ghost use Rattle.disk_model.specs.DiskState.{IsSettled};
 ghost use Rattle.disk_model.specs.Cells.{cell_count, seen_cells, Leaves, OldOrEmptyAt, Erased};
-ghost use Rattle.gated_journal.specs.Bases.{IsBased};
-ghost use Rattle.gated_journal.specs.Rings.{IsRing, cells_of_ring};
-ghost use Rattle.gated_journal.specs.Stops.{IsReady, IsMovedOrNot, HasMoved, IsBaseSet, CountsUpTo};
+ghost use Rattle.gated_journal.specs.Rings.{IsRing, IsReadFor, cells_of_ring};
+ghost use Rattle.gated_journal.specs.Stops.{IsMovedOrNot, HasMoved, IsBaseSet, CountsUpTo};
 
 use crate::ring::{Ring, write_places};
 use disk_model::{BODY, Cells, Disk, DiskFault};
@@ -32,8 +31,8 @@ fn set_base<D: Disk>(cells: &mut Cells<D, BODY>, ring: Ring, base: u64) -> Resul
     requires above { ring.base < base }
     requires within { base ≤ ring.last + 1 }
     requires inside { cells_of_ring ring ≤ cell_count (BODY + 1) cells.old }
-    requires ready { cells.old.keeps ≡ true → IsReady ring cells.old }
-    requires based { cells.old.keeps ≡ true → IsBased ring (seen_cells (BODY + 1) cells.old) }
+    requires settled { cells.old.keeps ≡ true → IsSettled cells.old.now }
+    requires read { cells.old.keeps ≡ true → IsReadFor ring (seen_cells (BODY + 1) cells.old) }
     ensures counts { CountsUpTo (is_err result) 3 cells.old cells.new }
     ensures leaves { cells.old.keeps ≡ true
         → Leaves (BODY + 1) (IsMovedOrNot base ring (seen_cells (BODY + 1) cells.old)) cells.old cells.new }
@@ -59,8 +58,8 @@ pub(crate) fn move_base<D: Disk>(
     requires within { base ≤ ring.last + 1 }
     requires as_many { ring.base + length room.old ≡ base }
     requires inside { cells_of_ring ring ≤ cell_count (BODY + 1) cells.old }
-    requires ready { cells.old.keeps ≡ true → IsReady ring cells.old }
-    requires based { cells.old.keeps ≡ true → IsBased ring (seen_cells (BODY + 1) cells.old) }
+    requires settled { cells.old.keeps ≡ true → IsSettled cells.old.now }
+    requires read { cells.old.keeps ≡ true → IsReadFor ring (seen_cells (BODY + 1) cells.old) }
     ensures counts { CountsUpTo (is_err result) 4 cells.old cells.new }
     ensures leaves { cells.old.keeps ≡ true
         → Leaves (BODY + 1) (IsMovedOrNot base ring (seen_cells (BODY + 1) cells.old)) cells.old cells.new }

@@ -12,7 +12,7 @@ use Rattle.gated_journal.proofs.moving.set_base.Goals as goal
 
 pub returns-in_err-empty-clause-leaves : goal.returns-in_err-empty-clause-leaves
 returns-in_err-empty-clause-leaves g c keeps =
-    empty_leaves c.args.ring c.requires.ring c.args.base c.requires.above c.requires.within c.args.cells.now (c.requires.ready keeps) (c.requires.based keeps) c.empty.new.cells (c.empty.ensures.leaves keeps)
+    empty_leaves c.args.ring c.requires.ring c.args.base c.requires.above c.requires.within c.args.cells.now (c.requires.read keeps) c.empty.new.cells (c.empty.ensures.leaves keeps)
 
 pub returns-clause-counts : goal.returns-clause-counts
 returns-clause-counts g c =
@@ -23,7 +23,7 @@ returns-clause-leaves g c keeps =
     let old : DiskState = c.args.cells.now in
     let mid : DiskState = c.empty.new.cells in
     let holds : base_in c.to_body.result ≡ Some c.args.base = c.to_body.ensures.reads_back ∙ ap (λ (n : ℕ). Some n) c.new.ensures in
-    set_leaves c.args.ring c.requires.ring c.args.base c.requires.above c.requires.within old (c.requires.ready keeps) (c.requires.based keeps) mid c.in_ok-empty.ensures.counts.size (c.in_ok-empty.ensures.erased keeps) c.to_body.result holds c.set.new.self
+    set_leaves c.args.ring c.requires.ring c.args.base c.requires.above c.requires.within old (c.requires.read keeps) mid c.in_ok-empty.ensures.counts.size (c.in_ok-empty.ensures.erased keeps) c.to_body.result holds c.set.new.self
       (c.in_ok-empty.ensures.leaves keeps) (c.set.ensures.leaves (c.in_ok-empty.ensures.counts.keeps ∙ keeps))
 
 pub returns-clause-set : goal.returns-clause-set
@@ -34,5 +34,5 @@ returns-clause-set g c keeps =
     let j : Ring = c.args.ring in
     let holds : base_in c.to_body.result ≡ Some c.args.base = c.to_body.ensures.reads_back ∙ ap (λ (n : ℕ). Some n) c.new.ensures in
     on_ok c.set.result (Filled 512 (other_cell j ∷ []) (c.to_body.result ∷ []) mid new) (IsBaseSet c.args.base j old new)
-      (λ filled. is_base_set j c.requires.ring c.args.base c.requires.above c.requires.within old (c.requires.ready keeps) (c.requires.based keeps) mid c.in_ok-empty.ensures.counts.size (c.in_ok-empty.ensures.erased keeps) c.to_body.result holds new c.set.ensures.counts.size filled)
+      (λ filled. is_base_set j c.requires.ring c.args.base c.requires.above c.requires.within old (c.requires.read keeps) mid c.in_ok-empty.ensures.counts.size (c.in_ok-empty.ensures.erased keeps) c.to_body.result holds new c.set.ensures.counts.size filled)
       (c.set.ensures.filled (c.in_ok-empty.ensures.counts.keeps ∙ keeps))
