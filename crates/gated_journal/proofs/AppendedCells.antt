@@ -1,18 +1,17 @@
 -- What appending leaves: behind the live records a front of the new ones.
-use Rattle.std.proofs.Common.{◌≡◌, ◌≢◌, ◌⊎◌, inl, inr, ⊎_elim, ℕ, zero, suc, ◌+◌, ◌-◌, ◌<◌, ◌≤◌, List, [], ◌∷◌, ◌++◌, length, map, take, get_or, if◌then◌else◌, Option, Some, None, refl, sym, ◌∙◌, ap, subst, arith}
-use Rattle.std.specs.List.{range_with_len}
+use Rattle.std.proofs.Common.{◌≡◌, ◌⊎◌, inl, inr, ⊎_elim, ℕ, zero, suc, ◌+◌, ◌-◌, ◌<◌, ◌≤◌, List, [], ◌∷◌, ◌++◌, length, take, get_or, if◌then◌else◌, Option, Some, None, refl, sym, ◌∙◌, ap, subst, arith}
 use Rattle.std.specs.Option.{option_and_then}
 use Rattle.std.proofs.lemmas.Bool.{cases_lt, eq-eqb}
 use Rattle.std.proofs.lemmas.List.{length-append, length-map, take_all}
 use Rattle.disk_model.specs.declared.cells.TheConstants.{BODY}
-use Rattle.disk_model.specs.DiskState.{DiskState, IsSettled, size_of}
+use Rattle.disk_model.specs.DiskState.{DiskState, size_of}
 use Rattle.disk_model.specs.Cells.{Cell, cell, cells_in, seen_cells, IsNoneOf, IsClosed, Leaves, EmptyOrNew, EmptyOrNewAt, Filled}
 use Rattle.disk_model.specs.Steps.{AreClosed}
 use Rattle.disk_model.specs.Moments.{seen_length, leaves_weaker, empty_or_new_seen, closed_at_rest}
 use Rattle.record_codec.specs.Fired.{FiredFields, fired_in}
 use Rattle.gated_journal.specs.declared.ring.Ring.{Ring}
 use Rattle.gated_journal.specs.Live.{if_numbered, record_in, place, live, AreRecords}
-use Rattle.gated_journal.specs.Rings.{IsRing, IsAhead, IsWhole, appended}
+use Rattle.gated_journal.specs.Rings.{IsRing, IsAhead, IsWhole}
 use Rattle.gated_journal.specs.Stops.{IsReady, IsBeside, HasAppended, HasAppendedAll}
 use Rattle.gated_journal.proofs.Fronts.{front, first_is, front_stops, front_splits}
 use Rattle.gated_journal.proofs.Places.{places, places_length, places_at, none_of_places, before_places, behind_places}
@@ -66,13 +65,13 @@ batch cells (body ∷ bodies) (r ∷ records) first zero are fits each behind = 
 batch cells (body ∷ bodies) (r ∷ records) first (suc room) are fits each behind = ⊎_elim
     (λ none. batch_none cells (r ∷ records) first (suc room) (λ some. none))
     (λ full.
-        let held : fired_in body ≡ Some r = let held = are.held in cc in
-        let numbered : r.number ≡ first = let numbered = are.numbered in cc in
-        let here : cells first ≡ Some body = subst (λ (k : ℕ). cells k ≡ Some body) (omega arith) full in
-        batch_more cells r records first room (record_there first (cells first) body r here held numbered)
-          (batch cells bodies records (first + 1) room (records_rest first body bodies r records are) (omega arith)
-            (λ i within. subst (λ (k : ℕ). (cells k ≡ None) ⊎ (cells k ≡ Some (get_or bodies i []))) (omega arith) (each (suc i) (omega (arith, within))))
-            (λ some. subst (λ (k : ℕ). cells k ≡ None) (omega arith) (behind (omega (arith, some))))))
+    let held : fired_in body ≡ Some r = let held = are.held in cc in
+    let numbered : r.number ≡ first = let numbered = are.numbered in cc in
+    let here : cells first ≡ Some body = subst (λ (k : ℕ). cells k ≡ Some body) (omega arith) full in
+    batch_more cells r records first room (record_there first (cells first) body r here held numbered)
+    (batch cells bodies records (first + 1) room (records_rest first body bodies r records are) (omega arith)
+    (λ i within. subst (λ (k : ℕ). (cells k ≡ None) ⊎ (cells k ≡ Some (get_or bodies i []))) (omega arith) (each (suc i) (omega (arith, within))))
+    (λ some. subst (λ (k : ℕ). cells k ≡ None) (omega arith) (behind (omega (arith, some))))))
     (each 0 (omega arith))
 
 -- where all of them are full, the whole row is live
@@ -86,7 +85,6 @@ batch_all cells bodies records first room as_many fits each b = elim (cases_lt b
 
 -- The journal j is appended to, whose cells were these.
 module _ (j : Ring) (ring : IsRing j) (before : List Cell) (whole : IsWhole j before) (ahead : (n : ℕ) → IsAhead j n → cell before (place j n) ≡ None) (bodies : List (List ℕ)) (news : List FiredFields) (are : AreRecords (j.last + 1) bodies news) (fits : j.last + length bodies < j.base + j.ring) where
-
   beside_places : (k : ℕ) → IsBeside j (length news) k → IsNoneOf (places j (j.last + 1) (length bodies)) k
   beside_places k beside = none_of_places j (j.last + 1) (length bodies) k (λ n from to. beside n (omega (arith, from)) (omega (arith, to, records_length (j.last + 1) bodies news are)))
 
@@ -97,12 +95,12 @@ module _ (j : Ring) (ring : IsRing j) (before : List Cell) (whole : IsWhole j be
     batch_of : (room : ℕ) → j.last + 1 + room ≡ j.base + j.ring → Batch (λ n. cell cells (place j n)) news (j.last + 1) room
     batch_of room to_end = batch (λ n. cell cells (place j n)) bodies news (j.last + 1) room are (omega (arith, to_end, fits))
         (λ i within.
-            let inside : i < length (places j (j.last + 1) (length bodies)) = omega (arith, within, places_length j (j.last + 1) (length bodies)) in
-            subst (λ (k : ℕ). (cell cells k ≡ None) ⊎ (cell cells k ≡ Some (get_or bodies i []))) (places_at j (j.last + 1) (length bodies) i (j.last + 1 + i) inside refl) (left.each i inside))
+        let inside : i < length (places j (j.last + 1) (length bodies)) = omega (arith, within, places_length j (j.last + 1) (length bodies)) in
+        subst (λ (k : ℕ). (cell cells k ≡ None) ⊎ (cell cells k ≡ Some (get_or bodies i []))) (places_at j (j.last + 1) (length bodies) i (j.last + 1 + i) inside refl) (left.each i inside))
         (λ some.
-            let n : ℕ = j.last + 1 + length bodies in
-            left.others (place j n) (behind_places j (j.last + 1) (length bodies) n (omega arith) (omega (arith, to_end, some, ring.base_to)))
-            ∙ ahead n (record { from = omega arith; to = omega (arith, to_end, some) }))
+        let n : ℕ = j.last + 1 + length bodies in
+        left.others (place j n) (behind_places j (j.last + 1) (length bodies) n (omega arith) (omega (arith, to_end, some, ring.base_to)))
+        ∙ ahead n (record { from = omega arith; to = omega (arith, to_end, some) }))
 
     goes_on : (room : ℕ) → j.last + 1 + room ≡ j.base + j.ring → live j cells ≡ live j before ++ front (λ n. record_in n (cell cells (place j n))) (j.last + 1) room
     goes_on room to_end = front_splits (λ n. record_in n (cell cells (place j n))) (λ n. record_in n (cell before (place j n))) j.base j.ring j.ring (length (live j before)) (j.last + 1) room refl whole (omega (arith, whole, to_end))
@@ -138,9 +136,9 @@ has_appended_all j bodies news old new ring ready are fits same f =
     let as_many : length bodies ≡ length news = records_length (j.last + 1) bodies news are in
     let b : Batch (λ n. cell cells (place j n)) news (j.last + 1) room = batch_of j ring before ready.whole ready.ahead bodies news are fits cells left room to_end in
     let all : front (λ n. record_in n (cell cells (place j n))) (j.last + 1) room ≡ news = batch_all (λ n. cell cells (place j n)) bodies news (j.last + 1) room as_many (omega (arith, to_end, fits))
-        (λ i within.
-            let inside : i < length row = omega (arith, within, places_length j (j.last + 1) (length bodies)) in
-            subst (λ (k : ℕ). cell cells k ≡ Some (get_or bodies i [])) (places_at j (j.last + 1) (length bodies) i (j.last + 1 + i) inside refl) (f.each i inside)) b in
+    (λ i within.
+    let inside : i < length row = omega (arith, within, places_length j (j.last + 1) (length bodies)) in
+    subst (λ (k : ℕ). cell cells k ≡ Some (get_or bodies i [])) (places_at j (j.last + 1) (length bodies) i (j.last + 1 + i) inside refl) (f.each i inside)) b in
     let reads : live j cells ≡ live j before ++ news = goes_on j ring before ready.whole ready.ahead bodies news are fits cells left room to_end ∙ ap (λ (l : List FiredFields). live j before ++ l) all in
     record {
       ready = record {

@@ -1,9 +1,9 @@
 -- Which of the two base cells counts.
-use Rattle.std.proofs.Common.{◌≡◌, ◌≢◌, ◌⊎◌, inl, inr, ⊎_elim, ℕ, ◌+◌, ◌-◌, ◌<◌, ◌≤◌, Bool, true, false, if◌then◌else◌, List, Option, Some, None, refl, sym, ◌∙◌, ap, subst, arith}
+use Rattle.std.proofs.Common.{◌≡◌, ◌⊎◌, inl, inr, ⊎_elim, ℕ, ◌<◌, Bool, if◌then◌else◌, List, Option, Some, None, sym, ◌∙◌, ap, subst, arith}
 use Rattle.std.proofs.lemmas.Bool.{cases_eq, lt-ltb, le-ltb}
 use Rattle.disk_model.specs.Cells.{Cell, cell}
 use Rattle.gated_journal.specs.declared.ring.Ring.{Ring}
-use Rattle.gated_journal.specs.Bases.{base_held, counts_before, base_cell_of, base_of, other_cell, IsBased}
+use Rattle.gated_journal.specs.Bases.{base_held, counts_before, base_cell_of, other_cell, IsBased}
 use Rattle.gated_journal.specs.Rings.{IsRing}
 use Rattle.gated_journal.specs.Stops.{moved}
 
@@ -30,31 +30,31 @@ pub based_still : (j : Ring) (before cells : List Cell) → IsRing j → IsBased
 based_still j before cells ring b same other =
     let held : base_held (cell cells j.base_cell) ≡ Some j.base = ap base_held same ∙ held_at j before b in
     based_at j cells (⊎_elim
-      (λ first.
-          let second : other_cell j ≡ 2 = omega (arith, first) in
-          let here : cell cells 1 ≡ cell before 1 = subst (λ (k : ℕ). cell cells k ≡ cell before k) first same in
-          ⊎_elim
-            (λ kept. chosen_is cells (base_held (cell before 2)) (base_held (cell before 1)) (ap base_held (subst (λ (k : ℕ). cell cells k ≡ cell before k) second kept)) (ap base_held here) ∙ b.in_cell)
-            (λ empty. chosen_is cells None (base_held (cell before 1)) (ap base_held (subst (λ (k : ℕ). cell cells k ≡ None) second empty)) (ap base_held here) ∙ sym first)
-            other)
-      (λ second.
-          let first : other_cell j ≡ 1 = omega (arith, second) in
-          let here : cell cells 2 ≡ cell before 2 = subst (λ (k : ℕ). cell cells k ≡ cell before k) second same in
-          ⊎_elim
-            (λ kept. chosen_is cells (base_held (cell before 2)) (base_held (cell before 1)) (ap base_held here) (ap base_held (subst (λ (k : ℕ). cell cells k ≡ cell before k) first kept)) ∙ b.in_cell)
-            (λ empty. chosen_is cells (Some j.base) None (subst (λ (k : ℕ). base_held (cell cells k) ≡ Some j.base) second held) (ap base_held (subst (λ (k : ℕ). cell cells k ≡ None) first empty)) ∙ sym second)
-            other)
-      (one_or_two j ring)) held
+    (λ first.
+    let second : other_cell j ≡ 2 = omega (arith, first) in
+    let here : cell cells 1 ≡ cell before 1 = subst (λ (k : ℕ). cell cells k ≡ cell before k) first same in
+    ⊎_elim
+    (λ kept. chosen_is cells (base_held (cell before 2)) (base_held (cell before 1)) (ap base_held (subst (λ (k : ℕ). cell cells k ≡ cell before k) second kept)) (ap base_held here) ∙ b.in_cell)
+    (λ empty. chosen_is cells None (base_held (cell before 1)) (ap base_held (subst (λ (k : ℕ). cell cells k ≡ None) second empty)) (ap base_held here) ∙ sym first)
+    other)
+    (λ second.
+    let first : other_cell j ≡ 1 = omega (arith, second) in
+    let here : cell cells 2 ≡ cell before 2 = subst (λ (k : ℕ). cell cells k ≡ cell before k) second same in
+    ⊎_elim
+    (λ kept. chosen_is cells (base_held (cell before 2)) (base_held (cell before 1)) (ap base_held here) (ap base_held (subst (λ (k : ℕ). cell cells k ≡ cell before k) first kept)) ∙ b.in_cell)
+    (λ empty. chosen_is cells (Some j.base) None (subst (λ (k : ℕ). base_held (cell cells k) ≡ Some j.base) second held) (ap base_held (subst (λ (k : ℕ). cell cells k ≡ None) first empty)) ∙ sym second)
+    other)
+    (one_or_two j ring)) held
 
 -- Where the other cell holds a greater base, that one counts.
 pub based_moved : (j : Ring) (base : ℕ) (cells : List Cell) → IsRing j → j.base < base → base_held (cell cells j.base_cell) ≡ Some j.base → base_held (cell cells (other_cell j)) ≡ Some base → IsBased (moved base j) cells
 based_moved j base cells ring above old new = based_at (moved base j) cells (⊎_elim
     (λ first.
-        let second : other_cell j ≡ 2 = omega (arith, first) in
-        chosen_is cells (Some base) (Some j.base) (subst (λ (k : ℕ). base_held (cell cells k) ≡ Some base) second new) (subst (λ (k : ℕ). base_held (cell cells k) ≡ Some j.base) first old)
-        ∙ ap (λ (b : Bool). if b then 2 else 1) (lt-ltb j.base base above) ∙ sym second)
+    let second : other_cell j ≡ 2 = omega (arith, first) in
+    chosen_is cells (Some base) (Some j.base) (subst (λ (k : ℕ). base_held (cell cells k) ≡ Some base) second new) (subst (λ (k : ℕ). base_held (cell cells k) ≡ Some j.base) first old)
+    ∙ ap (λ (b : Bool). if b then 2 else 1) (lt-ltb j.base base above) ∙ sym second)
     (λ second.
-        let first : other_cell j ≡ 1 = omega (arith, second) in
-        chosen_is cells (Some j.base) (Some base) (subst (λ (k : ℕ). base_held (cell cells k) ≡ Some j.base) second old) (subst (λ (k : ℕ). base_held (cell cells k) ≡ Some base) first new)
-        ∙ ap (λ (b : Bool). if b then 2 else 1) (le-ltb base j.base (omega (arith, above))) ∙ sym first)
+    let first : other_cell j ≡ 1 = omega (arith, second) in
+    chosen_is cells (Some j.base) (Some base) (subst (λ (k : ℕ). base_held (cell cells k) ≡ Some j.base) second old) (subst (λ (k : ℕ). base_held (cell cells k) ≡ Some base) first new)
+    ∙ ap (λ (b : Bool). if b then 2 else 1) (le-ltb base j.base (omega (arith, above))) ∙ sym first)
     (one_or_two j ring)) new

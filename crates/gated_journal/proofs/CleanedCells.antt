@@ -1,5 +1,5 @@
 -- What emptying the cells behind the end leaves: the same live records.
-use Rattle.std.proofs.Common.{◌≡◌, ◌≢◌, ◌⊎◌, inl, inr, ⊎_elim, ℕ, ◌+◌, ◌-◌, ◌<◌, ◌≤◌, List, length, get_or, None, refl, sym, ◌∙◌, ap, subst, arith}
+use Rattle.std.proofs.Common.{◌≡◌, ⊎_elim, ℕ, ◌+◌, ◌-◌, ◌<◌, ◌≤◌, List, length, None, refl, ◌∙◌, ap, subst, arith}
 use Rattle.disk_model.specs.declared.cells.TheConstants.{BODY}
 use Rattle.disk_model.specs.DiskState.{DiskState, IsSettled}
 use Rattle.disk_model.specs.Cells.{Cell, cell, seen_cells, IsNoneOf, Leaves, OldOrEmpty, OldOrEmptyAt, Erased}

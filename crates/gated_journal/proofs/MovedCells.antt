@@ -1,12 +1,12 @@
 -- What moving the base leaves: the old base and list, or the new base and the cut list.
-use Rattle.std.proofs.Common.{◌≡◌, ◌≢◌, ◌⊎◌, inl, inr, ⊎_elim, ℕ, zero, suc, ◌+◌, ◌-◌, ◌<◌, ◌≤◌, Bool, true, List, [], ◌∷◌, length, drop, get_or, eqb, if◌then◌else◌, Option, Some, None, refl, sym, ◌∙◌, ap, subst, arith}
+use Rattle.std.proofs.Common.{◌≡◌, ◌≢◌, ◌⊎◌, inl, inr, ⊎_elim, ℕ, zero, suc, ◌+◌, ◌-◌, ◌<◌, ◌≤◌, Bool, true, List, [], ◌∷◌, length, drop, eqb, if◌then◌else◌, Option, Some, None, sym, ◌∙◌, ap, subst, arith}
 use Rattle.std.specs.Option.{option_and_then}
 use Rattle.std.proofs.lemmas.Bool.{cases_lt, ne_eqb, eqb-true, cases_Bool}
 use Rattle.std.proofs.lemmas.List.{length-drop}
 use Rattle.disk_model.specs.declared.cells.TheConstants.{BODY}
 use Rattle.disk_model.specs.DiskState.{DiskState, IsSettled, Reads, size_of}
-use Rattle.disk_model.specs.Cells.{Cell, cell, seen_cells, IsClosed, IsNoneOf, Leaves, OldOrEmpty, OldOrEmptyAt, EmptyOrNew, EmptyOrNewAt, Erased, Filled}
-use Rattle.disk_model.specs.Moments.{leaves_then, leaves_weaker, old_or_empty_before, old_or_empty_seen, empty_or_new_seen, settled_cells, closed_at_rest}
+use Rattle.disk_model.specs.Cells.{Cell, cell, seen_cells, IsNoneOf, Leaves, OldOrEmpty, OldOrEmptyAt, EmptyOrNew, EmptyOrNewAt, Erased, Filled}
+use Rattle.disk_model.specs.Moments.{leaves_then, leaves_weaker, old_or_empty_before, old_or_empty_seen, empty_or_new_seen, settled_cells}
 use Rattle.disk_model.specs.Reading.{reads_leave, reads_seen, reads_settled}
 use Rattle.record_codec.specs.Base.{base_in}
 use Rattle.record_codec.specs.Fired.{FiredFields}
@@ -14,8 +14,8 @@ use Rattle.gated_journal.specs.declared.ring.Ring.{Ring}
 use Rattle.gated_journal.specs.Live.{held_in, if_numbered, record_in, place, live}
 use Rattle.gated_journal.specs.Bases.{base_held, other_cell, IsBased}
 use Rattle.gated_journal.specs.Rings.{IsRing, IsWhole, IsReadFor}
-use Rattle.gated_journal.specs.Stops.{IsReady, IsKept, IsUnmoved, IsMoved, IsMovedOrNot, IsBaseSet, HasMoved, moved}
-use Rattle.gated_journal.proofs.Fronts.{front, front_length, front_same, front_drops, front_some}
+use Rattle.gated_journal.specs.Stops.{IsKept, IsUnmoved, IsMoved, IsMovedOrNot, IsBaseSet, HasMoved, moved}
+use Rattle.gated_journal.proofs.Fronts.{front, front_same, front_drops, front_some}
 use Rattle.gated_journal.proofs.Places.{places, places_length, places_at, places_differ, place_round, none_of_places}
 use Rattle.gated_journal.proofs.BaseCells.{held_at, based_still, based_moved}
 use Rattle.gated_journal.proofs.CleanedCells.{same_live, next_is_none}
@@ -50,7 +50,6 @@ held_another n o r is ne = ap (option_and_then (if_numbered n)) is ∙ ap (λ (b
 
 -- The base of the journal j is moved, whose cells were these.
 module _ (j : Ring) (ring : IsRing j) (base : ℕ) (above : j.base < base) (within : base ≤ j.last + 1) (before : List Cell) (based : IsBased j before) (whole : IsWhole j before) where
-
   place_apart : (n : ℕ) → place j n ≢ other_cell j
   place_apart n = λ same. let from = ring.cell_from in omega (arith, same)
 
@@ -73,10 +72,10 @@ module _ (j : Ring) (ring : IsRing j) (base : ℕ) (above : j.base < base) (with
     behind : j.last + 1 ≡ j.base + j.ring → (cell cells (place j (j.last + 1)) ≡ None) ⊎ ((r : FiredFields) × (held_in (cell cells (place j (j.last + 1))) ≡ Some r) × (r.number < base))
     behind round = ⊎_elim
         (λ same.
-            let first : place j (j.last + 1) ≡ place j j.base = ap (place j) round ∙ place_round j j.base in
-            let some = front_some (λ n. record_in n (cell before (place j n))) j.base j.ring 0 j.base (omega (arith, whole, within, above)) (omega arith) in
-            let there = held_there j.base (held_in (cell before (place j j.base))) some.0 some.1 in
-            inr (some.0, ap held_in (same ∙ ap (cell before) first) ∙ there.0, omega (arith, there.1, above)))
+        let first : place j (j.last + 1) ≡ place j j.base = ap (place j) round ∙ place_round j j.base in
+        let some = front_some (λ n. record_in n (cell before (place j n))) j.base j.ring 0 j.base (omega (arith, whole, within, above)) (omega arith) in
+        let there = held_there j.base (held_in (cell before (place j j.base))) some.0 some.1 in
+        inr (some.0, ap held_in (same ∙ ap (cell before) first) ∙ there.0, omega (arith, there.1, above)))
         (λ empty. inl empty)
         (each (place j (j.last + 1)) (place_apart (j.last + 1)))
 
@@ -109,8 +108,8 @@ module _ (j : Ring) (ring : IsRing j) (base : ℕ) (above : j.base < base) (with
         let c : ℕ = j.last + 1 - base in
         let long : length (front h base m) ≡ c = ap (λ (l : List FiredFields). length l) cut ∙ omega (arith, length-drop k (live j before), whole, from, within) in
         front_same (λ n. record_in n (cell cells (place j n))) h base m j.ring c (j.last + 1) long (omega (arith, within, room, above)) (omega (arith, within))
-          (λ n n_from n_to. ap (record_in n) (others (place j n) (place_apart n) (kept n n_from (omega (arith, n_to)))))
-          (λ next. behind_none)
+        (λ n n_from n_to. ap (record_in n) (others (place j n) (place_apart n) (kept n n_from (omega (arith, n_to)))))
+        (λ next. behind_none)
         ∙ cut
 
     pub is_moved : length cells ≡ length before → base_held (cell cells (other_cell j)) ≡ Some base → IsMoved base j before cells
@@ -130,7 +129,6 @@ module _ (j : Ring) (ring : IsRing j) (base : ℕ) (above : j.base < base) (with
 
 -- The base of the journal j is moved on a device that is ready.
 module _ (j : Ring) (ring : IsRing j) (base : ℕ) (above : j.base < base) (within : base ≤ j.last + 1) (old : DiskState) (read : IsReadFor j (seen_cells (BODY + 1) old)) where
-
   -- emptying the other base cell
   pub empty_leaves : (mid : DiskState) → Leaves (BODY + 1) (OldOrEmptyAt (other_cell j ∷ []) (seen_cells (BODY + 1) old)) old mid → Leaves (BODY + 1) (IsMovedOrNot base j (seen_cells (BODY + 1) old)) old mid
   empty_leaves mid run = leaves_weaker (BODY + 1) (OldOrEmptyAt (other_cell j ∷ []) (seen_cells (BODY + 1) old)) (IsMovedOrNot base j (seen_cells (BODY + 1) old)) old mid
@@ -144,9 +142,9 @@ module _ (j : Ring) (ring : IsRing j) (base : ℕ) (above : j.base < base) (with
         let size : length cells ≡ length (seen_cells (BODY + 1) old) = left.count ∙ same_count (BODY + 1) old mid same in
         let others : (k : ℕ) → k ≢ other_cell j → cell cells k ≡ cell (seen_cells (BODY + 1) old) k = λ k ne. left.others k (none_of_one (other_cell j) k ne) ∙ erased.others k (none_of_one (other_cell j) k ne) in
         ⊎_elim
-          (λ empty. inl (is_unmoved j ring base above within (seen_cells (BODY + 1) old) read.based read.whole cells size (inr empty) others))
-          (λ full. inr (is_moved j ring base above within (seen_cells (BODY + 1) old) read.based read.whole cells (λ k ne. inl (others k ne)) (λ k ne kept. others k ne) size (ap base_held full ∙ holds)))
-          (left.each 0 (omega arith))
+        (λ empty. inl (is_unmoved j ring base above within (seen_cells (BODY + 1) old) read.based read.whole cells size (inr empty) others))
+        (λ full. inr (is_moved j ring base above within (seen_cells (BODY + 1) old) read.based read.whole cells (λ k ne. inl (others k ne)) (λ k ne kept. others k ne) size (ap base_held full ∙ holds)))
+        (left.each 0 (omega arith))
 
     pub set_leaves : (new : DiskState) → Leaves (BODY + 1) (OldOrEmptyAt (other_cell j ∷ []) (seen_cells (BODY + 1) old)) old mid → Leaves (BODY + 1) (EmptyOrNew (BODY + 1) mid (other_cell j ∷ []) (body ∷ [])) mid new → Leaves (BODY + 1) (IsMovedOrNot base j (seen_cells (BODY + 1) old)) old new
     set_leaves new first second = leaves_then (BODY + 1) (IsMovedOrNot base j (seen_cells (BODY + 1) old)) old mid new (empty_leaves mid first)
@@ -175,7 +173,7 @@ module _ (j : Ring) (ring : IsRing j) (base : ℕ) (above : j.base < base) (with
     pub drop_leaves : (new : DiskState) → Leaves (BODY + 1) (IsMovedOrNot base j (seen_cells (BODY + 1) old)) old mid → Leaves (BODY + 1) (OldOrEmpty (BODY + 1) mid (places j j.base count)) mid new → Leaves (BODY + 1) (IsMovedOrNot base j (seen_cells (BODY + 1) old)) old new
     drop_leaves new first second = leaves_then (BODY + 1) (IsMovedOrNot base j (seen_cells (BODY + 1) old)) old mid new first
         (leaves_weaker (BODY + 1) (OldOrEmpty (BODY + 1) mid (places j j.base count)) (IsMovedOrNot base j (seen_cells (BODY + 1) old)) mid new
-          (λ cells p. inr (drop_left cells (old_or_empty_seen (BODY + 1) mid (places j j.base count) cells set.settled p))) second)
+        (λ cells p. inr (drop_left cells (old_or_empty_seen (BODY + 1) mid (places j j.base count) cells set.settled p))) second)
 
     pub has_moved : (new : DiskState) → size_of new ≡ size_of mid → Erased (BODY + 1) (places j j.base count) mid new → OldOrEmptyAt (places j j.base count) (seen_cells (BODY + 1) mid) (seen_cells (BODY + 1) new) → HasMoved base j old new
     has_moved new as_before erased left =

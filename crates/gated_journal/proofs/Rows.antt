@@ -1,14 +1,14 @@
 -- Cells of a ring of eight records behind two atoms, worked out by hand. The bodies are short: a definition takes a body of any length.
-use Rattle.std.proofs.Common.{◌≡◌, ℕ, List, [], ◌∷◌, ◌++◌, Option, Some, None, refl, replicate}
+use Rattle.std.proofs.Common.{◌≡◌, ℕ, List, [], ◌∷◌, Some, None, refl}
 use Rattle.disk_model.specs.Cells.{Cell}
 use Rattle.record_codec.specs.Bytes.{one_byte, two_bytes, eight_bytes, one_byte_number, two_byte_number, eight_byte_number, padded, zeros}
 use Rattle.record_codec.specs.Base.{base_in, base_bytes}
 use Rattle.record_codec.specs.Entry.{entry_bytes, entry_at}
 use Rattle.record_codec.specs.Fired.{FiredFields, fired_bytes, fired_in}
 use Rattle.gated_journal.specs.declared.ring.Ring.{Ring}
-use Rattle.gated_journal.specs.Live.{record_in, live, place}
+use Rattle.gated_journal.specs.Live.{live, place}
 use Rattle.gated_journal.specs.Bases.{base_of, base_cell_of, other_cell}
-use Rattle.gated_journal.specs.Rings.{cells_of_ring, appended}
+use Rattle.gated_journal.specs.Rings.{cells_of_ring}
 use Rattle.gated_journal.specs.Stops.{moved, counted_times}
 
 -- a firing of atom 0 alone, as record n

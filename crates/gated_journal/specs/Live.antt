@@ -1,5 +1,5 @@
 -- Which records the cells of a ring hold, and which of them are live.
-use Rattle.std.specs.Prelude.{◌≡◌, ℕ, ◌+◌, ◌==◌, if◌then◌else◌, List, length, map, Option, Some, None}
+use Rattle.std.specs.Prelude.{◌≡◌, ℕ, ◌==◌, if◌then◌else◌, List, length, map, Option, Some, None}
 use Rattle.std.specs.Option.{option_and_then, some_prefix}
 use Rattle.std.specs.List.{range_with_len}
 use Rattle.disk_model.specs.Cells.{Cell, cell}

@@ -1,4 +1,4 @@
-use Rattle.std.proofs.Common.{◌≡◌, ◌+◌, ℕ, List, length, sym, subst, arith}
+use Rattle.std.proofs.Common.{◌+◌, ℕ, List, length, sym, subst, arith}
 use Rattle.disk_model.specs.DiskState.{DiskState}
 use Rattle.disk_model.specs.Cells.{Leaves, EmptyOrNew, Filled}
 use Rattle.disk_model.specs.Moments.{on_ok}
@@ -33,8 +33,8 @@ returns-clause-leaves g c keeps news are =
     let new : DiskState = c.set_run.new.self in
     let bodies : List (List ℕ) = c.args.bodies.now in
     let run : Leaves 512 (EmptyOrNew 512 old (places j (j.last + 1) (length bodies)) bodies) old new =
-        subst (λ (n : ℕ). Leaves 512 (EmptyOrNew 512 old (places j (j.last + 1) n) bodies) old new) c.requires.as_many
-          (subst (λ (ks : List ℕ). Leaves 512 (EmptyOrNew 512 old ks bodies) old new) c.write_places.ensures (c.set_run.ensures.leaves keeps)) in
+    subst (λ (n : ℕ). Leaves 512 (EmptyOrNew 512 old (places j (j.last + 1) n) bodies) old new) c.requires.as_many
+    (subst (λ (ks : List ℕ). Leaves 512 (EmptyOrNew 512 old ks bodies) old new) c.write_places.ensures (c.set_run.ensures.leaves keeps)) in
     append_leaves j bodies news old new c.requires.ring (c.requires.ready keeps) are c.requires.room run
 
 pub returns-clause-appended : goal.returns-clause-appended
@@ -44,6 +44,6 @@ returns-clause-appended g c keeps news are =
     let new : DiskState = c.set_run.new.self in
     let bodies : List (List ℕ) = c.args.bodies.now in
     on_ok c.set_run.result (Filled 512 c.write_places.new.places bodies old new) (HasAppendedAll j news old new)
-      (λ filled. has_appended_all j bodies news old new c.requires.ring (c.requires.ready keeps) are c.requires.room c.set_run.ensures.counts.size
-          (subst (λ (n : ℕ). Filled 512 (places j (j.last + 1) n) bodies old new) c.requires.as_many (subst (λ (ks : List ℕ). Filled 512 ks bodies old new) c.write_places.ensures filled)))
-      (c.set_run.ensures.filled keeps)
+    (λ filled. has_appended_all j bodies news old new c.requires.ring (c.requires.ready keeps) are c.requires.room c.set_run.ensures.counts.size
+    (subst (λ (n : ℕ). Filled 512 (places j (j.last + 1) n) bodies old new) c.requires.as_many (subst (λ (ks : List ℕ). Filled 512 ks bodies old new) c.write_places.ensures filled)))
+    (c.set_run.ensures.filled keeps)

@@ -1,6 +1,6 @@
-use Rattle.std.proofs.Common.{◌≡◌, ◌+◌, ℕ, List, length, sym, subst}
+use Rattle.std.proofs.Common.{◌+◌, ℕ, List, length, sym, subst}
 use Rattle.disk_model.specs.DiskState.{DiskState}
-use Rattle.disk_model.specs.Cells.{Cell, seen_cells, Leaves, OldOrEmpty, Erased}
+use Rattle.disk_model.specs.Cells.{seen_cells, Leaves, OldOrEmpty, Erased}
 use Rattle.disk_model.specs.Moments.{seen_after, on_ok}
 use Rattle.disk_model.specs.Steps.{AreInside}
 use Rattle.gated_journal.specs.declared.ring.Ring.{Ring}
@@ -32,5 +32,5 @@ returns-clause-cleaned g c keeps =
     let run : Leaves 512 (OldOrEmpty 512 old (places j (j.last + 1) count)) old new = subst (λ (ks : List ℕ). Leaves 512 (OldOrEmpty 512 old ks) old new) c.write_places.ensures (c.erase_run.ensures.leaves keeps) in
     let left : HasCleaned j (seen_cells 512 old) (seen_cells 512 new) = seen_after 512 (HasCleaned j (seen_cells 512 old)) old new (clean_leaves j c.requires.ring count c.requires.as_many old new (c.requires.settled keeps) (c.requires.whole keeps) run) in
     on_ok c.erase_run.result (Erased 512 c.write_places.new.places old new) (IsReady j new)
-      (λ erased. is_cleaned j c.requires.ring count c.requires.as_many old new left (c.requires.whole keeps) (subst (λ (ks : List ℕ). Erased 512 ks old new) c.write_places.ensures erased))
-      (c.erase_run.ensures.erased keeps)
+    (λ erased. is_cleaned j c.requires.ring count c.requires.as_many old new left (c.requires.whole keeps) (subst (λ (ks : List ℕ). Erased 512 ks old new) c.write_places.ensures erased))
+    (c.erase_run.ensures.erased keeps)

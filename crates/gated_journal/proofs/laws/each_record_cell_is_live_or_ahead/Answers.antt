@@ -1,4 +1,4 @@
-use Rattle.std.proofs.Common.{inl, inr, arith}
+use Rattle.std.proofs.Common.{inl, inr}
 use Rattle.std.proofs.lemmas.Bool.{cases_lt}
 use Rattle.gated_journal.proofs.Places.{number_of_cell}
 use Rattle.gated_journal.proofs.laws.each_record_cell_is_live_or_ahead.Goals as goal

@@ -21,7 +21,7 @@ erase_run-requires g c =
 pub returns-clause-counts : goal.returns-clause-counts
 returns-clause-counts g c =
     up_to_then (is_err c.erase_run.result) 3 1 c.args.cells.now c.set_base.new.cells c.erase_run.new.self c.in_ok-set_base.ensures.counts
-      (up_to_one (is_err c.erase_run.result) (is_ok c.erase_run.result) c.set_base.new.cells c.erase_run.new.self c.erase_run.ensures.counts)
+    (up_to_one (is_err c.erase_run.result) (is_ok c.erase_run.result) c.set_base.new.cells c.erase_run.new.self c.erase_run.ensures.counts)
 
 -- what a stop inside the last call leaves
 dropping : (g : _) (c : goal.After-erase_run g) → c.args.cells.now.keeps ≡ true → Leaves 512 (OldOrEmpty 512 c.set_base.new.cells (places c.args.ring c.args.ring.base (length c.args.room.now))) c.set_base.new.cells c.erase_run.new.self
@@ -34,7 +34,7 @@ pub returns-clause-leaves : goal.returns-clause-leaves
 returns-clause-leaves g c keeps =
     let new : DiskState = c.erase_run.new.self in
     drop_leaves c.args.ring c.requires.ring c.args.base c.requires.above c.requires.within c.args.cells.now (c.requires.read keeps) c.set_base.new.cells (c.in_ok-set_base.ensures.set keeps) (length c.args.room.now) c.requires.as_many new
-      (c.in_ok-set_base.ensures.leaves keeps) (dropping g c keeps)
+    (c.in_ok-set_base.ensures.leaves keeps) (dropping g c keeps)
 
 pub returns-clause-moved : goal.returns-clause-moved
 returns-clause-moved g c keeps =
@@ -46,6 +46,6 @@ returns-clause-moved g c keeps =
     let set : IsBaseSet c.args.base j old mid = c.in_ok-set_base.ensures.set keeps in
     let left : OldOrEmptyAt row (seen_cells 512 mid) (seen_cells 512 new) = old_or_empty_seen 512 mid row (seen_cells 512 new) set.settled (seen_after 512 (OldOrEmpty 512 mid row) mid new (dropping g c keeps)) in
     on_ok c.erase_run.result (Erased 512 c.write_places.new.places mid new) (HasMoved c.args.base j old new)
-      (λ erased. has_moved j c.requires.ring c.args.base c.requires.above c.requires.within old (c.requires.read keeps) mid set (length c.args.room.now) c.requires.as_many new c.erase_run.ensures.counts.size
-          (subst (λ (ks : List ℕ). Erased 512 ks mid new) c.write_places.ensures erased) left)
-      (c.erase_run.ensures.erased (c.in_ok-set_base.ensures.counts.keeps ∙ keeps))
+    (λ erased. has_moved j c.requires.ring c.args.base c.requires.above c.requires.within old (c.requires.read keeps) mid set (length c.args.room.now) c.requires.as_many new c.erase_run.ensures.counts.size
+    (subst (λ (ks : List ℕ). Erased 512 ks mid new) c.write_places.ensures erased) left)
+    (c.erase_run.ensures.erased (c.in_ok-set_base.ensures.counts.keeps ∙ keeps))

@@ -1,6 +1,6 @@
-use Rattle.std.proofs.Common.{◌≡◌, ℕ, List, [], ◌∷◌, Some, ◌∙◌, ap, arith, is_err}
+use Rattle.std.proofs.Common.{◌≡◌, ℕ, [], ◌∷◌, Some, ◌∙◌, ap, is_err}
 use Rattle.disk_model.specs.DiskState.{DiskState}
-use Rattle.disk_model.specs.Cells.{Erased, Filled}
+use Rattle.disk_model.specs.Cells.{Filled}
 use Rattle.disk_model.specs.Moments.{on_ok}
 use Rattle.record_codec.specs.Base.{base_in}
 use Rattle.gated_journal.specs.declared.ring.Ring.{Ring}
@@ -24,7 +24,7 @@ returns-clause-leaves g c keeps =
     let mid : DiskState = c.empty.new.cells in
     let holds : base_in c.to_body.result ≡ Some c.args.base = c.to_body.ensures.reads_back ∙ ap (λ (n : ℕ). Some n) c.new.ensures in
     set_leaves c.args.ring c.requires.ring c.args.base c.requires.above c.requires.within old (c.requires.read keeps) mid c.in_ok-empty.ensures.counts.size (c.in_ok-empty.ensures.erased keeps) c.to_body.result holds c.set.new.self
-      (c.in_ok-empty.ensures.leaves keeps) (c.set.ensures.leaves (c.in_ok-empty.ensures.counts.keeps ∙ keeps))
+    (c.in_ok-empty.ensures.leaves keeps) (c.set.ensures.leaves (c.in_ok-empty.ensures.counts.keeps ∙ keeps))
 
 pub returns-clause-set : goal.returns-clause-set
 returns-clause-set g c keeps =
@@ -34,5 +34,5 @@ returns-clause-set g c keeps =
     let j : Ring = c.args.ring in
     let holds : base_in c.to_body.result ≡ Some c.args.base = c.to_body.ensures.reads_back ∙ ap (λ (n : ℕ). Some n) c.new.ensures in
     on_ok c.set.result (Filled 512 (other_cell j ∷ []) (c.to_body.result ∷ []) mid new) (IsBaseSet c.args.base j old new)
-      (λ filled. is_base_set j c.requires.ring c.args.base c.requires.above c.requires.within old (c.requires.read keeps) mid c.in_ok-empty.ensures.counts.size (c.in_ok-empty.ensures.erased keeps) c.to_body.result holds new c.set.ensures.counts.size filled)
-      (c.set.ensures.filled (c.in_ok-empty.ensures.counts.keeps ∙ keeps))
+    (λ filled. is_base_set j c.requires.ring c.args.base c.requires.above c.requires.within old (c.requires.read keeps) mid c.in_ok-empty.ensures.counts.size (c.in_ok-empty.ensures.erased keeps) c.to_body.result holds new c.set.ensures.counts.size filled)
+    (c.set.ensures.filled (c.in_ok-empty.ensures.counts.keeps ∙ keeps))
