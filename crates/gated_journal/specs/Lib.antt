@@ -1,0 +1,4 @@
+pub mod Live
+pub mod Bases
+pub mod Rings
+pub mod Stops
