@@ -3,7 +3,7 @@ use Rattle.std.proofs.Common.{◌≡◌, ℕ, ◌∷◌, [], List, pos, negsuc, 
 use Rattle.std.specs.Fmt.{digits}
 use Rattle.std.specs.Prelude.{None, Some}
 use Rattle.petri_atom.specs.Expression.{number}
-use Rattle.petri_atom.specs.Local.{delivered_of, set_below}
+use Rattle.petri_atom.specs.Local.{set_below}
 use Rattle.petri_atom.specs.Definition.{AtomDefinition}
 use Rattle.petri_atom.specs.declared.parts.Place.{Place}
 use Rattle.petri_atom.specs.declared.parts.Variable.{Variable}
@@ -105,10 +105,10 @@ turned = record {
   transitions = record { port = 0; sources = []; targets = []; guard = number (pos 1); updates = [] } ∷ [];
 }
 
-one_delivered : delivered_words Csv turned 0 (delivered_of (Some (pos 7) ∷ None ∷ None ∷ None ∷ [])) ≡ codes "T.m=7" ∷ []
+one_delivered : delivered_words Csv turned 0 (Some (pos 7) ∷ None ∷ None ∷ None ∷ []) ≡ codes "T.m=7" ∷ []
 unfolding turned digits set_below
 one_delivered = refl
 
-two_delivered : atom_object turned 0 (delivered_of (Some (pos 7) ∷ Some (negsuc 7) ∷ None ∷ None ∷ [])) ≡ codes "{\"atom\":\"T\",\"port\":\"a\",\"transition\":0,\"delivered\":{\"m\":7,\"n\":-8}}"
+two_delivered : atom_object turned 0 (Some (pos 7) ∷ Some (negsuc 7) ∷ None ∷ None ∷ []) ≡ codes "{\"atom\":\"T\",\"port\":\"a\",\"transition\":0,\"delivered\":{\"m\":7,\"n\":-8}}"
 unfolding turned digits set_below
 two_delivered = refl
