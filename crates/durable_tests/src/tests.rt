@@ -2,3 +2,4 @@
 mod bodies;
 mod cells;
 mod devices;
+mod journal;
