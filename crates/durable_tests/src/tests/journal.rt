@@ -266,7 +266,7 @@ fn journal_of(ring: u32, base: u64, last: u64) -> Numbers {
     }
 }
 
-/// In all 4 * 422 stops.
+/// In all 4 * 418 stops.
 #[test]
 fn a_stop_inside_an_append_leaves_a_front_of_the_new_records(rt: HostRuntime) -> Result<(), Fail> {
     for (ring, base, last, count) in [
