@@ -1,7 +1,8 @@
 //! The algebra of connectors: which sets of ports may act together.
 //!
 //! A connector is a tree of ports (`tree`). Each child of the root or of a bracket is a trigger or a
-//! synchron. What it means is a set of sets of ports (`specs/PortSets.antt`), after S. Bliudze and J. Sifakis,
+//! synchron. Contracts speak of it as a tree without addresses: `tree_of` (`specs/Tree.antt`) says which one it is in
+//! memory. What it means is a set of sets of ports (`specs/PortSets.antt`), after S. Bliudze and J. Sifakis,
 //! "The Algebra of Connectors: Structuring Interaction in BIP", 2008:
 //!
 //! - a port p means `{{p}}`;
