@@ -27,3 +27,7 @@ mod Unchanged
 mod Freed
 mod Ruled
 mod Walked
+pub mod Membership
+pub mod OfPorts
+pub mod OfInteractions
+pub mod OfChoices

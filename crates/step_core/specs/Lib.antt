@@ -21,3 +21,4 @@ pub mod Free
 pub mod Ways
 pub mod Words
 pub mod Judgement
+pub mod Laws

@@ -24,6 +24,7 @@
 //!   change.
 //! - `resolved`: guard clauses and transfers with their variables found. `values`: the values of variables, and whether guard clauses hold.
 //!   `transfers`: what a choice delivers. `firing`: the state that it leaves.
+//! - `laws`: what the definitions say of one another: what interactions, choices, steps and runs are.
 #![tactic(auto)]
 
 mod choice;
@@ -36,6 +37,7 @@ mod interaction;
 mod interactions;
 mod judged;
 mod judgement;
+pub mod laws;
 mod limits;
 mod making;
 mod offers;

@@ -1,0 +1,33 @@
+//! What the definitions of a plant say of one another. These functions make no call: their clauses are the laws.
+ghost use Rattle.std.specs.Prelude.{◌≡◌, ℕ, List, None, Contains};
+ghost use Rattle.petri_atom.specs.Local.{Local};
+ghost use Rattle.step_core.specs.Choice.{ChoiceDefinition, Interaction, IsAllowed, plant_interactions};
+ghost use Rattle.step_core.specs.Laws.{IsInRange, IsInteractionOf, IsTaking, IsWithinLimits};
+ghost use Rattle.step_core.specs.Plant.{PlantDefinition};
+ghost use Rattle.step_core.specs.Rules.{fault_of};
+
+/// A plant that breaks no rule has an atom, and at most as many atoms, connectors and interactions as one may have.
+pub fn a_plant_is_within_limits()
+    ensures { (plant : PlantDefinition) → fault_of plant ≡ None → IsWithinLimits plant }
+{}
+
+/// Each interaction of a plant is one of a connector of the plant, with 1 to 8 of its ports, in rising order of their atoms,
+/// which are the plant's.
+pub fn an_interaction_is_of_its_plant()
+    ensures { (plant : PlantDefinition) (i : Interaction) → fault_of plant ≡ None
+        → Contains (plant_interactions plant) i → IsInteractionOf plant i }
+{}
+
+/// An allowed choice takes up an interaction of the plant: it has its connector and its mask, and by place an offered
+/// transition of each of its ports.
+pub fn an_allowed_choice_takes_up_an_interaction()
+    ensures { (plant : PlantDefinition) (states : List Local) (c : ChoiceDefinition) → IsAllowed plant states c
+        → (number : ℕ) × IsTaking plant states number c }
+{}
+
+/// So it names a connector of the plant, and has 1 to 8 moves, of atoms of the plant in rising order, each by a transition that its
+/// atom has.
+pub fn an_allowed_choice_is_in_range()
+    ensures { (plant : PlantDefinition) (states : List Local) (c : ChoiceDefinition) → fault_of plant ≡ None
+        → IsAllowed plant states c → IsInRange plant c }
+{}
