@@ -31,3 +31,4 @@ pub mod Membership
 pub mod OfPorts
 pub mod OfInteractions
 pub mod OfChoices
+pub mod ByAtom

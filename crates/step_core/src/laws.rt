@@ -1,10 +1,13 @@
 //! What the definitions of a plant say of one another. These functions make no call: their clauses are the laws.
-ghost use Rattle.std.specs.Prelude.{◌≡◌, ℕ, List, None, Contains};
+ghost use Rattle.std.specs.Prelude.{◌≡◌, ◌≢◌, ℕ, List, Some, None, Contains, slice_get, option_map};
+ghost use Rattle.petri_atom.specs.Definition.{AtomDefinition, fired};
 ghost use Rattle.petri_atom.specs.Local.{Local};
 ghost use Rattle.step_core.specs.Choice.{ChoiceDefinition, Interaction, IsAllowed, plant_interactions};
 ghost use Rattle.step_core.specs.Laws.{IsInRange, IsInteractionOf, IsTaking, IsWithinLimits};
 ghost use Rattle.step_core.specs.Plant.{PlantDefinition};
 ghost use Rattle.step_core.specs.Rules.{fault_of};
+ghost use Rattle.step_core.specs.Step.{next, stepped, transfer};
+ghost use Rattle.step_core.specs.declared.choice.Move.{Move};
 
 /// A plant that breaks no rule has an atom, and at most as many atoms, connectors and interactions as one may have.
 pub fn a_plant_is_within_limits()
@@ -30,4 +33,17 @@ pub fn an_allowed_choice_takes_up_an_interaction()
 pub fn an_allowed_choice_is_in_range()
     ensures { (plant : PlantDefinition) (states : List Local) (c : ChoiceDefinition) → fault_of plant ≡ None
         → IsAllowed plant states c → IsInRange plant c }
+{}
+
+/// The state after a choice, atom by atom: a participant has fired its transition, with what the choice delivers to it, and every
+/// other atom's state is the old one.
+pub fn the_next_state_is_by_atom()
+    ensures by_atom { (plant : PlantDefinition) (states : List Local) (c : ChoiceDefinition) (i : ℕ)
+        → slice_get (next plant states c) i ≡ option_map (stepped plant.atoms c.moves (transfer plant states c) i) (slice_get states i) }
+    ensures moves { (plant : PlantDefinition) (states : List Local) (c : ChoiceDefinition) (m : Move) (a : AtomDefinition) (s : Local)
+        → fault_of plant ≡ None → IsAllowed plant states c → Contains c.moves m
+        → slice_get plant.atoms m.atom ≡ Some a → slice_get states m.atom ≡ Some s
+        → slice_get (next plant states c) m.atom ≡ Some (fired a m.transition (transfer plant states c m.atom) s) }
+    ensures stays { (plant : PlantDefinition) (states : List Local) (c : ChoiceDefinition) (i : ℕ)
+        → ((m : Move) → Contains c.moves m → m.atom ≢ i) → slice_get (next plant states c) i ≡ slice_get states i }
 {}
