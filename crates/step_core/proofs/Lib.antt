@@ -32,3 +32,4 @@ pub mod OfPorts
 pub mod OfInteractions
 pub mod OfChoices
 pub mod ByAtom
+pub mod PastExports

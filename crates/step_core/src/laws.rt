@@ -1,7 +1,7 @@
 //! What the definitions of a plant say of one another. These functions make no call: their clauses are the laws.
-ghost use Rattle.std.specs.Prelude.{◌≡◌, ◌≢◌, ℕ, List, Some, None, Contains, slice_get, option_map};
-ghost use Rattle.petri_atom.specs.Definition.{AtomDefinition, fired};
-ghost use Rattle.petri_atom.specs.Local.{Local};
+ghost use Rattle.std.specs.Prelude.{◌≡◌, ◌≢◌, ◌≤◌, ℕ, List, Some, None, Contains, length, slice_get, option_map};
+ghost use Rattle.petri_atom.specs.Definition.{AtomDefinition, TransitionDefinition, exports_of, fired};
+ghost use Rattle.petri_atom.specs.Local.{Local, delivered_value};
 ghost use Rattle.step_core.specs.Choice.{ChoiceDefinition, Interaction, IsAllowed, plant_interactions};
 ghost use Rattle.step_core.specs.Laws.{IsInRange, IsInteractionOf, IsTaking, IsWithinLimits};
 ghost use Rattle.step_core.specs.Plant.{PlantDefinition};
@@ -46,4 +46,12 @@ pub fn the_next_state_is_by_atom()
         → slice_get (next plant states c) m.atom ≡ Some (fired a m.transition (transfer plant states c m.atom) s) }
     ensures stays { (plant : PlantDefinition) (states : List Local) (c : ChoiceDefinition) (i : ℕ)
         → ((m : Move) → Contains c.moves m → m.atom ≢ i) → slice_get (next plant states c) i ≡ slice_get states i }
+{}
+
+/// An allowed choice delivers nothing past the variables that the port of a participant's transition exports.
+pub fn nothing_is_delivered_past_the_exports()
+    ensures { (plant : PlantDefinition) (states : List Local) (c : ChoiceDefinition) (m : Move) (a : AtomDefinition) (t : TransitionDefinition)
+        → fault_of plant ≡ None → IsAllowed plant states c → Contains c.moves m
+        → slice_get plant.atoms m.atom ≡ Some a → slice_get a.transitions m.transition ≡ Some t
+        → (j : ℕ) → length (exports_of a t.port) ≤ j → delivered_value (transfer plant states c m.atom) j ≡ None }
 {}
