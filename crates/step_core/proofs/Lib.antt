@@ -33,3 +33,4 @@ pub mod OfInteractions
 pub mod OfChoices
 pub mod ByAtom
 pub mod PastExports
+pub mod OnRuns

@@ -21,4 +21,5 @@ pub mod Free
 pub mod Ways
 pub mod Words
 pub mod Judgement
+pub mod Runs
 pub mod Laws

@@ -1,11 +1,14 @@
 //! What the definitions of a plant say of one another. These functions make no call: their clauses are the laws.
-ghost use Rattle.std.specs.Prelude.{◌≡◌, ◌≢◌, ◌≤◌, ℕ, List, Some, None, Contains, length, slice_get, option_map};
-ghost use Rattle.petri_atom.specs.Definition.{AtomDefinition, TransitionDefinition, exports_of, fired};
+ghost use Rattle.std.specs.Prelude.{◌≡◌, ◌≢◌, ◌≤◌, ◌++◌, ℕ, List, Some, None, Contains, true, length, slice_get, option_map};
+ghost use Rattle.std.specs.List.{list_all};
+ghost use Rattle.petri_atom.specs.Definition.{AtomDefinition, TransitionDefinition, exports_of, fired, is_well_formed};
 ghost use Rattle.petri_atom.specs.Local.{Local, delivered_value};
 ghost use Rattle.step_core.specs.Choice.{ChoiceDefinition, Interaction, IsAllowed, plant_interactions};
+ghost use Rattle.step_core.specs.Fitting.{IsOf, AllFit};
 ghost use Rattle.step_core.specs.Laws.{IsInRange, IsInteractionOf, IsTaking, IsWithinLimits};
 ghost use Rattle.step_core.specs.Plant.{PlantDefinition};
 ghost use Rattle.step_core.specs.Rules.{fault_of};
+ghost use Rattle.step_core.specs.Runs.{IsRun, fold};
 ghost use Rattle.step_core.specs.Step.{next, stepped, transfer};
 ghost use Rattle.step_core.specs.declared.choice.Move.{Move};
 
@@ -54,4 +57,29 @@ pub fn nothing_is_delivered_past_the_exports()
         → fault_of plant ≡ None → IsAllowed plant states c → Contains c.moves m
         → slice_get plant.atoms m.atom ≡ Some a → slice_get a.transitions m.transition ≡ Some t
         → (j : ℕ) → length (exports_of a t.port) ≤ j → delivered_value (transfer plant states c m.atom) j ≡ None }
+{}
+
+/// A run leads to the state that its choices lead to.
+pub fn a_run_leads_to_its_fold()
+    ensures { (plant : PlantDefinition) (start end : List Local) (cs : List ChoiceDefinition) → IsRun plant start cs end
+        → fold plant start cs ≡ end }
+{}
+
+/// Two runs, one from where the other ends, are one run; and a run is cut at any place into two.
+pub fn runs_append()
+    ensures joined { (plant : PlantDefinition) (start between end : List Local) (xs ys : List ChoiceDefinition)
+        → IsRun plant start xs between → IsRun plant between ys end → IsRun plant start (xs ++ ys) end }
+    ensures cut { (plant : PlantDefinition) (start end : List Local) (xs ys : List ChoiceDefinition) → IsRun plant start (xs ++ ys) end
+        → IsRun plant start xs (fold plant start xs) × IsRun plant (fold plant start xs) ys end }
+{}
+
+/// Each state on a run of a plant of well-formed atoms is one of the plant and fits it, where the first one is and does: the last one,
+/// and the one behind each front of the choices.
+pub fn each_state_on_a_run_fits()
+    ensures end { (plant : PlantDefinition) (start end : List Local) (cs : List ChoiceDefinition)
+        → list_all is_well_formed plant.atoms ≡ true → IsOf plant start → AllFit plant start
+        → IsRun plant start cs end → IsOf plant end × AllFit plant end }
+    ensures between { (plant : PlantDefinition) (start : List Local) (cs : List ChoiceDefinition)
+        → list_all is_well_formed plant.atoms ≡ true → IsOf plant start → AllFit plant start
+        → IsOf plant (fold plant start cs) × AllFit plant (fold plant start cs) }
 {}
