@@ -1,11 +1,11 @@
 //! What the definitions of a plant say of one another. These functions make no call: their clauses are the laws.
-ghost use Rattle.std.specs.Prelude.{◌≡◌, ◌≢◌, ◌≤◌, ◌++◌, ℕ, List, Some, None, Contains, true, length, slice_get, option_map};
+ghost use Rattle.std.specs.Prelude.{◌≡◌, ◌≢◌, ◌↔◌, ◌≤◌, ◌++◌, ℕ, List, Some, None, Contains, true, length, slice_get, option_map};
 ghost use Rattle.std.specs.List.{list_all};
 ghost use Rattle.petri_atom.specs.Definition.{AtomDefinition, TransitionDefinition, exports_of, fired, is_well_formed};
 ghost use Rattle.petri_atom.specs.Local.{Local, delivered_value};
-ghost use Rattle.step_core.specs.Choice.{ChoiceDefinition, Interaction, IsAllowed, plant_interactions};
+ghost use Rattle.step_core.specs.Choice.{ChoiceDefinition, Interaction, IsAllowed, choices, plant_interactions};
 ghost use Rattle.step_core.specs.Fitting.{IsOf, AllFit};
-ghost use Rattle.step_core.specs.Laws.{IsInRange, IsInteractionOf, IsTaking, IsWithinLimits};
+ghost use Rattle.step_core.specs.Laws.{IsChoiceOf, IsInRange, IsInteractionOf, IsTaking, IsWithinLimits};
 ghost use Rattle.step_core.specs.Plant.{PlantDefinition};
 ghost use Rattle.step_core.specs.Rules.{fault_of};
 ghost use Rattle.step_core.specs.Runs.{IsRun, fold};
@@ -36,6 +36,12 @@ pub fn an_allowed_choice_takes_up_an_interaction()
 pub fn an_allowed_choice_is_in_range()
     ensures { (plant : PlantDefinition) (states : List Local) (c : ChoiceDefinition) → fault_of plant ≡ None
         → IsAllowed plant states c → IsInRange plant c }
+{}
+
+/// A choice is allowed exactly where it takes up an interaction of the plant that is possible, with an offered transition of each of
+/// that one's ports in rising order of their atoms, and no possible interaction is above it.
+pub fn what_an_allowed_choice_is()
+    ensures { (plant : PlantDefinition) (states : List Local) (c : ChoiceDefinition) → IsAllowed plant states c ↔ IsChoiceOf plant states c }
 {}
 
 /// The state after a choice, atom by atom: a participant has fired its transition, with what the choice delivers to it, and every
