@@ -34,3 +34,4 @@ pub mod OfChoices
 pub mod ByAtom
 pub mod PastExports
 pub mod OnRuns
+pub mod InOrder

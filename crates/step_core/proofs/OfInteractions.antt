@@ -245,7 +245,7 @@ increasing ps rising k within =
 -- ---- interactions
 
 -- an interaction of wires is one of a connector among them
-from-wires : (n k : ℕ) (ws : List WireDefinition) (i : Interaction) → Contains (interactions_from n k ws) i → (j : ℕ) × (w : WireDefinition) × (slice_get ws j ≡ Some w) × Contains (interactions_of_connector n (k + j) w.connector) i
+pub from-wires : (n k : ℕ) (ws : List WireDefinition) (i : Interaction) → Contains (interactions_from n k ws) i → (j : ℕ) × (w : WireDefinition) × (slice_get ws j ≡ Some w) × Contains (interactions_of_connector n (k + j) w.connector) i
 from-wires n k [] i at = absurd (omega (arith, at.1))
 from-wires n k (w ∷ ws) i at =
     let e : k ≡ k + zero = omega arith in

@@ -1,11 +1,11 @@
 //! What the definitions of a plant say of one another. These functions make no call: their clauses are the laws.
-ghost use Rattle.std.specs.Prelude.{◌≡◌, ◌≢◌, ◌↔◌, ◌≤◌, ◌++◌, ℕ, List, Some, None, Contains, true, length, slice_get, option_map};
+ghost use Rattle.std.specs.Prelude.{◌≡◌, ◌≢◌, ◌↔◌, ◌≤◌, ◌++◌, ℕ, List, Some, None, AllPairs, Contains, true, length, slice_get, option_map};
 ghost use Rattle.std.specs.List.{list_all};
 ghost use Rattle.petri_atom.specs.Definition.{AtomDefinition, TransitionDefinition, exports_of, fired, is_well_formed};
 ghost use Rattle.petri_atom.specs.Local.{Local, delivered_value};
 ghost use Rattle.step_core.specs.Choice.{ChoiceDefinition, Interaction, IsAllowed, choices, plant_interactions};
 ghost use Rattle.step_core.specs.Fitting.{IsOf, AllFit};
-ghost use Rattle.step_core.specs.Laws.{IsChoiceOf, IsInRange, IsInteractionOf, IsTaking, IsWithinLimits};
+ghost use Rattle.step_core.specs.Laws.{IsBefore, IsChoiceOf, IsInRange, IsInteractionOf, IsTaking, IsWithinLimits};
 ghost use Rattle.step_core.specs.Plant.{PlantDefinition};
 ghost use Rattle.step_core.specs.Rules.{fault_of};
 ghost use Rattle.step_core.specs.Runs.{IsRun, fold};
@@ -42,6 +42,14 @@ pub fn an_allowed_choice_is_in_range()
 /// that one's ports in rising order of their atoms, and no possible interaction is above it.
 pub fn what_an_allowed_choice_is()
     ensures { (plant : PlantDefinition) (states : List Local) (c : ChoiceDefinition) → IsAllowed plant states c ↔ IsChoiceOf plant states c }
+{}
+
+/// The choices of a state stand in their order: by connector, then by mask, then by the transitions in rising order of their atoms,
+/// the last atom's varying fastest. So each stands there once.
+pub fn choices_stand_in_order()
+    ensures order { (plant : PlantDefinition) (states : List Local) → AllPairs IsBefore (choices plant states) }
+    ensures once { (plant : PlantDefinition) (states : List Local) (i j : ℕ) (c : ChoiceDefinition)
+        → slice_get (choices plant states) i ≡ Some c → slice_get (choices plant states) j ≡ Some c → i ≡ j }
 {}
 
 /// The state after a choice, atom by atom: a participant has fired its transition, with what the choice delivers to it, and every
