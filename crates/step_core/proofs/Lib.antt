@@ -35,3 +35,4 @@ pub mod ByAtom
 pub mod PastExports
 pub mod OnRuns
 pub mod InOrder
+pub mod RunRows
