@@ -280,19 +280,21 @@ module _ (plant : PlantDefinition) (valid : fault_of plant ≡ None) (i : Intera
       let ports : by_atom n (ports_of w.connector made.0) ≡ i.ports = ap (λ (x : Interaction). x.ports) made.2 in
       let whole = sound-tree plant valid found.0 w found.2 in
       let from : (p : Port) → Contains i.ports p → Contains (ports_of w.connector made.0) p = λ p in_it. (from-by_atom n (ports_of w.connector made.0) p (subst (λ ps. Contains ps p) (sym ports) in_it)).0 in
+      let to : (p : Port) → Contains (ports_of w.connector made.0) p → Contains i.ports p = λ p in_mask. subst (λ ps. Contains ps p) ports (to-by_atom n (ports_of w.connector made.0) p in_mask (known-atom plant.atoms p (all-in (is_known_port plant.atoms) (leaves w.connector) (known-leaves plant valid found.0 w found.2) p (from-chosen made.0 0 (leaves w.connector) p in_mask)))) in
       let leaf : (p : Port) → Contains i.ports p → Contains (leaves w.connector) p = λ p in_it. from-chosen made.0 0 (leaves w.connector) p (from p in_it) in
       let one = some-chosen w.connector made.0 whole made.1 in
-      let its_leaf = from-chosen made.0 0 (leaves w.connector) one.0 one.1 in
-      let its_atom = known-atom plant.atoms one.0 (all-in (is_known_port plant.atoms) (leaves w.connector) (known-leaves plant valid found.0 w found.2) one.0 its_leaf) in
-      let in_it = to-by_atom n (ports_of w.connector made.0) one.0 one.1 its_atom in
+      let in_it = to one.0 one.1 in
       record {
         wire = w;
         there = ap (slice_get plant.wires) number ∙ found.2;
         mask = subst (Contains (interactions_of w.connector)) mask made.1;
-        some = subst (λ ps. 1 ≤ length ps) ports (omega (arith, in_it.1));
+        some = omega (arith, in_it.1);
         few = subst (λ ps. length ps ≤ MAX_LEAVES) ports (omega (arith, few_ports n made.0 (leaves w.connector), whole.few_leaves));
         rising = subst (λ ps. IsStrictlyIncreasing (tree.atoms ps)) ports (increasing (by_atom n (ports_of w.connector made.0)) (rise-by_atom n (ports_of w.connector made.0) (apart-chosen made.0 0 (leaves w.connector) (apart (leaves w.connector) whole.distinct_atoms))));
         known = λ p in_ports. all-in (is_known_port plant.atoms) (leaves w.connector) (known-leaves plant valid found.0 w found.2) p (leaf p in_ports);
-        of_mask = λ p in_ports. subst (λ m. Contains (ports_of w.connector m) p) mask (from p in_ports);
+        of_mask = λ p. (
+          λ in_ports. subst (λ m. Contains (ports_of w.connector m) p) mask (from p in_ports),
+          λ in_mask. to p (subst (λ m. Contains (ports_of w.connector m) p) (sym mask) in_mask),
+        );
         of_connector = leaf;
       }

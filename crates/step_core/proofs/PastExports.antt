@@ -1,4 +1,4 @@
--- Nothing is delivered past the exports of a port.
+-- What a choice delivers is a row of values, with nothing past the exports of a port.
 use Rattle.std.proofs.Common.{◌≡◌, ℕ, zero, suc, ◌+◌, ◌==◌, ◌≤◌, refl, sym, ◌∙◌, ap, subst, List, [], ◌∷◌, length, map, get_or, Contains, nat_lt, arith, Bool, true, false, cond, ◌&&◌}
 use Rattle.std.specs.Prelude.{Option, Some, None, slice_get, find, option_map}
 use Rattle.std.specs.List.{list_all, range_with_len}
@@ -86,3 +86,11 @@ past-exports plant states c m a t valid allowed at its_atom its_transition j pas
     ap (λ n. delivered_value (transfer plant states c n) j) own ∙
     ap (λ o. delivered_value (option_map_or (λ w. delivered_by plant.atoms states (leaves w.connector) w.transfers c.mask p.atom) o nothing_delivered) j) wire ∙
     none-delivered plant.atoms ports p unique a there j few states w.transfers (known-transfers plant valid i.connector w whole.there) c.mask
+
+-- what is delivered is a row with a place for each variable that a port may export
+pub delivered-long : (plant : PlantDefinition) (states : List Local) (c : ChoiceDefinition) (atom : ℕ) → length (transfer plant states c atom) ≡ MAX_EXPORTS
+delivered-long plant states c atom = each (slice_get plant.wires c.connector)
+  where
+    each : (o : Option WireDefinition) → length (option_map_or (λ w. delivered_by plant.atoms states (leaves w.connector) w.transfers c.mask atom) o nothing_delivered) ≡ MAX_EXPORTS
+    each None = refl
+    each (Some w) = refl

@@ -1,5 +1,5 @@
 -- What the interactions and the choices of a plant are, by their parts, and in which order they stand.
-use Rattle.std.specs.Prelude.{◌≡◌, ◌≤◌, ◌<◌, ◌==◌, nat_lt, ℕ, Bool, true, false, ◌&&◌, ◌||◌, List, [], ◌∷◌, map, length, slice_get, Some, Contains}
+use Rattle.std.specs.Prelude.{◌≡◌, ◌↔◌, ◌≤◌, ◌<◌, ◌==◌, nat_lt, ℕ, Bool, true, false, ◌&&◌, ◌||◌, List, [], ◌∷◌, map, length, slice_get, Some, Contains}
 use Rattle.std.specs.List.Sorted.{IsStrictlyIncreasing}
 use Rattle.std.specs.Option.{option_map_or}
 use Rattle.petri_atom.specs.Local.{Local}
@@ -18,8 +18,8 @@ use Rattle.step_core.specs.declared.limits.TheConstants.{MAX_ATOMS, MAX_INTERACT
 
 -- ---- interactions
 
--- an interaction is of a plant: it is an interaction of one of the plant's connectors, with 1 to MAX_LEAVES ports, which are those of
--- the mask, are ports of the plant's atoms, and stand in rising order of these
+-- an interaction is of a plant: it is an interaction of one of the plant's connectors, with 1 to MAX_LEAVES ports, which are exactly
+-- those of the mask, are ports of the plant's atoms, and stand in rising order of these
 pub record IsInteractionOf (plant : PlantDefinition) (i : Interaction) : Type 0 where
   pub wire : WireDefinition
   pub there : slice_get plant.wires i.connector ≡ Some wire
@@ -28,7 +28,7 @@ pub record IsInteractionOf (plant : PlantDefinition) (i : Interaction) : Type 0 
   pub few : length i.ports ≤ MAX_LEAVES
   pub rising : IsStrictlyIncreasing (atoms i.ports)
   pub known : (p : Port) → Contains i.ports p → is_known_port plant.atoms p ≡ true
-  pub of_mask : (p : Port) → Contains i.ports p → Contains (ports_of wire.connector i.mask) p
+  pub of_mask : (p : Port) → Contains i.ports p ↔ Contains (ports_of wire.connector i.mask) p
   pub of_connector : (p : Port) → Contains i.ports p → Contains (leaves wire.connector) p
 
 -- ---- choices

@@ -3,6 +3,7 @@ ghost use Rattle.std.specs.Prelude.{◌≡◌, ◌≢◌, ◌↔◌, ◌≤◌, 
 ghost use Rattle.std.specs.List.{list_all};
 ghost use Rattle.petri_atom.specs.Definition.{AtomDefinition, TransitionDefinition, exports_of, fired, is_well_formed};
 ghost use Rattle.petri_atom.specs.Local.{Local, delivered_value};
+ghost use Rattle.petri_atom.specs.declared.state.TheConstants.{MAX_EXPORTS};
 ghost use Rattle.step_core.specs.Choice.{ChoiceDefinition, Interaction, IsAllowed, choices, plant_interactions};
 ghost use Rattle.step_core.specs.Fitting.{IsOf, AllFit};
 ghost use Rattle.step_core.specs.Laws.{IsBefore, IsChoiceOf, IsInRange, IsInteractionOf, IsTaking, IsWithinLimits};
@@ -65,9 +66,12 @@ pub fn the_next_state_is_by_atom()
         → ((m : Move) → Contains c.moves m → m.atom ≢ i) → slice_get (next plant states c) i ≡ slice_get states i }
 {}
 
-/// An allowed choice delivers nothing past the variables that the port of a participant's transition exports.
+/// What a choice delivers to an atom has a place for each variable that a port may export; an allowed one delivers nothing past the
+/// variables that the port of a participant's transition exports.
 pub fn nothing_is_delivered_past_the_exports()
-    ensures { (plant : PlantDefinition) (states : List Local) (c : ChoiceDefinition) (m : Move) (a : AtomDefinition) (t : TransitionDefinition)
+    ensures places { (plant : PlantDefinition) (states : List Local) (c : ChoiceDefinition) (atom : ℕ)
+        → length (transfer plant states c atom) ≡ MAX_EXPORTS }
+    ensures none_past { (plant : PlantDefinition) (states : List Local) (c : ChoiceDefinition) (m : Move) (a : AtomDefinition) (t : TransitionDefinition)
         → fault_of plant ≡ None → IsAllowed plant states c → Contains c.moves m
         → slice_get plant.atoms m.atom ≡ Some a → slice_get a.transitions m.transition ≡ Some t
         → (j : ℕ) → length (exports_of a t.port) ≤ j → delivered_value (transfer plant states c m.atom) j ≡ None }
