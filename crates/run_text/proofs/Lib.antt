@@ -1,5 +1,6 @@
 pub mod Leading
 pub mod Separating
 pub mod Running
+pub mod Chosen
 mod Rows
 mod RunRows

@@ -5,4 +5,5 @@ pub mod Csv
 pub mod Jsonl
 pub mod Format
 pub mod Trace
+pub mod Runs
 pub mod Message

@@ -13,6 +13,7 @@
 //! - `delivered`: the values that a firing delivers, as words.
 //! - `format` and `word`: the formats, and what in a line differs by them alone.
 //! - `fault`: why a trace was not written to its end.
+//! - `laws`: what a printed run says of the plant.
 //!
 //! Memory is taken only to make the plant that runs (its states, and what a step keeps), before anything is printed.
 #![tactic(auto)]
@@ -23,6 +24,7 @@ mod fault;
 mod fired;
 mod format;
 mod jsonl;
+pub mod laws;
 mod states;
 mod trace;
 mod word;
