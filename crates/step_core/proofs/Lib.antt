@@ -7,6 +7,7 @@ mod Offering
 pub mod Told
 pub mod RuleFaults
 pub mod TreeRules
+mod Kept
 pub mod ValueRows
 pub mod Resolving
 pub mod Guarding

@@ -1,6 +1,8 @@
 //! Systems are made of atoms and wires that keep the rules of a plant.
-ghost use Rattle.std.specs.Prelude.{◌≡◌, ◌≢◌, ◌≤◌, IfOk, IfErr, OnOk, Some, None, [], map, length};
+ghost use Rattle.std.specs.Prelude.{◌≡◌, ◌≢◌, ◌≤◌, true, IfOk, IfErr, OnOk, Some, None, [], map, length};
+ghost use Rattle.std.specs.List.{list_all};
 ghost use Rattle.petri_atom.specs.Atom.{definition_of};
+ghost use Rattle.petri_atom.specs.Definition.{is_well_formed};
 ghost use Rattle.connector_tree.specs.Tree.{leaves};
 ghost use Rattle.priority_filter.specs.Decided.{order_fault};
 ghost use Rattle.step_core.specs.Choice.{interactions_from, interactions_of_connector, named, plant_interactions};
@@ -87,6 +89,21 @@ impl System {
         ensures { result.now ≡ self.now.digest }
     {
         &self.digest
+    }
+
+    /// Does nothing. Its clauses are what each system keeps by its type: it breaks no rule of a plant, each of its atoms breaks
+    /// none of an atom, and there are few of them.
+    pub fn keeps_its_rules(&self)
+        ensures plant { fault_of (plant_of self.now) ≡ None }
+        ensures atoms { list_all is_well_formed (plant_of self.now).atoms ≡ true }
+        ensures few { length (plant_of self.now).atoms ≤ MAX_ATOMS }
+    {}
+
+    /// The interactions, in the order of their numbers: by their connectors, and then by their masks.
+    pub fn interactions(&self) -> &[Interaction]
+        ensures { map interaction_of result.now ≡ plant_interactions (plant_of self.now) }
+    {
+        &self.interactions
     }
 
     /// How many interactions the plant has.
