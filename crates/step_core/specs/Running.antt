@@ -1,13 +1,18 @@
--- What a plant that runs shows: its plant and its present state.
+-- What a plant that runs shows: its system and its present state.
 use Rattle.std.specs.Prelude.{List}
 use Rattle.petri_atom.specs.Local.{Local}
 use Rattle.step_core.specs.Plant.{PlantDefinition}
 use Rattle.step_core.specs.System.{plant_of}
 use Rattle.step_core.specs.declared.stepper.Stepper.{Stepper}
+use Rattle.step_core.specs.declared.system.System.{System}
 
--- the plant that runs
+-- the system that runs
+abbrev pub system_in : Stepper → System
+system_in run = run.system.now
+
+-- its plant
 abbrev pub plant_in : Stepper → PlantDefinition
-plant_in run = plant_of run.system.now
+plant_in run = plant_of (system_in run)
 
 -- its present state
 abbrev pub states_in : Stepper → List Local

@@ -27,7 +27,7 @@ use priority_filter::{Order, OrderFault, Rule};
 use std::alloc::{AllocError, Global};
 
 impl System {
-    ghost use Rattle.step_core.specs.System.{plant_of};
+    ghost use Rattle.step_core.specs.System.{plant_of, digest_of};
 
     /// The plant of these atoms, wires and priority rules, or the first rule of plants that they break; `digest` is that of the
     /// text that they were read from.
@@ -39,7 +39,7 @@ impl System {
         digest: [u8; 32],
     ) -> Result<Self, SystemFault>
         ensures made { IfOk result (λ system. plant_of system ≡ plant_by atoms.items wires.items rules.now) }
-        ensures digest { IfOk result (λ system. system.digest ≡ digest) }
+        ensures digest { IfOk result (λ system. digest_of system ≡ digest) }
         ensures sound { IfOk result (λ _. fault_of (plant_by atoms.items wires.items rules.now) ≡ None) }
         ensures fault { IfErr result (λ fault. IsFaultOf fault (plant_by atoms.items wires.items rules.now)) }
     {
@@ -68,7 +68,7 @@ impl System {
 }
 
 impl System {
-    ghost use Rattle.step_core.specs.System.{plant_of};
+    ghost use Rattle.step_core.specs.System.{plant_of, digest_of};
 
     /// The atoms, in the order of their numbers.
     pub fn atoms(&self) -> &[Atom]
@@ -86,7 +86,7 @@ impl System {
 
     /// The digest of the text that the plant was read from.
     pub fn digest(&self) -> &[u8; 32]
-        ensures { result.now ≡ self.now.digest }
+        ensures { result.now ≡ digest_of self.now }
     {
         &self.digest
     }

@@ -43,10 +43,11 @@ pub struct Stepper<'s> {
 }
 
 impl<'s> Stepper<'s> {
-    ghost use Rattle.step_core.specs.Running.{plant_in, states_in};
+    ghost use Rattle.step_core.specs.Running.{system_in, plant_in, states_in};
 
     /// The plant in its first state.
     pub fn first(alloc: Global, system: &'s System) -> Result<Self, AllocError>
+        ensures system { IfOk result (λ run. system_in run ≡ system.now) }
         ensures plant { IfOk result (λ run. plant_in run ≡ plant_of system.now) }
         ensures first { IfOk result (λ run. states_in run ≡ initial_states (plant_of system.now)) }
         ensures fits { IfOk result (λ _. AllFit (plant_of system.now) (initial_states (plant_of system.now))) }
@@ -58,6 +59,7 @@ impl<'s> Stepper<'s> {
     /// The plant in this state of it.
     pub fn at(alloc: Global, system: &'s System, states: PlantState) -> Result<Self, AllocError>
         requires { IsOf (plant_of system.now) states }
+        ensures system { IfOk result (λ run. system_in run ≡ system.now) }
         ensures plant { IfOk result (λ run. plant_in run ≡ plant_of system.now) }
         ensures states { IfOk result (λ run. states_in run ≡ states) }
     {
@@ -79,7 +81,8 @@ impl<'s> Stepper<'s> {
 
     /// The system that runs.
     pub fn system(&self) -> &'s System
-        ensures { plant_of result.now ≡ plant_in self.now }
+        ensures system { result.now ≡ system_in self.now }
+        ensures plant { plant_of result.now ≡ plant_in self.now }
     {
         self.system
     }
@@ -113,6 +116,7 @@ impl<'s> Stepper<'s> {
     /// what is possible for the interactions that this can change.
     pub fn fire(&mut self, choice: &Choice)
         requires { IsAllowed (plant_in self.old) (states_in self.old) (choice_of choice.now) }
+        ensures system { system_in self.new ≡ system_in self.old }
         ensures plant { plant_in self.new ≡ plant_in self.old }
         ensures next { states_in self.new ≡ next (plant_in self.old) (states_in self.old) (choice_of choice.now) }
         ensures fits { AllFit (plant_in self.old) (states_in self.old) → AllFit (plant_in self.new) (states_in self.new) }
@@ -124,6 +128,7 @@ impl<'s> Stepper<'s> {
     /// Fires the choice as [`Stepper::fire`] does, and tells what it delivered: at the place of each move, what its atom got.
     pub fn fire_telling(&mut self, choice: &Choice, told: &mut [Delivered; MAX_LEAVES])
         requires { IsAllowed (plant_in self.old) (states_in self.old) (choice_of choice.now) }
+        ensures system { system_in self.new ≡ system_in self.old }
         ensures plant { plant_in self.new ≡ plant_in self.old }
         ensures next { states_in self.new ≡ next (plant_in self.old) (states_in self.old) (choice_of choice.now) }
         ensures fits { AllFit (plant_in self.old) (states_in self.old) → AllFit (plant_in self.new) (states_in self.new) }
@@ -137,6 +142,7 @@ impl<'s> Stepper<'s> {
     fn step(&mut self, choice: &Choice, told: &mut [Delivered; MAX_LEAVES])
         requires allowed { IsAllowed (plant_in self.old) (states_in self.old) (choice_of choice.now) }
         requires nothing { told.old ≡ replicate MAX_LEAVES nothing_delivered }
+        ensures system { system_in self.new ≡ system_in self.old }
         ensures plant { plant_in self.new ≡ plant_in self.old }
         ensures next { states_in self.new ≡ next (plant_in self.old) (states_in self.old) (choice_of choice.now) }
         ensures fits { AllFit (plant_in self.old) (states_in self.old) → AllFit (plant_in self.new) (states_in self.new) }
