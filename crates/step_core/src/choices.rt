@@ -9,11 +9,9 @@ ghost use Rattle.step_core.specs.Interaction.{interaction_of};
 ghost use Rattle.step_core.specs.Judgement.{IsJudgement, IsBehind};
 ghost use Rattle.step_core.specs.Offers.{AreOffered, AreCounted};
 ghost use Rattle.step_core.specs.Possible.{ArePossible, ArePossibleBut, AreAllowed};
-ghost use Rattle.step_core.specs.Touching.{AreTouching, AreOnPorts};
 ghost use Rattle.step_core.specs.Ways.{AreWays, AreWaysBut, IsSame};
 ghost use Rattle.step_core.specs.Wire.{wire_of};
 ghost use Rattle.priority_filter.specs.declared.interaction_set.TheConstants.{ROW_WORDS};
-ghost use Rattle.step_core.specs.declared.touching.TheConstants.{ATOM_ROWS};
 
 use crate::choice::{Choice, Move};
 use crate::filtered::Filtered;
@@ -58,7 +56,7 @@ impl System {
         let mut possible = InteractionSet::new();
         let mut ways = no_ways();
         let all = numbers_below(self.interactions.len());
-        self.judge_touched(states, &offers, &[], &all, &mut possible, &mut ways);
+        self.judge_touched(states, &offers, &all, &mut possible, &mut ways);
         let mut allowed = InteractionSet::new();
         let total = self.allow(states, &offers, &possible, &ways, &mut allowed);
         Judgement {
@@ -70,32 +68,27 @@ impl System {
         }
     }
 
-    /// Judges again what depends on the atom of one of the moves, by the rows of the interactions that depend on each atom;
+    /// Judges again what depends on the atom of one of the moves;
     /// what is kept was judged in a state in which all other atoms were as now. Where no interaction is possible or has choices
     /// other than before, the same ones are allowed, and nothing more is to be done.
-    pub(crate) fn judge_again(
-        &self,
-        states: &PlantState,
-        rows: &[InteractionSet],
-        moves: &[Move],
-        judgement: &mut Judgement,
-    )
+    pub(crate) fn judge_again(&self, states: &PlantState, moves: &[Move], judgement: &mut Judgement)
         requires of_plant { IsOf (plant_of self.now) states.now }
-        requires rows { length rows.now ≡ length self.now.atoms.items * ATOM_ROWS }
-        requires touching { AreTouching (map wire_of self.now.wires.items) (map interaction_of self.now.interactions.items) rows.now }
-        requires on_ports { AreOnPorts (map interaction_of self.now.interactions.items) rows.now }
         requires behind { IsBehind (plant_of self.now) (map interaction_of self.now.interactions.items) moves.now states.now judgement.old }
         ensures { IsJudgement (plant_of self.now) (map interaction_of self.now.interactions.items) states.now judgement.new }
     {
         let words = self.interactions.len().div_ceil(64);
         let mut touched = InteractionSet::new();
-        judgement
-            .offers
-            .judge_moved(&self.atoms, states, rows, words, moves, &mut touched);
+        judgement.offers.judge_moved(
+            &self.atoms,
+            states,
+            &self.touching,
+            words,
+            moves,
+            &mut touched,
+        );
         let changed = self.judge_touched(
             states,
             &judgement.offers,
-            rows,
             &touched,
             &mut judgement.possible,
             &mut judgement.ways,
@@ -113,12 +106,11 @@ impl System {
     }
 
     /// Judges the interactions of the set `touched`; what is possible, and the numbers of choices of these, are right for all
-    /// others. Says whether that changed anything. The rows are those of the interactions on each port, or none.
+    /// others. Says whether that changed anything.
     fn judge_touched<'x>(
         &'x self,
         states: &'x PlantState,
         offers: &'x Offers,
-        rows: &[InteractionSet],
         touched: &InteractionSet,
         possible: &mut InteractionSet,
         ways: &mut [u64; MAX_INTERACTIONS],
@@ -126,7 +118,6 @@ impl System {
         requires of_plant { IsOf (plant_of self.now) states.now }
         requires exact { AreOffered (map definition_of self.now.atoms.items) states.now offers.now.sets }
         requires shown { AreCounted (map definition_of self.now.atoms.items) offers.now.sets offers.now.counts }
-        requires on_ports { AreOnPorts (map interaction_of self.now.interactions.items) rows.now }
         requires others { ArePossibleBut (contains touched.now) (map definition_of self.now.atoms.items) (map wire_of self.now.wires.items) states.now (map interaction_of self.now.interactions.items) possible.old }
         requires other_ways { AreWaysBut (contains touched.now) (map definition_of self.now.atoms.items) (map wire_of self.now.wires.items) states.now (map interaction_of self.now.interactions.items) ways.old }
         ensures possible { ArePossible (map definition_of self.now.atoms.items) (map wire_of self.now.wires.items) states.now (map interaction_of self.now.interactions.items) possible.new }
@@ -140,7 +131,7 @@ impl System {
             states,
             offers,
         };
-        judged.judge_touched(&self.interactions, rows, touched, possible, ways)
+        judged.judge_touched(&self.interactions, &self.touching, touched, possible, ways)
     }
 
     /// Puts the allowed interactions into the set, where it is empty, and says how many choices these have in all.

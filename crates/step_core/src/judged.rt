@@ -142,7 +142,7 @@ impl Judged<'_> {
 
     /// Judges the interactions of the set `touched`, by their numbers in the list; what is possible, and the numbers of choices
     /// of these, are right for all others. Says whether that changed anything. The rows are those of the interactions on each
-    /// port, or none.
+    /// port.
     pub(crate) fn judge_touched(
         &self,
         interactions: &[Interaction],

@@ -19,6 +19,7 @@ use crate::interactions::connector_interactions;
 use crate::limits::MAX_INTERACTIONS;
 use crate::resolved::resolved_wires;
 use crate::system::System;
+use crate::touching::touching_rows;
 use crate::wire::Wire;
 use crate::{rules, wire_rules};
 use connector_tree::Port;
@@ -54,6 +55,7 @@ impl System {
         }
         let order = order_of(alloc, rules, &interactions)?;
         let free = free_interactions(&order, interactions.len());
+        let touching = touching_rows(alloc, atoms.len(), &wires, &ports, &interactions)?;
         Ok(System {
             atoms,
             wires,
@@ -63,6 +65,7 @@ impl System {
             interactions,
             order,
             free,
+            touching,
         })
     }
 }

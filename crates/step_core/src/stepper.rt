@@ -1,5 +1,5 @@
 //! A plant that runs: its present state, with what that state offers, judged once.
-ghost use Rattle.std.specs.Prelude.{◌≡◌, ◌↔◌, ◌*◌, ◌<◌, Some, IfOk, map, length, replicate, slice_get};
+ghost use Rattle.std.specs.Prelude.{◌≡◌, ◌↔◌, ◌<◌, Some, IfOk, map, length, replicate, slice_get};
 ghost use Rattle.connector_tree.specs.declared.tree.TheConstants.{MAX_LEAVES};
 ghost use Rattle.step_core.specs.Choice.{choices, IsAllowed, IsStuck};
 ghost use Rattle.step_core.specs.Chosen.{choice_of};
@@ -7,9 +7,6 @@ ghost use Rattle.step_core.specs.Delivery.{IsTold};
 ghost use Rattle.step_core.specs.Fitting.{IsOf, AllFit};
 ghost use Rattle.step_core.specs.Interaction.{interaction_of};
 ghost use Rattle.step_core.specs.Judgement.{IsJudgement};
-ghost use Rattle.step_core.specs.Touching.{AreTouching, AreOnPorts};
-ghost use Rattle.step_core.specs.Wire.{wire_of};
-ghost use Rattle.step_core.specs.declared.touching.TheConstants.{ATOM_ROWS};
 ghost use Rattle.step_core.specs.Step.{initial_states, next, nothing_delivered, transfer};
 ghost use Rattle.step_core.specs.System.{plant_of};
 
@@ -17,28 +14,23 @@ use crate::choice::Choice;
 use crate::judgement::Judgement;
 use crate::state::PlantState;
 use crate::system::System;
-use crate::touching::touching_rows;
 use crate::transfers::nothing_at_all;
 use connector_tree::MAX_LEAVES;
 use petri_atom::Delivered;
-use priority_filter::InteractionSet;
 use std::alloc::{AllocError, Global};
 
 /// A plant that runs: a system, its present state, and what that state offers: transitions, and possible interactions.
 ///
 /// It judges each transition and each interaction once when it is made, and after a step only the transitions of the atoms
 /// that moved, the interactions on a port that offers another number of transitions than before, and those of a connector with
-/// guards of which an atom with a leaf in it moved. All of a step's questions ([`Stepper::count`], [`Stepper::nth`]) are answered from what is offered. Only making it takes memory.
+/// guards of which an atom with a leaf in it moved. All of a step's questions ([`Stepper::count`], [`Stepper::nth`]) are answered
+/// from what is offered. Only the states take memory, when these are made.
 #[derive(Drop)]
 pub struct Stepper<'s> {
     system: &'s System,
     states: PlantState,
-    touching: Vec<InteractionSet>,
     judgement: Judgement,
     ghost of_plant: { IsOf (plant_of system.now) states },
-    ghost rows: { length touching.items ≡ length system.now.atoms.items * ATOM_ROWS },
-    ghost touched: { AreTouching (map wire_of system.now.wires.items) (map interaction_of system.now.interactions.items) touching.items },
-    ghost on_ports: { AreOnPorts (map interaction_of system.now.interactions.items) touching.items },
     ghost judged: { IsJudgement (plant_of system.now) (map interaction_of system.now.interactions.items) states judgement },
 }
 
@@ -53,30 +45,22 @@ impl<'s> Stepper<'s> {
         ensures fits { IfOk result (λ _. AllFit (plant_of system.now) (initial_states (plant_of system.now))) }
     {
         let states = PlantState::init(alloc, system)?;
-        Stepper::at(alloc, system, states)
+        Ok(Stepper::at(system, states))
     }
 
-    /// The plant in this state of it.
-    pub fn at(alloc: Global, system: &'s System, states: PlantState) -> Result<Self, AllocError>
+    /// The plant in this state of it. It takes no memory.
+    pub fn at(system: &'s System, states: PlantState) -> Self
         requires { IsOf (plant_of system.now) states }
-        ensures system { IfOk result (λ run. system_in run ≡ system.now) }
-        ensures plant { IfOk result (λ run. plant_in run ≡ plant_of system.now) }
-        ensures states { IfOk result (λ run. states_in run ≡ states) }
+        ensures system { system_in result ≡ system.now }
+        ensures plant { plant_in result ≡ plant_of system.now }
+        ensures states { states_in result ≡ states }
     {
-        let touching = touching_rows(
-            alloc,
-            system.atoms.len(),
-            &system.wires,
-            &system.ports,
-            &system.interactions,
-        )?;
         let judgement = system.judge(&states);
-        Ok(Stepper {
+        Stepper {
             system,
             states,
-            touching,
             judgement,
-        })
+        }
     }
 
     /// The system that runs.
@@ -149,11 +133,7 @@ impl<'s> Stepper<'s> {
         ensures told { IsTold choice.now.moves (transfer (plant_in self.old) (states_in self.old) (choice_of choice.now)) told.new }
     {
         self.system.fire(&mut self.states, choice, told);
-        self.system.judge_again(
-            &self.states,
-            &self.touching,
-            choice.moves.as_slice(),
-            &mut self.judgement,
-        );
+        self.system
+            .judge_again(&self.states, choice.moves.as_slice(), &mut self.judgement);
     }
 }

@@ -1,10 +1,7 @@
-use Rattle.std.proofs.Common.{◌∙◌, ◌==◌, ap, sym, subst, map, find}
+use Rattle.std.proofs.Common.{◌∙◌, ◌==◌, ap, sym, find}
 use Rattle.std.specs.Prelude.{slice_get}
 use Rattle.step_core.specs.Chosen.{choice_of}
-use Rattle.step_core.specs.Interaction.{interaction_of}
 use Rattle.step_core.specs.System.{plant_of}
-use Rattle.step_core.specs.Touching.{AreTouching}
-use Rattle.step_core.specs.Wire.{wire_of}
 use Rattle.step_core.proofs.Refreshing.{stays}
 use Rattle.step_core.proofs.stepper.Stepper.step.Goals as goal
 
@@ -19,8 +16,3 @@ judge_again-requires-clause-behind c =
       as_many = run.of_plant ∙ sym c.fire.ensures.of_plant;
       stays = λ n none. ap (λ states. slice_get states n) c.fire.ensures.next ∙ stays plant run.states choice n (ap (find (λ m. m.atom == n)) (sym c.as_slice.ensures.moves) ∙ none);
     }
-
-pub judge_again-requires-clause-touching : goal.judge_again-requires-clause-touching
-judge_again-requires-clause-touching c =
-    let run = c.args.self.now in
-    subst (AreTouching (map wire_of run.system.now.wires.items) (map interaction_of run.system.now.interactions.items)) (sym c.deref.ensures.value) run.touched

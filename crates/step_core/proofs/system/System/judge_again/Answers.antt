@@ -10,7 +10,7 @@ use Rattle.step_core.specs.Choice.{is_possible, is_possible_at, moves_of, choice
 use Rattle.step_core.specs.Interaction.{interaction_of}
 use Rattle.step_core.specs.Offers.{AreOffered, AreCounted}
 use Rattle.step_core.specs.System.{plant_of}
-use Rattle.step_core.specs.Touching.{is_noted, at_port}
+use Rattle.step_core.specs.Touching.{is_noted, is_read_by, at_port}
 use Rattle.step_core.specs.Ways.{ways_at}
 use Rattle.step_core.proofs.Judging.{counted-moves}
 use Rattle.step_core.proofs.Unchanged.{allowed-same, total-same}
@@ -31,12 +31,14 @@ judge_touched-changed-requires-clause-others c n outside =
     let offered : AreOffered plant.atoms after new.sets = subst (λ list. AreOffered (map definition_of list) after new.sets) c.deref.ensures.value judged.offered in
     let counted : AreCounted plant.atoms new.sets new.counts = subst (λ list. AreCounted (map definition_of list) new.sets new.counts) c.deref.ensures.value judged.counted in
     let low : n < length all → n < 64 * c.div_ceil-words.result = λ within. omega (arith, within, length-map system.interactions.items interaction_of, c.div_ceil-words.ensures) in
-    let told : n < length all → contains c.judge_moved.new.touched n ≡ false → (p : Port) → is_noted c.args.rows.now n (at_port p) ≡ true → length (moves_of plant.atoms after p) ≡ length (moves_of plant.atoms before p) =
-    λ within out p noted. sym (counted-moves plant.atoms after new.sets new.counts c.requires.of_plant offered counted p) ∙ judged.told n p.atom p.port (low within) noted out ∙
+    let rows = system.touching.items in
+    let lent = c.deref-2.ensures.value in
+    let told : n < length all → contains c.judge_moved.new.touched n ≡ false → (p : Port) → is_noted rows n (at_port p) ≡ true → length (moves_of plant.atoms after p) ≡ length (moves_of plant.atoms before p) =
+    λ within out p noted. sym (counted-moves plant.atoms after new.sets new.counts c.requires.of_plant offered counted p) ∙ judged.told n p.atom p.port (low within) (ap (λ rs. is_noted rs n (at_port p)) lent ∙ noted) out ∙
     counted-moves plant.atoms before old.sets old.counts (behind.as_many ∙ c.requires.of_plant) behind.judged.offered behind.judged.counted p in
     behind.judged.possible n ∙
     sym (⊎_elim
-    (λ within. untouched plant c.args.moves.now before after all c.args.rows.now n (c.requires.rows ∙ ap (λ k. k * 33) (sym (behind.as_many ∙ c.requires.of_plant ∙ length-map system.atoms.items definition_of))) behind.as_many behind.stays c.requires.touching (judged.read n (low within) (outside within)) (told within (outside within)))
+    (λ within. untouched plant c.args.moves.now before after all rows n (system.rows ∙ ap (λ k. k * 33) (sym (behind.as_many ∙ c.requires.of_plant ∙ length-map system.atoms.items definition_of))) behind.as_many behind.stays system.touched (ap (λ rs. is_read_by rs c.args.moves.now n) (sym lent) ∙ judged.read n (low within) (outside within)) (told within (outside within)))
     (λ past. ap (λ o. option_map_or (is_possible plant.atoms plant.wires after) o false) (slice_get_past all n past) ∙ sym (ap (λ o. option_map_or (is_possible plant.atoms plant.wires before) o false) (slice_get_past all n past)))
     (cases_lt n (length all)))
 
@@ -54,17 +56,19 @@ judge_touched-changed-requires-clause-other_ways c n outside possible =
     let offered : AreOffered plant.atoms after new.sets = subst (λ list. AreOffered (map definition_of list) after new.sets) c.deref.ensures.value judged.offered in
     let counted : AreCounted plant.atoms new.sets new.counts = subst (λ list. AreCounted (map definition_of list) new.sets new.counts) c.deref.ensures.value judged.counted in
     let low : n < length all → n < 64 * c.div_ceil-words.result = λ within. omega (arith, within, length-map system.interactions.items interaction_of, c.div_ceil-words.ensures) in
-    let told : n < length all → contains c.judge_moved.new.touched n ≡ false → (p : Port) → is_noted c.args.rows.now n (at_port p) ≡ true → length (moves_of plant.atoms after p) ≡ length (moves_of plant.atoms before p) =
-    λ within out p noted. sym (counted-moves plant.atoms after new.sets new.counts c.requires.of_plant offered counted p) ∙ judged.told n p.atom p.port (low within) noted out ∙
+    let rows = system.touching.items in
+    let lent = c.deref-2.ensures.value in
+    let told : n < length all → contains c.judge_moved.new.touched n ≡ false → (p : Port) → is_noted rows n (at_port p) ≡ true → length (moves_of plant.atoms after p) ≡ length (moves_of plant.atoms before p) =
+    λ within out p noted. sym (counted-moves plant.atoms after new.sets new.counts c.requires.of_plant offered counted p) ∙ judged.told n p.atom p.port (low within) (ap (λ rs. is_noted rs n (at_port p)) lent ∙ noted) out ∙
     counted-moves plant.atoms before old.sets old.counts (behind.as_many ∙ c.requires.of_plant) behind.judged.offered behind.judged.counted p in
     let before-possible : is_possible_at plant.atoms plant.wires before all n ≡ is_possible_at plant.atoms plant.wires after all n =
     sym (⊎_elim
-    (λ within. untouched plant c.args.moves.now before after all c.args.rows.now n (c.requires.rows ∙ ap (λ k. k * 33) (sym (behind.as_many ∙ c.requires.of_plant ∙ length-map system.atoms.items definition_of))) behind.as_many behind.stays c.requires.touching (judged.read n (low within) (outside within)) (told within (outside within)))
+    (λ within. untouched plant c.args.moves.now before after all rows n (system.rows ∙ ap (λ k. k * 33) (sym (behind.as_many ∙ c.requires.of_plant ∙ length-map system.atoms.items definition_of))) behind.as_many behind.stays system.touched (ap (λ rs. is_read_by rs c.args.moves.now n) (sym lent) ∙ judged.read n (low within) (outside within)) (told within (outside within)))
     (λ past. ap (λ o. option_map_or (is_possible plant.atoms plant.wires after) o false) (slice_get_past all n past) ∙ sym (ap (λ o. option_map_or (is_possible plant.atoms plant.wires before) o false) (slice_get_past all n past)))
     (cases_lt n (length all))) in
     behind.judged.ways n (before-possible ∙ possible) ∙
     sym (⊎_elim
-    (λ within. untouched-ways plant c.args.moves.now before after all c.args.rows.now n (c.requires.rows ∙ ap (λ k. k * 33) (sym (behind.as_many ∙ c.requires.of_plant ∙ length-map system.atoms.items definition_of))) behind.as_many behind.stays c.requires.touching (judged.read n (low within) (outside within)) (told within (outside within)))
+    (λ within. untouched-ways plant c.args.moves.now before after all rows n (system.rows ∙ ap (λ k. k * 33) (sym (behind.as_many ∙ c.requires.of_plant ∙ length-map system.atoms.items definition_of))) behind.as_many behind.stays system.touched (ap (λ rs. is_read_by rs c.args.moves.now n) (sym lent) ∙ judged.read n (low within) (outside within)) (told within (outside within)))
     (λ past. ap (λ o. option_map_or (λ i. length (choices_of plant.atoms after i)) o 0) (slice_get_past all n past) ∙ sym (ap (λ o. option_map_or (λ i. length (choices_of plant.atoms before i)) o 0) (slice_get_past all n past)))
     (cases_lt n (length all)))
 

@@ -9,8 +9,11 @@ use Rattle.step_core.specs.Interaction.{interaction_of}
 use Rattle.step_core.specs.Resolved.{AreGuarding, AreDelivering}
 use Rattle.step_core.specs.Wire.{wire_of}
 use Rattle.step_core.specs.Made.{plant_by}
-use Rattle.step_core.specs.Rules.{first_fault, fault_of, fault_of_count}
+use Rattle.step_core.specs.Rules.{early_fault, first_fault, fault_of, fault_of_count, fault_of_wires}
+use Rattle.step_core.specs.Touching.{AreTouching, AreOnPorts}
+use Rattle.step_core.proofs.Kept.{few_atoms}
 use Rattle.step_core.proofs.RuleFaults.{first-told, none-told}
+use Rattle.step_core.proofs.TreeRules.{first_none}
 use Rattle.step_core.proofs.system.System.new.Goals as goal
 
 pub returns-in-Some-clause-fault : goal.returns-in-Some-clause-fault
@@ -26,6 +29,15 @@ returns-clause-made c = ap (plant_by c.args.atoms.items c.args.wires.items) c.in
 pub returns-clause-digest : goal.returns-clause-digest
 returns-clause-digest c = refl
 
+pub touching_rows-requires-clause-atoms : goal.touching_rows-requires-clause-atoms
+touching_rows-requires-clause-atoms c =
+    let atoms = c.args.atoms.items in
+    let wires = c.args.wires.items in
+    let plant = plant_by atoms wires c.args.rules.now in
+    let none : first_fault plant ≡ None =
+    ap (λ xs. first_fault (plant_by xs wires c.args.rules.now)) (sym c.deref.ensures.value) ∙ ap (λ ws. first_fault (plant_by c.deref.result.now ws c.args.rules.now)) (sym c.deref-2.ensures.value) ∙ sym c.first_fault.ensures ∙ c.in_default.is in
+    omega (arith, few_atoms plant (first_none (early_fault plant) (fault_of_wires plant) none), length-map atoms definition_of, c.len-4.ensures, c.args.atoms.ok.0)
+
 pub invariant_of-result : goal.invariant_of-result
 invariant_of-result c =
     let atoms = c.args.atoms.items in
@@ -35,6 +47,7 @@ invariant_of-result c =
     let all = c.in_ok-interactions.interactions in
     let resolved = c.in_ok-resolved.resolved.items in
     let order = c.in_ok-order in
+    let rows = c.in_ok-touching.touching.items in
     let none : first_fault plant ≡ None =
     ap (λ xs. first_fault (plant_by xs wires rules)) (sym c.deref.ensures.value) ∙ ap (λ ws. first_fault (plant_by c.deref.result.now ws rules)) (sym c.deref-2.ensures.value) ∙ sym c.first_fault.ensures ∙ c.in_default.is in
     let many : c.len.result ≡ length (map definition_of atoms) =
@@ -54,4 +67,8 @@ invariant_of-result c =
       listed = listed;
       ordered = order.ensures.interactions ∙ ap (λ xs. map named (map interaction_of xs)) c.deref-7.ensures.value;
       unruled = c.free_interactions-free.ensures;
+      rows = omega (arith, c.in_ok-touching.ensures.rows, c.len-4.ensures, c.args.atoms.ok.0);
+      touched = subst (λ ws. AreTouching (map wire_of ws) (map interaction_of all.items) rows) c.deref-8.ensures.value
+          (subst (λ is. AreTouching (map wire_of c.deref-8.result.now) (map interaction_of is) rows) c.deref-10.ensures.value c.in_ok-touching.ensures.touching);
+      on_ports = subst (λ is. AreOnPorts (map interaction_of is) rows) c.deref-10.ensures.value c.in_ok-touching.ensures.only;
     }
