@@ -19,7 +19,8 @@ use connector_tree::MAX_LEAVES;
 use petri_atom::Delivered;
 use std::alloc::{AllocError, Global};
 
-/// A plant that runs: a system, its present state, and what that state offers: transitions, and possible interactions.
+/// A plant that runs: a system, its present state, in which each atom's state fits it, and what that state offers: transitions,
+/// and possible interactions.
 ///
 /// It judges each transition and each interaction once when it is made, and after a step only the transitions of the atoms
 /// that moved, the interactions on a port that offers another number of transitions than before, and those of a connector with
@@ -31,6 +32,7 @@ pub struct Stepper<'s> {
     states: PlantState,
     judgement: Judgement,
     ghost of_plant: { IsOf (plant_of system.now) states },
+    ghost fits: { AllFit (plant_of system.now) states },
     ghost judged: { IsJudgement (plant_of system.now) (map interaction_of system.now.interactions.items) states judgement },
 }
 
@@ -50,7 +52,8 @@ impl<'s> Stepper<'s> {
 
     /// The plant in this state of it. It takes no memory.
     pub fn at(system: &'s System, states: PlantState) -> Self
-        requires { IsOf (plant_of system.now) states }
+        requires of_plant { IsOf (plant_of system.now) states }
+        requires fits { AllFit (plant_of system.now) states }
         ensures system { system_in result ≡ system.now }
         ensures plant { plant_in result ≡ plant_of system.now }
         ensures states { states_in result ≡ states }
@@ -75,6 +78,7 @@ impl<'s> Stepper<'s> {
     pub fn states(&self) -> &PlantState
         ensures states { result.now ≡ states_in self.now }
         ensures of_plant { IsOf (plant_in self.now) result.now }
+        ensures fits { AllFit (plant_in self.now) result.now }
     {
         &self.states
     }
@@ -103,7 +107,7 @@ impl<'s> Stepper<'s> {
         ensures system { system_in self.new ≡ system_in self.old }
         ensures plant { plant_in self.new ≡ plant_in self.old }
         ensures next { states_in self.new ≡ next (plant_in self.old) (states_in self.old) (choice_of choice.now) }
-        ensures fits { AllFit (plant_in self.old) (states_in self.old) → AllFit (plant_in self.new) (states_in self.new) }
+        ensures fits { AllFit (plant_in self.new) (states_in self.new) }
     {
         let mut told = nothing_at_all();
         self.step(choice, &mut told);
@@ -115,7 +119,7 @@ impl<'s> Stepper<'s> {
         ensures system { system_in self.new ≡ system_in self.old }
         ensures plant { plant_in self.new ≡ plant_in self.old }
         ensures next { states_in self.new ≡ next (plant_in self.old) (states_in self.old) (choice_of choice.now) }
-        ensures fits { AllFit (plant_in self.old) (states_in self.old) → AllFit (plant_in self.new) (states_in self.new) }
+        ensures fits { AllFit (plant_in self.new) (states_in self.new) }
         ensures told { IsTold choice.now.moves (transfer (plant_in self.old) (states_in self.old) (choice_of choice.now)) told.new }
     {
         *told = nothing_at_all();
@@ -129,7 +133,7 @@ impl<'s> Stepper<'s> {
         ensures system { system_in self.new ≡ system_in self.old }
         ensures plant { plant_in self.new ≡ plant_in self.old }
         ensures next { states_in self.new ≡ next (plant_in self.old) (states_in self.old) (choice_of choice.now) }
-        ensures fits { AllFit (plant_in self.old) (states_in self.old) → AllFit (plant_in self.new) (states_in self.new) }
+        ensures fits { AllFit (plant_in self.new) (states_in self.new) }
         ensures told { IsTold choice.now.moves (transfer (plant_in self.old) (states_in self.old) (choice_of choice.now)) told.new }
     {
         self.system.fire(&mut self.states, choice, told);

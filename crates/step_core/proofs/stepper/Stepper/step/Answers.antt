@@ -16,3 +16,10 @@ judge_again-requires-clause-behind c =
       as_many = run.of_plant ∙ sym c.fire.ensures.of_plant;
       stays = λ n none. ap (λ states. slice_get states n) c.fire.ensures.next ∙ stays plant run.states choice n (ap (find (λ m. m.atom == n)) (sym c.as_slice.ensures.moves) ∙ none);
     }
+
+pub invariant_of-self : goal.invariant_of-self
+invariant_of-self c = record {
+  of_plant = c.fire.ensures.of_plant;
+  fits = c.fire.ensures.fits c.args.self.now.fits;
+  judged = c.judge_again.ensures;
+}
