@@ -1,11 +1,13 @@
-use Rattle.std.proofs.Common.{◌≡◌, ◌≢◌, ℕ, ◌==◌, ◌<◌, refl, sym, ◌∙◌, ap, List, ◌∷◌, length, get_or, arith, false, cond, ⊎_elim, slice_index_or}
+use Rattle.std.proofs.Common.{◌≡◌, ◌≢◌, ℕ, ◌==◌, ◌<◌, refl, sym, ◌∙◌, ap, subst, List, [], ◌∷◌, map, length, get_or, set, arith, false, cond, ⊎_elim, slice_index_or}
 use Rattle.std.specs.Prelude.{Option, Some, None, slice_get, find}
 use Rattle.std.specs.Option.{option_map_or}
-use Rattle.std.proofs.lemmas.Bool.{cases_eq, cases_lt, ne_eqb}
-use Rattle.std.proofs.lemmas.Option.{slice_get-get_or, slice_get_past, slice_get_within, get_or_from_slice_get}
-use Rattle.petri_atom.specs.Local.{Local, Row}
-use Rattle.petri_atom.specs.Definition.{AtomDefinition, fired, offered_set}
+use Rattle.std.proofs.lemmas.Bool.{cases_eq, cases_lt, eq-eqb, ne_eqb, or_parts, or_from, false≢true}
+use Rattle.std.proofs.lemmas.List.{length-set, get_or-set_same, get_or-set_other}
+use Rattle.std.proofs.lemmas.Option.{same_Some, slice_get-get_or, slice_get_past, slice_get_within, get_or_from_slice_get}
+use Rattle.petri_atom.specs.Local.{Local, Row, is_in}
+use Rattle.petri_atom.specs.Definition.{AtomDefinition, Fits, fired, offered_set}
 use Rattle.step_core.specs.Choice.{ChoiceDefinition}
+use Rattle.step_core.specs.Fitting.{AllFit}
 use Rattle.step_core.specs.Offers.{AreOffered, AreOfferedBut}
 use Rattle.step_core.specs.Plant.{PlantDefinition}
 use Rattle.step_core.specs.Step.{next, transfer, moved_by, stepped}
@@ -41,24 +43,54 @@ stays plant old c n none =
     (λ past. slice_get_past new n (omega (arith, long)) ∙ sym (slice_get_past old n past))
     (cases_lt n (length old))
 
--- what was offered where the atoms that no move is of were as they are is what these offer
-pub offered-still : (atoms : List AtomDefinition) (moves : List Move) (before after : List Local) (sets : List ℕ) → ((n : ℕ) → find (λ m. m.atom == n) moves ≡ None → slice_get after n ≡ slice_get before n) → AreOffered atoms before sets → AreOfferedBut moves atoms after sets
-offered-still atoms moves before after sets same exact n a s none known there = exact n a s known (sym (same n none) ∙ there)
+-- an atom that is not among those of some moves is of none of them
+pub of-no-move : (moves : List Move) (n : ℕ) → is_in (map (λ m. m.atom) moves) n ≡ false → find (λ m. m.atom == n) moves ≡ None
+of-no-move [] n out = refl
+of-no-move (m ∷ ms) n out =
+    let parts = or_parts (m.atom == n) (is_in (map (λ k. k.atom) ms) n) out in
+    ap (λ b. cond b (Some m) (find (λ k. k.atom == n) ms)) parts.0 ∙ of-no-move ms n parts.1
 
--- once the atom of the first move is judged again, and the sets of all others stay, that move is done
-pub after-one : (m : Move) (rest : List Move) (atoms : List AtomDefinition) (states : List Local) (old new : List ℕ) →
-    ((a : AtomDefinition) (s : Local) → slice_get atoms m.atom ≡ Some a → slice_get states m.atom ≡ Some s → slice_index_or new m.atom 0 ≡ offered_set a s) →
-    ((n : ℕ) → n ≢ m.atom → slice_index_or new n 0 ≡ slice_index_or old n 0) →
-    AreOfferedBut (m ∷ rest) atoms states old → AreOfferedBut rest atoms states new
-after-one m rest atoms states old new again others exact n a s none known there = ⊎_elim one other (cases_eq n m.atom)
+-- what was offered where the atoms that did not change were as they are is what these offer
+pub offered-still : (atoms : List AtomDefinition) (changed : List ℕ) (before after : List Local) (sets : List ℕ) → ((n : ℕ) → is_in changed n ≡ false → slice_get after n ≡ slice_get before n) → AreOffered atoms before sets → AreOfferedBut changed atoms after sets
+offered-still atoms changed before after sets same exact n a s out known there = exact n a s known (sym (same n out) ∙ there)
+
+-- once the first of the changed atoms is judged again, and the sets of all others stay, that atom is done
+pub after-one : (k : ℕ) (rest : List ℕ) (atoms : List AtomDefinition) (states : List Local) (old new : List ℕ) →
+    ((a : AtomDefinition) (s : Local) → slice_get atoms k ≡ Some a → slice_get states k ≡ Some s → slice_index_or new k 0 ≡ offered_set a s) →
+    ((n : ℕ) → n ≢ k → slice_index_or new n 0 ≡ slice_index_or old n 0) →
+    AreOfferedBut (k ∷ rest) atoms states old → AreOfferedBut rest atoms states new
+after-one k rest atoms states old new again others exact n a s out known there = ⊎_elim one other (cases_eq n k)
   where
-    one : n ≡ m.atom → slice_index_or new n 0 ≡ offered_set a s
+    one : n ≡ k → slice_index_or new n 0 ≡ offered_set a s
     one same =
-        ap (λ k. slice_index_or new k 0) same ∙
+        ap (λ j. slice_index_or new j 0) same ∙
         again a s (ap (slice_get atoms) (sym same) ∙ known) (ap (slice_get states) (sym same) ∙ there)
 
-    other : n ≢ m.atom → slice_index_or new n 0 ≡ offered_set a s
+    other : n ≢ k → slice_index_or new n 0 ≡ offered_set a s
     other differs =
-        let told : (m.atom == n) ≡ false = ne_eqb m.atom n (λ same. differs (sym same)) in
-        let later : find (λ k. k.atom == n) (m ∷ rest) ≡ None = ap (λ b. cond b (Some m) (find (λ k. k.atom == n) rest)) told ∙ none in
-        others n differs ∙ exact n a s later known there
+        let apart : (k == n) ≡ false = ne_eqb k n (λ same. differs (sym same)) in
+        others n differs ∙ exact n a s (or_from (k == n) (is_in rest n) apart out) known there
+
+-- where one state is put in the place of another, all others stay
+pub others-stay : (states : List Local) (k : ℕ) (x : Local) (n : ℕ) → is_in (k ∷ []) n ≡ false → slice_get (set states k x) n ≡ slice_get states n
+others-stay states k x n out =
+    let new = set states k x in
+    let other : n ≢ k = λ same. false≢true (sym (or_parts (k == n) false out).0 ∙ eq-eqb k n (sym same)) in
+    ⊎_elim
+    (λ within. slice_get-get_or new n some_state (omega (arith, within, length-set states k x)) ∙ ap Some (get_or-set_other states k n x some_state other) ∙ sym (slice_get-get_or states n some_state within))
+    (λ past. slice_get_past new n (omega (arith, past, length-set states k x)) ∙ sym (slice_get_past states n past))
+    (cases_lt n (length states))
+
+-- and where it fits its atom, all fit
+pub one-set-fits : (plant : PlantDefinition) (states : List Local) (k : ℕ) (x : Local) → k < length states → ((a : AtomDefinition) → slice_get plant.atoms k ≡ Some a → Fits a x) → AllFit plant states → AllFit plant (set states k x)
+one-set-fits plant states k x within fit all n a s known there = ⊎_elim one other (cases_eq n k)
+  where
+    one : n ≡ k → Fits a s
+    one same =
+        let here : slice_get (set states k x) k ≡ Some x = slice_get-get_or (set states k x) k some_state (omega (arith, within, length-set states k x)) ∙ ap Some (get_or-set_same states k x some_state within) in
+        subst (Fits a) (same_Some x s (sym here ∙ ap (slice_get (set states k x)) (sym same) ∙ there)) (fit a (ap (slice_get plant.atoms) (sym same) ∙ known))
+
+    other : n ≢ k → Fits a s
+    other differs =
+        let apart : (k == n) ≡ false = ne_eqb k n (λ same. differs (sym same)) in
+        all n a s known (sym (others-stay states k x n (or_from (k == n) false apart refl)) ∙ there)

@@ -1,4 +1,4 @@
--- Rows of interactions: what puts an interaction in keeps what is in, and what the rows of some moves hold.
+-- Rows of interactions: what puts an interaction in keeps what is in, and what the rows of some atoms hold.
 use Rattle.std.proofs.Common.{◌≡◌, ◌≢◌, ℕ, zero, suc, ◌+◌, ◌++◌, ◌<◌, refl, sym, ◌∙◌, ap, List, [], ◌∷◌, length, get_or, set, take, arith, true, false, Bool, ◌||◌, ◌==◌, ⊎_elim}
 use Rattle.std.specs.Prelude.{Some, slice_get}
 use Rattle.std.specs.Ordering.{nat_cmp}
@@ -14,7 +14,6 @@ use Rattle.connector_tree.specs.declared.tree.Port.{Port}
 use Rattle.step_core.specs.Plant.{WireDefinition}
 use Rattle.step_core.specs.Choice.{Interaction}
 use Rattle.step_core.specs.Touching.{row_of_guards, at_port, at_guards, is_noted, are_noted, KeepsNoted, IsNoted, is_in_row, is_read_by, has_row}
-use Rattle.step_core.specs.declared.choice.Move.{Move}
 use Rattle.step_core.proofs.Noting.{put-here, put-other}
 
 module _ (rows : List (FinSet nat_cmp)) (k x : ℕ) (d : FinSet nat_cmp) (within : k < length rows) where
@@ -93,12 +92,12 @@ noted-next rows n at ports i d within before here =
     ap (list_all noted) (take_more ports i d within) ∙ list_all-append noted (take i ports) (get_or ports i d ∷ []) ∙
     and_from (list_all noted (take i ports)) (list_all noted (get_or ports i d ∷ [])) before (and_from (noted (get_or ports i d)) true here refl)
 
--- one move more
-pub read-next : (rows : List (FinSet nat_cmp)) (n : ℕ) (moves : List Move) (i : ℕ) (d : Move) → i < length moves → is_read_by rows (take i moves) n ≡ false → is_in_row rows n (row_of_guards ((get_or moves i d).atom)) ≡ false → is_read_by rows (take (i + 1) moves) n ≡ false
-read-next rows n moves i d within before here =
-    let reads : Move → Bool = λ m. is_in_row rows n (row_of_guards m.atom) in
-    ap (list_any reads) (take_more moves i d within) ∙ list_any-append reads (take i moves) (get_or moves i d ∷ []) ∙
-    or_from (list_any reads (take i moves)) (list_any reads (get_or moves i d ∷ [])) before (or_from (reads (get_or moves i d)) false here refl)
+-- one atom more
+pub read-next : (rows : List (FinSet nat_cmp)) (n : ℕ) (atoms : List ℕ) (i d : ℕ) → i < length atoms → is_read_by rows (take i atoms) n ≡ false → is_in_row rows n (row_of_guards (get_or atoms i d)) ≡ false → is_read_by rows (take (i + 1) atoms) n ≡ false
+read-next rows n atoms i d within before here =
+    let reads : ℕ → Bool = λ a. is_in_row rows n (row_of_guards a) in
+    ap (list_any reads) (take_more atoms i d within) ∙ list_any-append reads (take i atoms) (get_or atoms i d ∷ []) ∙
+    or_from (list_any reads (take i atoms)) (list_any reads (get_or atoms i d ∷ [])) before (or_from (reads (get_or atoms i d)) false here refl)
 
 -- a row that is there holds what is noted in it
 pub in-row : (rows : List (FinSet nat_cmp)) (n place : ℕ) → place < length rows → is_noted rows n place ≡ true → is_in_row rows n place ≡ true

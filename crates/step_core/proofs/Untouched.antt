@@ -1,13 +1,13 @@
 -- What an interaction does not depend on does not change whether it is possible.
-use Rattle.std.proofs.Common.{◌≡◌, ◌≢◌, ⊎_elim, ℕ, ◌*◌, ◌==◌, refl, sym, ◌∙◌, ap, List, [], ◌∷◌, length, map, arith, zero, suc, cond, Bool, true, false, ◌||◌, not, pos, inl, inr}
-use Rattle.std.specs.Prelude.{Option, Some, None, slice_get, find}
+use Rattle.std.proofs.Common.{◌≡◌, ◌≢◌, ⊎_elim, ℕ, ◌*◌, ◌==◌, refl, sym, ◌∙◌, ap, List, [], ◌∷◌, length, map, arith, zero, suc, Bool, true, false, ◌||◌, not, pos, inl, inr}
+use Rattle.std.specs.Prelude.{Option, Some, None, slice_get}
 use Rattle.std.specs.Ordering.{nat_cmp}
 use Rattle.std.specs.FinSet.{FinSet}
 use Rattle.std.specs.List.{list_all}
 use Rattle.std.specs.Option.{option_map_or}
-use Rattle.std.proofs.lemmas.Bool.{and_parts, or_parts, cases_lt, false≢true, ne_eqb}
+use Rattle.std.proofs.lemmas.Bool.{and_parts, or_parts, or_from, cases_lt, false≢true, ne_eqb}
 use Rattle.std.proofs.lemmas.Option.{slice_get_past}
-use Rattle.petri_atom.specs.Local.{Local}
+use Rattle.petri_atom.specs.Local.{Local, is_in}
 use Rattle.petri_atom.specs.Expression.{Tree, is_true, value_of}
 use Rattle.petri_atom.specs.Definition.{AtomDefinition, exported_value}
 use Rattle.connector_tree.specs.Tree.{leaves}
@@ -17,7 +17,6 @@ use Rattle.step_core.specs.Exports.{value_at, exported_at, clause_applies, guard
 use Rattle.step_core.specs.Plant.{WireDefinition, PlantDefinition}
 use Rattle.step_core.specs.Touching.{row_of_guards, at_port, is_noted, is_in_row, is_read_by, AreTouching}
 use Rattle.step_core.specs.Ways.{ways_at}
-use Rattle.step_core.specs.declared.choice.Move.{Move}
 use Rattle.step_core.specs.declared.wire.Export.{Export}
 use Rattle.std.proofs.lemmas.List.{length-map}
 use Rattle.step_core.proofs.Combinations.{length-rows}
@@ -29,19 +28,19 @@ pub none-mapped : {X Y : Type 0} (f : X → Y) (xs : List X) → length xs ≡ 0
 none-mapped f [] none = refl
 none-mapped f (x ∷ xs) none = absurd (omega arith)
 
--- an atom that a guard of an interaction reads, where it reads the atom of no move, is of no move
-not-found : (rows : List (FinSet nat_cmp)) (n : ℕ) (moves : List Move) (k : ℕ) → is_in_row rows n (row_of_guards k) ≡ true → is_read_by rows moves n ≡ false → find (λ m. m.atom == k) moves ≡ None
+-- an atom that a guard of an interaction reads, where it reads none of some atoms, is none of these
+not-found : (rows : List (FinSet nat_cmp)) (n : ℕ) (atoms : List ℕ) (k : ℕ) → is_in_row rows n (row_of_guards k) ≡ true → is_read_by rows atoms n ≡ false → is_in atoms k ≡ false
 not-found rows n [] k here none = refl
-not-found rows n (m ∷ ms) k here none =
-    let parts = or_parts (is_in_row rows n (row_of_guards m.atom)) (is_read_by rows ms n) none in
-    let other : m.atom ≢ k = λ same. false≢true (sym parts.0 ∙ ap (λ a. is_in_row rows n (row_of_guards a)) same ∙ here) in
-    ap (λ b. cond b (Some m) (find (λ j. j.atom == k) ms)) (ne_eqb m.atom k other) ∙ not-found rows n ms k here parts.1
+not-found rows n (j ∷ js) k here none =
+    let parts = or_parts (is_in_row rows n (row_of_guards j)) (is_read_by rows js n) none in
+    let other : j ≢ k = λ same. false≢true (sym parts.0 ∙ ap (λ a. is_in_row rows n (row_of_guards a)) same ∙ here) in
+    or_from (j == k) (is_in js k) (ne_eqb j k other) (not-found rows n js k here parts.1)
 
 -- the states of the atoms that its guards read stay
-module _ (moves : List Move) (before after : List Local) (rows : List (FinSet nat_cmp)) (n : ℕ) (many : length rows ≡ length before * 33) (as_many : length before ≡ length after) (stays : (k : ℕ) → find (λ m. m.atom == k) moves ≡ None → slice_get after k ≡ slice_get before k) (none : is_read_by rows moves n ≡ false) where
+module _ (changed : List ℕ) (before after : List Local) (rows : List (FinSet nat_cmp)) (n : ℕ) (many : length rows ≡ length before * 33) (as_many : length before ≡ length after) (stays : (k : ℕ) → is_in changed k ≡ false → slice_get after k ≡ slice_get before k) (none : is_read_by rows changed n ≡ false) where
   pub still : (k : ℕ) → is_noted rows n (row_of_guards k) ≡ true → slice_get after k ≡ slice_get before k
   still k here = ⊎_elim
-      (λ within. stays k (not-found rows n moves k (in-row rows n (row_of_guards k) (omega (arith, many, within)) here) none))
+      (λ within. stays k (not-found rows n changed k (in-row rows n (row_of_guards k) (omega (arith, many, within)) here) none))
       (λ past. slice_get_past after k (omega (arith, as_many)) ∙ sym (slice_get_past before k past))
       (cases_lt k (length before))
 
@@ -110,10 +109,10 @@ module _ (atoms : List AtomDefinition) (wires : List WireDefinition) (before aft
           (cases_lt 0 old)
 
 -- an interaction that is not to be judged again is possible exactly where it was, and has as many choices
-module _ (plant : PlantDefinition) (moves : List Move) (before after : List Local) (interactions : List Interaction) (rows : List (FinSet nat_cmp)) (n : ℕ)
+module _ (plant : PlantDefinition) (changed : List ℕ) (before after : List Local) (interactions : List Interaction) (rows : List (FinSet nat_cmp)) (n : ℕ)
     (many : length rows ≡ length before * 33) (as_many : length before ≡ length after)
-    (stays : (k : ℕ) → find (λ m. m.atom == k) moves ≡ None → slice_get after k ≡ slice_get before k)
-    (touching : AreTouching plant.wires interactions rows) (unread : is_read_by rows moves n ≡ false)
+    (stays : (k : ℕ) → is_in changed k ≡ false → slice_get after k ≡ slice_get before k)
+    (touching : AreTouching plant.wires interactions rows) (unread : is_read_by rows changed n ≡ false)
     (told : (p : Port) → is_noted rows n (at_port p) ≡ true → length (moves_of plant.atoms after p) ≡ length (moves_of plant.atoms before p)) where
   pub untouched : is_possible_at plant.atoms plant.wires after interactions n ≡ is_possible_at plant.atoms plant.wires before interactions n
   untouched = each (slice_get interactions n) refl
@@ -122,7 +121,7 @@ module _ (plant : PlantDefinition) (moves : List Move) (before after : List Loca
       each None there = refl
       each (Some i) there =
           possible-same plant.atoms plant.wires before after (λ p. is_noted rows n (at_port p)) told i (touching n i there).0
-          (guards-same plant.atoms plant.wires before after (λ k. is_noted rows n (row_of_guards k)) (still moves before after rows n many as_many stays unread) i (touching n i there).1)
+          (guards-same plant.atoms plant.wires before after (λ k. is_noted rows n (row_of_guards k)) (still changed before after rows n many as_many stays unread) i (touching n i there).1)
 
   pub untouched-ways : ways_at plant.atoms after interactions n ≡ ways_at plant.atoms before interactions n
   untouched-ways = each (slice_get interactions n) refl

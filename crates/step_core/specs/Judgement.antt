@@ -1,12 +1,11 @@
 -- What a state offers, as it is kept.
-use Rattle.std.specs.Prelude.{◌≡◌, ◌==◌, ℕ, List, None, find, length, slice_get}
-use Rattle.petri_atom.specs.Local.{Local}
+use Rattle.std.specs.Prelude.{◌≡◌, ℕ, false, List, length, slice_get}
+use Rattle.petri_atom.specs.Local.{Local, is_in}
 use Rattle.step_core.specs.Choice.{Interaction, choices_among}
 use Rattle.step_core.specs.Offers.{AreOffered, AreCounted}
 use Rattle.step_core.specs.Plant.{PlantDefinition}
 use Rattle.step_core.specs.Possible.{ArePossible, AreAllowed}
 use Rattle.step_core.specs.Ways.{AreWays}
-use Rattle.step_core.specs.declared.choice.Move.{Move}
 use Rattle.step_core.specs.declared.judgement.Judgement.{Judgement}
 
 -- it is that of a state of a plant, by the plant's interactions
@@ -18,9 +17,9 @@ pub record IsJudgement (plant : PlantDefinition) (interactions : List Interactio
   pub allowed : AreAllowed plant states interactions j.allowed
   pub total : j.total ≡ length (choices_among plant states interactions)
 
--- it is that of a state in which all atoms that none of the moves is of were as they are now
-pub record IsBehind (plant : PlantDefinition) (interactions : List Interaction) (moves : List Move) (states : List Local) (j : Judgement) : Type 0 where
+-- it is that of a state in which all atoms but some were as they are now
+pub record IsBehind (plant : PlantDefinition) (interactions : List Interaction) (changed : List ℕ) (states : List Local) (j : Judgement) : Type 0 where
   pub before : List Local
   pub judged : IsJudgement plant interactions before j
   pub as_many : length before ≡ length states
-  pub stays : (n : ℕ) → find (λ m. m.atom == n) moves ≡ None → slice_get states n ≡ slice_get before n
+  pub stays : (n : ℕ) → is_in changed n ≡ false → slice_get states n ≡ slice_get before n

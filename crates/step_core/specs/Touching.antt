@@ -12,7 +12,6 @@ use Rattle.step_core.specs.Offers.{count_at}
 use Rattle.petri_atom.specs.Definition.{AtomDefinition}
 use Rattle.petri_atom.specs.Local.{Local}
 use Rattle.petri_atom.specs.declared.parts.TheConstants.{MAX_PORTS}
-use Rattle.step_core.specs.declared.choice.Move.{Move}
 use Rattle.step_core.specs.declared.touching.TheConstants.{ATOM_ROWS}
 
 -- the place of the row of a port of an atom, and of the row of the guards that read an atom; a port with a number that no atom's
@@ -82,9 +81,9 @@ abbrev pub IsOnEmpty : List AtomDefinition → List Local → List (FinSet nat_c
 IsOnEmpty atoms states rows n =
     (p : Port) × (moves_of atoms states p ≡ []) × (p.port < MAX_PORTS) × (is_in_row rows n (at_port p) ≡ true)
 
--- a guard of the interaction reads the atom of one of the moves
-abbrev pub is_read_by : List (FinSet nat_cmp) → List Move → ℕ → Bool
-is_read_by rows moves n = list_any (λ m. is_in_row rows n (row_of_guards m.atom)) moves
+-- a guard of the interaction reads one of the atoms
+abbrev pub is_read_by : List (FinSet nat_cmp) → List ℕ → ℕ → Bool
+is_read_by rows atoms n = list_any (λ a. is_in_row rows n (row_of_guards a)) atoms
 
 -- at each port of an interaction of the first words that is not in the set the same number is kept as before
 abbrev pub AreTold : List (FinSet nat_cmp) → ℕ → List (List ℕ) → List (List ℕ) → FinSet nat_cmp → Type 0

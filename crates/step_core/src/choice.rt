@@ -1,4 +1,7 @@
 //! Choices: an interaction, and one transition for each participant.
+ghost use Rattle.std.specs.Prelude.{◌≡◌, ◌≤◌, take, map, length};
+ghost use Rattle.connector_tree.specs.declared.tree.TheConstants.{MAX_LEAVES};
+
 use connector_tree::{MAX_LEAVES, Mask};
 use std::marker::Model;
 
@@ -63,6 +66,19 @@ impl Moves {
     {
         &self.row[..self.count]
     }
+}
+
+/// The atoms of the moves, in the moves' order, with zeros behind them.
+pub(crate) fn atoms_of(moves: &[Move]) -> [u16; MAX_LEAVES]
+    requires { length moves.now ≤ MAX_LEAVES }
+    ensures atoms { take (length moves.now) result ≡ map (λ m. m.atom) moves.now }
+    ensures row { length result ≡ MAX_LEAVES }
+{
+    let mut atoms = [0; MAX_LEAVES];
+    for (place, step) in moves.iter().enumerate() {
+        atoms[place] = step.atom;
+    }
+    atoms
 }
 
 /// A choice: an interaction by its connector's number and its mask, and one offered transition for each of its ports.

@@ -13,7 +13,7 @@ ghost use Rattle.step_core.specs.Ways.{AreWays, AreWaysBut, IsSame};
 ghost use Rattle.step_core.specs.Wire.{wire_of};
 ghost use Rattle.priority_filter.specs.declared.interaction_set.TheConstants.{ROW_WORDS};
 
-use crate::choice::{Choice, Move};
+use crate::choice::Choice;
 use crate::filtered::Filtered;
 use crate::free::numbers_below;
 use crate::judged::Judged;
@@ -68,32 +68,37 @@ impl System {
         }
     }
 
-    /// Judges again what depends on the atom of one of the moves;
+    /// Judges again what depends on one of the changed atoms;
     /// what is kept was judged in a state in which all other atoms were as now. Where no interaction is possible or has choices
     /// other than before, the same ones are allowed, and nothing more is to be done.
-    pub(crate) fn judge_again(&self, states: &PlantState, moves: &[Move], judgement: &mut Judgement)
+    pub(crate) fn judge_again(
+        &self,
+        states: &PlantState,
+        changed: &[u16],
+        judgement: &mut Judgement,
+    )
         requires of_plant { IsOf (plant_of self.now) states.now }
-        requires behind { IsBehind (plant_of self.now) (map interaction_of self.now.interactions.items) moves.now states.now judgement.old }
+        requires behind { IsBehind (plant_of self.now) (map interaction_of self.now.interactions.items) changed.now states.now judgement.old }
         ensures { IsJudgement (plant_of self.now) (map interaction_of self.now.interactions.items) states.now judgement.new }
     {
         let words = self.interactions.len().div_ceil(64);
         let mut touched = InteractionSet::new();
-        judgement.offers.judge_moved(
+        judgement.offers.judge_changed(
             &self.atoms,
             states,
             &self.touching,
             words,
-            moves,
+            changed,
             &mut touched,
         );
-        let changed = self.judge_touched(
+        let is_new = self.judge_touched(
             states,
             &judgement.offers,
             &touched,
             &mut judgement.possible,
             &mut judgement.ways,
         );
-        if changed {
+        if is_new {
             judgement.allowed.clear();
             judgement.total = self.allow(
                 states,

@@ -1,4 +1,4 @@
-//! What the atoms of a plant offer: which transitions, and how many at each port, judged again for the atoms that moved alone.
+//! What the atoms of a plant offer: which transitions, and how many at each port, judged again for the atoms that changed alone.
 ghost use Rattle.std.specs.Prelude.{◌≡◌, ℕ, ◌<◌, ◌≤◌, ◌*◌, false, true, Some, map, length, slice_get, slice_index_or};
 ghost use Rattle.std.specs.FinSet.{contains};
 ghost use Rattle.petri_atom.specs.Atom.{definition_of};
@@ -11,7 +11,6 @@ ghost use Rattle.priority_filter.specs.declared.interaction_set.TheConstants.{RO
 ghost use Rattle.step_core.specs.declared.limits.TheConstants.{MAX_ATOMS};
 ghost use Rattle.step_core.specs.declared.touching.TheConstants.{ATOM_ROWS};
 
-use crate::choice::Move;
 use crate::limits::MAX_ATOMS;
 use crate::state::PlantState;
 use crate::touching::{ATOM_ROWS, guard_row, port_row};
@@ -68,31 +67,31 @@ impl Offers {
         }
     }
 
-    /// Judges the transitions of the atoms of the moves again; those of all other atoms are known. Puts the interactions that
+    /// Judges the transitions of the changed atoms again; those of all other atoms are known. Puts the interactions that
     /// are to be judged again into the set, of those that a row has in so many words: those with a port at which another number
     /// of transitions is offered now, and those whose guards read one of the atoms.
-    pub(crate) fn judge_moved(
+    pub(crate) fn judge_changed(
         &mut self,
         atoms: &[Atom],
         states: &PlantState,
         rows: &[InteractionSet],
         words: usize,
-        moves: &[Move],
+        changed: &[u16],
         touched: &mut InteractionSet,
     )
         requires as_many { length states.now ≡ length atoms.now }
         requires few { length atoms.now ≤ MAX_ATOMS }
         requires rows { length rows.now ≡ length atoms.now * ATOM_ROWS }
         requires words { words ≤ ROW_WORDS }
-        requires others { AreOfferedBut moves.now (map definition_of atoms.now) states.now self.old.sets }
+        requires others { AreOfferedBut changed.now (map definition_of atoms.now) states.now self.old.sets }
         requires counted { AreCounted (map definition_of atoms.now) self.old.sets self.old.counts }
         ensures offered { AreOffered (map definition_of atoms.now) states.now self.new.sets }
         ensures counted { AreCounted (map definition_of atoms.now) self.new.sets self.new.counts }
         ensures told { AreTold rows.now words self.old.counts self.new.counts touched.new }
-        ensures read { (n : ℕ) → n < 64 * words → contains touched.new n ≡ false → is_read_by rows.now moves.now n ≡ false }
+        ensures read { (n : ℕ) → n < 64 * words → contains touched.new n ≡ false → is_read_by rows.now changed.now n ≡ false }
     {
-        for step in moves {
-            self.judge_atom(atoms, states, rows, words, step.atom, touched);
+        for number in changed {
+            self.judge_atom(atoms, states, rows, words, *number, touched);
         }
     }
 

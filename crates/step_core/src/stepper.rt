@@ -1,5 +1,6 @@
 //! A plant that runs: its present state, with what that state offers, judged once.
-ghost use Rattle.std.specs.Prelude.{◌≡◌, ◌↔◌, ◌<◌, Some, IfOk, map, length, replicate, slice_get};
+ghost use Rattle.std.specs.Prelude.{◌≡◌, ◌↔◌, ◌<◌, Some, IfOk, map, length, replicate, slice_get, slice_set};
+ghost use Rattle.petri_atom.specs.Definition.{AtomDefinition, Fits};
 ghost use Rattle.connector_tree.specs.declared.tree.TheConstants.{MAX_LEAVES};
 ghost use Rattle.step_core.specs.Choice.{choices, IsAllowed, IsStuck};
 ghost use Rattle.step_core.specs.Chosen.{choice_of};
@@ -10,13 +11,13 @@ ghost use Rattle.step_core.specs.Judgement.{IsJudgement};
 ghost use Rattle.step_core.specs.Step.{initial_states, next, nothing_delivered, transfer};
 ghost use Rattle.step_core.specs.System.{plant_of};
 
-use crate::choice::Choice;
+use crate::choice::{Choice, atoms_of};
 use crate::judgement::Judgement;
 use crate::state::PlantState;
 use crate::system::System;
 use crate::transfers::nothing_at_all;
 use connector_tree::MAX_LEAVES;
-use petri_atom::Delivered;
+use petri_atom::{AtomState, Delivered};
 use std::alloc::{AllocError, Global};
 
 /// A plant that runs: a system, its present state, in which each atom's state fits it, and what that state offers: transitions,
@@ -83,6 +84,29 @@ impl<'s> Stepper<'s> {
         &self.states
     }
 
+    /// The present state of one atom.
+    pub fn state(&self, atom: u16) -> AtomState
+        requires { atom < length (states_in self.now) }
+        ensures state { slice_get (states_in self.now) atom ≡ Some result }
+        ensures fits { (a : AtomDefinition) → slice_get (plant_in self.now).atoms atom ≡ Some a → Fits a result }
+    {
+        self.states.state(atom).copy()
+    }
+
+    /// Puts another state in the place of one atom's. What is offered is judged again for this atom, and what is possible for the
+    /// interactions that this can change.
+    pub fn set(&mut self, atom: u16, state: AtomState)
+        requires there { atom < length (states_in self.old) }
+        requires fits { (a : AtomDefinition) → slice_get (plant_in self.old).atoms atom ≡ Some a → Fits a state }
+        ensures system { system_in self.new ≡ system_in self.old }
+        ensures plant { plant_in self.new ≡ plant_in self.old }
+        ensures states { states_in self.new ≡ slice_set (states_in self.old) atom state }
+    {
+        self.states.set(atom, state);
+        self.system
+            .judge_again(&self.states, &[atom], &mut self.judgement);
+    }
+
     /// How many choices the present state has; none exactly where no interaction is possible.
     pub fn count(&self) -> u128
         ensures count { result ≡ length (choices (plant_in self.now) (states_in self.now)) }
@@ -137,7 +161,10 @@ impl<'s> Stepper<'s> {
         ensures told { IsTold choice.now.moves (transfer (plant_in self.old) (states_in self.old) (choice_of choice.now)) told.new }
     {
         self.system.fire(&mut self.states, choice, told);
+        let moves = choice.moves.as_slice();
+        let atoms = atoms_of(moves);
+        let changed = &atoms[..moves.len()];
         self.system
-            .judge_again(&self.states, choice.moves.as_slice(), &mut self.judgement);
+            .judge_again(&self.states, changed, &mut self.judgement);
     }
 }

@@ -17,73 +17,73 @@ use Rattle.step_core.proofs.Unchanged.{allowed-same, total-same}
 use Rattle.step_core.proofs.Untouched.{untouched, untouched-ways}
 use Rattle.step_core.proofs.system.System.judge_again.Goals as goal
 
-pub judge_touched-changed-requires-clause-others : goal.judge_touched-changed-requires-clause-others
-judge_touched-changed-requires-clause-others c n outside =
+pub judge_touched-is_new-requires-clause-others : goal.judge_touched-is_new-requires-clause-others
+judge_touched-is_new-requires-clause-others c n outside =
     let system = c.args.self.now in
     let plant = plant_of system in
     let all = map interaction_of system.interactions.items in
     let behind = c.requires.behind in
     let before = behind.before in
     let after = c.args.states.now in
-    let new = c.judge_moved.new.self in
+    let new = c.judge_changed.new.self in
     let old = c.args.judgement.now.offers in
-    let judged = c.judge_moved.ensures in
+    let judged = c.judge_changed.ensures in
     let offered : AreOffered plant.atoms after new.sets = subst (λ list. AreOffered (map definition_of list) after new.sets) c.deref.ensures.value judged.offered in
     let counted : AreCounted plant.atoms new.sets new.counts = subst (λ list. AreCounted (map definition_of list) new.sets new.counts) c.deref.ensures.value judged.counted in
     let low : n < length all → n < 64 * c.div_ceil-words.result = λ within. omega (arith, within, length-map system.interactions.items interaction_of, c.div_ceil-words.ensures) in
     let rows = system.touching.items in
     let lent = c.deref-2.ensures.value in
-    let told : n < length all → contains c.judge_moved.new.touched n ≡ false → (p : Port) → is_noted rows n (at_port p) ≡ true → length (moves_of plant.atoms after p) ≡ length (moves_of plant.atoms before p) =
+    let told : n < length all → contains c.judge_changed.new.touched n ≡ false → (p : Port) → is_noted rows n (at_port p) ≡ true → length (moves_of plant.atoms after p) ≡ length (moves_of plant.atoms before p) =
     λ within out p noted. sym (counted-moves plant.atoms after new.sets new.counts c.requires.of_plant offered counted p) ∙ judged.told n p.atom p.port (low within) (ap (λ rs. is_noted rs n (at_port p)) lent ∙ noted) out ∙
     counted-moves plant.atoms before old.sets old.counts (behind.as_many ∙ c.requires.of_plant) behind.judged.offered behind.judged.counted p in
     behind.judged.possible n ∙
     sym (⊎_elim
-    (λ within. untouched plant c.args.moves.now before after all rows n (system.rows ∙ ap (λ k. k * 33) (sym (behind.as_many ∙ c.requires.of_plant ∙ length-map system.atoms.items definition_of))) behind.as_many behind.stays system.touched (ap (λ rs. is_read_by rs c.args.moves.now n) (sym lent) ∙ judged.read n (low within) (outside within)) (told within (outside within)))
+    (λ within. untouched plant c.args.changed.now before after all rows n (system.rows ∙ ap (λ k. k * 33) (sym (behind.as_many ∙ c.requires.of_plant ∙ length-map system.atoms.items definition_of))) behind.as_many behind.stays system.touched (ap (λ rs. is_read_by rs c.args.changed.now n) (sym lent) ∙ judged.read n (low within) (outside within)) (told within (outside within)))
     (λ past. ap (λ o. option_map_or (is_possible plant.atoms plant.wires after) o false) (slice_get_past all n past) ∙ sym (ap (λ o. option_map_or (is_possible plant.atoms plant.wires before) o false) (slice_get_past all n past)))
     (cases_lt n (length all)))
 
-pub judge_touched-changed-requires-clause-other_ways : goal.judge_touched-changed-requires-clause-other_ways
-judge_touched-changed-requires-clause-other_ways c n outside possible =
+pub judge_touched-is_new-requires-clause-other_ways : goal.judge_touched-is_new-requires-clause-other_ways
+judge_touched-is_new-requires-clause-other_ways c n outside possible =
     let system = c.args.self.now in
     let plant = plant_of system in
     let all = map interaction_of system.interactions.items in
     let behind = c.requires.behind in
     let before = behind.before in
     let after = c.args.states.now in
-    let new = c.judge_moved.new.self in
+    let new = c.judge_changed.new.self in
     let old = c.args.judgement.now.offers in
-    let judged = c.judge_moved.ensures in
+    let judged = c.judge_changed.ensures in
     let offered : AreOffered plant.atoms after new.sets = subst (λ list. AreOffered (map definition_of list) after new.sets) c.deref.ensures.value judged.offered in
     let counted : AreCounted plant.atoms new.sets new.counts = subst (λ list. AreCounted (map definition_of list) new.sets new.counts) c.deref.ensures.value judged.counted in
     let low : n < length all → n < 64 * c.div_ceil-words.result = λ within. omega (arith, within, length-map system.interactions.items interaction_of, c.div_ceil-words.ensures) in
     let rows = system.touching.items in
     let lent = c.deref-2.ensures.value in
-    let told : n < length all → contains c.judge_moved.new.touched n ≡ false → (p : Port) → is_noted rows n (at_port p) ≡ true → length (moves_of plant.atoms after p) ≡ length (moves_of plant.atoms before p) =
+    let told : n < length all → contains c.judge_changed.new.touched n ≡ false → (p : Port) → is_noted rows n (at_port p) ≡ true → length (moves_of plant.atoms after p) ≡ length (moves_of plant.atoms before p) =
     λ within out p noted. sym (counted-moves plant.atoms after new.sets new.counts c.requires.of_plant offered counted p) ∙ judged.told n p.atom p.port (low within) (ap (λ rs. is_noted rs n (at_port p)) lent ∙ noted) out ∙
     counted-moves plant.atoms before old.sets old.counts (behind.as_many ∙ c.requires.of_plant) behind.judged.offered behind.judged.counted p in
     let before-possible : is_possible_at plant.atoms plant.wires before all n ≡ is_possible_at plant.atoms plant.wires after all n =
     sym (⊎_elim
-    (λ within. untouched plant c.args.moves.now before after all rows n (system.rows ∙ ap (λ k. k * 33) (sym (behind.as_many ∙ c.requires.of_plant ∙ length-map system.atoms.items definition_of))) behind.as_many behind.stays system.touched (ap (λ rs. is_read_by rs c.args.moves.now n) (sym lent) ∙ judged.read n (low within) (outside within)) (told within (outside within)))
+    (λ within. untouched plant c.args.changed.now before after all rows n (system.rows ∙ ap (λ k. k * 33) (sym (behind.as_many ∙ c.requires.of_plant ∙ length-map system.atoms.items definition_of))) behind.as_many behind.stays system.touched (ap (λ rs. is_read_by rs c.args.changed.now n) (sym lent) ∙ judged.read n (low within) (outside within)) (told within (outside within)))
     (λ past. ap (λ o. option_map_or (is_possible plant.atoms plant.wires after) o false) (slice_get_past all n past) ∙ sym (ap (λ o. option_map_or (is_possible plant.atoms plant.wires before) o false) (slice_get_past all n past)))
     (cases_lt n (length all))) in
     behind.judged.ways n (before-possible ∙ possible) ∙
     sym (⊎_elim
-    (λ within. untouched-ways plant c.args.moves.now before after all rows n (system.rows ∙ ap (λ k. k * 33) (sym (behind.as_many ∙ c.requires.of_plant ∙ length-map system.atoms.items definition_of))) behind.as_many behind.stays system.touched (ap (λ rs. is_read_by rs c.args.moves.now n) (sym lent) ∙ judged.read n (low within) (outside within)) (told within (outside within)))
+    (λ within. untouched-ways plant c.args.changed.now before after all rows n (system.rows ∙ ap (λ k. k * 33) (sym (behind.as_many ∙ c.requires.of_plant ∙ length-map system.atoms.items definition_of))) behind.as_many behind.stays system.touched (ap (λ rs. is_read_by rs c.args.changed.now n) (sym lent) ∙ judged.read n (low within) (outside within)) (told within (outside within)))
     (λ past. ap (λ o. option_map_or (λ i. length (choices_of plant.atoms after i)) o 0) (slice_get_past all n past) ∙ sym (ap (λ o. option_map_or (λ i. length (choices_of plant.atoms before i)) o 0) (slice_get_past all n past)))
     (cases_lt n (length all)))
 
-pub returns-else-changed : goal.returns-else-changed
-returns-else-changed c =
+pub returns-else-is_new : goal.returns-else-is_new
+returns-else-is_new c =
     let system = c.args.self.now in
     let plant = plant_of system in
     let all = map interaction_of system.interactions.items in
     let behind = c.requires.behind in
     let before = behind.before in
     let after = c.args.states.now in
-    let new = c.judge_moved.new.self in
-    let judged = c.judge_moved.ensures in
-    let touched = c.judge_touched-changed.ensures in
-    let same = touched.same c.if-changed.false in
+    let new = c.judge_changed.new.self in
+    let judged = c.judge_changed.ensures in
+    let touched = c.judge_touched-is_new.ensures in
+    let same = touched.same c.if-is_new.false in
     let possible : (n : ℕ) → is_possible_at plant.atoms plant.wires after all n ≡ is_possible_at plant.atoms plant.wires before all n =
     λ n. sym (touched.possible n) ∙ same.0 n ∙ behind.judged.possible n in
     let ways : (n : ℕ) → is_possible_at plant.atoms plant.wires after all n ≡ true → ways_at plant.atoms after all n ≡ ways_at plant.atoms before all n =

@@ -3,11 +3,11 @@ use Rattle.std.specs.FinSet.{contains}
 use Rattle.petri_atom.specs.Atom.{definition_of}
 use Rattle.step_core.specs.Offers.{AreOfferedBut, AreCounted}
 use Rattle.step_core.specs.Touching.{is_read_by, AreTold}
-use Rattle.step_core.proofs.offers.Offers.judge_moved.Given as goal
+use Rattle.step_core.proofs.offers.Offers.judge_changed.Given as goal
 
-abbrev pub invariant-loop-step : goal.invariant-loop-step
-invariant-loop-step l =
-    AreOfferedBut (drop l.step-index l.moves) (map definition_of l.atoms) l.states l.self.sets ×
+abbrev pub invariant-loop-number : goal.invariant-loop-number
+invariant-loop-number l =
+    AreOfferedBut (drop l.number-index l.changed) (map definition_of l.atoms) l.states l.self.sets ×
     AreCounted (map definition_of l.atoms) l.self.sets l.self.counts ×
     AreTold l.rows l.words l.fn.self.counts l.self.counts l.touched ×
-    ((n : ℕ) → n < 64 * l.words → contains l.touched n ≡ false → is_read_by l.rows (take l.step-index l.moves) n ≡ false)
+    ((n : ℕ) → n < 64 * l.words → contains l.touched n ≡ false → is_read_by l.rows (take l.number-index l.changed) n ≡ false)
