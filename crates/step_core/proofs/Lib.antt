@@ -5,6 +5,7 @@ pub mod Flattened
 pub mod Counted
 mod Offering
 pub mod Told
+mod Found
 pub mod RuleFaults
 pub mod TreeRules
 mod Kept

@@ -5,6 +5,7 @@ pub mod Exports
 pub mod Choice
 pub mod Chosen
 pub mod Interaction
+pub mod Lookup
 pub mod Offers
 pub mod Step
 pub mod Fitting

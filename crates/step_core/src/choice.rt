@@ -1,5 +1,5 @@
 //! Choices: an interaction, and one transition for each participant.
-ghost use Rattle.std.specs.Prelude.{◌≡◌, ◌≤◌, take, map, length};
+ghost use Rattle.std.specs.Prelude.{◌≡◌, ◌≤◌, ◌↔◌, IsTrue, take, map, length};
 ghost use Rattle.connector_tree.specs.declared.tree.TheConstants.{MAX_LEAVES};
 
 use connector_tree::{MAX_LEAVES, Mask};
@@ -59,6 +59,23 @@ impl Moves {
         self.count += 1;
     }
 
+    /// A second row of the same moves.
+    fn copy(&self) -> Self
+        ensures { result ≡ self.now }
+    {
+        Moves {
+            row: self.row,
+            count: self.count,
+        }
+    }
+
+    /// Whether the two are the same moves in the same order.
+    fn same(&self, other: &Moves) -> bool
+        ensures { IsTrue result ↔ (self.now ≡ other.now) }
+    {
+        are_same(self.as_slice(), other.as_slice())
+    }
+
     /// The moves, in rising order of their atoms.
     pub fn as_slice(&self) -> &[Move]
         ensures moves { result.now ≡ self.now }
@@ -66,6 +83,13 @@ impl Moves {
     {
         &self.row[..self.count]
     }
+}
+
+/// Whether the two are the same moves in the same order.
+fn are_same(one: &[Move], other: &[Move]) -> bool
+    ensures { IsTrue result ↔ (one.now ≡ other.now) }
+{
+    one == other
 }
 
 /// The atoms of the moves, in the moves' order, with zeros behind them.
@@ -87,4 +111,28 @@ pub struct Choice {
     pub connector: u16,
     pub mask: Mask,
     pub moves: Moves,
+}
+
+impl Choice {
+    ghost use Rattle.step_core.specs.Chosen.{choice_of};
+
+    /// A second choice that is equal to this one.
+    pub fn copy(&self) -> Self
+        ensures { result ≡ self.now }
+    {
+        Choice {
+            connector: self.connector,
+            mask: self.mask,
+            moves: self.moves.copy(),
+        }
+    }
+
+    /// Whether the two choices are equal.
+    pub fn same(&self, other: &Choice) -> bool
+        ensures { IsTrue result ↔ (choice_of self.now ≡ choice_of other.now) }
+    {
+        self.connector == other.connector
+            && self.mask == other.mask
+            && self.moves.same(&other.moves)
+    }
 }

@@ -13,6 +13,7 @@
 //! - `system`: what a system keeps. `making`: how it is made, and what it lends. `rules`, `wire_rules`: the rules of a plant, as
 //!   tests. `fault`: which of them is broken.
 //! - `interaction`, `interactions`: the interactions of a connector, each with its ports in rising order of their atoms.
+//! - `lookup`: the interaction of a connector and some atoms.
 //! - `state`: a local state for each atom. `choice`: a choice, and the moves that it makes.
 //! - `offers`: which transitions each atom offers, and how many at each port, judged again behind a step.
 //! - `judgement`: what a state offers, as it is kept. `judged`: a state with what its atoms offer, by which interactions are
@@ -39,6 +40,7 @@ mod judged;
 mod judgement;
 pub mod laws;
 mod limits;
+mod lookup;
 mod making;
 mod offers;
 mod resolved;
