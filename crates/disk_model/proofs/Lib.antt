@@ -6,4 +6,5 @@ pub mod RunLemmas
 pub mod Replay
 pub mod MemoryLemmas
 pub mod LawLemmas
+pub mod Replacing
 mod Rows

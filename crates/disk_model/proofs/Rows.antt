@@ -6,7 +6,7 @@ use Rattle.disk_model.specs.declared.change.TheConstants.{LONGEST}
 use Rattle.disk_model.specs.declared.memory.TheConstants.{CELL}
 use Rattle.disk_model.specs.declared.change.Tear.TheVariants.{Old, New, Gates, Mixed}
 use Rattle.disk_model.specs.declared.fuse.Fuse.TheVariants.{Once, Dead, Change}
-use Rattle.disk_model.specs.DiskState.{Moment, DiskState, MayLeave, LeftSince, counted, overwritten, is_within, moment_of}
+use Rattle.disk_model.specs.DiskState.{Moment, DiskState, MayLeave, LeftSince, counted, counted_times, overwritten, is_within, moment_of}
 use Rattle.disk_model.specs.Cells.{Cell, cell_at, cells_of, cell, IsNoneOf, OldOrEmptyAt, EmptyOrNewAt}
 use Rattle.disk_model.specs.Recording.{at_rest, byte_left}
 use Rattle.disk_model.specs.Fuse.{burns, fuse_after}
@@ -36,6 +36,9 @@ count_of_no_event = refl
 
 count_stays_at_its_greatest : counted true 18446744073709551615 ≡ 18446744073709551615
 count_stays_at_its_greatest = refl
+
+three_syncs_more : counted_times 3 5 ≡ 8
+three_syncs_more = refl
 
 -- bytes 1 and 2 of four are written over
 two_bytes_written : overwritten {X = ℕ} 1 (8 ∷ 9 ∷ []) (1 ∷ 2 ∷ 3 ∷ 4 ∷ []) ≡ 1 ∷ 8 ∷ 9 ∷ 4 ∷ []

@@ -106,3 +106,16 @@ pub record EmptyOrNewAt (ks : List ℕ) (bodies : List (List ℕ)) (before cells
   pub count : length cells ≡ length before
   pub each : (i : ℕ) → i < length ks → (cell cells (slice_index ks i) ≡ None) ⊎ (cell cells (slice_index ks i) ≡ Some (slice_index_or bodies i []))
   pub others : (j : ℕ) → IsNoneOf ks j → cell cells j ≡ cell before j
+
+-- Cell k is as it was, empty, or full with this body, and every other is as it was.
+pub record OldEmptyOrNewAt (k : ℕ) (body : List ℕ) (before cells : List Cell) : Type 0 where
+  pub count : length cells ≡ length before
+  pub here : (cell cells k ≡ cell before k) ⊎ (cell cells k ≡ None) ⊎ (cell cells k ≡ Some body)
+  pub others : (j : ℕ) → j ≢ k → cell cells j ≡ cell before j
+
+-- Cell k reads full with this body and every other as before, and a stop leaves these cells and nothing else.
+pub record Replaced (size k : ℕ) (body : List ℕ) (old new : DiskState) : Type 0 where
+  pub settled : IsSettled new.now
+  pub count : length (seen_cells size new) ≡ length (seen_cells size old)
+  pub here : cell (seen_cells size new) k ≡ Some body
+  pub others : (j : ℕ) → j ≢ k → cell (seen_cells size new) j ≡ cell (seen_cells size old) j

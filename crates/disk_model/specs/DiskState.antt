@@ -1,5 +1,5 @@
 -- What a device holds, what a stop may leave of it, and what its calls change.
-use Rattle.std.specs.Prelude.{◌≡◌, ◌⊎◌, ℕ, ◌+◌, ◌-◌, ◌^◌, min, Bool, true, false, not, ◌&&◌, ◌||◌, nat_le, nat_lt, if◌then◌else◌, List, [], ◌∷◌, ◌++◌, length, take, drop, slice_index, slice_index_or}
+use Rattle.std.specs.Prelude.{◌≡◌, ◌⊎◌, ℕ, zero, suc, ◌+◌, ◌-◌, ◌^◌, min, ◌≤◌, Bool, true, false, not, ◌&&◌, ◌||◌, nat_le, nat_lt, if◌then◌else◌, List, [], ◌∷◌, ◌++◌, length, take, drop, slice_index, slice_index_or}
 
 -- A moment of a device: the bytes that a read gives, and a mark for each byte that is pending.
 pub record Moment : Type 0 where
@@ -98,3 +98,17 @@ pub record CountsTwo (ok : Bool) (old new : DiskState) : Type 0 where
   pub failures : new.failures ≡ counted (not ok) old.failures
   pub ok_syncs : ok ≡ true → new.syncs ≡ counted true (counted true old.syncs)
   pub err_syncs : ok ≡ false → (new.syncs ≡ old.syncs) ⊎ (new.syncs ≡ counted true old.syncs)
+
+-- a count of syncs after so many more
+abbrev pub counted_times : ℕ → ℕ → ℕ
+counted_times zero n = n
+counted_times (suc times) n = counted_times times (counted true n)
+
+-- What a call of a few syncs keeps and counts.
+pub record CountsUpTo (failed : Bool) (most : ℕ) (old new : DiskState) : Type 0 where
+  pub size : size_of new ≡ size_of old
+  pub keeps : new.keeps ≡ old.keeps
+  pub failures : new.failures ≡ counted failed old.failures
+  pub synced : ℕ
+  pub few : synced ≤ most
+  pub syncs : new.syncs ≡ counted_times synced old.syncs

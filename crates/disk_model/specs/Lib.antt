@@ -3,6 +3,7 @@ pub mod Cells
 pub mod Laws
 pub mod Moments
 pub mod Reading
+pub mod Counting
 pub mod Steps
 pub mod Recording
 pub mod Fuse

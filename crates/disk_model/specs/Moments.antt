@@ -1,8 +1,8 @@
 -- How a run of device calls goes on: what a stop at any moment since its start leaves.
-use Rattle.std.proofs.Common.{◌≡◌, ◌⊎◌, inl, inr, ⊎_elim, ℕ, ◌<◌, ◌≤◌, Bool, false, List, [], ◌∷◌, ◌++◌, length, drop, slice_index, None, Result, Ok, Err, OnOk, refl, ◌∙◌, ap, subst, arith}
+use Rattle.std.proofs.Common.{◌≡◌, ◌⊎◌, inl, inr, ⊎_elim, ℕ, ◌<◌, ◌≤◌, Bool, false, List, [], ◌∷◌, ◌++◌, length, drop, slice_index, None, Result, Ok, Err, OnOk, refl, sym, ◌∙◌, ap, subst, arith}
 use Rattle.std.proofs.lemmas.List.{length-append, length-map, drop-append-le, drop_all}
 use Rattle.std.proofs.lemmas.List.FromFn.{length-range_with_len}
-use Rattle.disk_model.specs.DiskState.{Moment, DiskState, MayLeave, IsSettled, LeftByOne, LeftSince, Counts, IsUnchanged, counted, moment_of}
+use Rattle.disk_model.specs.DiskState.{Moment, DiskState, MayLeave, IsSettled, LeftByOne, LeftSince, Counts, IsUnchanged, counted, moment_of, size_of}
 use Rattle.disk_model.specs.Cells.{Cell, cells_of, cells_in, cell, cell_count, seen_cells, IsClosed, MayBe, MayHaveBeen, Leaves, OldOrEmpty, OldOrEmptyAt, EmptyOrNew, EmptyOrNewAt}
 
 -- what follows from a fact of an Ok is a fact of it too
@@ -132,6 +132,10 @@ module _ (size : ℕ) where
   -- a read gives all cells of the device
   pub seen_length : (s : DiskState) → length (seen_cells size s) ≡ cell_count size s
   seen_length s = length-cells_of s.now.seen
+
+  -- a device of the same size reads as many cells
+  pub same_count : (old new : DiskState) → size_of new ≡ size_of old → length (seen_cells size new) ≡ length (seen_cells size old)
+  same_count old new same = seen_length new ∙ ap (λ (n : ℕ). cells_in size n) same ∙ sym (seen_length old)
 
   -- what each image has, a read gives too
   pub seen_after : (P : List Cell → Type 0) (old new : DiskState) → Leaves size P old new → P (seen_cells size new)

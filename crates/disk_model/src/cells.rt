@@ -1,6 +1,6 @@
 ghost use Rattle.std.specs.Prelude.{◌≡◌, ℕ, ◌+◌, ◌<◌, ◌∷◌, [], true, false, if◌then◌else◌, length, is_ok, is_err, IfOk, OnOk, MatchResult, Some, None};
-ghost use Rattle.disk_model.specs.DiskState.{DiskState, Counts, CountsTwo, IsUnchanged, Reads, Syncs, size_of};
-ghost use Rattle.disk_model.specs.Cells.{cell_count, cell, seen_cells, IsClosed, MayBe, Leaves, Settles, OldOrEmpty, EmptyOrNew, Erased, Filled};
+ghost use Rattle.disk_model.specs.DiskState.{DiskState, Counts, CountsTwo, CountsUpTo, IsSettled, IsUnchanged, Reads, Syncs, size_of};
+ghost use Rattle.disk_model.specs.Cells.{cell_count, cell, seen_cells, IsClosed, MayBe, Leaves, Settles, OldOrEmpty, EmptyOrNew, Erased, Filled, OldOrEmptyAt, OldEmptyOrNewAt, Replaced};
 ghost use Rattle.disk_model.specs.Steps.{AreInside, ReadEmpty, AreClosed, AllDiffer};
 
 use crate::calls::read_full;
@@ -98,6 +98,36 @@ impl<D: Disk> Cells<D, BODY> {
         ensures filled { self.old.keeps ≡ true → OnOk result (Filled (BODY + 1) (k ∷ []) (body.now ∷ []) self.old self.new) }
     {
         self.set_run(&[k], slice::from_ref(body))
+    }
+
+    /// Empties cell `k` where it is full. No sync is made where it is empty.
+    fn empty(&mut self, k: u64) -> Result<(), DiskFault>
+        requires inside { k < cell_count (BODY + 1) self.old }
+        requires settled { self.old.keeps ≡ true → IsSettled self.old.now }
+        ensures counts { CountsUpTo (is_err result) 1 self.old self.new }
+        ensures leaves { self.old.keeps ≡ true
+            → Leaves (BODY + 1) (OldOrEmptyAt (k ∷ []) (seen_cells (BODY + 1) self.old)) self.old self.new }
+        ensures erased { self.old.keeps ≡ true → OnOk result (Erased (BODY + 1) (k ∷ []) self.old self.new) }
+    {
+        let mut body = [0; BODY];
+        if self.read_cell(k, &mut body)? {
+            self.erase(k)?;
+        }
+        Ok(())
+    }
+
+    /// Fills cell `k` with the body, whatever it held: it is emptied first where it is full, by two syncs or three.
+    pub fn replace(&mut self, k: u64, body: &[u8; BODY]) -> Result<(), DiskFault>
+        requires inside { k < cell_count (BODY + 1) self.old }
+        requires settled { self.old.keeps ≡ true → IsSettled self.old.now }
+        ensures counts { CountsUpTo (is_err result) 3 self.old self.new }
+        ensures leaves { self.old.keeps ≡ true
+            → Leaves (BODY + 1) (OldEmptyOrNewAt k body.now (seen_cells (BODY + 1) self.old)) self.old self.new }
+        ensures replaced { self.old.keeps ≡ true → OnOk result (Replaced (BODY + 1) k body.now self.old self.new) }
+    {
+        // A body written behind an open gate would show torn. Emptied and synced, the cell is closed whatever a stop leaves.
+        self.empty(k)?;
+        self.set(k, body)
     }
 
     /// Empties the cells `ks` by one sync.
