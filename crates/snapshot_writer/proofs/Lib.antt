@@ -1,0 +1,3 @@
+pub mod NewestStates
+pub mod StoredCells
+mod Rows

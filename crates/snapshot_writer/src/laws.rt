@@ -1,0 +1,41 @@
+//! Which state of an atom is the newest, before a store and after it. These functions make no call: their clauses are the laws.
+ghost use Rattle.std.specs.Prelude.{◌≡◌, ◌≢◌, ℕ, ◌<◌, List, Some};
+ghost use Rattle.disk_model.specs.Cells.{Cell, cell};
+ghost use Rattle.record_codec.specs.Ring.{slot_cell};
+ghost use Rattle.record_codec.specs.Saved.{SavedFields};
+ghost use Rattle.snapshot_writer.specs.Slots.{saved_at, newest, newest_slot, other_slot, IsFree, IsAbove, IsSameNewest};
+ghost use Rattle.snapshot_writer.specs.Storing.{HoldsSaved, HasStored, IsKeptOrStored};
+
+/// The newest state is what its slot holds.
+pub fn the_newest_stands_in_its_slot()
+    ensures slot { (atom : ℕ) (cells : List Cell) → newest_slot atom cells < 2 }
+    ensures held { (atom : ℕ) (cells : List Cell) → saved_at atom (newest_slot atom cells) cells ≡ newest atom cells }
+{}
+
+/// The slot that is written next is never the newest's.
+pub fn the_slot_that_is_written_next_is_free()
+    ensures slot { (atom : ℕ) (cells : List Cell) → other_slot atom cells < 2 }
+    ensures free { (atom : ℕ) (cells : List Cell) → IsFree atom (other_slot atom cells) cells }
+{}
+
+/// Wherever storing in a free slot is stopped, the newest state is the old one or the whole new one.
+pub fn a_stop_leaves_the_old_newest_or_the_new()
+    ensures { (slot : ℕ) (saved : SavedFields) (before cells : List Cell) → slot < 2 → IsFree saved.atom slot before
+        → HasStored slot saved before cells → IsKeptOrStored slot saved before cells }
+{}
+
+/// A state with a greater count that stands in a free slot is the newest.
+pub fn a_stored_state_with_a_greater_count_is_the_newest()
+    ensures newest { (slot : ℕ) (saved : SavedFields) (before cells : List Cell) → slot < 2 → IsFree saved.atom slot before
+        → HasStored slot saved before cells → HoldsSaved saved (cell cells (slot_cell saved.atom slot))
+        → IsAbove saved (newest saved.atom before) → newest saved.atom cells ≡ Some saved }
+    ensures slot { (slot : ℕ) (saved : SavedFields) (before cells : List Cell) → slot < 2 → IsFree saved.atom slot before
+        → HasStored slot saved before cells → HoldsSaved saved (cell cells (slot_cell saved.atom slot))
+        → IsAbove saved (newest saved.atom before) → newest_slot saved.atom cells ≡ slot }
+{}
+
+/// Storing a state of one atom leaves the newest state of every other.
+pub fn other_atoms_keep_their_newest()
+    ensures { (slot atom : ℕ) (saved : SavedFields) (before cells : List Cell) → slot < 2 → atom ≢ saved.atom
+        → HasStored slot saved before cells → IsSameNewest atom before cells }
+{}

@@ -1,0 +1,33 @@
+//! Saving the state of one atom: which slot holds the newest state, and what a stop inside storing leaves.
+//!
+//! Each atom has two slots. A slot holds a state where its cell is full and its body is a saved state of that very atom. The
+//! *newest* of the two is the one that had taken part more often (`specs/Slots.antt`). A state is stored in the other slot, so
+//! that the newest is never touched: a stop inside of storing leaves that slot as it was, empty, or with the whole new state
+//! (`specs/Storing.antt`), and the newest is the old one or the new one.
+//!
+//! - A [`Parcel`] is the state of one atom on its way to a slot. It is moved and never copied, and its type keeps it in the ranges
+//!   of the format.
+//! - An [`Encoded`] is a parcel with the body that spells it, so that no other state's bytes are ever stored for it.
+//! - `read_slot`, `read_newest` and `slot_to_write` read slots; `store` writes one.
+//!
+//! A parcel is encoded away from the device, and storing is three syncs at most. No call takes memory.
+//!
+//! - `parcel`, `encoded`: the values. `reading`, `storing`: the calls of the device. `laws`: which state is the newest after a store.
+#![tactic(auto)]
+
+mod encoded;
+pub mod laws;
+mod parcel;
+mod reading;
+mod storing;
+
+pub use encoded::{Encoded, encode};
+pub use parcel::Parcel;
+pub use reading::{read_newest, read_slot, slot_to_write};
+pub use storing::store;
+
+// The cells of the device and the bodies that are written into them have one length.
+const _: () = prove!(disk_model::BODY == record_codec::BODY);
+
+// A state of an atom has room in a body.
+const _: () = prove!(petri_atom::MAX_VARIABLES == record_codec::MOST_VARIABLES);
