@@ -3,3 +3,4 @@ mod bodies;
 mod cells;
 mod devices;
 mod journal;
+mod slots;
