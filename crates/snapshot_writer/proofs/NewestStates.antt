@@ -1,8 +1,8 @@
 -- Which of two states is the newest, before one of them is stored and after it.
-use Rattle.std.proofs.Common.{◌≡◌, ◌≢◌, ◌⊎◌, inl, inr, ℕ, ◌-◌, ◌<◌, Bool, true, false, if◌then◌else◌, Option, Some, None, refl, sym, ◌∙◌, ap, arith}
+use Rattle.std.proofs.Common.{◌≡◌, ◌≢◌, ◌⊎◌, inl, inr, ℕ, zero, suc, ◌-◌, ◌<◌, ◌≤◌, Bool, true, false, if◌then◌else◌, Option, Some, None, IsSomeAnd, refl, sym, ◌∙◌, ap, subst, arith}
 use Rattle.std.specs.Option.{option_map_or}
 use Rattle.std.proofs.lemmas.Bool.{cases_lt, lt-ltb, le-ltb, true≢false, false≢true}
-use Rattle.std.proofs.lemmas.Option.{none-some}
+use Rattle.std.proofs.lemmas.Option.{none-some, same_Some}
 use Rattle.record_codec.specs.Saved.{SavedFields}
 use Rattle.snapshot_writer.specs.Slots.{is_newer, newest_of, slot_of, IsAbove, IsNotBelow}
 
@@ -59,6 +59,35 @@ slot_by false = omega arith
 
 pub slot_is_slot : (first second : Option SavedFields) → slot_of first second < 2
 slot_is_slot first second = slot_by (is_newer second first)
+
+-- a state in a slot has no greater count than the newest
+abbrev IsReached : SavedFields → Option SavedFields → Type 0
+IsReached saved best = IsSomeAnd best (λ (it : SavedFields). saved.count ≤ it.count)
+
+pub first_is_reached : (saved : SavedFields) (first second : Option SavedFields) → first ≡ Some saved → IsReached saved (newest_of first second)
+first_is_reached saved None second is = absurd (none-some saved is)
+first_is_reached saved (Some a) None is = omega (arith, ap (λ (s : SavedFields). s.count) (same_Some a saved is))
+first_is_reached saved (Some a) (Some b) is =
+    let count : a.count ≡ saved.count = ap (λ (s : SavedFields). s.count) (same_Some a saved is) in
+    elim (cases_lt a.count b.count) [
+      | inl less ↦ subst (IsReached saved) (sym (ap (λ (t : Bool). if t then Some b else Some a) (lt-ltb a.count b.count less))) (omega (arith, less, count))
+      | inr more ↦ subst (IsReached saved) (sym (ap (λ (t : Bool). if t then Some b else Some a) (le-ltb a.count b.count more))) (omega (arith, count))
+    ]
+
+pub second_is_reached : (saved : SavedFields) (first second : Option SavedFields) → second ≡ Some saved → IsReached saved (newest_of first second)
+second_is_reached saved first None is = absurd (none-some saved is)
+second_is_reached saved None (Some b) is = omega (arith, ap (λ (s : SavedFields). s.count) (same_Some b saved is))
+second_is_reached saved (Some a) (Some b) is =
+    let count : b.count ≡ saved.count = ap (λ (s : SavedFields). s.count) (same_Some b saved is) in
+    elim (cases_lt a.count b.count) [
+      | inl less ↦ subst (IsReached saved) (sym (ap (λ (t : Bool). if t then Some b else Some a) (lt-ltb a.count b.count less))) (omega (arith, count))
+      | inr more ↦ subst (IsReached saved) (sym (ap (λ (t : Bool). if t then Some b else Some a) (le-ltb a.count b.count more))) (omega (arith, more, count))
+    ]
+
+pub either_is_reached : (saved : SavedFields) (slot : ℕ) (held : ℕ → Option SavedFields) → slot < 2 → held slot ≡ Some saved → IsReached saved (newest_of (held 0) (held 1))
+either_is_reached saved zero held within is = first_is_reached saved (held 0) (held 1) is
+either_is_reached saved (suc zero) held within is = second_is_reached saved (held 0) (held 1) is
+either_is_reached saved (suc (suc slot)) held within is = absurd (omega arith)
 
 -- one state alone is the newest
 pub alone_in_second : (second : Option SavedFields) → newest_of None second ≡ second

@@ -1,15 +1,17 @@
 //! Which state of an atom is the newest, before a store and after it. These functions make no call: their clauses are the laws.
-ghost use Rattle.std.specs.Prelude.{◌≡◌, ◌≢◌, ℕ, ◌<◌, List, Some};
+ghost use Rattle.std.specs.Prelude.{◌≡◌, ◌≢◌, ℕ, ◌<◌, ◌≤◌, List, Some, IsSomeAnd};
 ghost use Rattle.disk_model.specs.Cells.{Cell, cell};
 ghost use Rattle.record_codec.specs.Ring.{slot_cell};
 ghost use Rattle.record_codec.specs.Saved.{SavedFields};
 ghost use Rattle.snapshot_writer.specs.Slots.{saved_at, newest, newest_slot, other_slot, IsFree, IsAbove, IsSameNewest};
 ghost use Rattle.snapshot_writer.specs.Storing.{HoldsSaved, HasStored, IsKeptOrStored};
 
-/// The newest state is what its slot holds.
+/// The newest state is what its slot holds, and no state in a slot of the atom has a greater count.
 pub fn the_newest_stands_in_its_slot()
     ensures slot { (atom : ℕ) (cells : List Cell) → newest_slot atom cells < 2 }
     ensures held { (atom : ℕ) (cells : List Cell) → saved_at atom (newest_slot atom cells) cells ≡ newest atom cells }
+    ensures greatest { (atom slot : ℕ) (cells : List Cell) (saved : SavedFields) → slot < 2 → saved_at atom slot cells ≡ Some saved
+        → IsSomeAnd (newest atom cells) (λ (best : SavedFields). saved.count ≤ best.count) }
 {}
 
 /// The slot that is written next is never the newest's.

@@ -1,7 +1,7 @@
-use Rattle.std.proofs.Common.{inl, inr, Bool, if◌then◌else◌, sym, ◌∙◌, ap}
+use Rattle.std.proofs.Common.{inl, inr, ℕ, Bool, if◌then◌else◌, sym, ◌∙◌, ap}
 use Rattle.std.proofs.lemmas.Bool.{cases_Bool}
 use Rattle.snapshot_writer.specs.Slots.{is_newer, saved_at}
-use Rattle.snapshot_writer.proofs.NewestStates.{slot_is_slot}
+use Rattle.snapshot_writer.proofs.NewestStates.{slot_is_slot, either_is_reached}
 use Rattle.snapshot_writer.proofs.laws.the_newest_stands_in_its_slot.Goals as goal
 
 pub returns-clause-slot : goal.returns-clause-slot
@@ -15,3 +15,6 @@ returns-clause-held c atom cells =
       | inl is ↦ ap (λ (t : Bool). saved_at atom (if t then 1 else 0) cells) is ∙ sym (ap (λ (t : Bool). if t then second else first) is)
       | inr is ↦ ap (λ (t : Bool). saved_at atom (if t then 1 else 0) cells) is ∙ sym (ap (λ (t : Bool). if t then second else first) is)
     ]
+
+pub returns-clause-greatest : goal.returns-clause-greatest
+returns-clause-greatest c atom slot cells saved within is = either_is_reached saved slot (λ (k : ℕ). saved_at atom k cells) within is
