@@ -68,9 +68,9 @@ impl System {
         }
     }
 
-    /// Judges again what depends on one of the changed atoms;
-    /// what is kept was judged in a state in which all other atoms were as now. Where no interaction is possible or has choices
-    /// other than before, the same ones are allowed, and nothing more is to be done.
+    /// Judges again what depends on one of the changed atoms; what is kept was judged in a state in which all other atoms were
+    /// as now. Where no interaction is possible or has choices other than before, the same ones are allowed, and nothing more
+    /// is to be done.
     pub(crate) fn judge_again(
         &self,
         states: &PlantState,
