@@ -1,6 +1,6 @@
 -- Printing step by step what a text has left.
 use Rattle.std.proofs.Common.{◌≡◌, ℕ, ◌+◌, ◌<◌, ◌∙◌, sym, ap, subst, List, ◌++◌, length, drop, get_or}
-use Rattle.std.specs.Prelude.{Option, Result, Ok, Err, OnOk, flat_map}
+use Rattle.std.specs.Prelude.{Option, Result, Ok, Err, OnOk}
 use Rattle.std.specs.Io.KnownBytes.{Appends}
 use Rattle.std.proofs.KnownBytes.{Appends-trans}
 use Rattle.std.proofs.lemmas.List.{drop_more}
@@ -52,11 +52,3 @@ pub after-numbered : {X : Type 0} (words : ℕ → X → List (List ℕ)) (xs : 
     → after_words (after_words before between (words i x)) between (numbered words (i + 1) (drop (i + 1) xs)) ≡ after_words before between (numbered words i (drop i xs))
 after-numbered words xs i x before between within here =
     sym (ap (after_words before between) (numbered-left words xs i x within here) ∙ after-append before between (words i x) _)
-
--- the words of an element are printed, and those of the elements behind it are left
-pub leads-words : {X : Type 0} (words : X → List (List ℕ)) (xs : List X) (i : ℕ) (d : X) (before between : List ℕ) (start now next : Option (List ℕ)) (all : List ℕ)
-    → i < length xs → Leads start now (separated_after before between (flat_map words (drop i xs))) all
-    → Appends now next (separated_after before between (words (get_or xs i d)))
-    → Leads start next (separated_after (after_words before between (words (get_or xs i d))) between (flat_map words (drop (i + 1) xs))) all
-leads-words words xs i d before between start now next all within l p =
-    leads-more _ _ _ _ _ _ (leads-same l (ap (λ ys. separated_after before between (flat_map words ys)) (drop_more xs i d within) ∙ separated-append before between (words (get_or xs i d)) _)) p

@@ -20,16 +20,23 @@ atom_object a transition d =
     codes ",\"transition\":" ++ decimal transition ++ codes ",\"delivered\":{" ++
     separated_by (codes ",") (delivered_words Jsonl a transition d) ++ codes "}}"
 
+-- the same of a move, where its atom gets this
+abbrev pub move_object : PlantDefinition → Move → Row → List ℕ
+move_object plant m d = option_map_or (λ a. atom_object a m.transition d) (slice_get plant.atoms m.atom) []
+
 -- the same of a move of a choice, on the states from before the firing
 abbrev pub participant_object : PlantDefinition → List Local → ChoiceDefinition → Move → List ℕ
-participant_object plant states c m =
-    option_map_or (λ a. atom_object a m.transition (transfer plant states c m.atom)) (slice_get plant.atoms m.atom) []
+participant_object plant states c m = move_object plant m (transfer plant states c m.atom)
 
--- a fired interaction: its number, its connector's name, and its participants
-abbrev pub step_object : PlantDefinition → List Local → ℕ → ChoiceDefinition → List ℕ
-step_object plant states number c =
+-- a fired interaction: its number, its connector's name, and the objects of its participants
+abbrev pub fired_object : PlantDefinition → ℕ → ChoiceDefinition → List (List ℕ) → List ℕ
+fired_object plant number c participants =
     codes "{\"kind\":\"step\",\"number\":" ++ decimal number ++ codes ",\"connector\":" ++ quoted (wire_name plant c.connector) ++
-    codes ",\"participants\":[" ++ separated_by (codes ",") (map (participant_object plant states c) c.moves) ++ codes "]}"
+    codes ",\"participants\":[" ++ separated_by (codes ",") participants ++ codes "]}"
+
+-- the same of a choice that is fired from these states
+abbrev pub step_object : PlantDefinition → List Local → ℕ → ChoiceDefinition → List ℕ
+step_object plant states number c = fired_object plant number c (map (participant_object plant states c) c.moves)
 
 -- an atom in a state: its name, its marked places, and its variables with their values
 abbrev pub state_object : AtomDefinition → Local → List ℕ

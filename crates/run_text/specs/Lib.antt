@@ -3,6 +3,7 @@ pub mod Line
 pub mod Delivered
 pub mod Csv
 pub mod Jsonl
+pub mod Told
 pub mod Format
 pub mod Trace
 pub mod Runs

@@ -1,11 +1,12 @@
 //! The rows of a run, of five columns each.
-ghost use Rattle.std.specs.Prelude.{◌≡◌, flat_map, IfOk, OnOk};
+ghost use Rattle.std.specs.Prelude.{◌≡◌, ◌≤◌, length, IfOk, OnOk};
 ghost use Rattle.std.specs.Io.KnownBytes.{Appends};
 ghost use Rattle.petri_atom.specs.Atom.{definition_of};
+ghost use Rattle.connector_tree.specs.declared.tree.TheConstants.{MAX_LEAVES};
 ghost use Rattle.step_core.specs.Chosen.{choice_of};
-ghost use Rattle.step_core.specs.Fitting.{IsOf};
 ghost use Rattle.step_core.specs.System.{plant_of};
-ghost use Rattle.run_text.specs.Csv.{delivery_words, state_row, step_row};
+ghost use Rattle.run_text.specs.Csv.{fired_row, participant_words, state_row};
+ghost use Rattle.run_text.specs.Told.{told_words};
 ghost use Rattle.run_text.specs.Word.{after_words, between_text, separated_after, separated_by};
 ghost use Rattle.run_text.specs.declared.format.Format.TheVariants.{Csv};
 
@@ -13,73 +14,71 @@ use crate::delivered::print_delivered;
 use crate::fired::{print_moves, wire_name};
 use crate::format::Format;
 use crate::states::{print_places, print_values};
-use petri_atom::{Atom, AtomState};
+use petri_atom::{Atom, AtomState, Delivered};
 use std::io::Write;
-use step_core::{Choice, Move, PlantState, System};
+use step_core::{Choice, Move, System};
 use text_io::{WriteFault, print_number, print_text};
 
-/// Prints the row of a fired interaction, without its end; the states are those from before the firing.
+/// Prints the row of a fired interaction, without its end; `told` has at the place of each move what its atom got.
 pub(crate) fn print_step_row<W: Write>(
     number: u64,
     system: &System,
-    states: &PlantState,
     choice: &Choice,
+    told: &[Delivered],
     output: &mut W,
 ) -> Result<(), WriteFault>
-    requires { IsOf (plant_of system.now) states.now }
+    requires { MAX_LEAVES ≤ length told.now }
     ensures { OnOk result (Appends (W.contents output.old) (W.contents output.new)
-        (step_row (plant_of system.now) states.now number (choice_of choice.now))) }
+        (fired_row (plant_of system.now) number (choice_of choice.now) (told_words (plant_of system.now) told.now choice.now.moves))) }
 {
+    let moves = choice.moves.as_slice();
     print_text(output, b"step,")?;
     print_number(output, number)?;
     print_text(output, b",")?;
     print_text(output, wire_name(system, choice.connector))?;
     print_text(output, b",")?;
-    print_moves(system.atoms(), choice.moves.as_slice(), b"", output)?;
+    print_moves(system.atoms(), moves, b"", output)?;
     print_text(output, b",")?;
-    print_deliveries(system, states, choice, output)
+    print_deliveries(system, moves, told, output)
 }
 
-/// Prints what the choice delivers to all participants, in their order.
+/// Prints what all participants got, in their order.
 fn print_deliveries<W: Write>(
     system: &System,
-    states: &PlantState,
-    choice: &Choice,
+    moves: &[Move],
+    told: &[Delivered],
     output: &mut W,
 ) -> Result<(), WriteFault>
-    requires { IsOf (plant_of system.now) states.now }
+    requires { length moves.now ≤ length told.now }
     ensures { OnOk result (Appends (W.contents output.old) (W.contents output.new)
-        (separated_by (between_text Csv) (flat_map (delivery_words (plant_of system.now) states.now (choice_of choice.now)) choice.now.moves))) }
+        (separated_by (between_text Csv) (told_words (plant_of system.now) told.now moves.now))) }
 {
     let mut before: &'static [u8] = b"";
-    for step in choice.moves.as_slice() {
-        before = print_delivery(system, states, choice, *step, before, output)?;
+    for (place, step) in moves.iter().enumerate() {
+        before = print_delivery(system, *step, &told[place], before, output)?;
     }
     Ok(())
 }
 
-/// Prints what the choice delivers to a participant, with `before` before the first value; returns what is to stand before
-/// the value that is printed next.
+/// Prints what a participant got, with `before` before the first value; returns what is to stand before the value that is
+/// printed next.
 fn print_delivery<W: Write>(
     system: &System,
-    states: &PlantState,
-    choice: &Choice,
     step: Move,
+    delivered: &Delivered,
     before: &'static [u8],
     output: &mut W,
 ) -> Result<&'static [u8], WriteFault>
-    requires { IsOf (plant_of system.now) states.now }
     ensures printed { OnOk result (Appends (W.contents output.old) (W.contents output.new)
-        (separated_after before.now (between_text Csv) (delivery_words (plant_of system.now) states.now (choice_of choice.now) step))) }
-    ensures next { IfOk result (λ next. next.now ≡ after_words before.now (between_text Csv) (delivery_words (plant_of system.now) states.now (choice_of choice.now) step)) }
+        (separated_after before.now (between_text Csv) (participant_words (plant_of system.now) step delivered.now))) }
+    ensures next { IfOk result (λ next. next.now ≡ after_words before.now (between_text Csv) (participant_words (plant_of system.now) step delivered.now)) }
 {
-    let delivered = system.transfer(states, choice, step.atom);
     match system.atoms().get(usize::from(step.atom)) {
         Some(atom) => print_delivered(
             Format::Csv,
             atom,
             step.transition,
-            &delivered,
+            delivered,
             before,
             output,
         ),

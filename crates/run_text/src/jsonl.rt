@@ -1,12 +1,13 @@
 //! The objects of a run, one on each line.
-ghost use Rattle.std.specs.Prelude.{◌++◌, codes, decimal, map, OnOk};
+ghost use Rattle.std.specs.Prelude.{◌++◌, ◌≤◌, codes, decimal, length, OnOk};
 ghost use Rattle.std.specs.Io.KnownBytes.{Appends};
 ghost use Rattle.petri_atom.specs.Atom.{definition_of};
+ghost use Rattle.connector_tree.specs.declared.tree.TheConstants.{MAX_LEAVES};
 ghost use Rattle.step_core.specs.Chosen.{choice_of};
-ghost use Rattle.step_core.specs.Fitting.{IsOf};
 ghost use Rattle.step_core.specs.System.{plant_of};
-ghost use Rattle.run_text.specs.Jsonl.{atom_object, participant_object, state_object, step_object};
+ghost use Rattle.run_text.specs.Jsonl.{atom_object, fired_object, move_object, state_object};
 ghost use Rattle.run_text.specs.Line.{port_name};
+ghost use Rattle.run_text.specs.Told.{told_objects};
 ghost use Rattle.run_text.specs.Word.{quoted, separated_by};
 
 use crate::delivered::print_delivered;
@@ -16,65 +17,63 @@ use crate::states::{print_places, print_values};
 use crate::word::print_quoted;
 use petri_atom::{Atom, AtomState, Delivered};
 use std::io::Write;
-use step_core::{Choice, Move, PlantState, System};
+use step_core::{Choice, Move, System};
 use text_io::{WriteFault, print_number, print_text};
 
-/// Prints the object of a fired interaction, without the end of its line; the states are those from before the firing.
+/// Prints the object of a fired interaction, without the end of its line; `told` has at the place of each move what its atom
+/// got.
 pub(crate) fn print_step_object<W: Write>(
     number: u64,
     system: &System,
-    states: &PlantState,
     choice: &Choice,
+    told: &[Delivered],
     output: &mut W,
 ) -> Result<(), WriteFault>
-    requires { IsOf (plant_of system.now) states.now }
+    requires { MAX_LEAVES ≤ length told.now }
     ensures { OnOk result (Appends (W.contents output.old) (W.contents output.new)
-        (step_object (plant_of system.now) states.now number (choice_of choice.now))) }
+        (fired_object (plant_of system.now) number (choice_of choice.now) (told_objects (plant_of system.now) told.now choice.now.moves))) }
 {
     print_text(output, b"{\"kind\":\"step\",\"number\":")?;
     print_number(output, number)?;
     print_text(output, b",\"connector\":")?;
     print_quoted(wire_name(system, choice.connector), output)?;
     print_text(output, b",\"participants\":[")?;
-    print_participants(system, states, choice, output)?;
+    print_participants(system, choice.moves.as_slice(), told, output)?;
     print_text(output, b"]}")
 }
 
-/// Prints the objects of the participants of a choice.
+/// Prints the objects of the participants.
 fn print_participants<W: Write>(
     system: &System,
-    states: &PlantState,
-    choice: &Choice,
+    moves: &[Move],
+    told: &[Delivered],
     output: &mut W,
 ) -> Result<(), WriteFault>
-    requires { IsOf (plant_of system.now) states.now }
+    requires { length moves.now ≤ length told.now }
     ensures { OnOk result (Appends (W.contents output.old) (W.contents output.new)
-        (separated_by (codes ",") (map (participant_object (plant_of system.now) states.now (choice_of choice.now)) choice.now.moves))) }
+        (separated_by (codes ",") (told_objects (plant_of system.now) told.now moves.now))) }
 {
     let mut between: &[u8] = b"";
-    for step in choice.moves.as_slice() {
+    for (place, step) in moves.iter().enumerate() {
         print_text(output, between)?;
-        print_participant(system, states, choice, *step, output)?;
+        print_participant(system, *step, &told[place], output)?;
         between = b",";
     }
     Ok(())
 }
 
-/// Prints the object of a participant; nothing where the atom is not there.
+/// Prints the object of a participant that got this; nothing where the atom is not there.
 fn print_participant<W: Write>(
     system: &System,
-    states: &PlantState,
-    choice: &Choice,
     step: Move,
+    delivered: &Delivered,
     output: &mut W,
 ) -> Result<(), WriteFault>
-    requires { IsOf (plant_of system.now) states.now }
     ensures { OnOk result (Appends (W.contents output.old) (W.contents output.new)
-        (participant_object (plant_of system.now) states.now (choice_of choice.now) step)) }
+        (move_object (plant_of system.now) step delivered.now)) }
 {
-    let delivered = system.transfer(states, choice, step.atom);
     match system.atoms().get(usize::from(step.atom)) {
-        Some(atom) => print_atom_object(atom, step.transition, &delivered, output),
+        Some(atom) => print_atom_object(atom, step.transition, delivered, output),
         None => Ok(()),
     }
 }

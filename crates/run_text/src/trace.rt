@@ -4,8 +4,10 @@ ghost use Rattle.std.specs.Io.KnownBytes.{Appends};
 ghost use Rattle.step_core.specs.Choice.{IsAllowed};
 ghost use Rattle.step_core.specs.Chosen.{choice_of};
 ghost use Rattle.step_core.specs.Running.{plant_in, states_in};
+ghost use Rattle.step_core.specs.Step.{next};
 ghost use Rattle.step_core.specs.System.{plant_of};
 ghost use Rattle.run_text.specs.Format.{step_text};
+ghost use Rattle.run_text.specs.Told.{told_text};
 ghost use Rattle.run_text.specs.Trace.{picked, trace_from, trace_in, trace_text};
 ghost use Rattle.run_text.specs.declared.fault.TraceFault.TheVariants.{Memory};
 
@@ -15,6 +17,8 @@ use crate::fired::print_choice;
 use crate::format::Format;
 use crate::jsonl::print_step_object;
 use crate::states::print_end;
+use connector_tree::MAX_LEAVES;
+use petri_atom::Delivered;
 use std::alloc::Global;
 use std::io::Write;
 use step_core::{Choice, Stepper, System};
@@ -69,12 +73,13 @@ fn print_run<W: Write>(
     ensures { OnOk result (Appends (W.contents output.old) (W.contents output.new)
         (trace_from format (plant_in run.old) (states_in run.old) 1 picks.now)) }
 {
+    // One row for all steps: each writes it anew.
+    let mut told = [Delivered::of([None, None, None, None]); MAX_LEAVES];
     for (fired, pick) in picks.iter().enumerate() {
         match picked(run, *pick) {
             Some(choice) => {
-                print_step(format, fired as u64 + 1, run, &choice, output)?;
+                print_step(format, fired as u64 + 1, run, &choice, &mut told, output)?;
                 end_line(output)?;
-                run.fire(&choice);
             }
             None => {
                 print_text(output, format.stuck())?;
@@ -85,22 +90,41 @@ fn print_run<W: Write>(
     print_end(format, run.system(), run.states(), output)
 }
 
-/// Prints the line of a choice that is fired from the present state, without its end.
+/// Fires a choice of the present state, and prints its line, without its end; `told` is for what it delivers.
 fn print_step<W: Write>(
     format: Format,
     number: u64,
-    run: &Stepper<'_>,
+    run: &mut Stepper<'_>,
     choice: &Choice,
+    told: &mut [Delivered; MAX_LEAVES],
+    output: &mut W,
+) -> Result<(), WriteFault>
+    requires { IsAllowed (plant_in run.old) (states_in run.old) (choice_of choice.now) }
+    ensures plant { plant_in run.new ≡ plant_in run.old }
+    ensures next { states_in run.new ≡ next (plant_in run.old) (states_in run.old) (choice_of choice.now) }
+    ensures printed { OnOk result (Appends (W.contents output.old) (W.contents output.new)
+        (step_text format (plant_in run.old) (states_in run.old) number (choice_of choice.now))) }
+{
+    run.fire_telling(choice, told);
+    print_told(format, number, run.system(), choice, told, output)
+}
+
+/// Prints the line of a choice that was fired, without its end; `told` has at the place of each move what its atom got.
+fn print_told<W: Write>(
+    format: Format,
+    number: u64,
+    system: &System,
+    choice: &Choice,
+    told: &[Delivered; MAX_LEAVES],
     output: &mut W,
 ) -> Result<(), WriteFault>
     ensures { OnOk result (Appends (W.contents output.old) (W.contents output.new)
-        (step_text format (plant_in run.now) (states_in run.now) number (choice_of choice.now))) }
+        (told_text format (plant_of system.now) told.now number (choice_of choice.now))) }
 {
-    let system = run.system();
     match format {
         Format::Lines => print_choice(number, system, choice, output),
-        Format::Csv => print_step_row(number, system, run.states(), choice, output),
-        Format::Jsonl => print_step_object(number, system, run.states(), choice, output),
+        Format::Csv => print_step_row(number, system, choice, told, output),
+        Format::Jsonl => print_step_object(number, system, choice, told, output),
     }
 }
 

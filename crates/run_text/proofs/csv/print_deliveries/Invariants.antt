@@ -1,16 +1,16 @@
--- What is delivered to the participants from this place on is left.
-use Rattle.std.proofs.Common.{[], drop}
-use Rattle.std.specs.Prelude.{flat_map}
-use Rattle.step_core.specs.Chosen.{choice_of}
+-- What the participants from this place on got is left.
+use Rattle.std.proofs.Common.{[], drop, get_or}
 use Rattle.step_core.specs.System.{plant_of}
-use Rattle.run_text.specs.Csv.{delivery_words}
-use Rattle.run_text.specs.Word.{between_text, separated_after}
+use Rattle.run_text.specs.Csv.{participant_words}
+use Rattle.run_text.specs.Line.{numbered}
+use Rattle.run_text.specs.Told.{told_words}
+use Rattle.run_text.specs.Word.{between_text, separated_after, separated_by}
 use Rattle.run_text.specs.declared.format.Format.TheVariants.{Csv}
 use Rattle.run_text.proofs.Leading.{Leads}
 use Rattle.run_text.proofs.csv.print_deliveries.Given as goal
 
-abbrev pub invariant-loop-step : goal.invariant-loop-step
-invariant-loop-step g l =
+abbrev pub invariant-loop-place : goal.invariant-loop-place
+invariant-loop-place g l =
     Leads (g.W.Write.contents l.initial.output) (g.W.Write.contents l.output)
-    (separated_after l.before (between_text Csv) (flat_map (delivery_words (plant_of l.system) l.states (choice_of l.choice)) (drop l.step-index l.choice.moves)))
-    (separated_after [] (between_text Csv) (flat_map (delivery_words (plant_of l.system) l.states (choice_of l.choice)) l.choice.moves))
+    (separated_after l.before (between_text Csv) (numbered (λ place m. participant_words (plant_of l.system) m (get_or l.told place [])) l.place (drop l.place l.moves)))
+    (separated_by (between_text Csv) (told_words (plant_of l.system) l.told l.moves))

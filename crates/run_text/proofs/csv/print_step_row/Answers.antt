@@ -1,9 +1,11 @@
 use Rattle.std.proofs.Common.{◌∙◌, ◌++◌, ap, subst, codes, decimal, map}
+use Rattle.std.specs.Prelude.{OnOk}
 use Rattle.std.specs.Io.KnownBytes.{Appends}
 use Rattle.std.proofs.KnownBytes.{Appends-trans}
 use Rattle.step_core.specs.Chosen.{choice_of}
 use Rattle.step_core.specs.System.{plant_of}
 use Rattle.run_text.specs.Line.{participant, wire_name}
+use Rattle.run_text.specs.Told.{told_words}
 use Rattle.run_text.specs.Word.{separated_by}
 use Rattle.run_text.proofs.Leading.{told-last}
 use Rattle.run_text.proofs.csv.print_step_row.Goals as goal
@@ -17,10 +19,12 @@ returns g c =
     subst (Appends _ _) c.wire_name.ensures c.in_ok-print_text-3.ensures in
     let told : Appends (g.W.Write.contents c.print_text-4.new.writer) (g.W.Write.contents c.print_moves.new.output) (separated_by (codes " ") (map (participant plant.atoms) choice.moves)) =
     subst (Appends _ _)
-    (ap (λ atoms. separated_by (codes " ") (map (participant atoms) c.as_slice.result.now)) c.atoms.ensures ∙
-    ap (λ moves. separated_by (codes " ") (map (participant plant.atoms) moves)) c.as_slice.ensures.moves)
+    (ap (λ atoms. separated_by (codes " ") (map (participant atoms) c.as_slice-moves.result.now)) c.atoms.ensures ∙
+    ap (λ moves. separated_by (codes " ") (map (participant plant.atoms) moves)) c.as_slice-moves.ensures.moves)
     c.in_ok-print_moves.ensures in
     let begun : Appends start (g.W.Write.contents c.print_text-5.new.writer)
     (codes "step," ++ decimal c.args.number ++ codes "," ++ wire_name plant choice.connector ++ codes "," ++ separated_by (codes " ") (map (participant plant.atoms) choice.moves) ++ codes ",") =
     Appends-trans _ _ _ _ _ (Appends-trans _ _ _ _ _ (Appends-trans _ _ _ _ _ (Appends-trans _ _ _ _ _ (Appends-trans _ _ _ _ _ (Appends-trans _ _ _ _ _ c.in_ok-print_text.ensures c.in_ok-print_number.ensures) c.in_ok-print_text-2.ensures) named) c.in_ok-print_text-4.ensures) told) c.in_ok-print_text-5.ensures in
-    told-last c.print_deliveries.result _ _ _ _ _ begun c.print_deliveries.ensures
+    told-last c.print_deliveries.result _ _ _ _ _ begun
+    (subst (λ moves. OnOk c.print_deliveries.result (Appends (g.W.Write.contents c.print_text-5.new.writer) (g.W.Write.contents c.print_deliveries.new.output) (separated_by (codes " ") (told_words plant c.args.told.now moves))))
+    c.as_slice-moves.ensures.moves c.print_deliveries.ensures)

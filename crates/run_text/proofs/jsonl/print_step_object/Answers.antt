@@ -1,10 +1,10 @@
-use Rattle.std.proofs.Common.{◌++◌, ap, subst, codes, decimal, map}
+use Rattle.std.proofs.Common.{◌++◌, ap, subst, codes, decimal}
 use Rattle.std.specs.Io.KnownBytes.{Appends}
 use Rattle.std.proofs.KnownBytes.{Appends-trans}
 use Rattle.step_core.specs.Chosen.{choice_of}
 use Rattle.step_core.specs.System.{plant_of}
-use Rattle.run_text.specs.Jsonl.{participant_object}
 use Rattle.run_text.specs.Line.{wire_name}
+use Rattle.run_text.specs.Told.{told_objects}
 use Rattle.run_text.specs.Word.{quoted, separated_by}
 use Rattle.run_text.proofs.Leading.{told-last}
 use Rattle.run_text.proofs.jsonl.print_step_object.Goals as goal
@@ -17,7 +17,9 @@ returns g c =
     let now = g.W.Write.contents c.print_participants.new.output in
     let named : Appends (g.W.Write.contents c.print_text-2.new.writer) (g.W.Write.contents c.print_quoted.new.output) (quoted (wire_name plant choice.connector)) =
     subst (Appends _ _) (ap quoted c.wire_name.ensures) c.in_ok-print_quoted.ensures in
+    let listed : Appends (g.W.Write.contents c.print_text-3.new.writer) now (separated_by (codes ",") (told_objects plant c.args.told.now choice.moves)) =
+    subst (Appends _ _) (ap (λ moves. separated_by (codes ",") (told_objects plant c.args.told.now moves)) c.as_slice.ensures.moves) c.in_ok-print_participants.ensures in
     let begun : Appends start now
-    (codes "{\"kind\":\"step\",\"number\":" ++ decimal c.args.number ++ codes ",\"connector\":" ++ quoted (wire_name plant choice.connector) ++ codes ",\"participants\":[" ++ separated_by (codes ",") (map (participant_object plant c.args.states.now choice) choice.moves)) =
-    Appends-trans _ _ _ _ _ (Appends-trans _ _ _ _ _ (Appends-trans _ _ _ _ _ (Appends-trans _ _ _ _ _ (Appends-trans _ _ _ _ _ c.in_ok-print_text.ensures c.in_ok-print_number.ensures) c.in_ok-print_text-2.ensures) named) c.in_ok-print_text-3.ensures) c.in_ok-print_participants.ensures in
+    (codes "{\"kind\":\"step\",\"number\":" ++ decimal c.args.number ++ codes ",\"connector\":" ++ quoted (wire_name plant choice.connector) ++ codes ",\"participants\":[" ++ separated_by (codes ",") (told_objects plant c.args.told.now choice.moves)) =
+    Appends-trans _ _ _ _ _ (Appends-trans _ _ _ _ _ (Appends-trans _ _ _ _ _ (Appends-trans _ _ _ _ _ (Appends-trans _ _ _ _ _ c.in_ok-print_text.ensures c.in_ok-print_number.ensures) c.in_ok-print_text-2.ensures) named) c.in_ok-print_text-3.ensures) listed in
     told-last c.print_text-4.result _ _ _ _ _ begun c.print_text-4.ensures
