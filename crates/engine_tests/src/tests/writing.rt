@@ -152,3 +152,16 @@ fn a_failure_at_any_byte_is_told(rt: HostRuntime) -> Result<(), Fail> {
     }
     Ok(())
 }
+
+#[test]
+fn each_fault_of_a_trace_has_its_message(rt: HostRuntime) -> Result<(), Fail> {
+    let alloc = rt.alloc();
+    let memory = TraceFault::Memory.to_string(alloc)?;
+    let write = TraceFault::Write.to_string(alloc)?;
+    assert_eq!(rt;
+        memory.as_str(),
+        "not enough memory for the states of the plant"
+    );
+    assert_eq!(rt; write.as_str(), "the trace could not be written");
+    Ok(())
+}
