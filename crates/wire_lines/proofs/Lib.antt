@@ -1,6 +1,7 @@
 pub mod Expressions
 pub mod Kept
 pub mod Added
+pub mod Adding
 pub mod Naming
 mod Rows
 pub mod Targets

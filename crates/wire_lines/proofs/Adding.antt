@@ -1,0 +1,37 @@
+-- What a line adds to a connector, by the steps that read it.
+use Rattle.std.proofs.Common.{◌≡◌, ◌∙◌, ap, sym, refl, ◌<◌, ◌++◌, [], ◌∷◌, ℕ, List, length, map, Result, Ok, Err}
+use Rattle.std.specs.Prelude.{nat_lt}
+use Rattle.std.proofs.Math.ListN.{length-map}
+use Rattle.std.proofs.lemmas.Bool.{ltb-true}
+use Rattle.petri_atom.specs.Expression.{Tree}
+use Rattle.step_core.specs.Plant.{WireDefinition}
+use Rattle.step_core.specs.declared.limits.TheConstants.{MAX_GUARDS}
+use Rattle.step_core.specs.declared.wire.Export.{Export}
+use Rattle.atom_lines.specs.declared.fault.LineFault.{LineFault}
+use Rattle.atom_lines.specs.declared.fault.LineFault.TheVariants.{Limit}
+use Rattle.atom_lines.specs.Reading.{check}
+use Rattle.atom_lines.proofs.Exits.{fails, passes}
+use Rattle.atom_lines.proofs.Steps.{passed}
+use Rattle.wire_lines.specs.Rows.{Named, whole_expression, guard_added}
+
+-- whether one more part may come
+pub room_for : {A B : Type 0} (list : List A) (part : A → B) (limit count : ℕ) (end : Result (Unit {0}) LineFault) → count ≡ length list → end ≡ check (nat_lt count limit) Limit → check (nat_lt (length (map part list)) limit) Limit ≡ end
+room_for list part limit count end counted is = ap (λ n. check (nat_lt n limit) Limit) (length-map list part ∙ sym counted) ∙ sym is
+
+-- there was room where the test of it was passed
+pub had_room : (count limit : ℕ) (u : Unit {0}) → Ok u ≡ check (nat_lt count limit) Limit → count < limit
+had_room count limit u is = ltb-true count limit (passed (nat_lt count limit) Limit u (sym is))
+
+-- a guard clause without room, one that is at fault, and one that is added
+pub no_guard_more : (named : Named) (words : List (List ℕ)) (w : WireDefinition) (fault : LineFault) →
+    check (nat_lt (length w.guards) MAX_GUARDS) Limit ≡ Err fault → guard_added named words w ≡ Err fault
+no_guard_more named words w fault room = fails _ (fails _ room)
+
+pub guard_at_fault : (named : Named) (words : List (List ℕ)) (w : WireDefinition) (fault : LineFault) (u : Unit {0}) →
+    check (nat_lt (length w.guards) MAX_GUARDS) Limit ≡ Ok u → whole_expression named words ≡ Err fault → guard_added named words w ≡ Err fault
+guard_at_fault named words w fault u room read = fails _ (passes _ room (fails _ read))
+
+pub guard_is_added : (named : Named) (words : List (List ℕ)) (w : WireDefinition) (guard : Tree Export) (u : Unit {0}) →
+    check (nat_lt (length w.guards) MAX_GUARDS) Limit ≡ Ok u → whole_expression named words ≡ Ok guard → guard_added named words w ≡ Ok (record w { guards = w.guards ++ guard ∷ [] })
+guard_is_added named words w guard u room read =
+    passes _ (passes _ room (passes _ read refl)) refl
