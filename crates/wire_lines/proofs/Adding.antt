@@ -4,15 +4,15 @@ use Rattle.std.specs.Prelude.{nat_lt}
 use Rattle.std.proofs.Math.ListN.{length-map}
 use Rattle.std.proofs.lemmas.Bool.{ltb-true}
 use Rattle.petri_atom.specs.Expression.{Tree}
-use Rattle.step_core.specs.Plant.{WireDefinition}
-use Rattle.step_core.specs.declared.limits.TheConstants.{MAX_GUARDS}
+use Rattle.step_core.specs.Plant.{TransferDefinition, WireDefinition}
+use Rattle.step_core.specs.declared.limits.TheConstants.{MAX_GUARDS, MAX_TRANSFERS}
 use Rattle.step_core.specs.declared.wire.Export.{Export}
 use Rattle.atom_lines.specs.declared.fault.LineFault.{LineFault}
 use Rattle.atom_lines.specs.declared.fault.LineFault.TheVariants.{Limit}
 use Rattle.atom_lines.specs.Reading.{check}
 use Rattle.atom_lines.proofs.Exits.{fails, passes}
 use Rattle.atom_lines.proofs.Steps.{passed}
-use Rattle.wire_lines.specs.Rows.{Named, whole_expression, guard_added}
+use Rattle.wire_lines.specs.Rows.{Named, whole_expression, transfer_in, guard_added, transfer_added}
 
 -- whether one more part may come
 pub room_for : {A B : Type 0} (list : List A) (part : A → B) (limit count : ℕ) (end : Result (Unit {0}) LineFault) → count ≡ length list → end ≡ check (nat_lt count limit) Limit → check (nat_lt (length (map part list)) limit) Limit ≡ end
@@ -34,4 +34,18 @@ guard_at_fault named words w fault u room read = fails _ (passes _ room (fails _
 pub guard_is_added : (named : Named) (words : List (List ℕ)) (w : WireDefinition) (guard : Tree Export) (u : Unit {0}) →
     check (nat_lt (length w.guards) MAX_GUARDS) Limit ≡ Ok u → whole_expression named words ≡ Ok guard → guard_added named words w ≡ Ok (record w { guards = w.guards ++ guard ∷ [] })
 guard_is_added named words w guard u room read =
+    passes _ (passes _ room (passes _ read refl)) refl
+
+-- a transfer without room, one that is at fault, and one that is added
+pub no_transfer_more : (named : Named) (words : List (List ℕ)) (w : WireDefinition) (fault : LineFault) →
+    check (nat_lt (length w.transfers) MAX_TRANSFERS) Limit ≡ Err fault → transfer_added named words w ≡ Err fault
+no_transfer_more named words w fault room = fails _ (fails _ room)
+
+pub transfer_at_fault : (named : Named) (words : List (List ℕ)) (w : WireDefinition) (fault : LineFault) (u : Unit {0}) →
+    check (nat_lt (length w.transfers) MAX_TRANSFERS) Limit ≡ Ok u → transfer_in named w.transfers words ≡ Err fault → transfer_added named words w ≡ Err fault
+transfer_at_fault named words w fault u room read = fails _ (passes _ room (fails _ read))
+
+pub transfer_is_added : (named : Named) (words : List (List ℕ)) (w : WireDefinition) (t : TransferDefinition) (u : Unit {0}) →
+    check (nat_lt (length w.transfers) MAX_TRANSFERS) Limit ≡ Ok u → transfer_in named w.transfers words ≡ Ok t → transfer_added named words w ≡ Ok (record w { transfers = w.transfers ++ t ∷ [] })
+transfer_is_added named words w t u room read =
     passes _ (passes _ room (passes _ read refl)) refl

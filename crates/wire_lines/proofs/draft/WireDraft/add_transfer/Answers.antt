@@ -1,20 +1,54 @@
-use Rattle.std.proofs.Common.{◌<◌, ◌&&◌, true, length, rules}
+use Rattle.std.proofs.Common.{◌<◌, ◌∙◌, ◌&&◌, ap, sym, true, length, map, [], ◌∷◌, Ok, Err, arith}
 use Rattle.std.specs.Result.{is_ok}
 use Rattle.std.proofs.lemmas.Bool.{and_from, and_parts, le-leb}
+use Rattle.std.proofs.lemmas.List.{map-append}
 use Rattle.petri_atom.specs.Expression.{all_variables}
 use Rattle.step_core.specs.Wire.{transfer_of}
 use Rattle.step_core.specs.declared.limits.TheConstants.{MAX_TRANSFERS}
+use Rattle.atom_lines.proofs.Exits.{told_fault, told_memory}
 use Rattle.wire_lines.specs.Draft.{drafted}
-use Rattle.wire_lines.specs.Rows.{named_on}
+use Rattle.wire_lines.specs.Rows.{named_on, transfer_row}
 use Rattle.wire_lines.specs.Parts.{is_small}
+use Rattle.wire_lines.proofs.Adding.{room_for, had_room, no_transfer_more, transfer_at_fault, transfer_is_added}
 use Rattle.wire_lines.proofs.Kept.{all_behind, small_behind, transfer_is_kept, passes_always}
 use Rattle.wire_lines.proofs.Targets.{targets_once_behind}
 use Rattle.wire_lines.proofs.draft.WireDraft.add_transfer.Goals as goal
 
+pub returns-in_err-check-clause-fault : goal.returns-in_err-check-clause-fault
+returns-in_err-check-clause-fault g c =
+    let w = drafted c.args.self.now in
+    let named = named_on (g.N.Exports.atom_named c.args.names.now) (g.N.Exports.export_named c.args.names.now) w in
+    told_fault (transfer_row (g.N.Exports.atom_named c.args.names.now) (g.N.Exports.export_named c.args.names.now) c.args.words.now w) c.from_residual.result c.in_err-check.field-0.0 c.from_residual.ensures.1
+    (λ _. no_transfer_more named c.args.words.now w c.in_err-check.field-0.0
+    (room_for c.args.self.now.transfers.items transfer_of MAX_TRANSFERS c.len.result (Err c.in_err-check.field-0.0) (c.len.ensures ∙ c.args.self.now.transfers.ok.0) c.in_err-check.ensures))
+
+pub returns-in_err-transfer-clause-fault : goal.returns-in_err-transfer-clause-fault
+returns-in_err-transfer-clause-fault g c =
+    let w = drafted c.args.self.now in
+    let named = named_on (g.N.Exports.atom_named c.args.names.now) (g.N.Exports.export_named c.args.names.now) w in
+    told_fault (transfer_row (g.N.Exports.atom_named c.args.names.now) (g.N.Exports.export_named c.args.names.now) c.args.words.now w) c.from_residual-in_err-transfer.result c.in_err-transfer.field-0.0 c.from_residual-in_err-transfer.ensures.1
+    (λ other. transfer_at_fault named c.args.words.now w c.in_err-transfer.field-0.0 c.in_ok-check.field-0
+    (room_for c.args.self.now.transfers.items transfer_of MAX_TRANSFERS c.len.result (Ok c.in_ok-check.field-0) (c.len.ensures ∙ c.args.self.now.transfers.ok.0) c.in_ok-check.ensures)
+    (c.in_err-transfer.ensures.fault other))
+
+pub returns-in_err-push-clause-fault : goal.returns-in_err-push-clause-fault
+returns-in_err-push-clause-fault g c =
+    told_memory (transfer_row (g.N.Exports.atom_named c.args.names.now) (g.N.Exports.export_named c.args.names.now) c.args.words.now (drafted c.args.self.now)) c.from_residual-in_err-push.result c.from_residual-in_err-push.ensures.1
+
+pub returns-clause-added : goal.returns-clause-added
+returns-clause-added g c =
+    let w = drafted c.args.self.now in
+    let named = named_on (g.N.Exports.atom_named c.args.names.now) (g.N.Exports.export_named c.args.names.now) w in
+    transfer_is_added named c.args.words.now w (transfer_of c.in_ok-transfer.transfer) c.in_ok-check.field-0
+    (room_for c.args.self.now.transfers.items transfer_of MAX_TRANSFERS c.len.result (Ok c.in_ok-check.field-0) (c.len.ensures ∙ c.args.self.now.transfers.ok.0) c.in_ok-check.ensures)
+    c.in_ok-transfer.ensures.transfer
+    ∙ ap (λ transfers. Ok (record w { transfers = transfers })) (sym (ap (map transfer_of) c.in_ok-push.ensures.items ∙ map-append transfer_of c.args.self.now.transfers.items (c.in_ok-transfer.transfer ∷ [])))
+
 pub invariant_of-self-clause-small_transfers : goal.invariant_of-self-clause-small_transfers
 invariant_of-self-clause-small_transfers g c =
     let named = named_on (g.N.Exports.atom_named c.args.names.now) (g.N.Exports.export_named c.args.names.now) (drafted c.args.self.now) in
-    let room : length c.args.self.now.transfers.items < MAX_TRANSFERS = search rules in
+    let below = had_room c.len.result MAX_TRANSFERS c.in_ok-check.field-0 c.in_ok-check.ensures in
+    let room : length c.args.self.now.transfers.items < MAX_TRANSFERS = omega (arith, below, c.len.ensures, c.args.self.now.transfers.ok.0) in
     let kept = transfer_is_kept (λ _. true) named (passes_always named) (drafted c.args.self.now).transfers c.args.words.now (transfer_of c.in_ok-transfer.transfer) c.in_ok-transfer.ensures.transfer in
     small_behind transfer_of (λ t. is_small t.value) MAX_TRANSFERS (is_ok c.push.result) c.args.self.now.transfers.items c.in_ok-transfer.transfer c.push.new.self.items
     c.push.ensures.items room c.args.self.now.small_transfers (le-leb _ _ kept.value.within)

@@ -1,0 +1,15 @@
+use Rattle.std.proofs.Common.{◌≡◌, ◌∙◌, ap, sym, refl, drop, codes, Ok}
+use Rattle.atom_lines.specs.declared.fault.LineFault.TheVariants.{Shape}
+use Rattle.atom_lines.specs.Reading.{check}
+use Rattle.atom_lines.specs.Transitions.{leads}
+use Rattle.atom_lines.proofs.Exits.{passes}
+use Rattle.wire_lines.specs.Rows.{whole_expression}
+use Rattle.wire_lines.proofs.reading.read_transfer.Goals as goal
+
+pub returns-clause-transfer : goal.returns-clause-transfer
+returns-clause-transfer g c =
+    let named = g.N.Variables.variable_named c.args.names.now in
+    let leads_on : leads (codes ":=") (drop 1 c.args.words.now) ≡ c.take_word.result = ap (leads (codes ":=")) (sym c.read_target.ensures.taken) ∙ sym c.take_word.ensures.leads in
+    let assigns : check (leads (codes ":=") (drop 1 c.args.words.now)) Shape ≡ Ok c.in_ok-check.field-0 = ap (λ b. check b Shape) leads_on ∙ sym c.in_ok-check.ensures in
+    let rest : drop 1 (drop 1 c.args.words.now) ≡ c.take_word.new.words = ap (drop 1) (sym c.read_target.ensures.taken) ∙ sym c.take_word.ensures.taken in
+    passes _ (sym c.in_ok-target.ensures.target) (passes _ assigns (passes _ (ap (whole_expression named) rest ∙ c.in_ok-value.ensures.expression) refl))
