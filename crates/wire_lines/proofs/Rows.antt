@@ -1,5 +1,5 @@
 -- Worked lines of the connector `link A.t B.u`, as computed facts. The words are those behind the line's first one.
-use Rattle.std.proofs.Common.{◌≡◌, ℕ, false, [], ◌∷◌, List, codes, replicate, if◌then◌else◌, ◌&&◌, ◌==◌, refl, pos, Option, Some, None, Ok, Err}
+use Rattle.std.proofs.Common.{◌≡◌, ℕ, false, [], ◌∷◌, ◌++◌, List, codes, replicate, if◌then◌else◌, ◌&&◌, ◌==◌, refl, pos, Option, Some, None, Ok, Err}
 use Rattle.petri_atom.specs.Name.{is_same_text}
 use Rattle.petri_atom.specs.Expression.{Tree, number, variable, operation}
 use Rattle.petri_atom.specs.declared.expression.Operator.TheVariants.{Add, Less}
@@ -95,6 +95,10 @@ a_word_behind_a_guard = refl
 a_ninth_guard : guard_row atom_named export_named [] (link (replicate 8 (number (pos 1))) []) ≡ Err Limit
 a_ninth_guard = refl
 
+the_eighth_guard : guard_row atom_named export_named (words_of (codes "1")) (link (replicate 7 (number (pos 1))) []) ≡ Ok (link (replicate 8 (number (pos 1))) [])
+unfolding atom_named export_named
+the_eighth_guard = refl
+
 -- ---- transfers
 
 a_transfer_to_the_second_leaf : transfer_row atom_named export_named (words_of (codes "B.m := A.n")) (link [] []) ≡ Ok (link [] (record { target = of_leaf 1 0; value = variable (of_leaf 0 0) } ∷ []))
@@ -143,3 +147,11 @@ a_word_behind_the_value = refl
 
 a_transfer_too_many : transfer_row atom_named export_named [] (link [] (replicate 32 to_n)) ≡ Err Limit
 a_transfer_too_many = refl
+
+-- a transfer to the one variable of the second leaf
+abbrev to_m : TransferDefinition
+to_m = record { target = of_leaf 1 0; value = number (pos 1) }
+
+the_thirty_second_transfer : transfer_row atom_named export_named (words_of (codes "B.m := 1")) (link [] (replicate 31 to_n)) ≡ Ok (link [] (replicate 31 to_n ++ to_m ∷ []))
+unfolding atom_named export_named
+the_thirty_second_transfer = refl
