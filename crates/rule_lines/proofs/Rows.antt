@@ -1,11 +1,12 @@
 -- Worked lines, as computed facts. The words are those behind the line's first one.
-use Rattle.std.proofs.Common.{◌≡◌, ℕ, Bool, List, codes, if◌then◌else◌, ◌&&◌, ◌||◌, ◌==◌, refl, Option, Some, None, Ok, Err}
+use Rattle.std.proofs.Common.{◌≡◌, ℕ, Bool, true, List, codes, if◌then◌else◌, ◌&&◌, ◌||◌, ◌==◌, refl, Option, Some, None, Ok, Err}
 use Rattle.petri_atom.specs.Name.{is_same_text}
 use Rattle.plant_words.specs.Words.{words_of}
 use Rattle.priority_filter.specs.declared.rule.Side.TheVariants.{Whole, One}
 use Rattle.priority_filter.specs.declared.rule.Rule.TheVariants.{Under, Maximal}
 use Rattle.atom_lines.specs.declared.fault.LineFault.TheVariants.{UnknownName, BadNumber, Shape}
 use Rattle.rule_lines.specs.Rules.{priority_in, maximal_in}
+use Rattle.rule_lines.specs.declared.side.TheConstants.{MAX_MASK}
 
 -- the connectors tick, send and bc
 connector_named : List ℕ → Option ℕ
@@ -79,6 +80,14 @@ the_greatest_mask_of_64_bits : priority_in connector_named has_interaction (word
 unfolding connector_named has_interaction
 the_greatest_mask_of_64_bits = refl
 
+-- every mask is an interaction
+any_mask : ℕ → ℕ → Bool
+any_mask connector mask = true
+
+the_greatest_mask_and_the_next : (priority_in connector_named any_mask (words_of (codes "bc:65535 < tick")) ≡ Ok (Under (One 2 65535) (Whole 0))) × (priority_in connector_named any_mask (words_of (codes "bc:65536 < tick")) ≡ Err UnknownName)
+unfolding connector_named any_mask
+the_greatest_mask_and_the_next = (refl, refl)
+
 a_mask_past_64_bits : priority_in connector_named has_interaction (words_of (codes "bc:18446744073709551616 < tick")) ≡ Err BadNumber
 unfolding connector_named has_interaction
 a_mask_past_64_bits = refl
@@ -150,3 +159,8 @@ one_interaction_alone_is_not_maximal = refl
 a_word_behind_a_maximal_connector : maximal_in connector_named (words_of (codes "bc x")) ≡ Err Shape
 unfolding connector_named
 a_word_behind_a_maximal_connector = refl
+
+-- ---- limits
+
+a_mask_has_sixteen_bits : MAX_MASK ≡ 65535
+a_mask_has_sixteen_bits = refl
