@@ -115,6 +115,11 @@ an_unknown_name_in_an_open_bracket = refl
 
 -- ---- faults of trees
 
+eight_ports : read (codes "a.p b.p c.p d.p e.p f.p g.p h.p") ≡
+    Ok (synchron 0 ∷ synchron 1 ∷ synchron 2 ∷ synchron 3 ∷ synchron 4 ∷ synchron 5 ∷ synchron 6 ∷ synchron 7 ∷ [])
+unfolding read synchron
+eight_ports = refl
+
 nine_ports : read (codes "a.p b.p c.p d.p e.p f.p g.p h.p i.p") ≡ Err (Tree TooManyLeaves)
 unfolding read
 nine_ports = refl
