@@ -7,3 +7,4 @@ pub mod Sets
 pub mod Sound
 pub mod Trees
 pub mod Walks
+pub mod Walked

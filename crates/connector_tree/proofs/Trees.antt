@@ -1,12 +1,12 @@
 -- What a node in memory is as a branch, and trees that stand beside each other.
-use Rattle.std.proofs.Common.{◌≡◌, ℕ, Bool, ◌∷◌, ◌++◌, map, ap, sym, ◌∙◌, refl}
+use Rattle.std.proofs.Common.{◌≡◌, ℕ, Bool, ◌∷◌, [], ◌++◌, map, ap, sym, ◌∙◌, refl}
 use Rattle.std.specs.declared.vec.Vec.{Vec}
 use Rattle.std.specs.declared.alloc.Global.{Global}
 use Rattle.connector_tree.specs.declared.tree.Child.{Child, fold_out-Child}
-use Rattle.connector_tree.specs.declared.tree.Node.{fold-roll-Node}
+use Rattle.connector_tree.specs.declared.tree.Node.{Node, fold-roll-Node}
 use Rattle.connector_tree.specs.declared.tree.Node.TheOpen as open_node
 use Rattle.connector_tree.specs.declared.tree.Node.TheVariants.{Leaf, Fusion, rolls-Leaf, rolls-Fusion}
-use Rattle.connector_tree.specs.Tree.{Tree, no_child, child, Branch, leaf, bracket, tree_with, branch_step, branch_of, tree_in}
+use Rattle.connector_tree.specs.Tree.{Tree, no_child, child, Branch, leaf, bracket, tree_with, branch_step, branch_of, tree_in, leaves, branch_leaves}
 use Rattle.connector_tree.specs.PortSets.{parts, branch_sets}
 use Rattle.connector_tree.specs.Walk.{seen, seen_children}
 use Rattle.connector_tree.specs.Ports.{beside}
@@ -21,6 +21,17 @@ branch-fusion children =
     ap branch_of (sym (rolls-Fusion children))
     ∙ fold-roll-Node Branch (Bool × Branch) branch_step (λ child. (child.trigger, child.node)) (open_node.Fusion children)
     ∙ (λ i. bracket (tree_with (map (λ child. fold_out-Child Branch (Bool × Branch) branch_step (λ child. (child.trigger, child.node)) child i) children.items)))
+
+-- the leaves of a port in memory, and of a bracket
+pub leaves-leaf : (node : Node) (atom port : ℕ) → node ≡ Leaf atom port → branch_leaves (branch_of node) ≡ record { atom = atom; port = port } ∷ []
+leaves-leaf node atom port is = ap (λ n. branch_leaves (branch_of n)) is ∙ ap branch_leaves (branch-leaf atom port)
+
+pub leaves-fusion : (node : Node) (children : Vec Child Global) → node ≡ Fusion children → branch_leaves (branch_of node) ≡ leaves (tree_in children.items)
+leaves-fusion node children is = ap (λ n. branch_leaves (branch_of n)) is ∙ ap branch_leaves (branch-fusion children)
+
+-- what a walk sees of a port in memory, and of a bracket
+pub seen-leaf : (node : Node) (atom port : ℕ) → node ≡ Leaf atom port → seen (branch_of node) ≡ seen (leaf atom port)
+seen-leaf node atom port is = ap (λ n. seen (branch_of n)) is ∙ ap seen (branch-leaf atom port)
 
 pub beside_assoc : (one other : Tree) (trigger : Bool) (branch : Branch) → beside (beside one (child trigger branch no_child)) other ≡ beside one (child trigger branch other)
 beside_assoc no_child other trigger branch = refl

@@ -1,7 +1,10 @@
-use Rattle.std.proofs.Common.{◌≡◌, ◌^◌, length, sym, ap, ◌∙◌, arith}
+use Rattle.std.proofs.Common.{◌≡◌, ℕ, ◌^◌, length, sym, ap, ◌∙◌, arith}
+use Rattle.std.specs.declared.vec.Vec.{Vec}
+use Rattle.std.specs.declared.alloc.Global.{Global}
 use Rattle.connector_tree.specs.Tree.{bracket, tree_of, tree_in, leaves}
 use Rattle.connector_tree.specs.Masks.{interactions_of}
 use Rattle.connector_tree.specs.Walk.{takes}
+use Rattle.connector_tree.proofs.Sound.{told_itself}
 use Rattle.connector_tree.proofs.Walks.{is_seen}
 use Rattle.connector_tree.proofs.Filtered.{passing}
 use Rattle.connector_tree.proofs.Exact.{interactions_are, interactions_exact, interactions_rise}
@@ -14,6 +17,10 @@ masks_taken-requires-clause-counted c =
     let counted = (is_seen (bracket (tree_of c.args.connector.now))).count in
     let told = rw c.deref.ensures.value at c.count_leaves-leaves.ensures in
     rw c.deref-in-None.ensures.value (omega (arith, is_sound.few_leaves, counted, told))
+
+pub returns-in-Some-clause-fault : goal.returns-in-Some-clause-fault
+returns-in-Some-clause-fault c =
+    told_itself (Vec ℕ Global) c.in-Some.fault (tree_of c.args.connector.now) (sym c.first_fault.ensures.fault ∙ c.in-Some.is)
 
 -- the masks that were taken are the interactions
 taken : (c : In_ok-masks-in-None) → c.in_ok-masks-in-None.masks.items ≡ interactions_of (tree_of c.args.connector.now)
