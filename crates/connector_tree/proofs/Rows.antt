@@ -1,14 +1,15 @@
 -- The interactions of small connectors, computed from the definition.
-use Rattle.std.proofs.Common.{◌≡◌, ℕ, Bool, true, false, [], ◌∷◌, codes, Some, refl, ap, ◌∙◌}
+use Rattle.std.proofs.Common.{◌≡◌, ℕ, zero, suc, Bool, true, false, [], ◌∷◌, codes, Some, None, refl, ap, ◌∙◌}
 use Rattle.std.specs.Fmt.{digits}
 use Rattle.std.specs.declared.vec.Vec.{Vec}
 use Rattle.std.specs.declared.alloc.Global.{Global}
 use Rattle.connector_tree.specs.declared.tree.Port.{Port}
 use Rattle.connector_tree.specs.declared.tree.Child.{Child}
+use Rattle.connector_tree.specs.declared.tree.TheConstants.{MAX_LEAVES, MAX_DEPTH}
 use Rattle.connector_tree.specs.declared.tree.Node.{Node}
 use Rattle.connector_tree.specs.declared.tree.Node.TheVariants.{Leaf, Fusion}
 use Rattle.connector_tree.specs.declared.faults.TreeFault.TheVariants.{TooManyLeaves, TooDeep, SameAtom, Empty, Memory}
-use Rattle.connector_tree.specs.Tree.{Tree, no_child, Branch, leaf, bracket, Row, tree_with, tree_in, tree_of, leaves, depth}
+use Rattle.connector_tree.specs.Tree.{Tree, no_child, child, Branch, leaf, bracket, Row, tree_with, tree_in, tree_of, leaves, depth}
 use Rattle.connector_tree.specs.Faults.{has_repeat, fault_of, message_of}
 use Rattle.connector_tree.specs.PortSets.{port_sets}
 use Rattle.connector_tree.specs.Masks.{interactions_of}
@@ -116,3 +117,27 @@ empty_bracket = refl
 messages : (message_of TooManyLeaves ≡ codes "a connector may have at most 8 ports") × (message_of TooDeep ≡ codes "a connector may nest at most 8 levels, the root included") × (message_of SameAtom ≡ codes "an atom may stand only once in a connector") × (message_of Empty ≡ codes "a connector and its brackets may not be empty") × (message_of Memory ≡ codes "not enough memory to list a connector's interactions")
 unfolding digits
 messages = (refl, refl, refl, refl, refl)
+
+-- ---- limits
+
+eight_leaves_at_most : MAX_LEAVES ≡ 8
+eight_leaves_at_most = refl
+
+eight_levels_at_most : MAX_DEPTH ≡ 8
+eight_levels_at_most = refl
+
+-- so many ports side by side, each of an atom of its own
+abbrev ports_of_atoms : ℕ → Tree
+ports_of_atoms zero = no_child
+ports_of_atoms (suc n) = child false (port n) (ports_of_atoms n)
+
+-- a port in so many brackets
+abbrev port_in_brackets : ℕ → Tree
+port_in_brackets zero = child false (port 0) no_child
+port_in_brackets (suc n) = child false (bracket (port_in_brackets n)) no_child
+
+eight_leaves_and_nine : (fault_of (ports_of_atoms 8) ≡ None) × (fault_of (ports_of_atoms 9) ≡ Some TooManyLeaves)
+eight_leaves_and_nine = (refl, refl)
+
+eight_levels_and_nine : (fault_of (port_in_brackets 7) ≡ None) × (fault_of (port_in_brackets 8) ≡ Some TooDeep)
+eight_levels_and_nine = (refl, refl)
