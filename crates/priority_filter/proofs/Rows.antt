@@ -7,6 +7,7 @@ use Rattle.priority_filter.specs.declared.rule.Side.TheVariants.{Whole, One}
 use Rattle.priority_filter.specs.declared.rule.Rule.{Rule}
 use Rattle.priority_filter.specs.declared.rule.Rule.TheVariants.{Under, Maximal}
 use Rattle.priority_filter.specs.declared.fault.OrderFault.TheVariants.{Cycle, UnknownName, Memory}
+use Rattle.priority_filter.specs.declared.interaction_set.TheConstants.{INTERACTION_LIMIT, ROW_WORDS}
 use Rattle.priority_filter.specs.Fault.{message_of}
 use Rattle.priority_filter.specs.Members.{holds, members_of}
 use Rattle.priority_filter.specs.Rule.{IsProperSubset, IsOn, Puts}
@@ -242,3 +243,11 @@ ends_of_words = refl
 -- bit 1 of the second word stands for interaction 65
 bit_65 : contains (members_of (0 ∷ 2 ∷ [])) 65 ≡ true
 bit_65 = contains-members_of (0 ∷ 2 ∷ []) 65
+
+-- ---- limits
+
+interactions_at_most : INTERACTION_LIMIT ≡ 1024
+interactions_at_most = refl
+
+words_of_a_set : ROW_WORDS ≡ 16
+words_of_a_set = refl
