@@ -116,14 +116,6 @@ impl InteractionSet {
     }
 }
 
-impl Default for InteractionSet {
-    ghost is_default = { λ s. s ≡ set.empty };
-
-    fn default() -> Self {
-        Self::new()
-    }
-}
-
 /// Sets each bit of the first words that is set in the other words.
 fn unite(words: &mut [u64; ROW_WORDS], other: &[u64; ROW_WORDS], count: usize)
     requires { count ≤ ROW_WORDS }
