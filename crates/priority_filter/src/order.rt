@@ -34,7 +34,8 @@ impl Model for Order {
 impl Order {
     /// The order of the rules on the interactions, each a connector and a leaf mask.
     ///
-    /// An unknown name is told before a cycle, and of each kind the first.
+    /// An unknown name is told before a cycle, and of each kind the first. An unknown name takes no memory to find, so want of
+    /// memory is told only where all names are known.
     pub fn new(
         alloc: Global,
         rules: &[Rule],
@@ -49,6 +50,7 @@ impl Order {
             ↔ IsFirstUnknown rules.now interactions.now k }
         ensures cycle { (a : ℕ) → result ≢ Err OrderFault.Memory → (result ≡ Err (OrderFault.Cycle a))
             ↔ (AreKnown rules.now interactions.now × IsFirstCyclic rules.now interactions.now a) }
+        ensures memory { result ≡ Err OrderFault.Memory → AreKnown rules.now interactions.now }
         ensures sound { OnOk result (order_fault rules.now interactions.now ≡ None) }
         ensures fault { IfErr result (λ fault. fault ≢ OrderFault.Memory
             → order_fault rules.now interactions.now ≡ Some fault) }
