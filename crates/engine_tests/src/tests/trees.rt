@@ -1,4 +1,4 @@
-//! Lines of as many words as a text has room for.
+//! Lines of as many words as a text has room for, and what the faults of a tree say.
 use connector_tree::{Port, TreeFault};
 use plant_trees::{Ports, TreeWordsFault, read_tree};
 use plant_words::Words;
@@ -50,5 +50,35 @@ fn long_lines_are_told_by_a_fault(rt: HostRuntime) -> Result<(), Fail> {
     let mut nested = repeated(alloc, b"[ ", 500_000)?;
     nested.extend_from_slice(&repeated(alloc, b"] ", 500_000)?)?;
     assert!(&rt; told(alloc, &nested) == Some(TreeWordsFault::Tree(TreeFault::TooDeep)));
+    Ok(())
+}
+
+#[test]
+fn a_fault_of_a_tree_is_told(rt: HostRuntime) -> Result<(), Fail> {
+    for (fault, text) in [
+        (
+            TreeFault::TooManyLeaves,
+            "a connector may have at most 8 ports",
+        ),
+        (
+            TreeFault::TooDeep,
+            "a connector may nest at most 8 levels, the root included",
+        ),
+        (
+            TreeFault::SameAtom,
+            "an atom may stand only once in a connector",
+        ),
+        (
+            TreeFault::Empty,
+            "a connector and its brackets may not be empty",
+        ),
+        (
+            TreeFault::Memory,
+            "not enough memory to list a connector's interactions",
+        ),
+    ] {
+        let said = fault.to_string(rt.alloc())?;
+        assert_eq!(rt; said.as_str(), text);
+    }
     Ok(())
 }
