@@ -2,7 +2,7 @@ use Rattle.std.specs.Prelude.{◌≡◌, ◌≢◌, Result, Err}
 use Rattle.plant_expressions.specs.declared.fault.ExpressionFault.{ExpressionFault}
 use Rattle.plant_expressions.specs.declared.fault.ExpressionFault.TheVariants as expression
 use Rattle.atom_lines.specs.declared.fault.LineFault.{LineFault}
-use Rattle.atom_lines.specs.declared.fault.LineFault.TheVariants.{BadName, Twice, UnknownName, BadExpression, BadNumber, Shape, Limit, Memory}
+use Rattle.atom_lines.specs.declared.fault.LineFault.TheVariants.{UnknownName, BadExpression, BadNumber, Limit, Memory}
 
 -- a fault that is told is the one of what was read, or that memory ran out
 abbrev pub IsFaultOf : {A : Type 0} → Result A LineFault → LineFault → Type 0

@@ -16,7 +16,9 @@ ghost use Rattle.petri_atom.specs.declared.parts.TheConstants.{MAX_PORTS, MAX_TR
 
 use crate::fault::LineFault;
 use crate::lookup;
-use crate::reading::{check, goes_on, next_in_places, next_name, read_mark, read_value, skip_word};
+use crate::reading::{
+    check, goes_on, next_in_places, next_name, next_word, read_mark, read_value, skip_word,
+};
 use petri_atom::{
     Atom, AtomFault, Expression, MAX_EXPORTS, MAX_PLACES, MAX_PORTS, MAX_TRANSITIONS, MAX_UPDATES,
     MAX_VARIABLES, Name, Place, Port, Transition, Update, Variable,
@@ -229,7 +231,7 @@ impl AtomDraft {
         ensures port { result ≡ port_in (drafted self.now) words.old }
         ensures taken { words.new ≡ drop 1 words.old }
     {
-        let word = words.next_word().ok_or(LineFault::Shape)?;
+        let word = next_word(words)?;
         self.find_port(word).ok_or(LineFault::UnknownName)
     }
 
@@ -294,7 +296,7 @@ impl AtomDraft {
         ensures update { IfOk result (λ update. update_in (drafted self.now) words.old ≡ Ok (update_of update, words.new)) }
         ensures fault { IfErr result (IsFaultOf (update_in (drafted self.now) words.old)) }
     {
-        let word = words.next_word().ok_or(LineFault::Shape)?;
+        let word = next_word(words)?;
         let variable = self.find_variable(word).ok_or(LineFault::UnknownName)?;
         check(skip_word(words, b":="), LineFault::Shape)?;
         let value = self.read_expression(words)?;

@@ -1,6 +1,6 @@
 //! Steps of reading a line: each takes words, or tells the fault of one.
-ghost use Rattle.std.specs.Prelude.{◌≡◌, drop, false, if◌then◌else◌, MatchOption, true, ◌∷◌};
-ghost use Rattle.atom_lines.specs.Reading.{check, first_name, first_number, at_end, mark_in, value_in};
+ghost use Rattle.std.specs.Prelude.{◌≡◌, drop, false, if◌then◌else◌, IfErr, IfOk, MatchOption, true, ◌∷◌, Ok, Err};
+ghost use Rattle.atom_lines.specs.Reading.{check, first_name, first_number, first_word, at_end, mark_in, value_in};
 ghost use Rattle.atom_lines.specs.Transitions.{leads, ends_places, goes_on};
 
 use crate::fault::LineFault;
@@ -14,12 +14,21 @@ pub(crate) fn check(passes: bool, fault: LineFault) -> Result<(), LineFault>
     if passes { Ok(()) } else { Err(fault) }
 }
 
+/// The next word, which must be there.
+pub(crate) fn next_word<'a>(words: &mut Words<'a>) -> Result<&'a [u8], LineFault>
+    ensures word { IfOk result (λ word. first_word words.old ≡ Ok word.now) }
+    ensures fault { IfErr result (λ fault. first_word words.old ≡ Err fault) }
+    ensures taken { words.new ≡ drop 1 words.old }
+{
+    words.next_word().ok_or(LineFault::Shape)
+}
+
 /// The next word as a name.
 pub(crate) fn next_name(words: &mut Words) -> Result<Name, LineFault>
     ensures name { result ≡ first_name words.old }
     ensures taken { words.new ≡ drop 1 words.old }
 {
-    let word = words.next_word().ok_or(LineFault::Shape)?;
+    let word = next_word(words)?;
     read_name(word).ok_or(LineFault::BadName)
 }
 
@@ -28,7 +37,7 @@ fn next_number(words: &mut Words) -> Result<i64, LineFault>
     ensures number { result ≡ first_number words.old }
     ensures taken { words.new ≡ drop 1 words.old }
 {
-    let word = words.next_word().ok_or(LineFault::Shape)?;
+    let word = next_word(words)?;
     read_int(word).ok_or(LineFault::BadNumber)
 }
 

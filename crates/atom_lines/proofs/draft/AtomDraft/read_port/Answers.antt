@@ -1,22 +1,11 @@
-use Rattle.std.proofs.Common.{◌∙◌, sym, ap, Err}
-use Rattle.std.specs.Option.{ok_or}
-use Rattle.std.proofs.lemmas.Option.{MatchOption-at_some, MatchOption-at_none}
 use Rattle.atom_lines.specs.declared.fault.LineFault.TheVariants.{UnknownName}
 use Rattle.atom_lines.specs.Draft.{drafted}
-use Rattle.atom_lines.specs.Transitions.{port_in}
-use Rattle.atom_lines.proofs.Taken.{same_fault, missing, rest_behind, none_behind}
+use Rattle.atom_lines.specs.Lookup.{port_number}
+use Rattle.atom_lines.proofs.Taken.{none_said, word_said}
 use Rattle.atom_lines.proofs.draft.AtomDraft.read_port.Goals as goal
 
 pub returns-in_err-word-clause-port : goal.returns-in_err-word-clause-port
-returns-in_err-word-clause-port c =
-    let none = missing c.next_word.result c.args.words.now _ c.in_err-word.field-0.0 c.next_word.ensures.word c.in_err-word.ensures.value in
-    same_fault c.from_residual.result c.in_err-word.field-0.0 c.from_residual.ensures.1 ∙ ap Err none.1 ∙ sym (ap (port_in (drafted c.args.self.now)) none.0)
-
-pub returns-in_err-word-clause-taken : goal.returns-in_err-word-clause-taken
-returns-in_err-word-clause-taken c = none_behind c.args.words.now c.next_word.new.self (MatchOption-at_none _ _ c.in_err-word.ensures.ok_part c.next_word.ensures.word) (MatchOption-at_none _ _ c.in_err-word.ensures.ok_part c.next_word.ensures.end)
+returns-in_err-word-clause-port c = none_said c.args.words.now (port_number (drafted c.args.self.now)) UnknownName c.from_residual.result c.in_err-word.field-0.0 c.from_residual.ensures.1 c.in_err-word.ensures.fault
 
 pub returns-clause-port : goal.returns-clause-port
-returns-clause-port c = c.ok_or-2.ensures.value ∙ ap (λ o. ok_or o UnknownName) c.find_port.ensures ∙ sym (ap (port_in (drafted c.args.self.now)) (MatchOption-at_some _ _ _ c.in_ok-word.ensures.ok_part c.next_word.ensures.word))
-
-pub returns-clause-taken : goal.returns-clause-taken
-returns-clause-taken c = rest_behind c.args.words.now c.next_word.new.self c.in_ok-word.word.now (MatchOption-at_some _ _ _ c.in_ok-word.ensures.ok_part c.next_word.ensures.word)
+returns-clause-port c = word_said c.args.words.now (port_number (drafted c.args.self.now)) UnknownName c.ok_or.result c.in_ok-word.word.now c.find_port.result c.in_ok-word.ensures.word c.find_port.ensures c.ok_or.ensures.value
