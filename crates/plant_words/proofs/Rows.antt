@@ -7,6 +7,7 @@ use Rattle.plant_words.specs.Words.{words_of, is_passed_over}
 use Rattle.plant_words.specs.Numbers.{is_numeric, int_in, pick_in}
 use Rattle.plant_words.specs.Names.{name_in}
 use Rattle.plant_words.specs.Splits.{port_in, export_in, named_mask_in}
+use Rattle.plant_words.specs.declared.numbers.TheConstants.{MAX_DIGITS}
 
 -- ---- lines
 
@@ -76,6 +77,9 @@ a_negative_number = refl
 
 minus_zero_is_zero : int_in (codes "-0") ≡ Some (pos 0)
 minus_zero_is_zero = refl
+
+nineteen_digits_at_most : MAX_DIGITS ≡ 19
+nineteen_digits_at_most = refl
 
 zeros_may_stand_first : int_in (codes "0000000000000000042") ≡ Some (pos 42)
 zeros_may_stand_first = refl

@@ -2,6 +2,7 @@
 use Rattle.std.proofs.Common.{◌≡◌, ◌++◌, ◌∷◌, [], Some, codes, refl, negsuc, ◌^◌, ◌-◌, arith}
 use Rattle.std.specs.Fmt.{decimal, digits, signed_decimal}
 use Rattle.sha2.specs.Sha256.{sha256, digest_bytes, hash_after, compress, first_words, schedule, rounds}
+use Rattle.text_io.specs.declared.reading.TheConstants.{MAX_TEXT}
 use Rattle.text_io.specs.declared.reading.TextFault.TheVariants.{TooLong, Read}
 use Rattle.text_io.specs.Reading.{IsReadBefore, GivesUp, message_of}
 
@@ -26,6 +27,10 @@ minus_four = refl
 line_of_parts : decimal 12 ++ codes " state A n=" ++ signed_decimal (negsuc 2) ++ codes "\n" ≡ codes "12 state A n=-3\n"
 unfolding digits
 line_of_parts = refl
+
+-- a text has 1,048,576 bytes at most
+most_bytes_of_a_text : MAX_TEXT ≡ 1048576
+most_bytes_of_a_text = refl
 
 -- a text of 1,048,577 bytes is too long, and no other fault comes after so many
 one_byte_more : IsReadBefore TooLong 1048577
