@@ -2,6 +2,7 @@ mod Rows
 pub mod Updates
 pub mod Steps
 pub mod Exits
+pub mod Early
 pub mod Taken
 pub mod Growing
 pub mod Named

@@ -1,4 +1,4 @@
-use Rattle.std.specs.Prelude.{◌≡◌, ◌≢◌, Result, Err}
+use Rattle.std.specs.Prelude.{◌≡◌, ◌≢◌, Result, Err, IsOk}
 use Rattle.plant_expressions.specs.declared.fault.ExpressionFault.{ExpressionFault}
 use Rattle.plant_expressions.specs.declared.fault.ExpressionFault.TheVariants as expression
 use Rattle.atom_lines.specs.declared.fault.LineFault.{LineFault}
@@ -7,6 +7,10 @@ use Rattle.atom_lines.specs.declared.fault.LineFault.TheVariants.{UnknownName, B
 -- a fault that is told is the one of what was read, or that memory ran out
 abbrev pub IsFaultOf : {A : Type 0} → Result A LineFault → LineFault → Type 0
 IsFaultOf read fault = fault ≢ Memory → read ≡ Err fault
+
+-- memory is wanting only where what was read has no fault
+abbrev pub IsLast : {A : Type 0} → Result A LineFault → LineFault → Type 0
+IsLast read fault = fault ≡ Memory → IsOk read
 
 -- the fault of a line where an expression in it has this one
 abbrev pub line_fault : ExpressionFault → LineFault

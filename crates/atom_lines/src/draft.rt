@@ -1,7 +1,7 @@
 //! The atom as its lines have told it so far.
-ghost use Rattle.std.specs.Prelude.{◌<◌, ◌-◌, true, drop, length, map, IfSome, IsTrue, ◌≡◌, ◌≤◌, IfOk, IfErr, OnOk, OnErr, Ok, None, []};
+ghost use Rattle.std.specs.Prelude.{◌<◌, ◌-◌, true, drop, take, length, map, IfSome, IsTrue, ◌≡◌, ◌≤◌, IfOk, IfErr, OnOk, OnErr, Ok, None, []};
 ghost use Rattle.std.specs.List.{list_all};
-ghost use Rattle.atom_lines.specs.Fault.{IsFaultOf};
+ghost use Rattle.atom_lines.specs.Fault.{IsFaultOf, IsLast};
 ghost use Rattle.atom_lines.specs.Rows.{place_row, variable_row, port_row, export_in, exports_in, with_place, with_variable, with_port};
 ghost use Rattle.atom_lines.specs.Lookup.{place_number, variable_number, port_number, export_number};
 ghost use Rattle.atom_lines.specs.Transitions.{port_in, place_in, places_in, places_behind, expression_on, guard_in, update_in, updates_from, updates_in, transition_in, transition_row};
@@ -121,6 +121,7 @@ impl AtomDraft {
     pub fn add_place(&mut self, words: &mut Words) -> Result<(), LineFault>
         ensures added { OnOk result (place_row words.old (drafted self.old) ≡ Ok (drafted self.new)) }
         ensures fault { IfErr result (IsFaultOf (place_row words.old (drafted self.old))) }
+        ensures memory { IfErr result (IsLast (place_row words.old (drafted self.old))) }
         ensures unchanged { OnErr result (drafted self.new ≡ drafted self.old) }
     {
         check(self.places.len() < MAX_PLACES, LineFault::Limit)?;
@@ -149,6 +150,7 @@ impl AtomDraft {
     pub fn add_variable(&mut self, words: &mut Words) -> Result<(), LineFault>
         ensures added { OnOk result (variable_row words.old (drafted self.old) ≡ Ok (drafted self.new)) }
         ensures fault { IfErr result (IsFaultOf (variable_row words.old (drafted self.old))) }
+        ensures memory { IfErr result (IsLast (variable_row words.old (drafted self.old))) }
         ensures unchanged { OnErr result (drafted self.new ≡ drafted self.old) }
     {
         check(self.variables.len() < MAX_VARIABLES, LineFault::Limit)?;
@@ -179,6 +181,7 @@ impl AtomDraft {
     pub fn add_port(&mut self, words: &mut Words) -> Result<(), LineFault>
         ensures added { OnOk result (port_row words.old (drafted self.old) ≡ Ok (drafted self.new)) }
         ensures fault { IfErr result (IsFaultOf (port_row words.old (drafted self.old))) }
+        ensures memory { IfErr result (IsLast (port_row (take 1 words.old) (drafted self.old))) }
         ensures unchanged { OnErr result (drafted self.new ≡ drafted self.old) }
     {
         check(self.ports.len() < MAX_PORTS, LineFault::Limit)?;

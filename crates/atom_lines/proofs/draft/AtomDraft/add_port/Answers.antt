@@ -1,8 +1,13 @@
-use Rattle.std.proofs.Common.{◌∙◌, refl, sym, ap, [], Ok, Err}
+use Rattle.std.proofs.Common.{◌∙◌, refl, sym, ap, [], take, Ok, Err}
+use Rattle.std.specs.Prelude.{nat_lt}
 use Rattle.std.proofs.lemmas.Result.{IfOk-from_err}
+use Rattle.petri_atom.specs.declared.parts.TheConstants.{MAX_PORTS}
 use Rattle.atom_lines.specs.Draft.{drafted}
 use Rattle.atom_lines.specs.Lookup.{port_number}
 use Rattle.atom_lines.specs.Rows.{port_row, exports_in}
+use Rattle.atom_lines.specs.Reading.{check, first_name}
+use Rattle.atom_lines.specs.declared.fault.LineFault.TheVariants.{Limit, Twice}
+use Rattle.atom_lines.proofs.Early.{check_takes_none, name_takes_none, port_alone, told_before, told_last}
 use Rattle.atom_lines.proofs.Exits.{fails, passes, told_fault, told_memory, at_fault, room_for_port, new_name}
 use Rattle.atom_lines.proofs.SoundParts.{exports_sound}
 use Rattle.atom_lines.proofs.draft.AtomDraft.add_port.Goals as goal
@@ -15,6 +20,10 @@ returns-in_err-check-clause-fault c =
     told_fault (port_row c.args.words.now (drafted c.args.self.now)) c.from_residual.result c.in_err-check.field-0.0 c.from_residual.ensures.1
     (λ _. fails _ (room_for_port c.args.self.now.ports.items c.len.result (Err c.in_err-check.field-0.0) (c.len.ensures ∙ c.args.self.now.ports.ok.0) c.in_err-check.ensures))
 
+pub returns-in_err-check-clause-memory : goal.returns-in_err-check-clause-memory
+returns-in_err-check-clause-memory c =
+    told_before (port_row (take 1 c.args.words.now) (drafted c.args.self.now)) (check (nat_lt c.len.result MAX_PORTS) Limit) c.from_residual.result c.in_err-check.field-0.0 c.from_residual.ensures.1 (sym c.in_err-check.ensures) (check_takes_none (nat_lt c.len.result MAX_PORTS) Limit (λ is. absurd (cc)))
+
 pub returns-in_err-check-clause-unchanged : goal.returns-in_err-check-clause-unchanged
 returns-in_err-check-clause-unchanged c = at_fault c.from_residual.result refl
 
@@ -25,6 +34,10 @@ pub returns-in_err-name-clause-fault : goal.returns-in_err-name-clause-fault
 returns-in_err-name-clause-fault c =
     told_fault (port_row c.args.words.now (drafted c.args.self.now)) c.from_residual-in_err-name.result c.in_err-name.field-0.0 c.from_residual-in_err-name.ensures.1
     (λ _. passes _ (room_for_port c.args.self.now.ports.items c.len.result (Ok c.in_ok-check.field-0) (c.len.ensures ∙ c.args.self.now.ports.ok.0) c.in_ok-check.ensures) (fails _ (sym c.in_err-name.ensures.name)))
+
+pub returns-in_err-name-clause-memory : goal.returns-in_err-name-clause-memory
+returns-in_err-name-clause-memory c =
+    told_before (port_row (take 1 c.args.words.now) (drafted c.args.self.now)) (first_name c.args.words.now) c.from_residual-in_err-name.result c.in_err-name.field-0.0 c.from_residual-in_err-name.ensures.1 (sym c.in_err-name.ensures.name) (name_takes_none c.args.words.now)
 
 pub returns-in_err-name-clause-unchanged : goal.returns-in_err-name-clause-unchanged
 returns-in_err-name-clause-unchanged c = at_fault c.from_residual-in_err-name.result refl
@@ -37,6 +50,10 @@ returns-in_err-check-2-clause-fault c =
     told_fault (port_row c.args.words.now (drafted c.args.self.now)) c.from_residual-in_err-check-2.result c.in_err-check-2.field-0.0 c.from_residual-in_err-check-2.ensures.1
     (λ _. passes _ (room_for_port c.args.self.now.ports.items c.len.result (Ok c.in_ok-check.field-0) (c.len.ensures ∙ c.args.self.now.ports.ok.0) c.in_ok-check.ensures) (passes _ (sym c.in_ok-name.ensures.name) (fails _ (new_name (port_number (drafted c.args.self.now)) c.in_ok-name.name c.as_bytes.result.now c.find_port.result c.is_none.result (Err c.in_err-check-2.field-0.0) c.as_bytes.ensures c.find_port.ensures c.is_none.ensures c.in_err-check-2.ensures))))
 
+pub returns-in_err-check-2-clause-memory : goal.returns-in_err-check-2-clause-memory
+returns-in_err-check-2-clause-memory c =
+    told_before (port_row (take 1 c.args.words.now) (drafted c.args.self.now)) (check c.is_none.result Twice) c.from_residual-in_err-check-2.result c.in_err-check-2.field-0.0 c.from_residual-in_err-check-2.ensures.1 (sym c.in_err-check-2.ensures) (check_takes_none c.is_none.result Twice (λ is. absurd (cc)))
+
 pub returns-in_err-check-2-clause-unchanged : goal.returns-in_err-check-2-clause-unchanged
 returns-in_err-check-2-clause-unchanged c = at_fault c.from_residual-in_err-check-2.result refl
 
@@ -47,6 +64,11 @@ pub returns-in_err-exports-clause-fault : goal.returns-in_err-exports-clause-fau
 returns-in_err-exports-clause-fault c =
     told_fault (port_row c.args.words.now (drafted c.args.self.now)) c.from_residual-in_err-exports.result c.in_err-exports.field-0.0 c.from_residual-in_err-exports.ensures.1
     (λ other. passes _ (room_for_port c.args.self.now.ports.items c.len.result (Ok c.in_ok-check.field-0) (c.len.ensures ∙ c.args.self.now.ports.ok.0) c.in_ok-check.ensures) (passes _ (sym c.in_ok-name.ensures.name) (passes _ (new_name (port_number (drafted c.args.self.now)) c.in_ok-name.name c.as_bytes.result.now c.find_port.result c.is_none.result (Ok c.in_ok-check-2.field-0) c.as_bytes.ensures c.find_port.ensures c.is_none.ensures c.in_ok-check-2.ensures) (fails _ (ap (exports_in (drafted c.args.self.now) []) (sym c.next_name.ensures.taken) ∙ c.in_err-exports.ensures.fault other)))))
+
+pub returns-in_err-exports-clause-memory : goal.returns-in_err-exports-clause-memory
+returns-in_err-exports-clause-memory c =
+    told_last (port_row (take 1 c.args.words.now) (drafted c.args.self.now)) _ c.from_residual-in_err-exports.result
+    (port_alone (drafted c.args.self.now) c.args.words.now c.in_ok-name.name c.in_ok-check.field-0 c.in_ok-check-2.field-0 (room_for_port c.args.self.now.ports.items c.len.result (Ok c.in_ok-check.field-0) (c.len.ensures ∙ c.args.self.now.ports.ok.0) c.in_ok-check.ensures) (sym c.in_ok-name.ensures.name) (new_name (port_number (drafted c.args.self.now)) c.in_ok-name.name c.as_bytes.result.now c.find_port.result c.is_none.result (Ok c.in_ok-check-2.field-0) c.as_bytes.ensures c.find_port.ensures c.is_none.ensures c.in_ok-check-2.ensures))
 
 pub returns-in_err-exports-clause-unchanged : goal.returns-in_err-exports-clause-unchanged
 returns-in_err-exports-clause-unchanged c = at_fault c.from_residual-in_err-exports.result refl
@@ -59,6 +81,11 @@ returns-in_err-push_port-clause-added c = IfOk-from_err c.from_residual-in_err-p
 
 pub returns-in_err-push_port-clause-fault : goal.returns-in_err-push_port-clause-fault
 returns-in_err-push_port-clause-fault c = told_memory (port_row c.args.words.now (drafted c.args.self.now)) c.from_residual-in_err-push_port.result c.from_residual-in_err-push_port.ensures.1
+
+pub returns-in_err-push_port-clause-memory : goal.returns-in_err-push_port-clause-memory
+returns-in_err-push_port-clause-memory c =
+    told_last (port_row (take 1 c.args.words.now) (drafted c.args.self.now)) _ c.from_residual-in_err-push_port.result
+    (port_alone (drafted c.args.self.now) c.args.words.now c.in_ok-name.name c.in_ok-check.field-0 c.in_ok-check-2.field-0 (room_for_port c.args.self.now.ports.items c.len.result (Ok c.in_ok-check.field-0) (c.len.ensures ∙ c.args.self.now.ports.ok.0) c.in_ok-check.ensures) (sym c.in_ok-name.ensures.name) (new_name (port_number (drafted c.args.self.now)) c.in_ok-name.name c.as_bytes.result.now c.find_port.result c.is_none.result (Ok c.in_ok-check-2.field-0) c.as_bytes.ensures c.find_port.ensures c.is_none.ensures c.in_ok-check-2.ensures))
 
 pub returns-in_err-push_port-clause-unchanged : goal.returns-in_err-push_port-clause-unchanged
 returns-in_err-push_port-clause-unchanged c = at_fault c.from_residual-in_err-push_port.result c.in_err-push_port.ensures.unchanged
