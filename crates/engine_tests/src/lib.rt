@@ -1,8 +1,8 @@
 //! Tests of the crates from atoms to runs, in a crate of their own: a crate that holds tests is proved once more with them.
 //!
 //! They show what no clause says and no run of the program either: that what only other programs ask is answered, what happens
-//! where a reader or a writer fails at any byte, that few bytes at a time are as good as many, and that a line may be as long as a
-//! text.
+//! where a reader or a writer fails at any byte, that few bytes at a time are as good as many, that a line may be as long as a
+//! text, and that faults are told in their words.
 #![tactic(auto)]
 
 #[cfg(test)]
