@@ -5,9 +5,9 @@ use Rattle.std.proofs.lemmas.Bool.{cases_lt, eq-eqb}
 use Rattle.std.proofs.lemmas.List.{length-append, length-map, take_all}
 use Rattle.disk_model.specs.declared.cells.TheConstants.{BODY}
 use Rattle.disk_model.specs.DiskState.{DiskState, size_of}
-use Rattle.disk_model.specs.Cells.{Cell, cell, cells_in, seen_cells, IsNoneOf, IsClosed, Leaves, EmptyOrNew, EmptyOrNewAt, Filled}
+use Rattle.disk_model.specs.Cells.{Cell, cell, seen_cells, IsNoneOf, IsClosed, Leaves, EmptyOrNew, EmptyOrNewAt, Filled}
 use Rattle.disk_model.specs.Steps.{AreClosed}
-use Rattle.disk_model.specs.Moments.{seen_length, leaves_weaker, empty_or_new_seen, closed_at_rest}
+use Rattle.disk_model.specs.Moments.{same_count, leaves_weaker, empty_or_new_seen, closed_at_rest}
 use Rattle.record_codec.specs.Fired.{FiredFields, fired_in}
 use Rattle.gated_journal.specs.declared.ring.Ring.{Ring}
 use Rattle.gated_journal.specs.Live.{if_numbered, record_in, place, live, AreRecords}
@@ -119,10 +119,6 @@ module _ (j : Ring) (ring : IsRing j) (before : List Cell) (whole : IsWhole j be
           behind = λ next. subst (λ (n : ℕ). cell cells (place j n) ≡ None) (omega arith) (b.behind (omega (arith, next.to, to_end)));
           others = λ k beside. left.others k (beside_places k beside);
         }
-
--- as many cells as before
-pub same_count : (size : ℕ) (old new : DiskState) → size_of new ≡ size_of old → length (seen_cells size new) ≡ length (seen_cells size old)
-same_count size old new same = seen_length size new ∙ ap (λ (n : ℕ). cells_in size n) same ∙ sym (seen_length size old)
 
 pub has_appended_all : (j : Ring) (bodies : List (List ℕ)) (news : List FiredFields) (old new : DiskState) → IsRing j → IsReady j old → AreRecords (j.last + 1) bodies news → j.last + length bodies < j.base + j.ring → size_of new ≡ size_of old
     → Filled (BODY + 1) (places j (j.last + 1) (length bodies)) bodies old new → HasAppendedAll j news old new

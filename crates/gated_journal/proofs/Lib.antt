@@ -2,7 +2,6 @@ pub mod Fronts
 pub mod Places
 pub mod AppendedCells
 pub mod CleanedCells
-pub mod Counting
 pub mod BaseCells
 pub mod MovedCells
 mod Rows

@@ -1,37 +1,23 @@
 -- What moving the base leaves: the old base and list, or the new base and the cut list.
-use Rattle.std.proofs.Common.{◌≡◌, ◌≢◌, ◌⊎◌, inl, inr, ⊎_elim, ℕ, zero, suc, ◌+◌, ◌-◌, ◌<◌, ◌≤◌, Bool, true, List, [], ◌∷◌, length, drop, eqb, if◌then◌else◌, Option, Some, None, sym, ◌∙◌, ap, subst, arith}
+use Rattle.std.proofs.Common.{◌≡◌, ◌≢◌, ◌⊎◌, inl, inr, ⊎_elim, ℕ, ◌+◌, ◌-◌, ◌<◌, ◌≤◌, Bool, List, length, drop, eqb, if◌then◌else◌, Option, Some, None, sym, ◌∙◌, ap, subst, arith}
 use Rattle.std.specs.Option.{option_and_then}
 use Rattle.std.proofs.lemmas.Bool.{cases_lt, ne_eqb, eqb-true, cases_Bool}
 use Rattle.std.proofs.lemmas.List.{length-drop}
 use Rattle.disk_model.specs.declared.cells.TheConstants.{BODY}
-use Rattle.disk_model.specs.DiskState.{DiskState, IsSettled, Reads, size_of}
-use Rattle.disk_model.specs.Cells.{Cell, cell, seen_cells, IsNoneOf, Leaves, OldOrEmpty, OldOrEmptyAt, EmptyOrNew, EmptyOrNewAt, Erased, Filled}
-use Rattle.disk_model.specs.Moments.{leaves_then, leaves_weaker, old_or_empty_before, old_or_empty_seen, empty_or_new_seen, settled_cells}
-use Rattle.disk_model.specs.Reading.{reads_leave, reads_seen, reads_settled}
+use Rattle.disk_model.specs.DiskState.{DiskState, size_of}
+use Rattle.disk_model.specs.Cells.{Cell, cell, seen_cells, IsNoneOf, Leaves, OldOrEmpty, OldOrEmptyAt, OldEmptyOrNewAt, Erased, Replaced}
+use Rattle.disk_model.specs.Moments.{leaves_then, leaves_weaker, old_or_empty_seen}
 use Rattle.record_codec.specs.Base.{base_in}
 use Rattle.record_codec.specs.Fired.{FiredFields}
 use Rattle.gated_journal.specs.declared.ring.Ring.{Ring}
 use Rattle.gated_journal.specs.Live.{held_in, if_numbered, record_in, place, live}
 use Rattle.gated_journal.specs.Bases.{base_held, other_cell, IsBased}
 use Rattle.gated_journal.specs.Rings.{IsRing, IsWhole, IsReadFor}
-use Rattle.gated_journal.specs.Stops.{IsKept, IsUnmoved, IsMoved, IsMovedOrNot, IsBaseSet, HasMoved, moved}
+use Rattle.gated_journal.specs.Stops.{IsKept, IsUnmoved, IsMoved, IsMovedOrNot, HasMoved, moved}
 use Rattle.gated_journal.proofs.Fronts.{front, front_same, front_drops, front_some}
 use Rattle.gated_journal.proofs.Places.{places, places_length, places_at, places_differ, place_round, none_of_places}
 use Rattle.gated_journal.proofs.BaseCells.{held_at, based_still, based_moved}
 use Rattle.gated_journal.proofs.CleanedCells.{same_live, next_is_none}
-use Rattle.gated_journal.proofs.AppendedCells.{same_count}
-
--- a call that reads, and then one that empties cells of a settled device
-pub read_then_erased : {failed : Bool} (old mid new : DiskState) (ks : List ℕ) → old.keeps ≡ true → IsSettled old.now → Reads failed old mid → Leaves (BODY + 1) (OldOrEmpty (BODY + 1) mid ks) mid new → Leaves (BODY + 1) (OldOrEmptyAt ks (seen_cells (BODY + 1) old)) old new
-read_then_erased old mid new ks keeps settled reads run =
-    let P : List Cell → Type 0 = OldOrEmptyAt ks (seen_cells (BODY + 1) old) in
-    let first : Leaves (BODY + 1) P old mid = reads_leave (BODY + 1) P old mid reads keeps (λ cells may. subst P (sym (settled_cells (BODY + 1) old cells settled may)) (old_or_empty_before ks (seen_cells (BODY + 1) old))) in
-    let second : Leaves (BODY + 1) P mid new = leaves_weaker (BODY + 1) (OldOrEmpty (BODY + 1) mid ks) P mid new (λ cells p. subst (λ (l : List Cell). OldOrEmptyAt ks l cells) (reads_seen (BODY + 1) old mid reads keeps) (old_or_empty_seen (BODY + 1) mid ks cells (reads_settled old mid reads keeps settled) p)) run in
-    leaves_then (BODY + 1) P old mid new first second
-
-none_of_one : (o k : ℕ) → k ≢ o → IsNoneOf (o ∷ []) k
-none_of_one o k ne zero within = λ same. ne (sym same)
-none_of_one o k ne (suc i) within = absurd (omega arith)
 
 -- what a cell with record n holds
 held_there : (n : ℕ) (o : Option FiredFields) (r : FiredFields) → option_and_then (if_numbered n) o ≡ Some r → (o ≡ Some r) × (r.number ≡ n)
@@ -129,79 +115,66 @@ module _ (j : Ring) (ring : IsRing j) (base : ℕ) (above : j.base < base) (with
 
 -- The base of the journal j is moved on a device that is ready.
 module _ (j : Ring) (ring : IsRing j) (base : ℕ) (above : j.base < base) (within : base ≤ j.last + 1) (old : DiskState) (read : IsReadFor j (seen_cells (BODY + 1) old)) where
-  -- emptying the other base cell
-  pub empty_leaves : (mid : DiskState) → Leaves (BODY + 1) (OldOrEmptyAt (other_cell j ∷ []) (seen_cells (BODY + 1) old)) old mid → Leaves (BODY + 1) (IsMovedOrNot base j (seen_cells (BODY + 1) old)) old mid
-  empty_leaves mid run = leaves_weaker (BODY + 1) (OldOrEmptyAt (other_cell j ∷ []) (seen_cells (BODY + 1) old)) (IsMovedOrNot base j (seen_cells (BODY + 1) old)) old mid
-      (λ cells p. inl (is_unmoved j ring base above within (seen_cells (BODY + 1) old) read.based read.whole cells p.count (p.each (other_cell j)) (λ k ne. p.others k (none_of_one (other_cell j) k ne)))) run
-
-  module _ (mid : DiskState) (same : size_of mid ≡ size_of old) (erased : Erased (BODY + 1) (other_cell j ∷ []) old mid) (body : List ℕ) (holds : base_in body ≡ Some base) where
-    -- and then filling it
-    set_left : (cells : List Cell) → EmptyOrNew (BODY + 1) mid (other_cell j ∷ []) (body ∷ []) cells → IsMovedOrNot base j (seen_cells (BODY + 1) old) cells
-    set_left cells p =
-        let left : EmptyOrNewAt (other_cell j ∷ []) (body ∷ []) (seen_cells (BODY + 1) mid) cells = empty_or_new_seen (BODY + 1) mid (other_cell j ∷ []) (body ∷ []) cells erased.settled p in
-        let size : length cells ≡ length (seen_cells (BODY + 1) old) = left.count ∙ same_count (BODY + 1) old mid same in
-        let others : (k : ℕ) → k ≢ other_cell j → cell cells k ≡ cell (seen_cells (BODY + 1) old) k = λ k ne. left.others k (none_of_one (other_cell j) k ne) ∙ erased.others k (none_of_one (other_cell j) k ne) in
+  -- writing the base into the other cell
+  module _ (body : List ℕ) (holds : base_in body ≡ Some base) where
+    set_left : (cells : List Cell) → OldEmptyOrNewAt (other_cell j) body (seen_cells (BODY + 1) old) cells → IsMovedOrNot base j (seen_cells (BODY + 1) old) cells
+    set_left cells left =
+        let still : (cell cells (other_cell j) ≡ cell (seen_cells (BODY + 1) old) (other_cell j)) ⊎ (cell cells (other_cell j) ≡ None) → IsMovedOrNot base j (seen_cells (BODY + 1) old) cells = λ other. inl (is_unmoved j ring base above within (seen_cells (BODY + 1) old) read.based read.whole cells left.count other left.others) in
         ⊎_elim
-        (λ empty. inl (is_unmoved j ring base above within (seen_cells (BODY + 1) old) read.based read.whole cells size (inr empty) others))
-        (λ full. inr (is_moved j ring base above within (seen_cells (BODY + 1) old) read.based read.whole cells (λ k ne. inl (others k ne)) (λ k ne kept. others k ne) size (ap base_held full ∙ holds)))
-        (left.each 0 (omega arith))
+        (λ same. still (inl same))
+        (λ changed. ⊎_elim
+        (λ empty. still (inr empty))
+        (λ full. inr (is_moved j ring base above within (seen_cells (BODY + 1) old) read.based read.whole cells (λ k ne. inl (left.others k ne)) (λ k ne kept. left.others k ne) left.count (ap base_held full ∙ holds)))
+        changed)
+        left.here
 
-    pub set_leaves : (new : DiskState) → Leaves (BODY + 1) (OldOrEmptyAt (other_cell j ∷ []) (seen_cells (BODY + 1) old)) old mid → Leaves (BODY + 1) (EmptyOrNew (BODY + 1) mid (other_cell j ∷ []) (body ∷ [])) mid new → Leaves (BODY + 1) (IsMovedOrNot base j (seen_cells (BODY + 1) old)) old new
-    set_leaves new first second = leaves_then (BODY + 1) (IsMovedOrNot base j (seen_cells (BODY + 1) old)) old mid new (empty_leaves mid first)
-        (leaves_weaker (BODY + 1) (EmptyOrNew (BODY + 1) mid (other_cell j ∷ []) (body ∷ [])) (IsMovedOrNot base j (seen_cells (BODY + 1) old)) mid new set_left second)
+    pub set_leaves : (mid : DiskState) → Leaves (BODY + 1) (OldEmptyOrNewAt (other_cell j) body (seen_cells (BODY + 1) old)) old mid → Leaves (BODY + 1) (IsMovedOrNot base j (seen_cells (BODY + 1) old)) old mid
+    set_leaves mid run = leaves_weaker (BODY + 1) (OldEmptyOrNewAt (other_cell j) body (seen_cells (BODY + 1) old)) (IsMovedOrNot base j (seen_cells (BODY + 1) old)) old mid set_left run
 
-    pub is_base_set : (new : DiskState) → size_of new ≡ size_of mid → Filled (BODY + 1) (other_cell j ∷ []) (body ∷ []) mid new → IsBaseSet base j old new
-    is_base_set new as_before filled = record {
-      settled = filled.settled;
-      held = ap base_held (filled.each 0 (omega arith)) ∙ holds;
-      others = λ k ne. filled.others k (none_of_one (other_cell j) k ne) ∙ erased.others k (none_of_one (other_cell j) k ne);
-      size = same_count (BODY + 1) old new (as_before ∙ same);
-    }
+    -- and then emptying the cells of the dropped records
+    module _ (mid : DiskState) (set : Replaced (BODY + 1) (other_cell j) body old mid) (count : ℕ) (row : j.base + count ≡ base) where
+      row_apart : IsNoneOf (places j j.base count) (other_cell j)
+      row_apart = none_of_places j j.base count (other_cell j) (λ n from to. place_apart j ring base above within (seen_cells (BODY + 1) old) read.based read.whole n)
 
-  -- emptying the cells of the dropped records
-  module _ (mid : DiskState) (set : IsBaseSet base j old mid) (count : ℕ) (row : j.base + count ≡ base) where
-    row_apart : IsNoneOf (places j j.base count) (other_cell j)
-    row_apart = none_of_places j j.base count (other_cell j) (λ n from to. place_apart j ring base above within (seen_cells (BODY + 1) old) read.based read.whole n)
+      drop_left : (cells : List Cell) → OldOrEmptyAt (places j j.base count) (seen_cells (BODY + 1) mid) cells → IsMoved base j (seen_cells (BODY + 1) old) cells
+      drop_left cells left = is_moved j ring base above within (seen_cells (BODY + 1) old) read.based read.whole cells
+          (λ k ne. ⊎_elim (λ as_before. inl (as_before ∙ set.others k ne)) (λ empty. inr empty) (left.each k))
+          (λ k ne kept. left.others k (none_of_places j j.base count k (λ n from to. kept n from (omega (arith, to, row)))) ∙ set.others k ne)
+          (left.count ∙ set.count)
+          (ap base_held (left.others (other_cell j) row_apart) ∙ ap base_held set.here ∙ holds)
 
-    drop_left : (cells : List Cell) → OldOrEmptyAt (places j j.base count) (seen_cells (BODY + 1) mid) cells → IsMoved base j (seen_cells (BODY + 1) old) cells
-    drop_left cells left = is_moved j ring base above within (seen_cells (BODY + 1) old) read.based read.whole cells
-        (λ k ne. ⊎_elim (λ as_before. inl (as_before ∙ set.others k ne)) (λ empty. inr empty) (left.each k))
-        (λ k ne kept. left.others k (none_of_places j j.base count k (λ n from to. kept n from (omega (arith, to, row)))) ∙ set.others k ne)
-        (left.count ∙ set.size)
-        (ap base_held (left.others (other_cell j) row_apart) ∙ set.held)
+      pub drop_leaves : (new : DiskState) → Leaves (BODY + 1) (IsMovedOrNot base j (seen_cells (BODY + 1) old)) old mid → Leaves (BODY + 1) (OldOrEmpty (BODY + 1) mid (places j j.base count)) mid new → Leaves (BODY + 1) (IsMovedOrNot base j (seen_cells (BODY + 1) old)) old new
+      drop_leaves new first second = leaves_then (BODY + 1) (IsMovedOrNot base j (seen_cells (BODY + 1) old)) old mid new first
+          (leaves_weaker (BODY + 1) (OldOrEmpty (BODY + 1) mid (places j j.base count)) (IsMovedOrNot base j (seen_cells (BODY + 1) old)) mid new
+          (λ cells p. inr (drop_left cells (old_or_empty_seen (BODY + 1) mid (places j j.base count) cells set.settled p))) second)
 
-    pub drop_leaves : (new : DiskState) → Leaves (BODY + 1) (IsMovedOrNot base j (seen_cells (BODY + 1) old)) old mid → Leaves (BODY + 1) (OldOrEmpty (BODY + 1) mid (places j j.base count)) mid new → Leaves (BODY + 1) (IsMovedOrNot base j (seen_cells (BODY + 1) old)) old new
-    drop_leaves new first second = leaves_then (BODY + 1) (IsMovedOrNot base j (seen_cells (BODY + 1) old)) old mid new first
-        (leaves_weaker (BODY + 1) (OldOrEmpty (BODY + 1) mid (places j j.base count)) (IsMovedOrNot base j (seen_cells (BODY + 1) old)) mid new
-        (λ cells p. inr (drop_left cells (old_or_empty_seen (BODY + 1) mid (places j j.base count) cells set.settled p))) second)
-
-    pub has_moved : (new : DiskState) → size_of new ≡ size_of mid → Erased (BODY + 1) (places j j.base count) mid new → OldOrEmptyAt (places j j.base count) (seen_cells (BODY + 1) mid) (seen_cells (BODY + 1) new) → HasMoved base j old new
-    has_moved new as_before erased left =
-        let is : IsMoved base j (seen_cells (BODY + 1) old) (seen_cells (BODY + 1) new) = drop_left (seen_cells (BODY + 1) new) left in
-        let whole = read.whole in
-        let still : IsWhole (moved base j) (seen_cells (BODY + 1) new) = omega (arith, ap (λ (l : List FiredFields). length l) is.reads, length-drop (base - j.base) (live j (seen_cells (BODY + 1) old)), whole, above, within) in
-        record {
-          settled = erased.settled;
-          is = is;
-          whole = still;
-          ready = λ ready. record {
+      pub has_moved : (new : DiskState) → size_of new ≡ size_of mid → Erased (BODY + 1) (places j j.base count) mid new → OldOrEmptyAt (places j j.base count) (seen_cells (BODY + 1) mid) (seen_cells (BODY + 1) new) → HasMoved base j old new
+      has_moved new as_before erased left =
+          let is : IsMoved base j (seen_cells (BODY + 1) old) (seen_cells (BODY + 1) new) = drop_left (seen_cells (BODY + 1) new) left in
+          let whole = read.whole in
+          let still : IsWhole (moved base j) (seen_cells (BODY + 1) new) = omega (arith, ap (λ (l : List FiredFields). length l) is.reads, length-drop (base - j.base) (live j (seen_cells (BODY + 1) old)), whole, above, within) in
+          record {
             settled = erased.settled;
+            is = is;
             whole = still;
-            ahead = λ n later. elim (cases_lt n (j.base + j.ring)) [
-              | inl free ↦ ⊎_elim
-                  (λ same. same ∙ ready.ahead n (record { from = later.from; to = free }))
-                  (λ empty. empty)
-                  (is.each (place j n) (place_apart j ring base above within (seen_cells (BODY + 1) old) read.based read.whole n))
-              | inr round ↦
-                  let m : ℕ = n - j.ring in
-                  let some = ring.some in
-                  let n_is : n ≡ m + j.ring = omega (arith, round) in
-                  let same : place j n ≡ place j m = ap (place j) n_is ∙ place_round j m in
-                  let i : ℕ = m - j.base in
-                  let at : j.base + i ≡ m = omega (arith, n_is, round) in
-                  let to = later.to in
-                  let inside : i < length (places j j.base count) = omega (arith, at, n_is, to, row, places_length j j.base count) in
-                  subst (λ (k : ℕ). cell (seen_cells (BODY + 1) new) k ≡ None) (places_at j j.base count i m inside at ∙ sym same) (erased.each i inside)
-            ];
-          };
-        }
+            ready = λ ready. record {
+              settled = erased.settled;
+              whole = still;
+              ahead = λ n later. elim (cases_lt n (j.base + j.ring)) [
+                | inl free ↦ ⊎_elim
+                    (λ same. same ∙ ready.ahead n (record { from = later.from; to = free }))
+                    (λ empty. empty)
+                    (is.each (place j n) (place_apart j ring base above within (seen_cells (BODY + 1) old) read.based read.whole n))
+                | inr round ↦
+                    let m : ℕ = n - j.ring in
+                    let some = ring.some in
+                    let n_is : n ≡ m + j.ring = omega (arith, round) in
+                    let same : place j n ≡ place j m = ap (place j) n_is ∙ place_round j m in
+                    let i : ℕ = m - j.base in
+                    let at : j.base + i ≡ m = omega (arith, n_is, round) in
+                    let to = later.to in
+                    let inside : i < length (places j j.base count) = omega (arith, at, n_is, to, row, places_length j j.base count) in
+                    subst (λ (k : ℕ). cell (seen_cells (BODY + 1) new) k ≡ None) (places_at j j.base count i m inside at ∙ sym same) (erased.each i inside)
+              ];
+            };
+          }

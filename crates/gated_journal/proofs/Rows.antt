@@ -9,7 +9,7 @@ use Rattle.gated_journal.specs.declared.ring.Ring.{Ring}
 use Rattle.gated_journal.specs.Live.{live, place}
 use Rattle.gated_journal.specs.Bases.{base_of, base_cell_of, other_cell}
 use Rattle.gated_journal.specs.Rings.{cells_of_ring}
-use Rattle.gated_journal.specs.Stops.{moved, counted_times}
+use Rattle.gated_journal.specs.Stops.{moved}
 
 -- a firing of atom 0 alone, as record n
 record_of : ℕ → FiredFields
@@ -80,6 +80,3 @@ the_only_base_counts = refl
 the_other_cell_of_the_first_is_the_second : other_cell nine_and_ten ≡ 2
 unfolding nine_and_ten
 the_other_cell_of_the_first_is_the_second = refl
-
-three_syncs_more : counted_times 3 5 ≡ 8
-three_syncs_more = refl

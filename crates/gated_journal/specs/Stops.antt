@@ -1,12 +1,12 @@
 -- What the calls of a journal leave, and what a stop inside of them leaves.
-use Rattle.std.specs.Prelude.{◌≡◌, ◌≢◌, ◌⊎◌, ℕ, zero, suc, ◌+◌, ◌-◌, ◌<◌, ◌≤◌, Bool, true, List, ◌++◌, length, take, drop, Some, None}
+use Rattle.std.specs.Prelude.{◌≡◌, ◌≢◌, ◌⊎◌, ℕ, ◌+◌, ◌-◌, ◌<◌, ◌≤◌, List, ◌++◌, length, take, drop, Some, None}
 use Rattle.disk_model.specs.declared.cells.TheConstants.{BODY}
-use Rattle.disk_model.specs.DiskState.{DiskState, IsSettled, counted, size_of}
+use Rattle.disk_model.specs.DiskState.{DiskState, IsSettled}
 use Rattle.disk_model.specs.Cells.{Cell, cell, seen_cells}
 use Rattle.record_codec.specs.Fired.{FiredFields}
 use Rattle.gated_journal.specs.declared.ring.Ring.{Ring}
 use Rattle.gated_journal.specs.Live.{held_in, place, live}
-use Rattle.gated_journal.specs.Bases.{base_held, other_cell, IsBased}
+use Rattle.gated_journal.specs.Bases.{other_cell, IsBased}
 use Rattle.gated_journal.specs.Rings.{IsAhead, IsWhole, appended}
 
 -- The journal can be appended to: a stop leaves what a read gives, the cells read for its live records, and the cell of
@@ -75,30 +75,9 @@ pub record IsMoved (base : ℕ) (j : Ring) (before cells : List Cell) : Type 0 w
 abbrev pub IsMovedOrNot : ℕ → Ring → List Cell → List Cell → Type 0
 IsMovedOrNot base j before cells = IsUnmoved j before cells ⊎ IsMoved base j before cells
 
--- The other base cell holds the new base, each other cell is as it was, and a stop leaves these cells and nothing else.
-pub record IsBaseSet (base : ℕ) (j : Ring) (old new : DiskState) : Type 0 where
-  pub settled : IsSettled new.now
-  pub held : base_held (cell (seen_cells (BODY + 1) new) (other_cell j)) ≡ Some base
-  pub others : (k : ℕ) → k ≢ other_cell j → cell (seen_cells (BODY + 1) new) k ≡ cell (seen_cells (BODY + 1) old) k
-  pub size : length (seen_cells (BODY + 1) new) ≡ length (seen_cells (BODY + 1) old)
-
 -- The base is moved, a stop leaves what a read gives, and where the journal could be appended to, it can be with the new base.
 pub record HasMoved (base : ℕ) (j : Ring) (old new : DiskState) : Type 0 where
   pub settled : IsSettled new.now
   pub is : IsMoved base j (seen_cells (BODY + 1) old) (seen_cells (BODY + 1) new)
   pub whole : IsWhole (moved base j) (seen_cells (BODY + 1) new)
   pub ready : IsReady j old → IsReady (moved base j) new
-
--- a count of syncs after so many more
-abbrev pub counted_times : ℕ → ℕ → ℕ
-counted_times zero n = n
-counted_times (suc times) n = counted_times times (counted true n)
-
--- What a call of a few syncs keeps and counts.
-pub record CountsUpTo (failed : Bool) (most : ℕ) (old new : DiskState) : Type 0 where
-  pub size : size_of new ≡ size_of old
-  pub keeps : new.keeps ≡ old.keeps
-  pub failures : new.failures ≡ counted failed old.failures
-  pub synced : ℕ
-  pub few : synced ≤ most
-  pub syncs : new.syncs ≡ counted_times synced old.syncs

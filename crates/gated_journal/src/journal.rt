@@ -1,12 +1,12 @@
 //! The journal: its live records, and the calls that change them.
 ghost use Rattle.std.specs.Prelude.{◌≡◌, ◌+◌, ◌<◌, ◌≤◌, List, true, length, if◌then◌else◌, is_ok, is_err, IfOk, OnOk};
-ghost use Rattle.disk_model.specs.DiskState.{Counts, CountsTwo, Reads, IsSettled};
+ghost use Rattle.disk_model.specs.DiskState.{Counts, CountsTwo, CountsUpTo, Reads, IsSettled};
 ghost use Rattle.disk_model.specs.Cells.{cell, cell_count, seen_cells, Leaves};
 ghost use Rattle.record_codec.specs.declared.layout.TheConstants.{LAST_NUMBER};
 ghost use Rattle.record_codec.specs.Fired.{FiredFields};
 ghost use Rattle.gated_journal.specs.Live.{record_in, place, AreRecords};
 ghost use Rattle.gated_journal.specs.Rings.{IsRing, IsWhole, IsReadFor, cells_of_ring, appended};
-ghost use Rattle.gated_journal.specs.Stops.{IsReady, HasAppended, HasAppendedAll, HasCleaned, IsMovedOrNot, HasMoved, CountsUpTo, moved};
+ghost use Rattle.gated_journal.specs.Stops.{IsReady, HasAppended, HasAppendedAll, HasCleaned, IsMovedOrNot, HasMoved, moved};
 
 use crate::appending::append;
 use crate::cleaning::clean;
