@@ -1,8 +1,8 @@
 -- What appending leaves: behind the live records a front of the new ones.
-use Rattle.std.proofs.Common.{◌≡◌, ◌⊎◌, inl, inr, ⊎_elim, ℕ, zero, suc, ◌+◌, ◌-◌, ◌<◌, ◌≤◌, List, [], ◌∷◌, ◌++◌, length, take, get_or, if◌then◌else◌, Option, Some, None, refl, sym, ◌∙◌, ap, subst, arith}
+use Rattle.std.proofs.Common.{◌≡◌, ◌⊎◌, inl, inr, ⊎_elim, ℕ, zero, suc, ◌+◌, ◌-◌, ◌<◌, ◌≤◌, List, [], ◌∷◌, ◌++◌, length, take, get_or, if◌then◌else◌, Some, None, refl, sym, ◌∙◌, ap, subst, arith}
 use Rattle.std.specs.Option.{option_and_then}
 use Rattle.std.proofs.lemmas.Bool.{cases_lt, eq-eqb}
-use Rattle.std.proofs.lemmas.List.{length-append, length-map, take_all}
+use Rattle.std.proofs.lemmas.List.{length-append, take_all}
 use Rattle.disk_model.specs.declared.cells.TheConstants.{BODY}
 use Rattle.disk_model.specs.DiskState.{DiskState, size_of}
 use Rattle.disk_model.specs.Cells.{Cell, cell, seen_cells, IsNoneOf, IsClosed, Leaves, EmptyOrNew, EmptyOrNewAt, Filled}
@@ -10,10 +10,11 @@ use Rattle.disk_model.specs.Steps.{AreClosed}
 use Rattle.disk_model.specs.Moments.{same_count, leaves_weaker, empty_or_new_seen, closed_at_rest}
 use Rattle.record_codec.specs.Fired.{FiredFields, fired_in}
 use Rattle.gated_journal.specs.declared.ring.Ring.{Ring}
-use Rattle.gated_journal.specs.Live.{if_numbered, record_in, place, live, AreRecords}
+use Rattle.gated_journal.specs.Live.{if_numbered, record_in, place, live, AreRecords, records_length}
 use Rattle.gated_journal.specs.Rings.{IsRing, IsAhead, IsWhole}
 use Rattle.gated_journal.specs.Stops.{IsReady, IsBeside, HasAppended, HasAppendedAll}
 use Rattle.gated_journal.proofs.Fronts.{front, first_is, front_stops, front_splits}
+use Rattle.gated_journal.proofs.BaseCells.{place_behind, based_same}
 use Rattle.gated_journal.proofs.Places.{places, places_length, places_at, none_of_places, before_places, behind_places}
 
 -- record n in the cell that holds its body
@@ -27,9 +28,6 @@ records_rest first body bodies r records are = record {
   held = let held = are.held in cc;
   numbered = let numbered = are.numbered in cc;
 }
-
-pub records_length : (first : ℕ) (bodies : List (List ℕ)) (records : List FiredFields) → AreRecords first bodies records → length bodies ≡ length records
-records_length first bodies records are = sym (length-map bodies fired_in) ∙ ap (λ (l : List (Option FiredFields)). length l) are.held ∙ length-map records (λ (r : FiredFields). Some r)
 
 -- A front of these records is live, and the cell behind it is empty.
 pub record Batch (cells : ℕ → Cell) (records : List FiredFields) (first room : ℕ) : Type 0 where
@@ -113,6 +111,7 @@ module _ (j : Ring) (ring : IsRing j) (before : List Cell) (whole : IsWhole j be
         let b : Batch (λ n. cell cells (place j n)) news (j.last + 1) room = batch_of room to_end in
         record {
           size = left.count;
+          based = based_same j before cells ring (λ k low. left.others k (beside_places k (λ n from to. place_behind j n k low)));
           count = b.count;
           within = b.within;
           reads = goes_on room to_end ∙ ap (λ (l : List FiredFields). live j before ++ l) b.reads;
@@ -144,6 +143,7 @@ has_appended_all j bodies news old new ring ready are fits same f =
             f.others (place j n) (behind_places j (j.last + 1) (length bodies) n (omega (arith, later.from, as_many)) (omega (arith, later.to, ring.base_to)))
             ∙ ready.ahead n (record { from = omega (arith, later.from); to = later.to });
       };
+      based = based_same j before cells ring (λ k low. f.others k (beside_places j ring before ready.whole ready.ahead bodies news are fits k (λ n from to. place_behind j n k low)));
       reads = reads;
       others = λ k beside. f.others k (beside_places j ring before ready.whole ready.ahead bodies news are fits k beside);
     }

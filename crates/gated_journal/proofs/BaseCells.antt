@@ -1,8 +1,10 @@
 -- Which of the two base cells counts.
-use Rattle.std.proofs.Common.{◌≡◌, ◌⊎◌, inl, inr, ⊎_elim, ℕ, ◌<◌, Bool, if◌then◌else◌, List, Option, Some, None, sym, ◌∙◌, ap, subst, arith}
+use Rattle.std.proofs.Common.{◌≡◌, ◌≢◌, ◌⊎◌, inl, inr, ⊎_elim, ℕ, ◌<◌, ◌≤◌, Bool, if◌then◌else◌, List, Option, Some, None, sym, ◌∙◌, ap, subst, arith}
 use Rattle.std.proofs.lemmas.Bool.{cases_eq, lt-ltb, le-ltb}
 use Rattle.disk_model.specs.Cells.{Cell, cell}
 use Rattle.gated_journal.specs.declared.ring.Ring.{Ring}
+use Rattle.record_codec.specs.Ring.{base_cell}
+use Rattle.gated_journal.specs.Live.{place}
 use Rattle.gated_journal.specs.Bases.{base_held, counts_before, base_cell_of, other_cell, IsBased}
 use Rattle.gated_journal.specs.Rings.{IsRing}
 use Rattle.gated_journal.specs.Stops.{moved}
@@ -45,6 +47,15 @@ based_still j before cells ring b same other =
     (λ empty. chosen_is cells (Some j.base) None (subst (λ (k : ℕ). base_held (cell cells k) ≡ Some j.base) second held) (ap base_held (subst (λ (k : ℕ). cell cells k ≡ None) first empty)) ∙ sym second)
     other)
     (one_or_two j ring)) held
+
+-- no record stands in a base cell
+pub place_behind : (j : Ring) (n k : ℕ) → k ≤ base_cell 1 → place j n ≢ k
+place_behind j n k low = λ same. omega (arith, same)
+
+-- Where both base cells are as they were, the same base counts.
+pub based_same : (j : Ring) (before cells : List Cell) → IsRing j → ((k : ℕ) → k ≤ base_cell 1 → cell cells k ≡ cell before k) → IsBased j before → IsBased j cells
+based_same j before cells ring same b =
+    based_still j before cells ring b (same j.base_cell ring.cell_to) (inl (same (other_cell j) (let from = ring.cell_from in omega arith)))
 
 -- Where the other cell holds a greater base, that one counts.
 pub based_moved : (j : Ring) (base : ℕ) (cells : List Cell) → IsRing j → j.base < base → base_held (cell cells j.base_cell) ≡ Some j.base → base_held (cell cells (other_cell j)) ≡ Some base → IsBased (moved base j) cells

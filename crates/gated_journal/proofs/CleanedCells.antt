@@ -9,6 +9,7 @@ use Rattle.gated_journal.specs.declared.ring.Ring.{Ring}
 use Rattle.gated_journal.specs.Live.{record_in, place, live}
 use Rattle.gated_journal.specs.Rings.{IsRing, IsAhead, IsWhole}
 use Rattle.gated_journal.specs.Stops.{IsReady, HasCleaned}
+use Rattle.gated_journal.proofs.BaseCells.{place_behind, based_same}
 use Rattle.gated_journal.proofs.Fronts.{front_length, front_same, front_ends}
 use Rattle.gated_journal.proofs.Places.{places, places_length, places_at, none_of_places, before_places}
 
@@ -33,6 +34,7 @@ module _ (j : Ring) (ring : IsRing j) (count : ℕ) (to_end : j.last + 1 + count
   pub has_cleaned : (before cells : List Cell) → IsWhole j before → OldOrEmptyAt (places j (j.last + 1) count) before cells → HasCleaned j before cells
   has_cleaned before cells whole left = record {
     size = left.count;
+    based = based_same j before cells ring (λ k low. left.others k (none_of_places j (j.last + 1) count k (λ n from to. place_behind j n k low)));
     reads = same_live j before cells whole (λ n from to. left.others (place j n) (live_kept n from to))
         (λ next. ⊎_elim (λ same. ap (record_in (j.last + 1)) same ∙ next_is_none j before whole next) (λ empty. ap (record_in (j.last + 1)) empty) (left.each (place j (j.last + 1))));
     each = left.each;

@@ -2,6 +2,8 @@
 use Rattle.std.specs.Prelude.{◌≡◌, ℕ, ◌==◌, if◌then◌else◌, List, length, map, Option, Some, None}
 use Rattle.std.specs.Option.{option_and_then, some_prefix}
 use Rattle.std.specs.List.{range_with_len}
+use Rattle.std.proofs.Common.{sym, ◌∙◌, ap}
+use Rattle.std.proofs.lemmas.List.{length-map}
 use Rattle.disk_model.specs.Cells.{Cell, cell}
 use Rattle.record_codec.specs.Fired.{FiredFields, fired_in}
 use Rattle.record_codec.specs.Ring.{record_cell}
@@ -36,3 +38,7 @@ live j cells = live_among cells (place j) (range_with_len j.base j.ring)
 pub record AreRecords (first : ℕ) (bodies : List (List ℕ)) (records : List FiredFields) : Type 0 where
   pub held : map fired_in bodies ≡ map (λ (r : FiredFields). Some r) records
   pub numbered : map (λ (r : FiredFields). r.number) records ≡ range_with_len first (length records)
+
+-- There are as many bodies as records.
+pub records_length : (first : ℕ) (bodies : List (List ℕ)) (records : List FiredFields) → AreRecords first bodies records → length bodies ≡ length records
+records_length first bodies records are = sym (length-map bodies fired_in) ∙ ap (λ (l : List (Option FiredFields)). length l) are.held ∙ length-map records (λ (r : FiredFields). Some r)

@@ -21,9 +21,10 @@ abbrev pub IsBeside : Ring → ℕ → ℕ → Type 0
 IsBeside j count k = (n : ℕ) → j.last < n → n ≤ j.last + count → place j n ≢ k
 
 -- Behind the records that were live there are live now the first ones of the new, behind these is an empty cell, and each
--- cell of no new record is as it was.
+-- cell of no new record is as it was, the base among them.
 pub record HasAppended (j : Ring) (news : List FiredFields) (before cells : List Cell) : Type 0 where
   pub size : length cells ≡ length before
+  pub based : IsBased j before → IsBased j cells
   pub count : ℕ
   pub within : count ≤ length news
   pub reads : live j cells ≡ live j before ++ take count news
@@ -31,15 +32,18 @@ pub record HasAppended (j : Ring) (news : List FiredFields) (before cells : List
   pub others : (k : ℕ) → IsBeside j (length news) k → cell cells k ≡ cell before k
 
 -- All of the new records are live behind those that were, the journal with them can be appended to, and each cell of no new
--- record is as it was.
+-- record is as it was, the base among them.
 pub record HasAppendedAll (j : Ring) (news : List FiredFields) (old new : DiskState) : Type 0 where
   pub ready : IsReady (appended (length news) j) new
+  pub based : IsBased j (seen_cells (BODY + 1) old) → IsBased j (seen_cells (BODY + 1) new)
   pub reads : live j (seen_cells (BODY + 1) new) ≡ live j (seen_cells (BODY + 1) old) ++ news
   pub others : (k : ℕ) → IsBeside j (length news) k → cell (seen_cells (BODY + 1) new) k ≡ cell (seen_cells (BODY + 1) old) k
 
--- The same records are live, each cell is as it was or empty, and each that is not of a record ahead is as it was.
+-- The same records are live, each cell is as it was or empty, and each that is not of a record ahead is as it was, the base
+-- among them.
 pub record HasCleaned (j : Ring) (before cells : List Cell) : Type 0 where
   pub size : length cells ≡ length before
+  pub based : IsBased j before → IsBased j cells
   pub reads : live j cells ≡ live j before
   pub each : (k : ℕ) → (cell cells k ≡ cell before k) ⊎ (cell cells k ≡ None)
   pub others : (k : ℕ) → ((n : ℕ) → IsAhead j n → place j n ≢ k) → cell cells k ≡ cell before k
