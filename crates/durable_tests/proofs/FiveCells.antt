@@ -1,9 +1,8 @@
--- What the tests' devices of five cells have, and what a run of two calls leaves.
-use Rattle.std.proofs.Common.{◌≡◌, ℕ, zero, suc, ◌/◌, ◌<◌, Bool, true, List, [], ◌∷◌, get_or, refl, sym, ap, subst, arith}
-use Rattle.disk_model.specs.DiskState.{DiskState, IsSettled, Reads, size_of}
-use Rattle.disk_model.specs.Cells.{Cell, cell_count, seen_cells, Leaves, OldOrEmpty, OldOrEmptyAt, Erased}
-use Rattle.disk_model.specs.Moments.{closed_at_rest, leaves_then, leaves_weaker, old_or_empty_before, old_or_empty_seen, settled_cells}
-use Rattle.disk_model.specs.Reading.{reads_leave, reads_seen, reads_settled}
+-- What the tests' devices of five cells have.
+use Rattle.std.proofs.Common.{◌≡◌, ℕ, zero, suc, ◌/◌, ◌<◌, List, [], ◌∷◌, get_or, refl, ap, arith}
+use Rattle.disk_model.specs.DiskState.{DiskState, size_of}
+use Rattle.disk_model.specs.Cells.{cell_count, Erased}
+use Rattle.disk_model.specs.Moments.{closed_at_rest}
 use Rattle.disk_model.specs.Steps.{AreInside, AreClosed, AllDiffer}
 
 pub one_of_five : (s : DiskState) (k : ℕ) → size_of s ≡ 2560 → k < 5 → k < cell_count 512 s
@@ -33,11 +32,3 @@ three_inside s size zero lt = one_of_five s 1 size (omega arith)
 three_inside s size (suc zero) lt = one_of_five s 2 size (omega arith)
 three_inside s size (suc (suc zero)) lt = one_of_five s 3 size (omega arith)
 three_inside s size (suc (suc (suc i))) lt = absurd (omega arith)
-
--- a call that reads, and then one that empties cells of a settled device
-pub read_then_erased : {failed : Bool} (old mid new : DiskState) (ks : List ℕ) → old.keeps ≡ true → IsSettled old.now → Reads failed old mid → Leaves 512 (OldOrEmpty 512 mid ks) mid new → Leaves 512 (OldOrEmptyAt ks (seen_cells 512 old)) old new
-read_then_erased old mid new ks keeps settled reads run =
-    let P : List Cell → Type 0 = OldOrEmptyAt ks (seen_cells 512 old) in
-    let first : Leaves 512 P old mid = reads_leave 512 P old mid reads keeps (λ cells may. subst P (sym (settled_cells 512 old cells settled may)) (old_or_empty_before ks (seen_cells 512 old))) in
-    let second : Leaves 512 P mid new = leaves_weaker 512 (OldOrEmpty 512 mid ks) P mid new (λ cells p. subst (λ (l : List Cell). OldOrEmptyAt ks l cells) (reads_seen 512 old mid reads keeps) (old_or_empty_seen 512 mid ks cells (reads_settled old mid reads keeps settled) p)) run in
-    leaves_then 512 P old mid new first second

@@ -4,9 +4,6 @@
 //! mean what they should, on devices and bodies worked out by hand.
 #![tactic(auto)]
 
-// The cells of the device and the bodies that are written into them have one length.
-const _: () = prove!(disk_model::BODY == record_codec::BODY);
-
 // What the trimmer knows of a record has room for each participant that a record may have.
 const _: () = prove!(trimmer::MOST_PARTICIPANTS == record_codec::MOST_ENTRIES);
 

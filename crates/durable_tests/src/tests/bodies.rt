@@ -71,103 +71,169 @@ fn longest_record() -> [u8; BODY] {
     body
 }
 
+// What the bodies hold, told with no contract: a test compares values alone.
+fn base_in(body: &[u8; BODY]) -> Option<u64> {
+    let base = Base::from_body(body)?;
+    Some(base.number())
+}
+
+fn identity_in(body: &[u8; BODY]) -> Option<(u16, u32, [u8; 32])> {
+    let identity = Identity::from_body(body)?;
+    Some((identity.atoms(), identity.ring(), *identity.digest()))
+}
+
+fn version_in(body: &[u8; BODY]) -> Option<u16> {
+    Identity::version_in(body)
+}
+
+fn saved_in(body: &[u8; BODY]) -> Option<Saved> {
+    Saved::from_body(body)
+}
+
+fn record_in(body: &[u8; BODY]) -> Option<Fired> {
+    Fired::from_body(body)
+}
+
+fn base_of_nine() -> [u8; BODY] {
+    Base::new(9).to_body()
+}
+
 #[test]
 fn bases(rt: HostRuntime) -> Result<(), Fail> {
-    let nine = Base::from_body(&body_of(&BASE)).ok_or("9 is a base")?;
-    assert_eq!(rt; nine.number(), 9);
-    assert_eq!(rt; Base::new(9).to_body(), body_of(&BASE));
-    let last = Base::from_body(&body_of(&[128, 0, 0, 0, 0, 0, 0, 0])).ok_or("2^63 is a base")?;
-    assert_eq!(rt; last.number(), 1 << 63);
+    assert_eq!(rt; base_in(&body_of(&BASE)), Some(9));
+    assert_eq!(rt; base_of_nine(), body_of(&BASE));
+    let last = body_of(&[128, 0, 0, 0, 0, 0, 0, 0]);
+    assert_eq!(rt; base_in(&last), Some(1 << 63));
 
     let mut trailing = body_of(&BASE);
     trailing[BODY - 1] = 1;
     let past = body_of(&[128, 0, 0, 0, 0, 0, 0, 1]);
     for refused in [trailing, body_of(&[]), past] {
-        assert_eq!(rt; Base::from_body(&refused), None);
+        assert_eq!(rt; base_in(&refused), None);
     }
     Ok(())
+}
+
+/// The body of an identity with this digest, of two atoms and a ring of 8, or of the most that there may be.
+fn identity_bodies(digest: [u8; 32]) -> ([u8; BODY], [u8; BODY]) {
+    let sample = Identity::new(2, 8, digest);
+    let largest = Identity::new(64, 4096, digest);
+    (sample.to_body(), largest.to_body())
 }
 
 #[test]
 fn identities(rt: HostRuntime) -> Result<(), Fail> {
     let body = body_of(&IDENTITY);
-    let identity = Identity::from_body(&body).ok_or("the sample's identity")?;
-    assert_eq!(rt; identity.atoms(), 2);
-    assert_eq!(rt; identity.ring(), 8);
-    assert_eq!(rt; identity.digest().as_slice(), &IDENTITY[12..]);
-    let again = Identity::new(2, 8, *identity.digest());
-    assert_eq!(rt; again.to_body(), body);
-    assert_eq!(rt; Identity::version_in(&body), Some(1));
-
-    let largest = Identity::new(64, 4096, *identity.digest());
-    assert_eq!(rt; Identity::from_body(&largest.to_body()), Some(largest));
+    let (atoms, ring, digest) = identity_in(&body).ok_or("the sample's identity")?;
+    assert_eq!(rt; atoms, 2);
+    assert_eq!(rt; ring, 8);
+    assert_eq!(rt; digest.as_slice(), &IDENTITY[12..]);
+    let (again, largest) = identity_bodies(digest);
+    assert_eq!(rt; again, body);
+    assert_eq!(rt; version_in(&body), Some(1));
+    assert_eq!(rt; identity_in(&largest), Some((64, 4096, digest)));
 
     // A ring of 4,097 records, 65 atoms, and another version.
-    let mut longer_ring = largest.to_body();
+    let mut longer_ring = largest;
     longer_ring[11] = 1;
-    let mut more_atoms = largest.to_body();
+    let mut more_atoms = largest;
     more_atoms[7] = 65;
     let mut other_version = body;
     other_version[5] = 3;
     for refused in [longer_ring, more_atoms, other_version] {
-        assert_eq!(rt; Identity::from_body(&refused), None);
+        assert_eq!(rt; identity_in(&refused), None);
     }
-    assert_eq!(rt; Identity::version_in(&other_version), Some(3));
-    assert_eq!(rt; Identity::version_in(&body_of(&[])), None);
+    assert_eq!(rt; version_in(&other_version), Some(3));
+    assert_eq!(rt; version_in(&body_of(&[])), None);
     Ok(())
+}
+
+/// The atom, the count, the number of the copy and the marking.
+fn numbers_of(saved: &Saved) -> (u16, u64, u64, u64) {
+    (saved.atom(), saved.count(), saved.at(), saved.marking())
+}
+
+fn values_of(saved: &Saved) -> &[i64] {
+    saved.values()
+}
+
+fn body_of_saved(saved: &Saved) -> [u8; BODY] {
+    saved.to_body()
+}
+
+fn sample_saved() -> [u8; BODY] {
+    Saved::new(0, 4, 4, 1, &[4]).to_body()
 }
 
 #[test]
 fn saved_states(rt: HostRuntime) -> Result<(), Fail> {
     let body = body_of(&SAVED);
-    let saved = Saved::from_body(&body).ok_or("a saved state")?;
-    assert_eq!(rt; saved.atom(), 0);
-    assert_eq!(rt; saved.count(), 4);
-    assert_eq!(rt; saved.at(), 4);
-    assert_eq!(rt; saved.marking(), 1);
-    assert_eq!(rt; saved.values(), [4].as_slice());
-    let again = Saved::new(0, 4, 4, 1, &[4]);
-    assert_eq!(rt; again.to_body(), body);
+    let saved = saved_in(&body).ok_or("a saved state")?;
+    assert_eq!(rt; numbers_of(&saved), (0, 4, 4, 1));
+    assert_eq!(rt; values_of(&saved), [4].as_slice());
+    assert_eq!(rt; sample_saved(), body);
 
-    let longest = Saved::from_body(&longest_saved()).ok_or("the longest saved state")?;
-    assert_eq!(rt; longest.values(), [-1; 16].as_slice());
-    assert_eq!(rt; longest.to_body(), longest_saved());
+    let longest = saved_in(&longest_saved()).ok_or("the longest saved state")?;
+    assert_eq!(rt; values_of(&longest), [-1; 16].as_slice());
+    assert_eq!(rt; body_of_saved(&longest), longest_saved());
 
     let mut count_above = body;
     count_above[9] = 5;
-    assert!(rt; Saved::from_body(&count_above).is_none());
+    assert!(rt; saved_in(&count_above).is_none());
     Ok(())
+}
+
+const FIRST: Entry = Entry {
+    atom: 0,
+    transition: 0,
+    participation: 2,
+    delivered: [None; 4],
+};
+
+const SECOND: Entry = Entry {
+    atom: 1,
+    transition: 0,
+    participation: 1,
+    delivered: [Some(1), None, None, None],
+};
+
+fn sample_record() -> [u8; BODY] {
+    Fired::new(2, 1, &[FIRST, SECOND]).to_body()
+}
+
+/// The number and the connector.
+fn numbers_in(record: &Fired) -> (u64, u16) {
+    (record.number(), record.connector())
+}
+
+fn entries_in(record: &Fired) -> &[Entry] {
+    record.entries()
+}
+
+fn body_of_record(record: &Fired) -> [u8; BODY] {
+    record.to_body()
 }
 
 #[test]
 fn records(rt: HostRuntime) -> Result<(), Fail> {
     let body = body_of(&RECORD);
-    let record = Fired::from_body(&body).ok_or("record 2 of the sample")?;
-    assert_eq!(rt; record.number(), 2);
-    assert_eq!(rt; record.connector(), 1);
-    let first = Entry {
-        atom: 0,
-        transition: 0,
-        participation: 2,
-        delivered: [None; 4],
-    };
-    let second = Entry {
-        atom: 1,
-        transition: 0,
-        participation: 1,
-        delivered: [Some(1), None, None, None],
-    };
-    assert_eq!(rt; record.entries(), [first, second].as_slice());
-    assert_eq!(rt; (first.mask(), first.delivered_count()), (0, 0));
-    assert_eq!(rt; (second.mask(), second.delivered_count()), (1, 1));
-    let again = Fired::new(2, 1, &[first, second]);
-    assert_eq!(rt; again.to_body(), body);
+    let record = record_in(&body).ok_or("record 2 of the sample")?;
+    assert_eq!(rt; numbers_in(&record), (2, 1));
+    assert_eq!(rt; entries_in(&record), [FIRST, SECOND].as_slice());
+    assert_eq!(rt; (FIRST.mask(), FIRST.delivered_count()), (0, 0));
+    assert_eq!(rt; (SECOND.mask(), SECOND.delivered_count()), (1, 1));
+    assert_eq!(rt; sample_record(), body);
 
-    let longest = Fired::from_body(&longest_record()).ok_or("the longest record")?;
-    assert_eq!(rt; longest.entries().len(), 8);
-    assert_eq!(rt; longest.to_body(), longest_record());
+    let longest = record_in(&longest_record()).ok_or("the longest record")?;
+    assert_eq!(rt; entries_in(&longest).len(), 8);
+    assert_eq!(rt; body_of_record(&longest), longest_record());
+    Ok(())
+}
 
-    // Participation 3 in record 2, participation 2 in record 1, and atoms 1 and 0 in this order.
+/// Participation 3 in record 2, participation 2 in record 1, and atoms 1 and 0 in this order.
+#[test]
+fn records_refused(rt: HostRuntime) {
+    let body = body_of(&RECORD);
     let mut past = body;
     past[22] = 3;
     let mut first_record = body;
@@ -176,21 +242,35 @@ fn records(rt: HostRuntime) -> Result<(), Fail> {
     turned[12] = 1;
     turned[26] = 0;
     for refused in [past, first_record, turned] {
-        assert!(rt; Fired::from_body(&refused).is_none());
+        assert!(rt; record_in(&refused).is_none());
     }
-    Ok(())
+}
+
+#[derive(Clone, Copy)]
+enum Kind {
+    Base,
+    Identity,
+    Saved,
+    Record,
+}
+
+fn reads(kind: Kind, body: &[u8; BODY]) -> bool {
+    match kind {
+        Kind::Base => base_in(body).is_some(),
+        Kind::Identity => identity_in(body).is_some(),
+        Kind::Saved => saved_in(body).is_some(),
+        Kind::Record => record_in(body).is_some(),
+    }
 }
 
 // How many of the bodies are read that differ from this one in a single byte, which is one of six values.
-fn changes_read<F: Fn(&[u8; BODY]) -> bool>(body: &[u8; BODY], reads: F) -> u32
-    requires { F.IsAlwaysCallable reads }
-{
+fn changes_read(kind: Kind, body: &[u8; BODY]) -> u32 {
     let mut count = 0u32;
     for i in 0..BODY {
         for value in [0, 1, 2, 127, 128, 255] {
             let mut changed = *body;
             changed[i] = value;
-            if value != body[i] && reads(&changed) {
+            if value != body[i] && reads(kind, &changed) {
                 count = count.saturating_add(1);
             }
         }
@@ -198,25 +278,29 @@ fn changes_read<F: Fn(&[u8; BODY]) -> bool>(body: &[u8; BODY], reads: F) -> u32
     count
 }
 
-// The counts are those of the grammar. Of a base 9: 3 for the first byte, 5 for each of the next seven.
+// The counts are those of the grammar.
 #[test]
 fn single_bytes_changed(rt: HostRuntime) {
-    let base = changes_read(&body_of(&BASE), |b| Base::from_body(b).is_some());
-    assert_eq!(rt; base, 3 + 7 * 5);
-
-    // atoms, ring, digest
-    let identity = changes_read(&body_of(&IDENTITY), |b| Identity::from_body(b).is_some());
-    assert_eq!(rt; identity, 1 + 5 + 32 * 6);
-
-    // atom, count, at, marking, variables, value
-    let saved = changes_read(&body_of(&SAVED), |b| Saved::from_body(b).is_some());
-    assert_eq!(rt; saved, 2 + 3 + 36 + 40 + 1 + 41);
-    let longest = changes_read(&longest_saved(), |b| Saved::from_body(b).is_some());
-    assert_eq!(rt; longest, 3 + 38 + 40 + 16 * 40);
-
-    // number, connector, and of the entries the atom, transition, participation, mask, value
-    let record = changes_read(&body_of(&RECORD), |b| Fired::from_body(b).is_some());
-    assert_eq!(rt; record, 36 + 2 + 3 + 1 + 1 + 3 + 1 + 1 + 40);
-    let longest = changes_read(&longest_record(), |b| Fired::from_body(b).is_some());
-    assert_eq!(rt; longest, 3 + 3 + 8 * (3 + 38 + 4 * 40));
+    for (kind, body, count) in [
+        // the first byte, and each of the next seven
+        (Kind::Base, body_of(&BASE), 3 + 7 * 5),
+        // atoms, ring, digest
+        (Kind::Identity, body_of(&IDENTITY), 1 + 5 + 32 * 6),
+        // atom, count, at, marking, variables, value
+        (Kind::Saved, body_of(&SAVED), 2 + 3 + 36 + 40 + 1 + 41),
+        (Kind::Saved, longest_saved(), 3 + 38 + 40 + 16 * 40),
+        // number, connector, and of the entries the atom, transition, participation, mask, value
+        (
+            Kind::Record,
+            body_of(&RECORD),
+            36 + 2 + 3 + 1 + 1 + 3 + 1 + 1 + 40,
+        ),
+        (
+            Kind::Record,
+            longest_record(),
+            3 + 3 + 8 * (3 + 38 + 4 * 40),
+        ),
+    ] {
+        assert_eq!(rt; changes_read(kind, &body), count);
+    }
 }

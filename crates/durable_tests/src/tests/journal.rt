@@ -1,11 +1,12 @@
 // What a stop leaves of a journal, call by call, on devices of two atoms. Each record's body is compared with what was written.
-ghost use Rattle.std.specs.Prelude.{◌≡◌, ◌^◌, ◌<◌, true};
+ghost use Rattle.std.specs.Prelude.{◌≡◌, ◌^◌, ◌<◌, true, false, IfOk};
 ghost use Rattle.disk_model.specs.DiskState.{size_of};
 ghost use Rattle.disk_model.specs.MemDisk.{state_of};
 ghost use Rattle.gated_journal.specs.Rings.{IsRing};
+ghost use Rattle.durable_tests.specs.Opened.{IsOpened};
 
 use disk_model::{BODY, Cells, Disk, DiskFault, MemDisk, Tear};
-use gated_journal::Journal;
+use gated_journal::{Journal, Ring};
 use record_codec::ring::{base_cell, device_cells, record_cell};
 use record_codec::{Base, Entry, Fired};
 use std::alloc::Global;
@@ -48,13 +49,18 @@ impl Disk for Untold {
     }
 }
 
-/// The numbers of a journal.
-#[derive(Clone, Copy)]
-struct Numbers {
-    ring: u32,
-    base_cell: u64,
-    base: u64,
-    last: u64,
+type Engine = Cells<Untold, BODY>;
+
+fn cells_of(disk: MemDisk) -> Engine
+    ensures untold { result.keeps ≡ false }
+    ensures size { size_of result ≡ size_of (state_of disk) }
+{
+    Cells::new(Untold { disk })
+}
+
+fn disk_of(cells: Engine) -> MemDisk {
+    let Untold { disk } = cells.into_disk();
+    disk
 }
 
 /// Which call is made.
@@ -79,10 +85,19 @@ fn body_of(n: u64) -> [u8; BODY] {
     Fired::new(n, 0, &[entry]).to_body()
 }
 
-fn are_in_range(n: Numbers) -> bool
-    ensures { result ≡ true → IsRing (record { atoms = 2; ring = n.ring; base_cell = n.base_cell; base = n.base; last = n.last }) }
+/// The bodies of `count` records from number `first` on, of which there are 64 at most.
+fn bodies_from(first: u64, count: usize) -> [[u8; BODY]; 64] {
+    let mut bodies = [[0; BODY]; 64];
+    for i in 0..count.min(64) {
+        bodies[i] = body_of(first.saturating_add(i as u64));
+    }
+    bodies
+}
+
+fn is_in_range(n: Ring) -> bool
+    ensures { result ≡ true → IsRing n }
 {
-    let few = n.ring >= 1 && n.ring <= 4096;
+    let few = n.atoms == ATOMS && n.ring >= 1 && n.ring <= 4096;
     let based = n.base_cell >= 1 && n.base_cell <= 2 && n.base >= 1;
     few && based
         && n.last <= 1_000_000
@@ -90,104 +105,127 @@ fn are_in_range(n: Numbers) -> bool
         && n.last < n.base + u64::from(n.ring)
 }
 
-/// Makes the call on the journal with these numbers, with the device dead from its `k`-th device call on.
-fn stopped(
-    alloc: Global,
-    disk: MemDisk,
-    n: Numbers,
-    call: Call,
-    k: u64,
-) -> Result<(bool, MemDisk), Fail> {
+/// The cells of a device that is dead from its `k`-th device call on, and the journal with these numbers.
+fn opened(alloc: Global, disk: MemDisk, n: Ring, k: u64) -> Result<(Engine, Journal), Fail>
+    ensures { IfOk result (λ r. IsOpened n r.1 r.0) }
+{
     let mut disk = disk;
     let size = disk.size()?;
-    if !are_in_range(n) || size < 512 * device_cells(ATOMS, n.ring) {
+    if !is_in_range(n) || size < 512 * device_cells(n.atoms, n.ring) {
         return Err(Fail::new("no such journal"));
     }
     disk.fuse_dead(k);
-    let mut cells = Cells::new(Untold { disk });
-    let made = Journal::of(alloc, &cells, ATOMS, n.ring, n.base_cell, n.base, n.last);
-    let mut journal = made?;
-    let ok = match call {
-        Call::Append(count) => {
-            let mut bodies = [[0; BODY]; 64];
-            for i in 0..64 {
-                bodies[i] = body_of(n.last + 1 + i as u64);
-            }
-            if count > 64 {
-                return Err(Fail::new("too many records"));
-            }
-            let end = n.last + count as u64;
-            if end > 2_000_000 || end >= n.base + u64::from(n.ring) {
-                return Err(Fail::new("no room for these records"));
-            }
-            journal.append_run(&mut cells, &bodies[..count]).is_ok()
-        }
-        Call::Clean => journal.clean(&mut cells).is_ok(),
+    let cells = cells_of(disk);
+    let made = Journal::of(alloc, &cells, n.atoms, n.ring, n.base_cell, n.base, n.last);
+    let journal = made?;
+    Ok((cells, journal))
+}
+
+/// Appends the next records, and says whether it succeeded.
+fn append(cells: &mut Engine, journal: &mut Journal, n: Ring, count: usize) -> Result<bool, Fail>
+    requires { IsOpened n journal.old cells.old }
+{
+    if count > 64 || n.last > 1_000_000 {
+        return Err(Fail::new("too many records"));
+    }
+    if n.last + count as u64 >= n.base + u64::from(n.ring) {
+        return Err(Fail::new("no room for these records"));
+    }
+    let bodies = bodies_from(n.last + 1, count);
+    Ok(journal.append_run(cells, &bodies[..count]).is_ok())
+}
+
+/// Makes the call on the journal with these numbers, and says whether it succeeded.
+fn succeeds(cells: &mut Engine, journal: &mut Journal, n: Ring, call: Call) -> Result<bool, Fail>
+    requires { IsOpened n journal.old cells.old }
+{
+    match call {
+        Call::Append(count) => append(cells, journal, n, count),
+        Call::Clean => Ok(journal.clean(cells).is_ok()),
         Call::Move(base) => {
             if base <= n.base || base > n.last + 1 {
                 return Err(Fail::new("no such base"));
             }
-            journal.move_base(&mut cells, base).is_ok()
+            Ok(journal.move_base(cells, base).is_ok())
         }
-    };
-    let Untold { disk } = cells.into_disk();
-    Ok((ok, disk))
+    }
 }
 
-/// The body in cell `k`, where it is full.
-fn body_in(cells: &mut Cells<MemDisk, BODY>, k: u64) -> Result<Option<[u8; BODY]>, DiskFault> {
-    let mut body = [0; BODY];
-    if cells.size()? / 512 <= k || !cells.read_cell(k, &mut body)? {
-        return Ok(None);
+/// Makes the call on the journal with these numbers, with the device dead from its `k`-th device call on.
+fn stopped(
+    alloc: Global,
+    disk: MemDisk,
+    n: Ring,
+    call: Call,
+    k: u64,
+) -> Result<(bool, MemDisk), Fail> {
+    let (mut cells, mut journal) = opened(alloc, disk, n, k)?;
+    let ok = succeeds(&mut cells, &mut journal, n, call)?;
+    Ok((ok, disk_of(cells)))
+}
+
+/// Whether cell `k` is full, and its body then.
+fn body_in(cells: &mut Engine, k: u64, body: &mut [u8; BODY]) -> Result<bool, DiskFault> {
+    if cells.size()? / 512 <= k {
+        return Ok(false);
     }
-    Ok(Some(body))
+    cells.read_cell(k, body)
 }
 
 /// The base that a cell holds, or 0.
-fn base_in(cells: &mut Cells<MemDisk, BODY>, k: u64) -> Result<u64, DiskFault> {
-    match body_in(cells, k)? {
-        Some(body) => Ok(Base::from_body(&body).map_or(0, |base| base.number())),
+fn base_in(cells: &mut Engine, k: u64) -> Result<u64, DiskFault> {
+    let mut body = [0; BODY];
+    if !body_in(cells, k, &mut body)? {
+        return Ok(0);
+    }
+    match Base::from_body(&body) {
+        Some(base) => Ok(base.number()),
         None => Ok(0),
     }
 }
 
 /// What the cells read for: the base, how many records are live, and how many cells of the ring are full.
 fn read(disk: MemDisk, ring: u32) -> Result<(u64, u64, u64), DiskFault> {
-    let mut cells = Cells::new(disk);
+    let mut cells = cells_of(disk);
     let base = base_in(&mut cells, base_cell(0))?.max(base_in(&mut cells, base_cell(1))?);
     let mut live = 0u64;
     let mut full = 0u64;
     let mut ended = false;
     for i in 0..ring {
         let number = base.saturating_add(u64::from(i));
-        let place = record_cell(ATOMS, ring, number);
-        let body = body_in(&mut cells, place)?;
-        full = full.saturating_add(u64::from(body.is_some()));
-        ended = ended || body != Some(body_of(number));
+        let mut body = [0; BODY];
+        let there = body_in(&mut cells, record_cell(ATOMS, ring, number), &mut body)?;
+        full = full.saturating_add(u64::from(there));
+        ended = ended || !there || body != body_of(number);
         live = live.saturating_add(u64::from(!ended));
     }
     Ok((base, live, full))
 }
 
+/// Writes a base into cell `k`.
+fn put_base(disk: MemDisk, k: u64, base: u64) -> Result<MemDisk, Fail> {
+    let mut cells = cells_of(disk);
+    if cells.size()? / 512 <= k || base < 1 || base > 1_000_000 {
+        return Err(Fail::new("no such base"));
+    }
+    cells.replace(k, &Base::new(base).to_body())?;
+    Ok(disk_of(cells))
+}
+
 /// A device whose base is n's, in its cell, and whose live records are n's. The other base cell is empty, or holds base 1.
-fn prepared(alloc: Global, n: Numbers, both: bool) -> Result<MemDisk, Fail> {
-    if !are_in_range(n) || n.last + 1 - n.base > 64 {
+fn prepared(alloc: Global, n: Ring, both: bool) -> Result<MemDisk, Fail> {
+    if !is_in_range(n) {
         return Err(Fail::new("no such journal"));
     }
-    let disk = MemDisk::new(alloc, 512 * device_cells(ATOMS, n.ring), 256)?;
-    let mut cells = Cells::new(disk);
-    if cells.size()? < 2048 {
-        return Err(Fail::new("a device of three cells at least"));
-    }
-    if both {
-        cells.erase_run(&[3 - n.base_cell])?;
-        cells.set(3 - n.base_cell, &Base::new(1).to_body())?;
-    }
-    cells.erase(n.base_cell)?;
-    cells.set(n.base_cell, &Base::new(n.base).to_body())?;
-    let disk = cells.into_disk();
+    let new = MemDisk::new(alloc, 512 * device_cells(n.atoms, n.ring), 256)?;
+    let disk = if both {
+        put_base(new, 3 - n.base_cell, 1)?
+    } else {
+        new
+    };
+    let disk = put_base(disk, n.base_cell, n.base)?;
     let count = (n.last + 1 - n.base) as usize;
-    let none = Numbers {
+    let none = Ring {
         last: n.base - 1,
         ..n
     };
@@ -197,59 +235,87 @@ fn prepared(alloc: Global, n: Numbers, both: bool) -> Result<MemDisk, Fail> {
 
 /// The device before the call: as `prepared`, or behind a batch of two that was stopped at its last sync, with the first gate
 /// closed and the second open.
-#[derive(Clone, Copy, PartialEq)]
+#[derive(Clone, Copy)]
 enum Start {
     OneBase,
     TwoBases,
     OpenPastTheEnd,
 }
 
-fn started(alloc: Global, n: Numbers, start: Start) -> Result<MemDisk, Fail> {
-    let disk = prepared(alloc, n, start == Start::TwoBases)?;
-    if start != Start::OpenPastTheEnd {
-        return Ok(disk);
+fn started(alloc: Global, n: Ring, start: Start) -> Result<MemDisk, Fail> {
+    match start {
+        Start::OneBase => prepared(alloc, n, false),
+        Start::TwoBases => prepared(alloc, n, true),
+        Start::OpenPastTheEnd => {
+            // Two bodies, a sync, two gates, and the last sync. The first of the two cells has an even number.
+            let disk = prepared(alloc, n, false)?;
+            let (_, disk) = stopped(alloc, disk, n, Call::Append(2), 6)?;
+            Ok(disk.stop(Tear::Mixed))
+        }
     }
-    // Two bodies, a sync, two gates, and the last sync. The first of the two cells has an even number.
-    let (_, disk) = stopped(alloc, disk, n, Call::Append(2), 6)?;
-    Ok(disk.stop(Tear::Mixed))
+}
+
+/// How many records are live.
+fn live_in(base: u64, last: u64) -> u64 {
+    last.saturating_add(1).saturating_sub(base)
+}
+
+/// The base and the number of live records that the call ends with.
+fn end_of(n: Ring, call: Call) -> (u64, u64) {
+    match call {
+        Call::Append(count) => (n.base, live_in(n.base, n.last).saturating_add(count as u64)),
+        Call::Clean => (n.base, live_in(n.base, n.last)),
+        Call::Move(to) => (to, live_in(to, n.last)),
+    }
 }
 
 /// Whether the cells read for what the call may leave, and where it ended for what it has to.
-fn is_right(n: Numbers, call: Call, ok: bool, found: (u64, u64, u64)) -> bool {
+fn is_right(n: Ring, call: Call, ok: bool, found: (u64, u64, u64)) -> bool {
     let (base, live, full) = found;
-    let was = n.last.saturating_add(1).saturating_sub(n.base);
-    let new = match call {
-        Call::Append(count) => (n.base, was.saturating_add(count as u64)),
-        Call::Clean => (n.base, was),
-        Call::Move(to) => (to, n.last.saturating_add(1).saturating_sub(to)),
-    };
+    let was = live_in(n.base, n.last);
+    let (to, all) = end_of(n, call);
     if ok {
-        return (base, live) == new && full == live;
+        return base == to && live == all && full == live;
     }
     match call {
-        Call::Append(_) => base == n.base && live >= was && live <= new.1,
-        _ => (base, live) == (n.base, was) || (base, live) == new,
+        Call::Append(_) => base == n.base && live >= was && live <= all,
+        _ => base == n.base && live == was || base == to && live == all,
     }
+}
+
+/// Stops the call at its `k`-th device call under each tear: whether it ended before, and how many stops fell inside it.
+fn ends_before(
+    rt: &impl Abort,
+    alloc: Global,
+    n: Ring,
+    start: Start,
+    call: Call,
+    k: u64,
+) -> Result<(bool, u64), Fail> {
+    let mut ended = false;
+    let mut stops = 0u64;
+    for tear in TEARS {
+        let (ok, disk) = stopped(alloc, started(alloc, n, start)?, n, call, k)?;
+        let found = read(disk.stop(tear), n.ring)?;
+        assert!(rt; is_right(n, call, ok, found), "device call {k}");
+        stops = stops.saturating_add(u64::from(!ok));
+        ended = ok;
+    }
+    Ok((ended, stops))
 }
 
 /// Stops the call at each of its device calls under each tear: how many device calls it makes, and how many stops there were.
 fn stops(
     rt: &impl Abort,
     alloc: Global,
-    n: Numbers,
+    n: Ring,
     start: Start,
     call: Call,
 ) -> Result<(u64, u64), Fail> {
     let mut all = 0u64;
     for k in 1..200 {
-        let mut ended = false;
-        for tear in TEARS {
-            let (ok, disk) = stopped(alloc, started(alloc, n, start)?, n, call, k)?;
-            let found = read(disk.stop(tear), n.ring)?;
-            assert!(rt; is_right(n, call, ok, found), "device call {k}");
-            all = all.saturating_add(u64::from(!ok));
-            ended = ok;
-        }
+        let (ended, stops) = ends_before(rt, alloc, n, start, call, k)?;
+        all = all.saturating_add(stops);
         if ended {
             return Ok((k - 1, all));
         }
@@ -257,8 +323,9 @@ fn stops(
     Ok((0, all))
 }
 
-fn journal_of(ring: u32, base: u64, last: u64) -> Numbers {
-    Numbers {
+fn journal_of(ring: u32, base: u64, last: u64) -> Ring {
+    Ring {
+        atoms: ATOMS,
         ring,
         base_cell: 1,
         base,
@@ -296,7 +363,7 @@ fn a_stop_inside_a_move_leaves_the_old_base_or_the_new(rt: HostRuntime) -> Resul
     let full = journal_of(8, 4, 11);
     let first = stops(&rt, rt.alloc(), full, Start::OneBase, Call::Move(7))?;
     assert_eq!(rt; first, (12, 48));
-    let in_second_cell = Numbers {
+    let in_second_cell = Ring {
         base_cell: 2,
         ..full
     };
@@ -347,20 +414,15 @@ fn a_stale_record_is_never_read(rt: HostRuntime) -> Result<(), Fail> {
 }
 
 /// The number of the record that is read as record `number`, or 0.
-fn record_read(alloc: Global, disk: MemDisk, n: Numbers, number: u64) -> Result<u64, Fail> {
-    let mut disk = disk;
-    let size = disk.size()?;
-    if !are_in_range(n) || size < 512 * device_cells(ATOMS, n.ring) {
-        return Err(Fail::new("no such journal"));
-    }
-    let mut cells = Cells::new(Untold { disk });
-    let made = Journal::of(alloc, &cells, ATOMS, n.ring, n.base_cell, n.base, n.last);
-    let journal = made?;
+fn record_read(alloc: Global, disk: MemDisk, n: Ring, number: u64) -> Result<u64, Fail> {
+    let (mut cells, journal) = opened(alloc, disk, n, u64::MAX)?;
     if journal.base() != n.base || journal.last() != n.last {
         return Err(Fail::new("another journal"));
     }
-    let found = journal.read_record(&mut cells, number)?;
-    Ok(found.map_or(0, |record| record.number()))
+    match journal.read_record(&mut cells, number)? {
+        Some(record) => Ok(record.number()),
+        None => Ok(0),
+    }
 }
 
 /// Record 11 has the cell of record 3, and the cell of record 5 is empty.
