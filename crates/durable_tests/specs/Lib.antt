@@ -1,1 +1,2 @@
+pub mod AppendThenMove
 pub mod Opened
