@@ -12,14 +12,17 @@ use std::slice;
 /// The bytes of a body, as the engine's cells have them.
 pub const BODY: usize = 511;
 
-/// A device as cells of one gate and a body of `B` bytes. A cell is full or empty.
+/// A device as cells of one gate and a body of [`BODY`] bytes. A cell is full or empty.
+//
+// The length of a body is no parameter: where code that is generic in the device drops such a value or calls it, it would
+// have to show that the whole struct fits in memory, which no bound on the device gives.
 #[derive(Drop)]
-pub struct Cells<D: Disk, const B: usize> {
+pub struct Cells<D: Disk> {
     disk: D,
 }
 
 // Clauses see the device's state.
-impl<D: Disk, const B: usize> Model for Cells<D, B> {
+impl<D: Disk> Model for Cells<D> {
     ghost use Rattle.disk_model.specs.DiskState.{DiskState};
 
     ghost Value = { DiskState };
@@ -27,9 +30,7 @@ impl<D: Disk, const B: usize> Model for Cells<D, B> {
     ghost view = { λ c. D.state c.disk };
 }
 
-// At one length of bodies: a call of a method with a length of its own, from code generic in the device, would ask that the
-// whole struct fits in memory, which no bound on the device gives.
-impl<D: Disk> Cells<D, BODY> {
+impl<D: Disk> Cells<D> {
     /// The cells of the device, which is left as it is.
     pub fn new(disk: D) -> Self
         ensures { result ≡ D.state disk }

@@ -12,7 +12,7 @@ use disk_model::{BODY, Cells, Disk, DiskFault};
 
 /// Appends the records that the bodies hold. In `room` it writes down their cells.
 pub(crate) fn append<D: Disk>(
-    cells: &mut Cells<D, BODY>,
+    cells: &mut Cells<D>,
     ring: Ring,
     room: &mut [u64],
     bodies: &[[u8; BODY]],

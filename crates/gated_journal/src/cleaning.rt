@@ -10,7 +10,7 @@ use disk_model::{BODY, Cells, Disk, DiskFault};
 
 /// Empties the cell of each record that is not live. In `room` it writes down their cells.
 pub(crate) fn clean<D: Disk>(
-    cells: &mut Cells<D, BODY>,
+    cells: &mut Cells<D>,
     ring: Ring,
     room: &mut [u64],
 ) -> Result<(), DiskFault>

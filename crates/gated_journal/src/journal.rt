@@ -44,7 +44,7 @@ impl Journal {
     /// base stands in `base_cell`. No call of the device is made, and no later call takes memory.
     pub fn of<D: Disk>(
         alloc: Global,
-        _cells: &Cells<D, BODY>,
+        _cells: &Cells<D>,
         atoms: u16,
         ring: u32,
         base_cell: u64,
@@ -87,7 +87,7 @@ impl Journal {
     /// Record `n`, where its cell holds it, whether it is live or not.
     pub fn read_record<D: Disk>(
         &self,
-        cells: &mut Cells<D, BODY>,
+        cells: &mut Cells<D>,
         n: u64,
     ) -> Result<Option<Fired>, DiskFault>
         requires inside { cells_of_ring self.now ≤ cell_count (BODY + 1) cells.old }
@@ -108,7 +108,7 @@ impl Journal {
     /// Makes the records that the bodies hold live behind the last, by two syncs.
     pub fn append_run<D: Disk>(
         &mut self,
-        cells: &mut Cells<D, BODY>,
+        cells: &mut Cells<D>,
         bodies: &[[u8; BODY]],
     ) -> Result<(), DiskFault>
         requires room { self.old.last + length bodies.now < self.old.base + self.old.ring }
@@ -129,7 +129,7 @@ impl Journal {
     }
 
     /// Empties each record cell that is not live, by one sync.
-    pub fn clean<D: Disk>(&mut self, cells: &mut Cells<D, BODY>) -> Result<(), DiskFault>
+    pub fn clean<D: Disk>(&mut self, cells: &mut Cells<D>) -> Result<(), DiskFault>
         requires inside { cells_of_ring self.old ≤ cell_count (BODY + 1) cells.old }
         requires settled { cells.old.keeps ≡ true → IsSettled cells.old.now }
         requires whole { cells.old.keeps ≡ true → IsWhole self.old (seen_cells (BODY + 1) cells.old) }
@@ -148,7 +148,7 @@ impl Journal {
     /// Drops the live records before `base`, by three syncs or four.
     pub fn move_base<D: Disk>(
         &mut self,
-        cells: &mut Cells<D, BODY>,
+        cells: &mut Cells<D>,
         base: u64,
     ) -> Result<(), DiskFault>
         requires above { self.old.base < base }

@@ -11,7 +11,7 @@ use record_codec::Base;
 
 /// Moves the base, and empties the cells of the records that it drops. In `room` it writes down their cells.
 pub(crate) fn move_base<D: Disk>(
-    cells: &mut Cells<D, BODY>,
+    cells: &mut Cells<D>,
     ring: Ring,
     base: u64,
     room: &mut [u64],

@@ -11,7 +11,7 @@ use record_codec::ring::slot_cell;
 
 /// The state that slot 0 or 1 of the atom holds. Of a body that is another atom's or no saved state's it holds none.
 pub fn read_slot<D: Disk>(
-    cells: &mut Cells<D, BODY>,
+    cells: &mut Cells<D>,
     atom: u16,
     slot: u8,
 ) -> Result<Option<Saved>, DiskFault>
@@ -51,7 +51,7 @@ fn newest(first: Option<Saved>, second: Option<Saved>) -> Option<(u8, Saved)>
 
 /// The newest state of the atom, with the slot that holds it.
 pub fn read_newest<D: Disk>(
-    cells: &mut Cells<D, BODY>,
+    cells: &mut Cells<D>,
     atom: u16,
 ) -> Result<Option<(u8, Saved)>, DiskFault>
     requires inside { slot_cell atom 1 < cell_count (BODY + 1) cells.old }
@@ -66,7 +66,7 @@ pub fn read_newest<D: Disk>(
 }
 
 /// The slot that the atom's next state is stored in: the one that does not hold the newest.
-pub fn slot_to_write<D: Disk>(cells: &mut Cells<D, BODY>, atom: u16) -> Result<u8, DiskFault>
+pub fn slot_to_write<D: Disk>(cells: &mut Cells<D>, atom: u16) -> Result<u8, DiskFault>
     requires inside { slot_cell atom 1 < cell_count (BODY + 1) cells.old }
     ensures slot { cells.old.keeps ≡ true → IfOk result
         (λ slot. slot ≡ other_slot atom (seen_cells (BODY + 1) cells.old)) }

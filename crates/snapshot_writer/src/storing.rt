@@ -10,7 +10,7 @@ use disk_model::{BODY, Cells, Disk, DiskFault};
 
 /// Stores the parcel in slot 0 or 1 of its atom, by two syncs or three. The newest state is safe from a stop where it is in the other slot.
 pub fn store<D: Disk>(
-    cells: &mut Cells<D, BODY>,
+    cells: &mut Cells<D>,
     slot: u8,
     encoded: &Encoded,
 ) -> Result<(), DiskFault>

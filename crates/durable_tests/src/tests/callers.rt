@@ -19,7 +19,7 @@ use std::test::Fail;
 /// Appends a batch and drops the records before `base`. A stop at any moment of both leaves the old records and a front of the
 /// batch, or the records from `base` on.
 fn append_then_move<D: Disk>(
-    cells: &mut Cells<D, BODY>,
+    cells: &mut Cells<D>,
     journal: &mut Journal,
     bodies: &[[u8; BODY]],
     base: u64,
@@ -42,7 +42,7 @@ fn append_then_move<D: Disk>(
 }
 
 /// A new device with base 1, for a ring of eight records behind two atoms.
-fn new_cells(alloc: Global) -> Result<Cells<MemDisk, BODY>, Fail>
+fn new_cells(alloc: Global) -> Result<Cells<MemDisk>, Fail>
     ensures keeps { IfOk result (λ s. s.keeps ≡ true) }
     ensures size { IfOk result (λ s. size_of s ≡ 7680) }
     ensures ready { IfOk result (λ s. IsReady empty_journal s) }
@@ -56,7 +56,7 @@ fn new_cells(alloc: Global) -> Result<Cells<MemDisk, BODY>, Fail>
     Ok(cells)
 }
 
-fn new_journal<D: Disk>(alloc: Global, cells: &Cells<D, BODY>) -> Result<Journal, AllocError>
+fn new_journal<D: Disk>(alloc: Global, cells: &Cells<D>) -> Result<Journal, AllocError>
     requires { cells.now.keeps ≡ true → IsReadFor empty_journal (seen_cells (BODY + 1) cells.now) }
     ensures { IfOk result (λ j. j ≡ empty_journal) }
 {
@@ -80,7 +80,7 @@ fn body_of(n: u64) -> [u8; BODY]
 
 /// Appends records 1 to 3, and keeps the last of them.
 fn keep_the_last_of_three<D: Disk>(
-    cells: &mut Cells<D, BODY>,
+    cells: &mut Cells<D>,
     journal: &mut Journal,
 ) -> Result<(), DiskFault>
     requires journal { journal.old ≡ empty_journal }

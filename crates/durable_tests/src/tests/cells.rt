@@ -9,7 +9,7 @@ use std::alloc::Global;
 use std::process::Abort;
 use std::test::Fail;
 
-type Engine = Cells<MemDisk, BODY>;
+type Engine = Cells<MemDisk>;
 
 const TEARS: [Tear; 4] = [Tear::Old, Tear::New, Tear::Gates, Tear::Mixed];
 
@@ -172,7 +172,7 @@ fn an_erase_writes_a_gate_or_only_syncs(rt: HostRuntime) -> Result<(), Fail> {
 }
 
 /// Empties cell `k` and answers the size: a caller that knows only that there is a device.
-fn emptied<D: Disk>(cells: &mut Cells<D, BODY>, k: u64) -> Result<u64, DiskFault>
+fn emptied<D: Disk>(cells: &mut Cells<D>, k: u64) -> Result<u64, DiskFault>
     requires inside { k < cell_count (BODY + 1) cells.old }
     requires settled { cells.old.keeps ≡ true → IsSettled cells.old.now }
     ensures size { IfOk result (λ n. n ≡ size_of cells.old) }

@@ -1,4 +1,4 @@
-use Rattle.disk_model.proofs.cells.Cells+D+BODY.erase.Goals as goal
+use Rattle.disk_model.proofs.cells.Cells.erase.Goals as goal
 
 pub returns-clause-leaves : goal.returns-clause-leaves
 returns-clause-leaves g c = c.erase_run.ensures.leaves

@@ -4,7 +4,7 @@ use Rattle.disk_model.specs.Cells.{Filled, Replaced}
 use Rattle.disk_model.specs.Counting.{up_to_two, up_to_then}
 use Rattle.disk_model.specs.Moments.{on_ok, closed_at_rest}
 use Rattle.disk_model.proofs.Replacing.{emptied_leaves, filled_leaves, is_replaced}
-use Rattle.disk_model.proofs.cells.Cells+D+BODY.replace.Goals as goal
+use Rattle.disk_model.proofs.cells.Cells.replace.Goals as goal
 
 pub set-requires-clause-closed : goal.set-requires-clause-closed
 set-requires-clause-closed g c keeps =

@@ -1,4 +1,4 @@
-use Rattle.disk_model.proofs.cells.Cells+D+BODY.set_run.Goals as goal
+use Rattle.disk_model.proofs.cells.Cells.set_run.Goals as goal
 
 pub returns-clause-leaves : goal.returns-clause-leaves
 returns-clause-leaves g c = rw c.self.view_is at c.set_all.ensures.leaves

@@ -1,5 +1,5 @@
 use Rattle.std.proofs.Common.{rules}
-use Rattle.disk_model.proofs.cells.Cells+D+BODY.sync.Goals as goal
+use Rattle.disk_model.proofs.cells.Cells.sync.Goals as goal
 
 pub returns-clause-counts : goal.returns-clause-counts
 returns-clause-counts g c = search rules

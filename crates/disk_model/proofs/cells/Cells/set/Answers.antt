@@ -1,5 +1,5 @@
 use Rattle.std.proofs.Common.{◌≡◌, [], ◌∷◌, rules}
-use Rattle.disk_model.proofs.cells.Cells+D+BODY.set.Goals as goal
+use Rattle.disk_model.proofs.cells.Cells.set.Goals as goal
 
 pub returns-clause-leaves : goal.returns-clause-leaves
 returns-clause-leaves g c =

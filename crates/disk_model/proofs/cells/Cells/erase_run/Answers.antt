@@ -1,4 +1,4 @@
-use Rattle.disk_model.proofs.cells.Cells+D+BODY.erase_run.Goals as goal
+use Rattle.disk_model.proofs.cells.Cells.erase_run.Goals as goal
 
 pub returns-clause-leaves : goal.returns-clause-leaves
 returns-clause-leaves g c = rw c.self.view_is at c.erase_all.ensures.leaves
