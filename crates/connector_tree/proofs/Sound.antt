@@ -12,10 +12,7 @@ abbrev pub first_of : Bool → Bool → Bool → Bool → Option TreeFault
 first_of many deep repeat empty =
     cond many (Some TooManyLeaves) (cond deep (Some TooDeep) (cond repeat (Some SameAtom) (cond empty (Some Empty) None)))
 
--- too many leaves are told first, and too many levels where the leaves are few
-pub many_first : (many deep repeat empty : Bool) → many ≡ true → Some TooManyLeaves ≡ first_of many deep repeat empty
-many_first many deep repeat empty is = sym (ap (λ b. first_of b deep repeat empty) is)
-
+-- too many levels are told where the leaves are few
 pub deep_next : (many deep repeat empty : Bool) → many ≡ false → deep ≡ true → Some TooDeep ≡ first_of many deep repeat empty
 deep_next many deep repeat empty few is =
     sym (ap (λ b. first_of b deep repeat empty) few ∙ ap (λ b. first_of false b repeat empty) is)
