@@ -15,13 +15,13 @@ pub struct Port {
 }
 
 /// A connector: a tree of ports. Its leaves are numbered from 0, left to right.
-#[derive(Debug, Drop)]
+#[derive(Drop)]
 pub struct Connector {
     pub root: Vec<Child>,
 }
 
 /// One child of the root or of a bracket: a trigger, or else a synchron.
-#[derive(Debug, Drop)]
+#[derive(Drop)]
 #[cycle(tree)]
 pub struct Child {
     pub trigger: bool,
@@ -29,7 +29,7 @@ pub struct Child {
 }
 
 /// A port of an atom, or a bracket with children of its own.
-#[derive(Debug, Drop)]
+#[derive(Drop)]
 #[cycle(tree)]
 pub enum Node {
     Leaf { atom: u16, port: u16 },

@@ -14,7 +14,7 @@ pub const INTERACTION_LIMIT: usize = 1024;
 pub const ROW_WORDS: usize = INTERACTION_LIMIT / 64;
 
 /// Interactions, by their numbers. Every operation goes over a few words and takes no memory.
-#[derive(Debug, Drop)]
+#[derive(Drop)]
 pub struct InteractionSet {
     words: [u64; ROW_WORDS],
 }

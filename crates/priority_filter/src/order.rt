@@ -13,7 +13,7 @@ use std::marker::Model;
 
 /// Which interactions are below which. An interaction is named by its number, its place in the list
 /// that the order was made from.
-#[derive(Debug, Drop)]
+#[derive(Drop)]
 pub struct Order {
     rules: Vec<Rule>,
     interactions: Vec<(u16, u16)>,
