@@ -49,4 +49,4 @@ returns g c =
           (subst (Appends _ _) w.stuck.ensures w.in_ok-print_text-in-None.ensures))
     ] in
     told-left c.print_end.result start now after _ all left
-    (subst (λ text. OnOk c.print_end.result (Appends now after text)) (ap (λ p. end_text format p c.states.result.now) c.system.ensures ∙ ap (end_text format plant) c.states.ensures.states) c.print_end.ensures)
+    (subst (λ text. OnOk c.print_end.result (Appends now after text)) (ap (λ p. end_text format p c.states.result.now) c.system.ensures.plant ∙ ap (end_text format plant) c.states.ensures.states) c.print_end.ensures)

@@ -16,6 +16,6 @@ returns-clause-printed g c =
     let choice = choice_of c.args.choice.now in
     let rows = c.fire_telling.new.told in
     let same : told_text c.args.format (plant_of c.system.result.now) rows c.args.number choice ≡ step_text c.args.format plant states c.args.number choice =
-    ap (λ p. told_text c.args.format p rows c.args.number choice) (c.system.ensures ∙ c.fire_telling.ensures.plant) ∙
+    ap (λ p. told_text c.args.format p rows c.args.number choice) (c.system.ensures.plant ∙ c.fire_telling.ensures.plant) ∙
     told-line c.args.format plant states c.args.number choice rows c.fire_telling.ensures.told in
     subst (λ text. OnOk c.print_told.result (Appends (g.W.Write.contents c.args.output.now) (g.W.Write.contents c.print_told.new.output) text)) same c.print_told.ensures
