@@ -146,11 +146,7 @@ impl Journal {
     }
 
     /// Drops the live records before `base`, by three syncs or four.
-    pub fn move_base<D: Disk>(
-        &mut self,
-        cells: &mut Cells<D>,
-        base: u64,
-    ) -> Result<(), DiskFault>
+    pub fn move_base<D: Disk>(&mut self, cells: &mut Cells<D>, base: u64) -> Result<(), DiskFault>
         requires above { self.old.base < base }
         requires within { base ≤ self.old.last + 1 }
         requires inside { cells_of_ring self.old ≤ cell_count (BODY + 1) cells.old }
