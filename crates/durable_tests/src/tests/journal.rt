@@ -49,7 +49,7 @@ impl Disk for Untold {
     }
 }
 
-type Engine = Cells<Untold, BODY>;
+type Engine = Cells<Untold>;
 
 fn cells_of(disk: MemDisk) -> Engine
     ensures untold { result.keeps ≡ false }
