@@ -12,7 +12,7 @@ use Rattle.connector_tree.specs.declared.tree.Port.{Port}
 use Rattle.priority_filter.specs.Decided.{order_fault, is_overruled}
 use Rattle.priority_filter.proofs.NoDeadlock.{top_is_not_overruled}
 use Rattle.step_core.specs.Plant.{PlantDefinition}
-use Rattle.step_core.specs.Choice.{Interaction, ChoiceDefinition, IsStuck, named, is_offered_port, is_unguarded, is_possible, is_possible_at, is_allowed_at, move_of, moves_of, combinations, choices_of, choices_at, choices, flat_from, plant_interactions}
+use Rattle.step_core.specs.Choice.{Interaction, ChoiceDefinition, IsStuck, named, is_offered_port, passes_guards, is_possible, is_possible_at, is_allowed_at, move_of, moves_of, combinations, choices_of, choices_at, choices, flat_from, plant_interactions}
 use Rattle.step_core.specs.Rules.{first_of, early_fault, late_fault, fault_of_order, fault_of}
 use Rattle.step_core.specs.declared.choice.Move.{Move}
 use Rattle.step_core.specs.declared.fault.SystemFault.{SystemFault}
@@ -132,7 +132,7 @@ module _ (plant : PlantDefinition) (states : List Local) where
       each None there = absurd (false≢true (sym (ap (λ o. option_map_or (is_possible plant.atoms plant.wires states) o false) there) ∙ parts.0))
       each (Some i) there =
           let ready : is_possible plant.atoms plant.wires states i ≡ true = sym (ap (λ o. option_map_or (is_possible plant.atoms plant.wires states) o false) there) ∙ parts.0 in
-          let ports = and_parts (list_all (is_offered_port plant.atoms states) i.ports) (is_unguarded plant.atoms plant.wires states i) ready in
+          let ports = and_parts (list_all (is_offered_port plant.atoms states) i.ports) (passes_guards plant.atoms plant.wires states i) ready in
           let has : 1 ≤ length (choices_at plant states all n i) =
           subst (λ b. 1 ≤ length (cond b (choices_of plant.atoms states i) [])) (sym allowed) (some-choices plant.atoms states i ports.0) in
           flat-some (choices_at plant states all) 0 all n i there (subst (λ k. 1 ≤ length (choices_at plant states all k i)) (omega arith) has)

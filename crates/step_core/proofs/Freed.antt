@@ -6,7 +6,7 @@ use Rattle.std.specs.FinSet.{FinSet, contains, empty, insert, contains-empty}
 use Rattle.std.proofs.lemmas.Bool.{or_parts, or_from, cases_eq, false≢true}
 use Rattle.priority_filter.specs.Decided.{is_below, is_overruled}
 use Rattle.priority_filter.specs.declared.rule.Rule.{Rule}
-use Rattle.step_core.specs.Free.{AreFree}
+use Rattle.step_core.specs.NeverOverruled.{AreNeverOverruled}
 use Rattle.step_core.proofs.Noting.{put-here, put-other}
 
 -- what nothing passes with a test that all pass, nothing passes with another one
@@ -29,7 +29,7 @@ none-above rules interactions all n each none possible =
     fewer all possible (λ b. is_below rules interactions n b) 0 (length interactions) (λ b below. each b (omega arith)) none
 
 -- no interaction of the empty set
-pub free-none : (rules : List Rule) (interactions : List (ℕ × ℕ)) (set : FinSet nat_cmp) → set ≡ empty → AreFree rules interactions set
+pub free-none : (rules : List Rule) (interactions : List (ℕ × ℕ)) (set : FinSet nat_cmp) → set ≡ empty → AreNeverOverruled rules interactions set
 free-none rules interactions set none n member possible = absurd (false≢true (sym (ap (λ s. contains s n) none ∙ contains-empty nat_cmp n) ∙ member))
 
 -- all numbers up to one more
@@ -40,7 +40,7 @@ all-more old k before n below = ⊎_elim
     (cases_eq n k)
 
 -- one more interaction of the set
-pub free-more : (rules : List Rule) (interactions : List (ℕ × ℕ)) (old : FinSet nat_cmp) (k : ℕ) → AreFree rules interactions old → ((possible : ℕ → Bool) → is_overruled rules interactions possible k ≡ false) → AreFree rules interactions (insert old k)
+pub free-more : (rules : List Rule) (interactions : List (ℕ × ℕ)) (old : FinSet nat_cmp) (k : ℕ) → AreNeverOverruled rules interactions old → ((possible : ℕ → Bool) → is_overruled rules interactions possible k ≡ false) → AreNeverOverruled rules interactions (insert old k)
 free-more rules interactions old k free here n member possible = ⊎_elim
     (λ same. ap (is_overruled rules interactions possible) same ∙ here possible)
     (λ other. free n (sym (put-other old k n other) ∙ member) possible)

@@ -11,7 +11,7 @@ use Rattle.petri_atom.specs.declared.atom.Atom.{Atom}
 use Rattle.step_core.specs.Plant.{of_atom}
 use Rattle.connector_tree.specs.declared.tree.Port.{Port}
 use Rattle.step_core.specs.Choice.{move_of, moves_of}
-use Rattle.step_core.specs.Offers.{count_at, AreOffered, AreCounted}
+use Rattle.step_core.specs.EnabledTransitions.{count_at, AreOffered, AreCounted}
 
 -- an atom of a plant with a number, as it was written
 pub atom-there : (atoms : List Atom) (n : ℕ) (atom : Atom) → n < length atoms → atom ≡ get_or atoms n atom → slice_get (map definition_of atoms) n ≡ Some (definition_of atom)

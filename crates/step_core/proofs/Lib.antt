@@ -4,7 +4,7 @@ pub mod Combinations
 pub mod Flattened
 pub mod Counted
 mod Offering
-pub mod Told
+pub mod FirstTold
 mod Found
 pub mod RuleFaults
 pub mod TreeRules

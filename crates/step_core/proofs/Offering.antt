@@ -9,7 +9,7 @@ use Rattle.petri_atom.specs.Local.{Local}
 use Rattle.petri_atom.specs.Definition.{AtomDefinition, enabled, numbers_of, offers_number, offers_port}
 use Rattle.connector_tree.specs.declared.tree.Port.{Port}
 use Rattle.step_core.specs.Plant.{WireDefinition}
-use Rattle.step_core.specs.Choice.{Interaction, is_offered_port, is_unguarded, is_possible, move_of, moves_of, combinations}
+use Rattle.step_core.specs.Choice.{Interaction, is_offered_port, passes_guards, is_possible, move_of, moves_of, combinations}
 use Rattle.step_core.proofs.Alive.{some-rows}
 use Rattle.step_core.proofs.Combinations.{length-rows}
 
@@ -51,7 +51,7 @@ module _ (atoms : List AtomDefinition) (states : List Local) where
     is_ready = list_all (is_offered_port atoms states) i.ports
 
     abbrev unguarded : Bool
-    unguarded = is_unguarded atoms wires states i
+    unguarded = passes_guards atoms wires states i
 
     -- an interaction that has rows of moves is possible where no guard forbids it
     pub possible-told : 0 < count → unguarded ≡ true → is_possible atoms wires states i ≡ true

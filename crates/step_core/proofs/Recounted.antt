@@ -7,7 +7,7 @@ use Rattle.std.proofs.lemmas.Option.{same_Some, slice_get_within}
 use Rattle.petri_atom.specs.Local.{Local}
 use Rattle.petri_atom.specs.Definition.{AtomDefinition, enabled, offered_set}
 use Rattle.petri_atom.specs.declared.parts.TheConstants.{MAX_TRANSITIONS}
-use Rattle.step_core.specs.Offers.{count_at, AreCounted}
+use Rattle.step_core.specs.EnabledTransitions.{count_at, AreCounted}
 
 zeros : {X : Type 0} (k n : ℕ) (x z : X) → n < k → get_or (replicate k x) n z ≡ x
 zeros k n x z within = get_or-replicate k n x z within

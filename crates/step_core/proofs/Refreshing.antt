@@ -8,7 +8,7 @@ use Rattle.petri_atom.specs.Local.{Local, Row, is_in}
 use Rattle.petri_atom.specs.Definition.{AtomDefinition, Fits, fired, offered_set}
 use Rattle.step_core.specs.Choice.{ChoiceDefinition}
 use Rattle.step_core.specs.Fitting.{AllFit}
-use Rattle.step_core.specs.Offers.{AreOffered, AreOfferedBut}
+use Rattle.step_core.specs.EnabledTransitions.{AreOffered, AreOfferedBut}
 use Rattle.step_core.specs.Plant.{PlantDefinition}
 use Rattle.step_core.specs.Step.{next, transfer, moved_by, stepped}
 use Rattle.step_core.specs.declared.choice.Move.{Move}

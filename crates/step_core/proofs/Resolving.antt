@@ -16,11 +16,11 @@ use Rattle.connector_tree.specs.Masks.{is_set}
 use Rattle.connector_tree.specs.declared.tree.Port.{Port}
 use Rattle.step_core.specs.Exports.{exported_at, value_at, takes_part, guards_hold}
 use Rattle.step_core.specs.Plant.{TransferDefinition}
-use Rattle.step_core.specs.Resolved.{value_there, variable_of_port, variable_of, found, leaf_bit, leaves_in, has_all, DeliveryDefinition, clause_by, delivery_by, clause_holds, is_for, value_for, given_for}
+use Rattle.step_core.specs.BoundExpressions.{value_there, variable_of_port, variable_of, found, leaf_bit, leaves_in, has_all, DeliveryDefinition, clause_by, delivery_by, clause_holds, is_for, value_for, given_for}
 use Rattle.step_core.specs.Step.{applies, is_to, value_to, delivered_by}
-use Rattle.step_core.specs.declared.resolved.AtomVariable.{AtomVariable}
+use Rattle.step_core.specs.declared.bound_expressions.AtomVariable.{AtomVariable}
 use Rattle.step_core.specs.declared.wire.Export.{Export}
-use Rattle.step_core.proofs.Told.{both}
+use Rattle.step_core.proofs.FirstTold.{both}
 use Rattle.step_core.proofs.ValueRows.{four-values}
 
 -- ---- values

@@ -10,7 +10,7 @@ use Rattle.petri_atom.specs.Local.{Local}
 use Rattle.connector_tree.specs.declared.tree.Port.{Port}
 use Rattle.step_core.specs.Choice.{Interaction, is_possible, is_possible_at, moves_of, combinations}
 use Rattle.step_core.specs.Plant.{WireDefinition}
-use Rattle.step_core.specs.Touching.{at_port, has_row, AreOnPorts, IsOnEmpty}
+use Rattle.step_core.specs.Dependents.{at_port, has_row, AreOnPorts, IsOnEmpty}
 use Rattle.step_core.proofs.Combinations.{length-rows}
 use Rattle.step_core.proofs.Offering.{not-possible}
 

@@ -13,7 +13,7 @@ use Rattle.connector_tree.specs.Tree.{leaves}
 use Rattle.connector_tree.specs.declared.tree.Port.{Port}
 use Rattle.step_core.specs.Plant.{WireDefinition}
 use Rattle.step_core.specs.Choice.{Interaction}
-use Rattle.step_core.specs.Touching.{row_of_guards, at_port, at_guards, is_noted, are_noted, KeepsNoted, IsNoted, is_in_row, is_read_by, has_row}
+use Rattle.step_core.specs.Dependents.{row_of_guards, at_port, at_guards, is_noted, are_noted, KeepsNoted, IsNoted, is_in_row, is_read_by, has_row}
 use Rattle.step_core.proofs.Noting.{put-here, put-other}
 
 module _ (rows : List (FinSet nat_cmp)) (k x : ℕ) (d : FinSet nat_cmp) (within : k < length rows) where

@@ -12,10 +12,10 @@ use Rattle.petri_atom.specs.Expression.{Tree, is_true, value_of}
 use Rattle.petri_atom.specs.Definition.{AtomDefinition, exported_value}
 use Rattle.connector_tree.specs.Tree.{leaves}
 use Rattle.connector_tree.specs.declared.tree.Port.{Port}
-use Rattle.step_core.specs.Choice.{Interaction, is_unguarded, is_possible, is_possible_at, moves_of, combinations, choices_of}
+use Rattle.step_core.specs.Choice.{Interaction, passes_guards, is_possible, is_possible_at, moves_of, combinations, choices_of}
 use Rattle.step_core.specs.Exports.{value_at, exported_at, clause_applies, guards_hold}
 use Rattle.step_core.specs.Plant.{WireDefinition, PlantDefinition}
-use Rattle.step_core.specs.Touching.{row_of_guards, at_port, is_noted, is_in_row, is_read_by, AreTouching}
+use Rattle.step_core.specs.Dependents.{row_of_guards, at_port, is_noted, is_in_row, is_read_by, AreDependents}
 use Rattle.step_core.specs.Ways.{ways_at}
 use Rattle.step_core.specs.declared.wire.Export.{Export}
 use Rattle.std.proofs.lemmas.List.{length-map}
@@ -63,7 +63,7 @@ module _ (atoms : List AtomDefinition) (wires : List WireDefinition) (old new : 
       each None there = refl
       each (Some p) there = exported-same p e.export (at ports e.leaf p here there)
 
-  pub guards-same : (i : Interaction) → ((w : WireDefinition) → slice_get wires i.connector ≡ Some w → w.guards ≢ [] → list_all (λ p. stays p.atom) (leaves w.connector) ≡ true) → is_unguarded atoms wires new i ≡ is_unguarded atoms wires old i
+  pub guards-same : (i : Interaction) → ((w : WireDefinition) → slice_get wires i.connector ≡ Some w → w.guards ≢ [] → list_all (λ p. stays p.atom) (leaves w.connector) ≡ true) → passes_guards atoms wires new i ≡ passes_guards atoms wires old i
   guards-same i read = each (slice_get wires i.connector) refl
     where
       hold : List Local → WireDefinition → Bool
@@ -92,8 +92,8 @@ module _ (atoms : List AtomDefinition) (wires : List WireDefinition) (before aft
   pub choices-same : (i : Interaction) → list_all noted i.ports ≡ true → length (choices_of atoms after i) ≡ length (choices_of atoms before i)
   choices-same i all = length-map _ _ ∙ rows-same i.ports all ∙ sym (length-map _ _)
 
-  pub possible-same : (i : Interaction) → list_all noted i.ports ≡ true → is_unguarded atoms wires after i ≡ is_unguarded atoms wires before i → is_possible atoms wires after i ≡ is_possible atoms wires before i
-  possible-same i all guards = each (is_unguarded atoms wires before i) refl
+  pub possible-same : (i : Interaction) → list_all noted i.ports ≡ true → passes_guards atoms wires after i ≡ passes_guards atoms wires before i → is_possible atoms wires after i ≡ is_possible atoms wires before i
+  possible-same i all guards = each (passes_guards atoms wires before i) refl
     where
       new : ℕ
       new = length (combinations (map (moves_of atoms after) i.ports))
@@ -101,7 +101,7 @@ module _ (atoms : List AtomDefinition) (wires : List WireDefinition) (before aft
       old : ℕ
       old = length (combinations (map (moves_of atoms before) i.ports))
 
-      each : (b : Bool) → is_unguarded atoms wires before i ≡ b → is_possible atoms wires after i ≡ is_possible atoms wires before i
+      each : (b : Bool) → passes_guards atoms wires before i ≡ b → is_possible atoms wires after i ≡ is_possible atoms wires before i
       each false told = not-possible atoms after wires i new refl (inr (guards ∙ told)) ∙ sym (not-possible atoms before wires i old refl (inr told))
       each true told = ⊎_elim
           (λ some. possible-told atoms after wires i new refl (omega (arith, some, rows-same i.ports all)) (guards ∙ told) ∙ sym (possible-told atoms before wires i old refl some told))
@@ -112,7 +112,7 @@ module _ (atoms : List AtomDefinition) (wires : List WireDefinition) (before aft
 module _ (plant : PlantDefinition) (changed : List ℕ) (before after : List Local) (interactions : List Interaction) (rows : List (FinSet nat_cmp)) (n : ℕ)
     (many : length rows ≡ length before * 33) (as_many : length before ≡ length after)
     (stays : (k : ℕ) → is_in changed k ≡ false → slice_get after k ≡ slice_get before k)
-    (touching : AreTouching plant.wires interactions rows) (unread : is_read_by rows changed n ≡ false)
+    (dependents : AreDependents plant.wires interactions rows) (unread : is_read_by rows changed n ≡ false)
     (told : (p : Port) → is_noted rows n (at_port p) ≡ true → length (moves_of plant.atoms after p) ≡ length (moves_of plant.atoms before p)) where
   pub untouched : is_possible_at plant.atoms plant.wires after interactions n ≡ is_possible_at plant.atoms plant.wires before interactions n
   untouched = each (slice_get interactions n) refl
@@ -120,12 +120,12 @@ module _ (plant : PlantDefinition) (changed : List ℕ) (before after : List Loc
       each : (o : Option Interaction) → slice_get interactions n ≡ o → option_map_or (is_possible plant.atoms plant.wires after) o false ≡ option_map_or (is_possible plant.atoms plant.wires before) o false
       each None there = refl
       each (Some i) there =
-          possible-same plant.atoms plant.wires before after (λ p. is_noted rows n (at_port p)) told i (touching n i there).0
-          (guards-same plant.atoms plant.wires before after (λ k. is_noted rows n (row_of_guards k)) (still changed before after rows n many as_many stays unread) i (touching n i there).1)
+          possible-same plant.atoms plant.wires before after (λ p. is_noted rows n (at_port p)) told i (dependents n i there).0
+          (guards-same plant.atoms plant.wires before after (λ k. is_noted rows n (row_of_guards k)) (still changed before after rows n many as_many stays unread) i (dependents n i there).1)
 
   pub untouched-ways : ways_at plant.atoms after interactions n ≡ ways_at plant.atoms before interactions n
   untouched-ways = each (slice_get interactions n) refl
     where
       each : (o : Option Interaction) → slice_get interactions n ≡ o → option_map_or (λ i. length (choices_of plant.atoms after i)) o 0 ≡ option_map_or (λ i. length (choices_of plant.atoms before i)) o 0
       each None there = refl
-      each (Some i) there = choices-same plant.atoms plant.wires before after (λ p. is_noted rows n (at_port p)) told i (touching n i there).0
+      each (Some i) there = choices-same plant.atoms plant.wires before after (λ p. is_noted rows n (at_port p)) told i (dependents n i there).0

@@ -12,10 +12,10 @@ use Rattle.petri_atom.specs.Local.{Local, Row, given}
 use Rattle.petri_atom.specs.Expression.{tree_of, value_of}
 use Rattle.petri_atom.specs.declared.state.TheConstants.{MAX_EXPORTS}
 use Rattle.step_core.specs.Delivery.{AreDelivered, IsFirstOfAtom, IsGiven}
-use Rattle.step_core.specs.Resolved.{value_there, DeliveryDefinition, delivery_of, has_all, is_for, value_for, given_for}
+use Rattle.step_core.specs.BoundExpressions.{value_there, DeliveryDefinition, delivery_of, has_all, is_for, value_for, given_for}
 use Rattle.step_core.specs.declared.choice.Move.{Move}
-use Rattle.step_core.specs.declared.resolved.Delivery.{Delivery}
-use Rattle.step_core.proofs.Told.{or_none}
+use Rattle.step_core.specs.declared.bound_expressions.Delivery.{Delivery}
+use Rattle.step_core.proofs.FirstTold.{or_none}
 
 -- a value, where there is one
 abbrev some_if : Bool → ℤ → Option ℤ

@@ -46,13 +46,13 @@ abbrev pub is_offered_port : List AtomDefinition → List Local → Port → Boo
 is_offered_port atoms states p = of_atom atoms states p.atom (λ a s. offers_port a s p.port) false
 
 -- the guard clauses of an interaction's connector that apply to it are not 0
-abbrev pub is_unguarded : List AtomDefinition → List WireDefinition → List Local → Interaction → Bool
-is_unguarded atoms wires states i =
+abbrev pub passes_guards : List AtomDefinition → List WireDefinition → List Local → Interaction → Bool
+passes_guards atoms wires states i =
     option_map_or (λ w. guards_hold atoms states (leaves w.connector) i.mask w.guards) (slice_get wires i.connector) true
 
 -- an interaction is possible where each of its ports has an offered transition, and no guard of its connector forbids it
 abbrev pub is_possible : List AtomDefinition → List WireDefinition → List Local → Interaction → Bool
-is_possible atoms wires states i = list_all (is_offered_port atoms states) i.ports && is_unguarded atoms wires states i
+is_possible atoms wires states i = list_all (is_offered_port atoms states) i.ports && passes_guards atoms wires states i
 
 -- the move of an atom by a transition
 abbrev pub move_of : ℕ → ℕ → Move

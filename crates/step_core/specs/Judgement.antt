@@ -2,7 +2,7 @@
 use Rattle.std.specs.Prelude.{◌≡◌, ℕ, false, List, length, slice_get}
 use Rattle.petri_atom.specs.Local.{Local, is_in}
 use Rattle.step_core.specs.Choice.{Interaction, choices_among}
-use Rattle.step_core.specs.Offers.{AreOffered, AreCounted}
+use Rattle.step_core.specs.EnabledTransitions.{AreOffered, AreCounted}
 use Rattle.step_core.specs.Plant.{PlantDefinition}
 use Rattle.step_core.specs.Possible.{ArePossible, AreAllowed}
 use Rattle.step_core.specs.Ways.{AreWays}

@@ -1,4 +1,6 @@
-use Rattle.std.specs.Prelude.{ℕ, List}
+use Rattle.std.specs.Prelude.{ℕ, List, map}
+use Rattle.step_core.specs.Choice.{Interaction}
+use Rattle.step_core.specs.Interaction.{interaction_of}
 use Rattle.step_core.specs.Plant.{PlantDefinition}
 use Rattle.step_core.specs.Made.{plant_by}
 use Rattle.step_core.specs.declared.system.System.{System}
@@ -10,3 +12,7 @@ plant_of s = plant_by s.atoms.items s.wires.items s.order.rules
 -- the digest of the text that it was read from
 abbrev pub digest_of : System → List ℕ
 digest_of s = s.digest
+
+-- its interactions, as they are kept
+abbrev pub interactions_in : System → List Interaction
+interactions_in s = map interaction_of s.interactions.items

@@ -7,25 +7,25 @@ ghost use Rattle.step_core.specs.Chosen.{choice_of};
 ghost use Rattle.step_core.specs.Fitting.{IsOf};
 ghost use Rattle.step_core.specs.Interaction.{interaction_of};
 ghost use Rattle.step_core.specs.Judgement.{IsJudgement, IsBehind};
-ghost use Rattle.step_core.specs.Offers.{AreOffered, AreCounted};
+ghost use Rattle.step_core.specs.EnabledTransitions.{AreOffered, AreCounted};
 ghost use Rattle.step_core.specs.Possible.{ArePossible, ArePossibleBut, AreAllowed};
 ghost use Rattle.step_core.specs.Ways.{AreWays, AreWaysBut, IsSame};
 ghost use Rattle.step_core.specs.Wire.{wire_of};
 ghost use Rattle.priority_filter.specs.declared.interaction_set.TheConstants.{ROW_WORDS};
 
+use crate::allowed::PriorityJudge;
 use crate::choice::Choice;
-use crate::filtered::Filtered;
-use crate::free::numbers_below;
-use crate::judged::Judged;
+use crate::enabled_transitions::EnabledTransitions;
 use crate::judgement::{Judgement, no_ways};
 use crate::limits::MAX_INTERACTIONS;
-use crate::offers::Offers;
+use crate::never_overruled::numbers_below;
+use crate::possible::InteractionJudge;
 use crate::state::PlantState;
 use crate::system::System;
 use priority_filter::InteractionSet;
 
 impl System {
-    ghost use Rattle.step_core.specs.System.{plant_of};
+    ghost use Rattle.step_core.specs.System.{interactions_in, plant_of};
 
     /// How many choices the state has; none exactly where no interaction is possible.
     pub fn count_allowed(&self, states: &PlantState) -> u128
@@ -50,9 +50,9 @@ impl System {
     /// What the state offers, judged in full.
     pub(crate) fn judge(&self, states: &PlantState) -> Judgement
         requires { IsOf (plant_of self.now) states.now }
-        ensures { IsJudgement (plant_of self.now) (map interaction_of self.now.interactions.items) states.now result }
+        ensures { IsJudgement (plant_of self.now) (interactions_in self.now) states.now result }
     {
-        let offers = Offers::of(&self.atoms, states);
+        let offers = EnabledTransitions::of(&self.atoms, states);
         let mut possible = InteractionSet::new();
         let mut ways = no_ways();
         let all = numbers_below(self.interactions.len());
@@ -78,15 +78,15 @@ impl System {
         judgement: &mut Judgement,
     )
         requires of_plant { IsOf (plant_of self.now) states.now }
-        requires behind { IsBehind (plant_of self.now) (map interaction_of self.now.interactions.items) changed.now states.now judgement.old }
-        ensures { IsJudgement (plant_of self.now) (map interaction_of self.now.interactions.items) states.now judgement.new }
+        requires behind { IsBehind (plant_of self.now) (interactions_in self.now) changed.now states.now judgement.old }
+        ensures { IsJudgement (plant_of self.now) (interactions_in self.now) states.now judgement.new }
     {
         let words = self.interactions.len().div_ceil(64);
         let mut touched = InteractionSet::new();
         judgement.offers.judge_changed(
             &self.atoms,
             states,
-            &self.touching,
+            &self.dependents,
             words,
             changed,
             &mut touched,
@@ -115,56 +115,62 @@ impl System {
     fn judge_touched<'x>(
         &'x self,
         states: &'x PlantState,
-        offers: &'x Offers,
+        offers: &'x EnabledTransitions,
         touched: &InteractionSet,
         possible: &mut InteractionSet,
         ways: &mut [u64; MAX_INTERACTIONS],
     ) -> bool
         requires of_plant { IsOf (plant_of self.now) states.now }
-        requires exact { AreOffered (map definition_of self.now.atoms.items) states.now offers.now.sets }
-        requires shown { AreCounted (map definition_of self.now.atoms.items) offers.now.sets offers.now.counts }
-        requires others { ArePossibleBut (contains touched.now) (map definition_of self.now.atoms.items) (map wire_of self.now.wires.items) states.now (map interaction_of self.now.interactions.items) possible.old }
-        requires other_ways { AreWaysBut (contains touched.now) (map definition_of self.now.atoms.items) (map wire_of self.now.wires.items) states.now (map interaction_of self.now.interactions.items) ways.old }
-        ensures possible { ArePossible (map definition_of self.now.atoms.items) (map wire_of self.now.wires.items) states.now (map interaction_of self.now.interactions.items) possible.new }
-        ensures ways { AreWays (map definition_of self.now.atoms.items) (map wire_of self.now.wires.items) states.now (map interaction_of self.now.interactions.items) ways.new }
+        requires exact { AreOffered (plant_of self.now).atoms states.now offers.now.sets }
+        requires shown { AreCounted (plant_of self.now).atoms offers.now.sets offers.now.counts }
+        requires others { ArePossibleBut (contains touched.now) (plant_of self.now).atoms (plant_of self.now).wires states.now (interactions_in self.now) possible.old }
+        requires other_ways { AreWaysBut (contains touched.now) (plant_of self.now).atoms (plant_of self.now).wires states.now (interactions_in self.now) ways.old }
+        ensures possible { ArePossible (plant_of self.now).atoms (plant_of self.now).wires states.now (interactions_in self.now) possible.new }
+        ensures ways { AreWays (plant_of self.now).atoms (plant_of self.now).wires states.now (interactions_in self.now) ways.new }
         ensures same { result ≡ false → IsSame possible.old ways.old possible.new ways.new }
     {
-        let judged = Judged {
+        let judged = InteractionJudge {
             atoms: &self.atoms,
             wires: &self.wires,
-            resolved: &self.resolved,
+            bound: &self.bound,
             states,
             offers,
         };
-        judged.judge_touched(&self.interactions, &self.touching, touched, possible, ways)
+        judged.judge_touched(
+            &self.interactions,
+            &self.dependents,
+            touched,
+            possible,
+            ways,
+        )
     }
 
     /// Puts the allowed interactions into the set, where it is empty, and says how many choices these have in all.
     fn allow<'x>(
         &'x self,
         states: &'x PlantState,
-        offers: &'x Offers,
+        offers: &'x EnabledTransitions,
         possible: &'x InteractionSet,
         ways: &'x [u64; MAX_INTERACTIONS],
         allowed: &mut InteractionSet,
     ) -> u128
         requires of_plant { IsOf (plant_of self.now) states.now }
-        requires exact { AreOffered (map definition_of self.now.atoms.items) states.now offers.now.sets }
-        requires shown { AreCounted (map definition_of self.now.atoms.items) offers.now.sets offers.now.counts }
-        requires known { ArePossible (map definition_of self.now.atoms.items) (map wire_of self.now.wires.items) states.now (map interaction_of self.now.interactions.items) possible.now }
-        requires counted { AreWays (map definition_of self.now.atoms.items) (map wire_of self.now.wires.items) states.now (map interaction_of self.now.interactions.items) ways.now }
+        requires exact { AreOffered (plant_of self.now).atoms states.now offers.now.sets }
+        requires shown { AreCounted (plant_of self.now).atoms offers.now.sets offers.now.counts }
+        requires known { ArePossible (plant_of self.now).atoms (plant_of self.now).wires states.now (interactions_in self.now) possible.now }
+        requires counted { AreWays (plant_of self.now).atoms (plant_of self.now).wires states.now (interactions_in self.now) ways.now }
         requires none { allowed.old ≡ empty }
-        ensures allowed { AreAllowed (plant_of self.now) states.now (map interaction_of self.now.interactions.items) allowed.new }
-        ensures total { result ≡ length (choices_among (plant_of self.now) states.now (map interaction_of self.now.interactions.items)) }
+        ensures allowed { AreAllowed (plant_of self.now) states.now (interactions_in self.now) allowed.new }
+        ensures total { result ≡ length (choices_among (plant_of self.now) states.now (interactions_in self.now)) }
     {
-        let judged = Judged {
+        let judged = InteractionJudge {
             atoms: &self.atoms,
             wires: &self.wires,
-            resolved: &self.resolved,
+            bound: &self.bound,
             states,
             offers,
         };
-        let filtered = Filtered {
+        let filtered = PriorityJudge {
             judged,
             interactions: &self.interactions,
             order: &self.order,
@@ -183,7 +189,7 @@ impl System {
         place: u128,
     ) -> Choice
         requires of_plant { IsOf (plant_of self.now) states.now }
-        requires judged { IsJudgement (plant_of self.now) (map interaction_of self.now.interactions.items) states.now judgement.now }
+        requires judged { IsJudgement (plant_of self.now) (interactions_in self.now) states.now judgement.now }
         requires place { place < length (choices (plant_of self.now) states.now) }
         ensures entry { slice_get (choices (plant_of self.now) states.now) place ≡ Some (choice_of result) }
         ensures allowed { IsAllowed (plant_of self.now) states.now (choice_of result) }
@@ -197,8 +203,8 @@ impl System {
     /// The choice of the state with this place, if there is one: a walk over the allowed interactions.
     fn find_choice(&self, states: &PlantState, judgement: &Judgement, place: u128) -> Option<Choice>
         requires of_plant { IsOf (plant_of self.now) states.now }
-        requires judged { IsJudgement (plant_of self.now) (map interaction_of self.now.interactions.items) states.now judgement.now }
-        ensures { option_map choice_of result ≡ slice_get (choices_among (plant_of self.now) states.now (map interaction_of self.now.interactions.items)) place }
+        requires judged { IsJudgement (plant_of self.now) (interactions_in self.now) states.now judgement.now }
+        ensures { option_map choice_of result ≡ slice_get (choices_among (plant_of self.now) states.now (interactions_in self.now)) place }
     {
         let mut left = place;
         for at in 0..self.interactions.len().div_ceil(64) {
@@ -220,10 +226,10 @@ impl System {
         place: u128,
     ) -> Result<Choice, u128>
         requires of_plant { IsOf (plant_of self.now) states.now }
-        requires judged { IsJudgement (plant_of self.now) (map interaction_of self.now.interactions.items) states.now judgement.now }
+        requires judged { IsJudgement (plant_of self.now) (interactions_in self.now) states.now judgement.now }
         requires at { at < ROW_WORDS }
-        ensures here { IfOk result (λ choice. slice_get (choices_from (plant_of self.now) states.now (map interaction_of self.now.interactions.items) (64 * at)) place ≡ Some (choice_of choice)) }
-        ensures behind { IfErr result (λ later. slice_get (choices_from (plant_of self.now) states.now (map interaction_of self.now.interactions.items) (64 * at)) place ≡ slice_get (choices_from (plant_of self.now) states.now (map interaction_of self.now.interactions.items) (64 * (at + 1))) later) }
+        ensures here { IfOk result (λ choice. slice_get (choices_from (plant_of self.now) states.now (interactions_in self.now) (64 * at)) place ≡ Some (choice_of choice)) }
+        ensures behind { IfErr result (λ later. slice_get (choices_from (plant_of self.now) states.now (interactions_in self.now) (64 * at)) place ≡ slice_get (choices_from (plant_of self.now) states.now (interactions_in self.now) (64 * (at + 1))) later) }
     {
         let mut left = place;
         let mut word = judgement.allowed.word(at);
@@ -249,16 +255,16 @@ impl System {
         place: u64,
     ) -> Choice
         requires of_plant { IsOf (plant_of self.now) states.now }
-        requires judged { IsJudgement (plant_of self.now) (map interaction_of self.now.interactions.items) states.now judgement.now }
+        requires judged { IsJudgement (plant_of self.now) (interactions_in self.now) states.now judgement.now }
         requires number { number < length self.now.interactions.items }
-        requires possible { is_possible_at (map definition_of self.now.atoms.items) (map wire_of self.now.wires.items) states.now (map interaction_of self.now.interactions.items) number ≡ true }
+        requires possible { is_possible_at (plant_of self.now).atoms (plant_of self.now).wires states.now (interactions_in self.now) number ≡ true }
         requires place { place < slice_index_or judgement.now.ways number 0 }
-        ensures { (i : Interaction) → slice_get (map interaction_of self.now.interactions.items) number ≡ Some i → slice_get (choices_of (map definition_of self.now.atoms.items) states.now i) place ≡ Some (choice_of result) }
+        ensures { (i : Interaction) → slice_get (interactions_in self.now) number ≡ Some i → slice_get (choices_of (plant_of self.now).atoms states.now i) place ≡ Some (choice_of result) }
     {
-        let judged = Judged {
+        let judged = InteractionJudge {
             atoms: &self.atoms,
             wires: &self.wires,
-            resolved: &self.resolved,
+            bound: &self.bound,
             states,
             offers: &judgement.offers,
         };

@@ -1,8 +1,8 @@
 //! What a state offers, judged once and kept.
 ghost use Rattle.std.specs.Prelude.{◌≡◌, ℕ, slice_index_or};
 
+use crate::enabled_transitions::EnabledTransitions;
 use crate::limits::MAX_INTERACTIONS;
-use crate::offers::Offers;
 use priority_filter::InteractionSet;
 
 /// What a state of a plant offers: what each atom offers, the possible interactions, for each of these how many choices it has
@@ -10,7 +10,7 @@ use priority_filter::InteractionSet;
 /// no memory.
 #[derive(Drop)]
 pub(crate) struct Judgement {
-    pub(crate) offers: Offers,
+    pub(crate) offers: EnabledTransitions,
     pub(crate) possible: InteractionSet,
     pub(crate) ways: [u64; MAX_INTERACTIONS],
     pub(crate) allowed: InteractionSet,

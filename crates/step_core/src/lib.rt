@@ -10,47 +10,45 @@
 //! (`specs/Step.antt`). None of these takes memory.
 //!
 //! - `wire`: connectors with their names and transfers. `limits`: how large a plant may be.
-//! - `system`: what a system keeps. `making`: how it is made, and what it lends. `rules`, `wire_rules`: the rules of a plant, as
-//!   tests. `fault`: which of them is broken.
+//! - `system`: what a system keeps, how it is made, and what it lends. `rules`, `wire_rules`: the rules of a plant, as tests.
+//!   `fault`: which of them is broken.
 //! - `interaction`, `interactions`: the interactions of a connector, each with its ports in rising order of their atoms.
 //! - `lookup`: the interaction of a connector and some atoms.
 //! - `state`: a local state for each atom. `choice`: a choice, and the moves that it makes.
-//! - `offers`: which transitions each atom offers, and how many at each port, judged again behind a step.
-//! - `judgement`: what a state offers, as it is kept. `judged`: a state with what its atoms offer, by which interactions are
-//!   judged. `filtered`: which of these are allowed. `choices`: how a judgement is made, and made again behind a step; how many
-//!   choices a state has, and which.
-//! - `free`: the interactions that no other can be above.
+//! - `enabled_transitions`: which transitions each atom offers, and how many at each port, judged again behind a step.
+//! - `possible`: which interactions are possible. `allowed`: which of these the priorities allow. `judgement`: what a state offers,
+//!   as it is kept. `choices`: how a judgement is made, and made again behind a step; how many choices a state has, and which.
+//! - `never_overruled`: the interactions that no other can be above.
 //! - `stepper`: a plant that runs: its present state, and what that offers, judged again for what a step can change alone.
-//! - `touching`: which interactions stand on a port, and whose guards read an atom, so that a step judges only those that it can
+//! - `dependents`: which interactions stand on a port, and whose guards read an atom, so that a step judges only those that it can
 //!   change.
-//! - `resolved`: guard clauses and transfers with their variables found. `values`: the values of variables, and whether guard clauses hold.
-//!   `transfers`: what a choice delivers. `firing`: the state that it leaves.
+//! - `bound_expressions`: guard clauses and transfers with their variables found. `guards`: the values of variables, and whether guard
+//!   clauses hold. `transfers`: what a choice delivers. `firing`: the state that it leaves.
 //! - `laws`: what the definitions say of one another: what interactions, choices, steps and runs are.
 #![tactic(auto)]
 
+mod allowed;
+mod bound_expressions;
 mod choice;
 mod choices;
+mod dependents;
+mod enabled_transitions;
 mod fault;
-mod filtered;
 mod firing;
-mod free;
+mod guards;
 mod interaction;
 mod interactions;
-mod judged;
 mod judgement;
 pub mod laws;
 mod limits;
 mod lookup;
-mod making;
-mod offers;
-mod resolved;
+mod never_overruled;
+mod possible;
 mod rules;
 mod state;
 mod stepper;
 mod system;
-mod touching;
 mod transfers;
-mod values;
 mod wire;
 mod wire_rules;
 

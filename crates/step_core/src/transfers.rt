@@ -6,11 +6,11 @@ ghost use Rattle.connector_tree.specs.declared.tree.TheConstants.{MAX_LEAVES};
 ghost use Rattle.step_core.specs.Chosen.{choice_of};
 ghost use Rattle.step_core.specs.Delivery.{AreApart, AreDelivered, IsGiven};
 ghost use Rattle.step_core.specs.Fitting.{IsOf};
-ghost use Rattle.step_core.specs.Resolved.{value_there, delivery_of, has_all, is_for, value_for, given_for};
+ghost use Rattle.step_core.specs.BoundExpressions.{value_there, delivery_of, has_all, is_for, value_for, given_for};
 ghost use Rattle.step_core.specs.Step.{transfer, nothing_delivered};
 
+use crate::bound_expressions::{Delivery, has_all};
 use crate::choice::{Choice, Move};
-use crate::resolved::{Delivery, has_all};
 use crate::state::PlantState;
 use crate::system::System;
 use connector_tree::{MAX_LEAVES, Mask};
@@ -25,8 +25,8 @@ impl System {
         ensures { result ≡ transfer (plant_of self.now) states.now (choice_of choice.now) atom }
     {
         let mask = choice.mask;
-        match self.resolved.get(usize::from(choice.connector)) {
-            Some(resolved) => given_for(&resolved.deliveries, states, mask, atom),
+        match self.bound.get(usize::from(choice.connector)) {
+            Some(bound) => given_for(&bound.deliveries, states, mask, atom),
             None => Delivered::of([None, None, None, None]),
         }
     }
@@ -45,8 +45,8 @@ impl System {
     {
         let mask = choice.mask;
         let moves = choice.moves.as_slice();
-        if let Some(resolved) = self.resolved.get(usize::from(choice.connector)) {
-            deliver_all(&resolved.deliveries, states, mask, moves, delivered);
+        if let Some(bound) = self.bound.get(usize::from(choice.connector)) {
+            deliver_all(&bound.deliveries, states, mask, moves, delivered);
         }
     }
 }

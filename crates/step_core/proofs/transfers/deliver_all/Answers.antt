@@ -2,7 +2,7 @@ use Rattle.std.proofs.Common.{◌<◌, ◌∙◌, ap, sym, arith, map}
 use Rattle.std.specs.Prelude.{Some, slice_get}
 use Rattle.std.proofs.lemmas.List.{take_all}
 use Rattle.std.proofs.lemmas.Option.{slice_get_within}
-use Rattle.step_core.specs.Resolved.{delivery_of, given_for}
+use Rattle.step_core.specs.BoundExpressions.{delivery_of, given_for}
 use Rattle.step_core.specs.Step.{nothing_delivered}
 use Rattle.step_core.proofs.ValueRows.{delivered-more, delivered-same, everywhere}
 use Rattle.step_core.proofs.transfers.deliver_all.Goals as goal

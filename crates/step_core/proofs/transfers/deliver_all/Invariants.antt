@@ -1,6 +1,6 @@
 use Rattle.std.proofs.Common.{map, take}
 use Rattle.step_core.specs.Delivery.{AreDelivered}
-use Rattle.step_core.specs.Resolved.{delivery_of, given_for}
+use Rattle.step_core.specs.BoundExpressions.{delivery_of, given_for}
 use Rattle.step_core.proofs.transfers.deliver_all.Given as goal
 
 -- what stands there is what the deliveries so far give

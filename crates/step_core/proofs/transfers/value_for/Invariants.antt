@@ -1,5 +1,5 @@
 use Rattle.std.proofs.Common.{◌≡◌, map, drop}
-use Rattle.step_core.specs.Resolved.{delivery_of, value_for}
+use Rattle.step_core.specs.BoundExpressions.{delivery_of, value_for}
 use Rattle.step_core.proofs.transfers.value_for.Given as goal
 
 abbrev pub invariant-loop-delivery : goal.invariant-loop-delivery

@@ -4,7 +4,7 @@ use Rattle.std.proofs.lemmas.Option.{slice_get_read, slice_get-map}
 use Rattle.petri_atom.specs.Atom.{definition_of}
 use Rattle.step_core.specs.Rules.{first_told, wire_fault}
 use Rattle.step_core.specs.Wire.{wire_of}
-use Rattle.step_core.proofs.Told.{told-now, told-later}
+use Rattle.step_core.proofs.FirstTold.{told-now, told-later}
 use Rattle.step_core.proofs.TreeRules.{few_leaves}
 use Rattle.step_core.proofs.wire_rules.fault_of_wires.Goals as goal
 

@@ -8,9 +8,9 @@ use Rattle.petri_atom.specs.Atom.{definition_of}
 use Rattle.connector_tree.specs.declared.tree.Port.{Port}
 use Rattle.step_core.specs.Choice.{is_possible, is_possible_at, moves_of, choices_of}
 use Rattle.step_core.specs.Interaction.{interaction_of}
-use Rattle.step_core.specs.Offers.{AreOffered, AreCounted}
+use Rattle.step_core.specs.EnabledTransitions.{AreOffered, AreCounted}
 use Rattle.step_core.specs.System.{plant_of}
-use Rattle.step_core.specs.Touching.{is_noted, is_read_by, at_port}
+use Rattle.step_core.specs.Dependents.{is_noted, is_read_by, at_port}
 use Rattle.step_core.specs.Ways.{ways_at}
 use Rattle.step_core.proofs.Judging.{counted-moves}
 use Rattle.step_core.proofs.Unchanged.{allowed-same, total-same}
@@ -31,7 +31,7 @@ judge_touched-is_new-requires-clause-others c n outside =
     let offered : AreOffered plant.atoms after new.sets = subst (λ list. AreOffered (map definition_of list) after new.sets) c.deref.ensures.value judged.offered in
     let counted : AreCounted plant.atoms new.sets new.counts = subst (λ list. AreCounted (map definition_of list) new.sets new.counts) c.deref.ensures.value judged.counted in
     let low : n < length all → n < 64 * c.div_ceil-words.result = λ within. omega (arith, within, length-map system.interactions.items interaction_of, c.div_ceil-words.ensures) in
-    let rows = system.touching.items in
+    let rows = system.dependents.items in
     let lent = c.deref-2.ensures.value in
     let told : n < length all → contains c.judge_changed.new.touched n ≡ false → (p : Port) → is_noted rows n (at_port p) ≡ true → length (moves_of plant.atoms after p) ≡ length (moves_of plant.atoms before p) =
     λ within out p noted. sym (counted-moves plant.atoms after new.sets new.counts c.requires.of_plant offered counted p) ∙ judged.told n p.atom p.port (low within) (ap (λ rs. is_noted rs n (at_port p)) lent ∙ noted) out ∙
@@ -56,7 +56,7 @@ judge_touched-is_new-requires-clause-other_ways c n outside possible =
     let offered : AreOffered plant.atoms after new.sets = subst (λ list. AreOffered (map definition_of list) after new.sets) c.deref.ensures.value judged.offered in
     let counted : AreCounted plant.atoms new.sets new.counts = subst (λ list. AreCounted (map definition_of list) new.sets new.counts) c.deref.ensures.value judged.counted in
     let low : n < length all → n < 64 * c.div_ceil-words.result = λ within. omega (arith, within, length-map system.interactions.items interaction_of, c.div_ceil-words.ensures) in
-    let rows = system.touching.items in
+    let rows = system.dependents.items in
     let lent = c.deref-2.ensures.value in
     let told : n < length all → contains c.judge_changed.new.touched n ≡ false → (p : Port) → is_noted rows n (at_port p) ≡ true → length (moves_of plant.atoms after p) ≡ length (moves_of plant.atoms before p) =
     λ within out p noted. sym (counted-moves plant.atoms after new.sets new.counts c.requires.of_plant offered counted p) ∙ judged.told n p.atom p.port (low within) (ap (λ rs. is_noted rs n (at_port p)) lent ∙ noted) out ∙

@@ -6,11 +6,11 @@ use Rattle.connector_tree.specs.Tree.{leaves}
 use Rattle.priority_filter.specs.Decided.{order_fault}
 use Rattle.step_core.specs.Choice.{interactions_from, named, plant_interactions}
 use Rattle.step_core.specs.Interaction.{interaction_of}
-use Rattle.step_core.specs.Resolved.{AreGuarding, AreDelivering}
+use Rattle.step_core.specs.BoundExpressions.{AreGuarding, AreDelivering}
 use Rattle.step_core.specs.Wire.{wire_of}
 use Rattle.step_core.specs.Made.{plant_by}
 use Rattle.step_core.specs.Rules.{early_fault, first_fault, fault_of, fault_of_count, fault_of_wires}
-use Rattle.step_core.specs.Touching.{AreTouching, AreOnPorts}
+use Rattle.step_core.specs.Dependents.{AreDependents, AreOnPorts}
 use Rattle.step_core.proofs.Kept.{few_atoms}
 use Rattle.step_core.proofs.RuleFaults.{first-told, none-told}
 use Rattle.step_core.proofs.TreeRules.{first_none}
@@ -29,8 +29,8 @@ returns-clause-made c = ap (plant_by c.args.atoms.items c.args.wires.items) c.in
 pub returns-clause-digest : goal.returns-clause-digest
 returns-clause-digest c = refl
 
-pub touching_rows-requires-clause-atoms : goal.touching_rows-requires-clause-atoms
-touching_rows-requires-clause-atoms c =
+pub dependent_rows-requires-clause-atoms : goal.dependent_rows-requires-clause-atoms
+dependent_rows-requires-clause-atoms c =
     let atoms = c.args.atoms.items in
     let wires = c.args.wires.items in
     let plant = plant_by atoms wires c.args.rules.now in
@@ -45,9 +45,9 @@ invariant_of-result c =
     let rules = c.args.rules.now in
     let plant = plant_by atoms wires rules in
     let all = c.in_ok-interactions.interactions in
-    let resolved = c.in_ok-resolved.resolved.items in
+    let bound = c.in_ok-bound.bound.items in
     let order = c.in_ok-order in
-    let rows = c.in_ok-touching.touching.items in
+    let rows = c.in_ok-dependents.dependents.items in
     let none : first_fault plant ≡ None =
     ap (λ xs. first_fault (plant_by xs wires rules)) (sym c.deref.ensures.value) ∙ ap (λ ws. first_fault (plant_by c.deref.result.now ws rules)) (sym c.deref-2.ensures.value) ∙ sym c.first_fault.ensures ∙ c.in_default.is in
     let many : c.len.result ≡ length (map definition_of atoms) =
@@ -60,15 +60,15 @@ invariant_of-result c =
       valid = subst (λ rs. fault_of (plant_by atoms wires rs) ≡ None) (sym order.ensures.rules)
           (none-told plant none (ap fault_of_count count ∙ sym c.fault_of_count.ensures ∙ c.in_default-fault_of_count.is) (subst (λ xs. order_fault rules (map named xs) ≡ None) (ap (map interaction_of) c.deref-7.ensures.value ∙ listed) order.ensures.sound));
       leaves = c.in_ok-ports.ensures ∙ ap (map (λ w. leaves (wire_of w).connector)) c.deref-3.ensures.value;
-      guarding = subst (λ ws. AreGuarding (map definition_of atoms) (map wire_of ws) resolved) c.deref-5.ensures.value
-          (subst (λ xs. AreGuarding (map definition_of xs) (map wire_of c.deref-5.result.now) resolved) c.deref-4.ensures.value c.in_ok-resolved.ensures.guarding);
-      delivering = subst (λ ws. AreDelivering (map definition_of atoms) (map wire_of ws) resolved) c.deref-5.ensures.value
-          (subst (λ xs. AreDelivering (map definition_of xs) (map wire_of c.deref-5.result.now) resolved) c.deref-4.ensures.value c.in_ok-resolved.ensures.delivering);
+      guarding = subst (λ ws. AreGuarding (map definition_of atoms) (map wire_of ws) bound) c.deref-5.ensures.value
+          (subst (λ xs. AreGuarding (map definition_of xs) (map wire_of c.deref-5.result.now) bound) c.deref-4.ensures.value c.in_ok-bound.ensures.guarding);
+      delivering = subst (λ ws. AreDelivering (map definition_of atoms) (map wire_of ws) bound) c.deref-5.ensures.value
+          (subst (λ xs. AreDelivering (map definition_of xs) (map wire_of c.deref-5.result.now) bound) c.deref-4.ensures.value c.in_ok-bound.ensures.delivering);
       listed = listed;
       ordered = order.ensures.interactions ∙ ap (λ xs. map named (map interaction_of xs)) c.deref-7.ensures.value;
-      unruled = c.free_interactions-free.ensures;
-      rows = omega (arith, c.in_ok-touching.ensures.rows, c.len-4.ensures, c.args.atoms.ok.0);
-      touched = subst (λ ws. AreTouching (map wire_of ws) (map interaction_of all.items) rows) c.deref-8.ensures.value
-          (subst (λ is. AreTouching (map wire_of c.deref-8.result.now) (map interaction_of is) rows) c.deref-10.ensures.value c.in_ok-touching.ensures.touching);
-      on_ports = subst (λ is. AreOnPorts (map interaction_of is) rows) c.deref-10.ensures.value c.in_ok-touching.ensures.only;
+      unruled = c.never_overruled_interactions-free.ensures;
+      rows = omega (arith, c.in_ok-dependents.ensures.rows, c.len-4.ensures, c.args.atoms.ok.0);
+      touched = subst (λ ws. AreDependents (map wire_of ws) (map interaction_of all.items) rows) c.deref-8.ensures.value
+          (subst (λ is. AreDependents (map wire_of c.deref-8.result.now) (map interaction_of is) rows) c.deref-10.ensures.value c.in_ok-dependents.ensures.dependents);
+      on_ports = subst (λ is. AreOnPorts (map interaction_of is) rows) c.deref-10.ensures.value c.in_ok-dependents.ensures.only;
     }

@@ -4,7 +4,7 @@ use Rattle.std.specs.Option.{option_map_or}
 use Rattle.std.proofs.lemmas.Option.{slice_get_read, slice_get_past}
 use Rattle.petri_atom.specs.Atom.{definition_of}
 use Rattle.connector_tree.specs.Tree.{leaves}
-use Rattle.step_core.specs.Resolved.{delivery_of, given_for}
+use Rattle.step_core.specs.BoundExpressions.{delivery_of, given_for}
 use Rattle.step_core.specs.Step.{delivered_by, nothing_delivered}
 use Rattle.step_core.specs.Wire.{wire_of}
 use Rattle.step_core.proofs.system.System.transfer.Goals as goal
@@ -12,12 +12,12 @@ use Rattle.step_core.proofs.system.System.transfer.Goals as goal
 pub returns-in-Some : goal.returns-in-Some
 returns-in-Some c =
     let system = c.args.self.now in
-    let all = system.resolved.items in
+    let all = system.bound.items in
     let states = c.args.states.now in
     let mask = c.args.choice.now.mask in
     let small : mask < 2 ^ 16 = omega arith in
     let n = c.from.result in
-    let r = c.in-Some.resolved.now in
+    let r = c.in-Some.bound.now in
     let lookup = c.in-Some.ensures.lookup in
     let within : n < length all = subst (λ rs. n < length rs) c.deref.ensures.value lookup.3.0 in
     let here : r ≡ get_or all n r = subst (λ rs. r ≡ get_or rs n r) c.deref.ensures.value lookup.1 in
@@ -30,7 +30,7 @@ returns-in-Some c =
 pub returns-in-None : goal.returns-in-None
 returns-in-None c =
     let system = c.args.self.now in
-    let all = system.resolved.items in
+    let all = system.bound.items in
     let states = c.args.states.now in
     let mask = c.args.choice.now.mask in
     let small : mask < 2 ^ 16 = omega arith in

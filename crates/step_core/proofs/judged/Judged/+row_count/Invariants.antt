@@ -1,5 +1,0 @@
-use Rattle.std.proofs.Common.{length}
-use Rattle.step_core.proofs.judged.Judged.+row_count.Given as goal
-
-abbrev pub decreases-row_count : goal.decreases-row_count
-decreases-row_count l = length l.ports.now
