@@ -1,0 +1,6 @@
+pub mod OverRecords
+pub mod Counting
+pub mod Telling
+pub mod OnRuns
+pub mod OfPlants
+mod Rows

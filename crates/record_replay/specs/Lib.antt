@@ -1,0 +1,3 @@
+pub mod Records
+pub mod Replay
+pub mod OfPlant

@@ -1,0 +1,60 @@
+-- The records of a run: for each fired choice its number, its connector, and what each participant did.
+use Rattle.std.specs.Prelude.{ℕ, suc, ◌+◌, ◌==◌, List, [], ◌∷◌, map, find, slice_index_or}
+use Rattle.std.specs.Option.{option_map_or}
+use Rattle.petri_atom.specs.Local.{Local, Row}
+use Rattle.record_codec.specs.Fired.{FiredFields}
+use Rattle.record_codec.specs.declared.entry.Entry.{Entry}
+use Rattle.step_core.specs.Choice.{ChoiceDefinition}
+use Rattle.step_core.specs.Plant.{PlantDefinition}
+use Rattle.step_core.specs.Step.{next, transfer}
+use Rattle.step_core.specs.declared.choice.Move.{Move}
+
+-- how often an atom has taken part, where this is told of all atoms
+abbrev pub count_of : List ℕ → ℕ → ℕ
+count_of counts atom = slice_index_or counts atom 0
+
+-- how often the atom with a number has taken part behind some moves: once more where one of them is its own
+abbrev pub counted_by : List Move → ℕ → ℕ → ℕ
+counted_by moves n count = option_map_or (λ m. count + 1) (find (λ m. m.atom == n) moves) count
+
+-- the same of all atoms from the number n on
+abbrev pub counted_from : List Move → ℕ → List ℕ → List ℕ
+counted_from moves n [] = []
+counted_from moves n (count ∷ counts) = counted_by moves n count ∷ counted_from moves (suc n) counts
+
+-- how often each atom has taken part behind a choice
+abbrev pub counts_after : ChoiceDefinition → List ℕ → List ℕ
+counts_after c counts = counted_from c.moves 0 counts
+
+-- and behind choices that are fired one after another
+abbrev pub counts_behind : List ChoiceDefinition → List ℕ → List ℕ
+counts_behind [] counts = counts
+counts_behind (c ∷ cs) counts = counts_behind cs (counts_after c counts)
+
+-- what a participant did: its transition, which of its firings this was, and what was delivered to it
+abbrev pub entry_by : List ℕ → Move → Row → Entry
+entry_by counts m delivered = record { atom = m.atom; transition = m.transition; participation = count_of counts m.atom + 1; delivered = delivered }
+
+-- the record with number n of a choice that is fired in a state
+abbrev pub record_by : PlantDefinition → List Local → List ℕ → ℕ → ChoiceDefinition → FiredFields
+record_by plant states counts n c = record {
+  number = n;
+  connector = c.connector;
+  entries = map (λ m. entry_by counts m (transfer plant states c m.atom)) c.moves;
+}
+
+-- the records of choices that are fired one after another, numbered from n + 1 on
+abbrev pub records_of : PlantDefinition → List Local → List ℕ → ℕ → List ChoiceDefinition → List FiredFields
+records_of plant states counts n [] = []
+records_of plant states counts n (c ∷ cs) =
+    record_by plant states counts (n + 1) c ∷ records_of plant (next plant states c) (counts_after c counts) (n + 1) cs
+
+-- what the participants did, where what was delivered to each is told in the order of the moves
+abbrev pub entries_told : List ℕ → List Move → List Row → List Entry
+entries_told counts [] rows = []
+entries_told counts (m ∷ ms) [] = []
+entries_told counts (m ∷ ms) (row ∷ rows) = entry_by counts m row ∷ entries_told counts ms rows
+
+-- the record with number n of a choice, where it is told so
+abbrev pub record_told : ℕ → ChoiceDefinition → List Row → List ℕ → FiredFields
+record_told n c rows counts = record { number = n; connector = c.connector; entries = entries_told counts c.moves rows }

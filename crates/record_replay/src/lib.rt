@@ -1,0 +1,36 @@
+//! Records of a run, and how the state of an atom is brought forward over them.
+//!
+//! A fired choice leaves a *record*: its number, its connector, and for each participant its transition, which of its firings
+//! this was, and what was delivered to it (`specs/Records.antt`). A restart never folds a global state: it takes each atom by
+//! itself from its saved state over the records that came after that, with the values that these hold (`specs/Replay.antt`).
+//! That this gives the state at the end of the run, whatever counts the saved states carry, is [`laws::mixed_counts`].
+//!
+//! Which records a plant can have is told by its interactions alone (`specs/OfPlant.antt`), so that a restart can judge what it reads.
+//!
+//! No device is known here, and nothing takes memory.
+//!
+//! - `records`: the record of a step, and how often each atom has taken part. `fitting`: whether a record can be of a plant.
+//! - `replay`: the replay of one atom. `fault`: why it ends. `laws`: what these say of one another.
+#![tactic(auto)]
+
+mod fault;
+mod fitting;
+pub mod laws;
+mod records;
+mod replay;
+
+pub use fault::ReplayFault;
+pub use fitting::is_record_of;
+pub use records::{count_participants, record_of};
+pub use replay::replay_atom;
+
+// What the model and the layout of a record say of the same numbers.
+const _: () = prove!(connector_tree::MAX_LEAVES == record_codec::MOST_ENTRIES);
+
+const _: () = prove!(step_core::MAX_ATOMS == record_codec::MOST_ATOMS as usize);
+
+const _: () = prove!(step_core::MAX_WIRES == record_codec::MOST_CONNECTORS as usize);
+
+const _: () = prove!(petri_atom::MAX_TRANSITIONS == record_codec::MOST_TRANSITIONS as usize);
+
+const _: () = prove!(petri_atom::MAX_EXPORTS == record_codec::MOST_EXPORTED);
