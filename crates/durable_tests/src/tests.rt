@@ -3,5 +3,6 @@ mod bodies;
 mod callers;
 mod cells;
 mod devices;
+mod files;
 mod journal;
 mod slots;

@@ -38,3 +38,4 @@ pub mod PastExports
 pub mod OnRuns
 pub mod InOrder
 pub mod RunRows
+pub mod Crossing

@@ -1,0 +1,57 @@
+//! Why a file is not opened as a device.
+use crate::LARGEST_IMAGE;
+use std::error::Error;
+use std::fmt;
+
+/// Why a file is not opened as a device.
+#[derive(Clone, Copy, Debug, PartialEq, Eq)]
+pub enum FileFault {
+    /// To create: more bytes than the largest image has. Nothing was made.
+    TooLarge,
+    /// To create: the name is taken. What has it was left as it was.
+    AlreadyThere,
+    /// The file to open is not there, or the folder to create it in.
+    NotThere,
+    /// The user has no right to the file or to its folder.
+    NotAllowed,
+    /// It is a folder, a pipe or a device of the system.
+    NotAFile,
+    /// The system did not open it for another reason.
+    Unopened,
+    /// It is open already, in another program or in this one.
+    InUse,
+    /// It could not be asked whether it is in use.
+    Unlocked,
+    /// To create: it could not be filled with zeros and made to last. It was removed again, where that was possible.
+    Unmade,
+    /// To open: what was written to it before could not be made to last.
+    Unsynced,
+}
+
+impl fmt::Display for FileFault {
+    ghost use Rattle.std.specs.Prelude.{Some};
+    ghost use Rattle.file_disk.specs.Messages.{message_of};
+
+    ghost output = { λ fault. Some (message_of fault) };
+
+    fn fmt<W: fmt::Write>(&self, f: &mut fmt::Formatter<W>) -> fmt::Result {
+        match self {
+            FileFault::TooLarge => write!(f, "an image has at most {LARGEST_IMAGE} bytes"),
+            FileFault::AlreadyThere => f.write_str("the name is taken: choose another one"),
+            FileFault::NotThere => f.write_str("no such file or folder"),
+            FileFault::NotAllowed => f.write_str("no right to read and write it"),
+            FileFault::NotAFile => f.write_str("not a plain file"),
+            FileFault::Unopened => f.write_str("the system could not open it"),
+            FileFault::InUse => f.write_str("in use: end the program that has it open"),
+            FileFault::Unlocked => {
+                f.write_str("no lock on it: its file system may have none, choose another one")
+            }
+            FileFault::Unmade => f.write_str("it could not be filled: the disk may be full"),
+            FileFault::Unsynced => {
+                f.write_str("what was written before could not be saved: the disk may be failing")
+            }
+        }
+    }
+}
+
+impl Error for FileFault {}

@@ -1,0 +1,142 @@
+//! How a file becomes a device.
+ghost use Rattle.std.specs.Prelude.{◌≡◌, ◌<◌, IfOk, Err};
+ghost use Rattle.file_disk.specs.FileDisk.{state_of};
+ghost use Rattle.file_disk.specs.Opened.{opened};
+ghost use Rattle.disk_model.specs.DiskState.{size_of};
+ghost use Rattle.file_disk.specs.declared.fault.FileFault.TheVariants.{TooLarge};
+
+use crate::{FileDisk, FileFault, LARGEST_IMAGE};
+use std::fs;
+use std::fs::{File, OpenOptions, TryLockError};
+use std::io::{self, ErrorKind};
+use std::os::fd::AsRawFd;
+use std::os::unix::fs::FileExt;
+use std::path::Path;
+use std::rt::Files;
+
+/// The bytes of one write of zeros.
+const ZEROS: usize = 4_096;
+
+impl FileDisk {
+    /// Makes a file of so many bytes, all zero, at a path where nothing is, and opens it. After Ok it and its name last.
+    //
+    // The zeros are written, and not left out as they may be: so the disk has the room, and no later write asks for it.
+    pub fn create<R: Files<File = File>>(
+        files: &R,
+        path: &str,
+        bytes: u64,
+    ) -> Result<FileDisk, FileFault>
+        ensures device { IfOk result (λ disk. state_of disk ≡ opened bytes) }
+        ensures too_large { LARGEST_IMAGE < bytes → result ≡ Err TooLarge }
+    {
+        if bytes > LARGEST_IMAGE {
+            return Err(FileFault::TooLarge);
+        }
+        let file = open_file(files, path, true)?;
+        if let Err(fault) = make(files, path, &file, bytes) {
+            if fault != FileFault::InUse {
+                // What can't be removed stays, and the first fault is told.
+                let _ = fs::remove_file(files, path);
+            }
+            return Err(fault);
+        }
+        Ok(FileDisk::over(file, bytes))
+    }
+
+    /// Opens the file at the path.
+    pub fn open<R: Files<File = File>>(files: &R, path: &str) -> Result<FileDisk, FileFault>
+        ensures device { IfOk result (λ disk. state_of disk ≡ opened (size_of (state_of disk))) }
+    {
+        let file = open_file(files, path, false)?;
+        lock(&file)?;
+        let Ok(metadata) = file.metadata() else {
+            return Err(FileFault::Unopened);
+        };
+        if !metadata.is_file() {
+            return Err(FileFault::NotAFile);
+        }
+        if settle(&file).is_err() {
+            return Err(FileFault::Unsynced);
+        }
+        Ok(FileDisk::over(file, metadata.len()))
+    }
+}
+
+/// Opens the file at the path to read and to write, or makes it.
+fn open_file<R: Files<File = File>>(
+    files: &R,
+    path: &str,
+    is_new: bool,
+) -> Result<File, FileFault> {
+    OpenOptions::new()
+        .read(true)
+        .write(true)
+        .create_new(is_new)
+        .open(files, path)
+        .and_then(apart)
+        .map_err(|error| match error.kind() {
+            ErrorKind::AlreadyExists => FileFault::AlreadyThere,
+            ErrorKind::NotFound | ErrorKind::NotADirectory => FileFault::NotThere,
+            ErrorKind::PermissionDenied | ErrorKind::ReadOnlyFilesystem => FileFault::NotAllowed,
+            ErrorKind::IsADirectory => FileFault::NotAFile,
+            _ => FileFault::Unopened,
+        })
+}
+
+/// The same file, with a number that no standard stream has: in a program that was started with one closed, what is
+/// printed would else go into the image.
+fn apart(file: File) -> io::Result<File> {
+    if file.as_raw_fd() > 2 {
+        return Ok(file);
+    }
+    file.try_clone()
+}
+
+/// Locks the file until it is dropped.
+fn lock(file: &File) -> Result<(), FileFault> {
+    file.try_lock().map_err(|error| match error {
+        TryLockError::WouldBlock => FileFault::InUse,
+        TryLockError::Error(_) => FileFault::Unlocked,
+    })
+}
+
+/// Locks a new file and fills it.
+fn make<R: Files<File = File>>(
+    files: &R,
+    path: &str,
+    file: &File,
+    bytes: u64,
+) -> Result<(), FileFault> {
+    lock(file)?;
+    fill(files, path, file, bytes).map_err(|_| FileFault::Unmade)
+}
+
+/// Fills a new file with zeros, and makes it and its name last.
+fn fill<R: Files<File = File>>(files: &R, path: &str, file: &File, bytes: u64) -> io::Result<()> {
+    let zeros = [0; ZEROS];
+    for part in 0..bytes.div_ceil(ZEROS as u64) {
+        let at = ZEROS as u64 * part;
+        let count = bytes.saturating_sub(at).min(ZEROS as u64) as usize;
+        file.write_all_at(&zeros[..count], at)?;
+    }
+    file.sync_all()?;
+    File::open(files, folder_of(path))?.sync_all()
+}
+
+/// The folder in which the file at the path is.
+fn folder_of(path: &str) -> &str {
+    match Path::new(path).parent() {
+        Some(folder) if !folder.as_str().is_empty() => folder.as_str(),
+        _ => ".",
+    }
+}
+
+/// Makes last what programs before this one wrote, and has the system forget what it keeps of the file.
+fn settle(file: &File) -> io::Result<()> {
+    file.sync_all()?;
+    let answer = libc::posix_fadvise(file.as_raw_fd(), 0, 0, libc::POSIX_FADV_DONTNEED);
+    if answer != 0 {
+        return Err(io::Error::from_raw_os_error(answer));
+    }
+    Ok(())
+}
