@@ -1,5 +1,5 @@
 -- What the words of a run's picks say.
-use Rattle.std.specs.Prelude.{◌≡◌, ℕ, List, [], ◌∷◌, ◌++◌, Result, Ok, Err}
+use Rattle.std.specs.Prelude.{◌≡◌, ℕ, List, [], ◌∷◌, ◌++◌, Result, Ok, Err, IsOk}
 use Rattle.std.specs.Option.{option_map_or}
 use Rattle.plant_words.specs.Numbers.{pick_in}
 use Rattle.command_line.specs.declared.picks.PickFault.{PickFault}
@@ -14,7 +14,7 @@ picks_behind picks (word ∷ words) = option_map_or (λ pick. picks_behind (pick
 abbrev pub picks_in : List (List ℕ) → Result (List ℕ) (List ℕ)
 picks_in words = picks_behind [] words
 
--- a fault of words is the first of them that writes no pick, or that memory ran out
+-- a fault of words is the first of them that writes no pick, or that memory ran out, where each writes one
 abbrev pub IsFaultOf : List (List ℕ) → PickFault → Type 0
 IsFaultOf words (NoPick word) = picks_in words ≡ Err word.now
-IsFaultOf words Memory = Unit {0}
+IsFaultOf words Memory = IsOk (picks_in words)

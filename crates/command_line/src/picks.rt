@@ -1,5 +1,5 @@
 //! The picks of a run, as words of the command line.
-ghost use Rattle.std.specs.Prelude.{◌≡◌, [], map, Ok, Err, IfOk, IfErr};
+ghost use Rattle.std.specs.Prelude.{◌≡◌, [], ◌∷◌, ◌++◌, map, Ok, Err, IfOk, IfErr, IsOkAnd};
 ghost use Rattle.command_line.specs.Picks.{picks_in, IsFaultOf};
 
 use plant_words::read_decimal;
@@ -34,17 +34,27 @@ impl<'a, T: Drop> From<AllocFailed<T>> for PickFault<'a> {
     }
 }
 
-/// The picks that the words write, or the first word that writes none: a pick is digits alone, within a `u64`.
+/// The picks that the words write, or the first word that writes none: a pick is digits alone, within a `u64`. Words are
+/// read on where memory is wanting, so that it is told in place of no such word.
 pub(crate) fn read_picks<'a>(alloc: Global, words: &[&'a str]) -> Result<Vec<u64>, PickFault<'a>>
     ensures picks { IfOk result (λ picks. picks_in (map (λ word. word.now) words.now) ≡ Ok picks.items) }
     ensures fault { IfErr result (IsFaultOf (map (λ word. word.now) words.now)) }
 {
-    let mut picks = Vec::with_capacity(alloc, words.len())?;
+    let mut picks = Vec::with_capacity(alloc, words.len());
     for word in words {
         match read_decimal(word.as_bytes()) {
-            Some(pick) => picks.push(pick)?,
+            Some(pick) => picks = with_pick(picks, pick),
             None => return Err(PickFault::NoPick(word)),
         }
     }
+    Ok(picks?)
+}
+
+/// The picks with one more behind them, where there was memory for them.
+fn with_pick(picks: Result<Vec<u64>, AllocError>, pick: u64) -> Result<Vec<u64>, AllocError>
+    ensures { IfOk result (λ more. IsOkAnd picks (λ before. more.items ≡ before.items ++ pick ∷ [])) }
+{
+    let mut picks = picks?;
+    picks.push(pick)?;
     Ok(picks)
 }

@@ -1,6 +1,8 @@
-use Rattle.std.specs.Prelude.{ℕ, zero, suc, ◌≤◌, ◌≡◌, Bool, true, List, [], ◌∷◌, ◌++◌, length, Option, Result, Ok, Err, is_ok}
+use Rattle.std.specs.Prelude.{ℕ, zero, suc, ◌≤◌, ◌≡◌, Bool, true, List, [], ◌∷◌, ◌++◌, length, Option, Result, Ok, Err, is_ok, IfOk}
 use Rattle.std.specs.List.{list_all}
-use Rattle.petri_atom.specs.Expression.{Tree, number, variable, negation, operation}
+use Rattle.std.specs.declared.alloc.AllocError.{AllocError}
+use Rattle.petri_atom.specs.Expression.{Tree, number, variable, negation, operation, tree_of}
+use Rattle.petri_atom.specs.declared.expression.Expression.{Expression}
 use Rattle.petri_atom.specs.declared.parts.TheConstants.{MAX_WORDS}
 use Rattle.plant_expressions.specs.declared.fault.ExpressionFault.{ExpressionFault}
 use Rattle.plant_expressions.specs.declared.fault.ExpressionFault.TheVariants.{BadExpression, Limit}
@@ -55,6 +57,18 @@ only (Err fault) = Err fault
 -- the expression that stands first in the words, and the words that are left, or the first fault
 abbrev pub expression_in : {V : Type 0} → (List ℕ → Option V) → List (List ℕ) → Result (Tree V × List (List ℕ)) ExpressionFault
 expression_in named words = only (expressions_in named MAX_WORDS 1 words)
+
+-- the words that are left, or the fault
+abbrev pub words_left : {A : Type 0} → Result (A × List (List ℕ)) ExpressionFault → Result (List (List ℕ)) ExpressionFault
+words_left (Ok reading) = Ok reading.1
+words_left (Err fault) = Err fault
+
+-- An expression that stands first in the words, before those that are left: whatever is wanted behind it, it stands in
+-- front of that. Where there was memory for it, it is the one that was made.
+pub record Stands {V : Type 0} (named : List ℕ → Option V) (limit left : ℕ) (words rest : List (List ℕ)) (made : Result (Expression V) AllocError) : Type 0 where
+  pub tree : Tree V
+  pub says : (more : ℕ) → expressions_in named limit (suc more) words ≡ on_trees (λ trees. tree ∷ trees) (expressions_in named left more rest)
+  pub is_made : IfOk made (λ expression. tree_of expression ≡ tree)
 
 -- a word that is no fault
 abbrev pub has_meaning : {V : Type 0} → (List ℕ → Option V) → List ℕ → Bool

@@ -1,8 +1,8 @@
 //! Reading an expression from the words of a line.
-ghost use Rattle.std.specs.Prelude.{◌≡◌, ℕ, suc, ◌-◌, ◌≤◌, ◌<◌, ◌∷◌, IfOk, IfErr, OnOk};
+ghost use Rattle.std.specs.Prelude.{◌≡◌, ◌≢◌, ℕ, suc, ◌-◌, ◌≤◌, ◌<◌, Ok, IfOk, IfErr, IsOkAnd, OnOk};
 ghost use Rattle.petri_atom.specs.Expression.{tree_of, negation, operation};
 ghost use Rattle.petri_atom.specs.declared.parts.TheConstants.{MAX_WORDS};
-ghost use Rattle.plant_expressions.specs.Expressions.{expression_in, expressions_in, on_trees, led_by, wanted_behind, PassesOver};
+ghost use Rattle.plant_expressions.specs.Expressions.{expression_in, expressions_in, on_trees, led_by, wanted_behind, words_left, PassesOver, Stands};
 
 use crate::fault::ExpressionFault;
 use crate::word::{Variables, Word, read_word};
@@ -10,8 +10,9 @@ use petri_atom::{Expression, MAX_WORDS, Operator};
 use plant_words::Words;
 use std::alloc::{AllocError, Global};
 
-/// The expression that stands first in the words, and the words behind it stay; or the first fault from the left. Of
-/// a fault it is not said which words stay, but that each one before them means something.
+/// The expression that stands first in the words, or the first fault from the left. Want of memory is told only where
+/// there is such an expression. The words behind it stay in either case; of a fault it is not said which words stay, but
+/// that each one before them means something.
 pub fn read_expression<V: Drop, N: Variables<V>>(
     alloc: Global,
     words: &mut Words<'_>,
@@ -21,40 +22,42 @@ pub fn read_expression<V: Drop, N: Variables<V>>(
         (λ expression. expression_in (N.variable_named names.now) words.old ≡ Ok (tree_of expression, words.new)) }
     ensures fault { IfErr result
         (λ fault. ¬ (fault ≡ ExpressionFault.Memory) → expression_in (N.variable_named names.now) words.old ≡ Err fault) }
+    ensures memory { IfErr result
+        (λ fault. fault ≡ ExpressionFault.Memory → words_left (expression_in (N.variable_named names.now) words.old) ≡ Ok words.new) }
     ensures passed { PassesOver (N.variable_named names.now) MAX_WORDS words.old words.new }
 {
     let mut limit = MAX_WORDS;
-    read_operand(alloc, words, &mut limit, names)
+    let expression = read_operand(alloc, words, &mut limit, names)?;
+    Ok(expression?)
 }
 
-/// The expression that stands first in the words, of at most so many; the limit falls by the words that it has.
+/// The expression that stands first in the words, of at most so many, as far as there is memory for it; the limit falls
+/// by the words that it has. Words are read on where memory is wanting, so that it is told in place of no fault of theirs.
 #[tactic(auto, using(crate::proofs::Passing::passes_both))]
 fn read_operand<V: Drop, N: Variables<V>>(
     alloc: Global,
     words: &mut Words<'_>,
     limit: &mut usize,
     names: &N,
-) -> Result<Expression<V>, ExpressionFault>
-    ensures expression { IfOk result (λ expression. (more : ℕ) →
-        expressions_in (N.variable_named names.now) limit.old (suc more) words.old
-        ≡ on_trees (λ trees. tree_of expression ∷ trees)
-        (expressions_in (N.variable_named names.now) limit.new more words.new)) }
-    ensures fault { IfErr result (λ fault. ¬ (fault ≡ ExpressionFault.Memory) → (more : ℕ) →
+) -> Result<Result<Expression<V>, AllocError>, ExpressionFault>
+    ensures expression { IfOk result (Stands (N.variable_named names.now) limit.old limit.new words.old words.new) }
+    ensures fault { IfErr result (λ fault. (more : ℕ) →
         expressions_in (N.variable_named names.now) limit.old (suc more) words.old ≡ Err fault) }
+    ensures no_memory { IfErr result (λ fault. fault ≢ ExpressionFault.Memory) }
     ensures within { limit.new ≤ limit.old }
     ensures passed { PassesOver (N.variable_named names.now) (limit.old - limit.new) words.old words.new }
 {
     match next_word(words, limit, names)? {
-        Word::Number(number) => Ok(Expression::Number(number)),
-        Word::Variable(variable) => Ok(Expression::Variable(variable)),
+        Word::Number(number) => Ok(Ok(Expression::Number(number))),
+        Word::Variable(variable) => Ok(Ok(Expression::Variable(variable))),
         Word::Negation => {
             let operand = read_operand(alloc, words, limit, names)?;
-            Ok(negation(alloc, operand)?)
+            Ok(negation(alloc, operand))
         }
         Word::Operation(operator) => {
             let left = read_operand(alloc, words, limit, names)?;
             let right = read_operand(alloc, words, limit, names)?;
-            Ok(operation(alloc, operator, left, right)?)
+            Ok(operation(alloc, operator, left, right))
         }
     }
 }
@@ -71,6 +74,7 @@ fn next_word<V, N: Variables<V>>(
         (expressions_in (N.variable_named names.now) limit.new (wanted_behind word more) words.new)) }
     ensures fault { IfErr result (λ fault. (more : ℕ) →
         expressions_in (N.variable_named names.now) limit.old (suc more) words.old ≡ Err fault) }
+    ensures no_memory { IfErr result (λ fault. fault ≢ ExpressionFault.Memory) }
     ensures falls { OnOk result (limit.new < limit.old) }
     ensures within { limit.new ≤ limit.old }
     ensures passed { PassesOver (N.variable_named names.now) (limit.old - limit.new) words.old words.new }
@@ -83,20 +87,25 @@ fn next_word<V, N: Variables<V>>(
     Ok(meaning)
 }
 
-fn negation<V: Drop>(alloc: Global, operand: Expression<V>) -> Result<Expression<V>, AllocError>
-    ensures { IfOk result (λ expression. tree_of expression ≡ negation (tree_of operand)) }
+/// The negation of an operand, where there was memory for it.
+fn negation<V: Drop>(
+    alloc: Global,
+    operand: Result<Expression<V>, AllocError>,
+) -> Result<Expression<V>, AllocError>
+    ensures { IfOk result (λ expression. IsOkAnd operand (λ inner. tree_of expression ≡ negation (tree_of inner))) }
 {
-    Ok(Expression::Not(Box::new(alloc, operand)?))
+    Ok(Expression::Not(Box::new(alloc, operand?)?))
 }
 
+/// An operator over its operands, where there was memory for them.
 fn operation<V: Drop>(
     alloc: Global,
     operator: Operator,
-    left: Expression<V>,
-    right: Expression<V>,
+    left: Result<Expression<V>, AllocError>,
+    right: Result<Expression<V>, AllocError>,
 ) -> Result<Expression<V>, AllocError>
-    ensures { IfOk result
-        (λ expression. tree_of expression ≡ operation operator (tree_of left) (tree_of right)) }
+    ensures { IfOk result (λ expression. IsOkAnd left (λ one. IsOkAnd right
+        (λ other. tree_of expression ≡ operation operator (tree_of one) (tree_of other)))) }
 {
-    Ok(Expression::Apply(operator, Box::new(alloc, left)?, Box::new(alloc, right)?))
+    Ok(Expression::Apply(operator, Box::new(alloc, left?)?, Box::new(alloc, right?)?))
 }
