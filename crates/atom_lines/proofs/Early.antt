@@ -1,20 +1,25 @@
 -- Steps of a reading that take no memory, so that none of them tells of want of it.
-use Rattle.std.proofs.Common.{◌≡◌, ◌≢◌, ◌∙◌, refl, sym, ap, subst, if◌then◌else◌, Bool, true, false, ℕ, List, [], ◌∷◌, length, take, drop, Option, Some, None, Result, Ok, Err, codes}
-use Rattle.std.specs.Prelude.{IfErr, IsOk, nat_lt, is_none}
+use Rattle.std.proofs.Common.{◌≡◌, ◌≢◌, ◌∙◌, refl, sym, ap, subst, if◌then◌else◌, Bool, true, false, not, ℕ, zero, suc, List, [], ◌∷◌, ◌++◌, length, drop, Option, Some, None, Result, Ok, Err, codes}
+use Rattle.std.specs.Prelude.{IfErr, IsOk, nat_lt, nat_eq}
+use Rattle.std.specs.List.{list_any}
 use Rattle.std.specs.Option.{ok_or}
 use Rattle.std.specs.Result.{IsErrAnd}
 use Rattle.petri_atom.specs.Name.{is_same_text}
-use Rattle.petri_atom.specs.Definition.{AtomDefinition}
-use Rattle.petri_atom.specs.declared.parts.TheConstants.{MAX_PORTS}
+use Rattle.petri_atom.specs.Definition.{AtomDefinition, UpdateDefinition}
+use Rattle.petri_atom.specs.declared.parts.TheConstants.{MAX_UPDATES}
+use Rattle.petri_atom.specs.declared.state.TheConstants.{MAX_EXPORTS}
+use Rattle.plant_expressions.specs.Expressions.{expression_in}
+use Rattle.plant_expressions.specs.declared.fault.ExpressionFault.{ExpressionFault}
+use Rattle.plant_expressions.specs.declared.fault.ExpressionFault.TheVariants as expression
 use Rattle.plant_words.specs.Names.{name_in}
 use Rattle.plant_words.specs.Numbers.{int_in}
-use Rattle.atom_lines.specs.Fault.{IsLast}
+use Rattle.atom_lines.specs.Fault.{IsLast, line_fault}
 use Rattle.atom_lines.specs.Reading.{◌>>=◌, check, first_word, first_name, first_number, at_end, mark_in, value_in}
-use Rattle.atom_lines.specs.Lookup.{port_number}
-use Rattle.atom_lines.specs.Rows.{exports_in, port_row, with_port}
+use Rattle.atom_lines.specs.Lookup.{place_number, variable_number, port_number}
+use Rattle.atom_lines.specs.Rows.{export_in, exports_in}
+use Rattle.atom_lines.specs.Transitions.{leads, ends_places, place_in, places_in, places_behind, on_line, expression_on, guard_in, update_in, goes_on, updates_from, transition_in}
 use Rattle.atom_lines.specs.declared.fault.LineFault.{LineFault}
-use Rattle.atom_lines.specs.declared.fault.LineFault.TheVariants.{BadName, BadNumber, Shape, Limit, Twice, Memory}
-use Rattle.atom_lines.proofs.Exits.{passes}
+use Rattle.atom_lines.specs.declared.fault.LineFault.TheVariants.{BadName, BadNumber, UnknownName, Shape, Limit, Twice, Memory}
 
 -- a step that tells of no want of memory
 abbrev pub TakesNone : {A : Type 0} → Result A LineFault → Type 0
@@ -68,15 +73,87 @@ pub told_last : {A B : Type 0} (read : Result A LineFault) (x : A) (result : Res
 told_last read x (Ok y) is = tt
 told_last read x (Err told) is = λ memory. subst IsOk (sym is) refl
 
--- a port's line without its exports
-name_of_front : (words : List (List ℕ)) → first_name (take 1 words) ≡ first_name words
-name_of_front [] = refl
-name_of_front (word ∷ words) = refl
+-- the numbers of exports
+export_takes_none : (a : AtomDefinition) (before word : List ℕ) → TakesNone (export_in a before word)
+export_takes_none a before word =
+    then_takes_none _ _ (check_takes_none (nat_lt (length before) MAX_EXPORTS) Limit (λ is. absurd (cc)))
+    (λ room. then_takes_none _ _ (or_takes_none (variable_number a word) UnknownName (λ is. absurd (cc)))
+    (λ number. then_takes_none _ _ (check_takes_none (not (list_any (λ k. nat_eq k number) before)) Twice (λ is. absurd (cc))) (λ new is. absurd (cc))))
 
-none_behind_front : (words : List (List ℕ)) → drop 1 (take 1 words) ≡ []
-none_behind_front [] = refl
-none_behind_front (word ∷ words) = refl
+pub exports_take_none : (a : AtomDefinition) (before : List ℕ) (words : List (List ℕ)) → TakesNone (exports_in a before words)
+exports_take_none a before [] is = absurd (cc)
+exports_take_none a before (word ∷ words) = then_takes_none _ _ (export_takes_none a before word) (λ number. exports_take_none a (before ++ number ∷ []) words)
 
-pub port_alone : (a : AtomDefinition) (words : List (List ℕ)) (name : List ℕ) (u v : Unit {0}) → check (nat_lt (length a.ports) MAX_PORTS) Limit ≡ Ok u → first_name words ≡ Ok name → check (is_none (port_number a name)) Twice ≡ Ok v → port_row (take 1 words) a ≡ Ok (with_port a (record { name = name; exports = [] }))
-port_alone a words name u v room named new =
-    passes _ room (passes _ (name_of_front words ∙ named) (passes _ new (passes _ (ap (exports_in a []) (none_behind_front words)) refl)))
+-- an expression
+fault_is_no_want : (fault : ExpressionFault) → line_fault fault ≢ Memory
+fault_is_no_want expression.UnknownName is = absurd (cc)
+fault_is_no_want expression.BadExpression is = absurd (cc)
+fault_is_no_want expression.BadNumber is = absurd (cc)
+fault_is_no_want expression.Limit is = absurd (cc)
+
+line_takes_none : {A : Type 0} (read : Result A ExpressionFault) → TakesNone (on_line read)
+line_takes_none (Ok x) is = absurd (cc)
+line_takes_none (Err fault) is = let e : line_fault fault ≡ Memory = cc in fault_is_no_want fault e
+
+pub expression_takes_none : (a : AtomDefinition) (words : List (List ℕ)) → TakesNone (expression_on a words)
+expression_takes_none a words = line_takes_none (expression_in (variable_number a) words)
+
+either_takes_none : {A : Type 0} (test : Bool) (one other : Result A LineFault) → TakesNone one → TakesNone other → TakesNone (if test then one else other)
+either_takes_none true one other first second = first
+either_takes_none false one other first second = second
+
+-- the places of a list
+place_takes_none : (a : AtomDefinition) (before word : List ℕ) → TakesNone (place_in a before word)
+place_takes_none a before word =
+    then_takes_none _ _ (or_takes_none (place_number a word) UnknownName (λ is. absurd (cc)))
+    (λ place. then_takes_none _ _ (check_takes_none (not (list_any (λ k. nat_eq k place) before)) Twice (λ is. absurd (cc))) (λ new is. absurd (cc)))
+
+places_take_none : (a : AtomDefinition) (before : List ℕ) (words : List (List ℕ)) → TakesNone (places_in a before words)
+places_take_none a before [] is = absurd (cc)
+places_take_none a before (word ∷ words) =
+    either_takes_none (ends_places (word ∷ words)) (Ok (before, word ∷ words)) (place_in a before word >>= λ place. places_in a (before ++ place ∷ []) words) (λ is. absurd (cc))
+    (then_takes_none _ _ (place_takes_none a before word) (λ place. places_take_none a (before ++ place ∷ []) words))
+
+places_behind_take_none : (keyword : List ℕ) (a : AtomDefinition) (words : List (List ℕ)) → TakesNone (places_behind keyword a words)
+places_behind_take_none keyword a words =
+    then_takes_none _ _ (check_takes_none (leads keyword words) Shape (λ is. absurd (cc)))
+    (λ begun. then_takes_none _ _ (places_take_none a [] (drop 1 words))
+    (λ listed. then_takes_none _ _ (check_takes_none (nat_lt 0 (length listed.0)) Shape (λ is. absurd (cc))) (λ filled is. absurd (cc))))
+
+-- the guard and the updates of a transition
+guard_takes_none : (a : AtomDefinition) (words : List (List ℕ)) → TakesNone (guard_in a words)
+guard_takes_none a words = either_takes_none (leads (codes "when") words) _ _ (expression_takes_none a (drop 1 words)) (λ is. absurd (cc))
+
+update_takes_none : (a : AtomDefinition) (words : List (List ℕ)) → TakesNone (update_in a words)
+update_takes_none a words =
+    then_takes_none _ _ (word_takes_none words)
+    (λ word. then_takes_none _ _ (or_takes_none (variable_number a word) UnknownName (λ is. absurd (cc)))
+    (λ variable. then_takes_none _ _ (check_takes_none (leads (codes ":=") (drop 1 words)) Shape (λ is. absurd (cc)))
+    (λ assigns. then_takes_none _ _ (expression_takes_none a (drop 1 (drop 1 words))) (λ value is. absurd (cc)))))
+
+going_takes_none : (keyword : List ℕ) (words : List (List ℕ)) → TakesNone (goes_on keyword words)
+going_takes_none keyword [] is = absurd (cc)
+going_takes_none keyword (word ∷ words) = either_takes_none (is_same_text word keyword) (Ok true) (Err Shape) (λ is. absurd (cc)) (λ is. absurd (cc))
+
+updates_take_none : (a : AtomDefinition) (left : ℕ) (before : List UpdateDefinition) (more : Bool) (words : List (List ℕ)) → TakesNone (updates_from a left before more words)
+unfolding updates_from
+updates_take_none a zero before false words is = absurd (cc)
+updates_take_none a (suc left) before false words is = absurd (cc)
+updates_take_none a zero before true words is = absurd (cc)
+updates_take_none a (suc left) before true words =
+    then_takes_none _ _ (update_takes_none a words)
+    (λ update. then_takes_none _ _ (going_takes_none (codes ";") update.1) (λ more. updates_take_none a left (before ++ update.0 ∷ []) more (drop 1 update.1)))
+
+-- a transition
+pub transition_takes_none : (a : AtomDefinition) (words : List (List ℕ)) → TakesNone (transition_in a words)
+transition_takes_none a words =
+    then_takes_none _ _ (then_takes_none _ _ (word_takes_none words) (λ word. or_takes_none (port_number a word) UnknownName (λ is. absurd (cc))))
+    (λ port. then_takes_none _ _ (places_behind_take_none (codes "from") a (drop 1 words))
+    (λ sources. then_takes_none _ _ (places_behind_take_none (codes "to") a sources.1)
+    (λ targets. then_takes_none _ _ (guard_takes_none a targets.1)
+    (λ guard. then_takes_none _ _ (then_takes_none _ _ (going_takes_none (codes "do") guard.1) (λ more. updates_take_none a MAX_UPDATES [] more (drop 1 guard.1)))
+    (λ updates is. absurd (cc))))))
+
+-- the fault of what was read is no want of memory
+pub own_fault : {A B : Type 0} (read : Result A LineFault) (result : Result B LineFault) (fault : LineFault) → IsErrAnd result (λ told. told ≡ fault) → read ≡ Err fault → TakesNone read → IfErr result (IsLast read)
+own_fault read result fault left is none = told_before read read result fault left is none

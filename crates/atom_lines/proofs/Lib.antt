@@ -3,6 +3,8 @@ pub mod Updates
 pub mod Steps
 pub mod Exits
 pub mod Early
+pub mod Few
+pub mod Making
 pub mod Taken
 pub mod Growing
 pub mod Named

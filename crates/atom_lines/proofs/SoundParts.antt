@@ -31,11 +31,11 @@ pub record Listed (bound : ℕ) (ks : List ℕ) : Type 0 where
   pub once : is_each_once nat_eq ks ≡ true
   pub below : are_below bound ks ≡ true
 
-none_listed : (bound : ℕ) → Listed bound []
+pub none_listed : (bound : ℕ) → Listed bound []
 none_listed bound = record { once = refl; below = refl }
 
 -- one more that is not there yet
-one_listed : (bound : ℕ) (ks : List ℕ) (k : ℕ) → Listed bound ks → list_any (λ j. nat_eq j k) ks ≡ false → k < bound → Listed bound (ks ++ k ∷ [])
+pub one_listed : (bound : ℕ) (ks : List ℕ) (k : ℕ) → Listed bound ks → list_any (λ j. nat_eq j k) ks ≡ false → k < bound → Listed bound (ks ++ k ∷ [])
 one_listed bound ks k listed new below = record {
   once = listed_once ks k listed.once new;
   below = list_all-append (λ j. nat_lt j bound) ks (k ∷ []) ∙ and_from _ _ listed.below (and_from (nat_lt k bound) true (lt-ltb k bound below) refl);
@@ -78,7 +78,7 @@ exports_sound a words name ks told =
 -- ---- places of a transition
 
 -- a place behind others is new
-placed : (a : AtomDefinition) (before : List ℕ) (word : List ℕ) (k : ℕ) → place_in a before word ≡ Ok k →
+pub placed : (a : AtomDefinition) (before : List ℕ) (word : List ℕ) (k : ℕ) → place_in a before word ≡ Ok k →
     (list_any (λ j. nat_eq j k) before ≡ false) × (k < length a.places)
 placed a before word k told =
     let after : ℕ → Result ℕ LineFault = λ n. check (not (list_any (λ j. nat_eq j n) before)) Twice >>= (λ _. Ok n) in

@@ -18,4 +18,3 @@ line_fault expression.UnknownName = UnknownName
 line_fault expression.BadExpression = BadExpression
 line_fault expression.BadNumber = BadNumber
 line_fault expression.Limit = Limit
-line_fault expression.Memory = Memory

@@ -1,4 +1,5 @@
 pub mod Fault
+pub mod Making
 pub mod Reading
 pub mod Lookup
 pub mod Rows

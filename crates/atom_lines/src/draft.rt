@@ -1,7 +1,8 @@
 //! The atom as its lines have told it so far.
-ghost use Rattle.std.specs.Prelude.{◌<◌, ◌-◌, true, drop, take, length, map, IfSome, IsTrue, ◌≡◌, ◌≤◌, IfOk, IfErr, OnOk, OnErr, Ok, None, []};
+ghost use Rattle.std.specs.Prelude.{◌<◌, ◌-◌, true, drop, length, map, IfSome, IsTrue, ◌≡◌, ◌≤◌, ◌∷◌, ◌++◌, IfOk, IfErr, OnOk, OnErr, IsOkAnd, Ok, Err, None, []};
 ghost use Rattle.std.specs.List.{list_all};
 ghost use Rattle.atom_lines.specs.Fault.{IsFaultOf, IsLast};
+ghost use Rattle.atom_lines.specs.Making.{IsRead, AreRead};
 ghost use Rattle.atom_lines.specs.Rows.{place_row, variable_row, port_row, export_in, exports_in, with_place, with_variable, with_port};
 ghost use Rattle.atom_lines.specs.Lookup.{place_number, variable_number, port_number, export_number};
 ghost use Rattle.atom_lines.specs.Transitions.{port_in, place_in, places_in, places_behind, expression_on, guard_in, update_in, updates_from, updates_in, transition_in, transition_row};
@@ -11,6 +12,8 @@ ghost use Rattle.petri_atom.specs.Local.{are_places};
 ghost use Rattle.petri_atom.specs.Name.{is_same_text};
 ghost use Rattle.petri_atom.specs.Parts.{port_of};
 ghost use Rattle.petri_atom.specs.Transition.{transition_of};
+ghost use Rattle.petri_atom.specs.Expression.{tree_of};
+ghost use Rattle.petri_atom.specs.Update.{update_of};
 ghost use Rattle.petri_atom.specs.declared.state.TheConstants.{MAX_PLACES, MAX_VARIABLES, MAX_EXPORTS};
 ghost use Rattle.petri_atom.specs.declared.parts.TheConstants.{MAX_PORTS, MAX_TRANSITIONS, MAX_UPDATES};
 
@@ -19,6 +22,7 @@ use crate::lookup;
 use crate::reading::{
     check, goes_on, next_in_places, next_name, next_word, read_mark, read_value, skip_word,
 };
+use arrayvec::ArrayVec;
 use petri_atom::{
     Atom, AtomFault, Expression, MAX_EXPORTS, MAX_PLACES, MAX_PORTS, MAX_TRANSITIONS, MAX_UPDATES,
     MAX_VARIABLES, Name, Place, Port, Transition, Update, Variable,
@@ -58,8 +62,6 @@ impl AtomDraft {
     ghost use Rattle.petri_atom.specs.Atom.{definition_of};
     ghost use Rattle.petri_atom.specs.Definition.{fault_of};
     ghost use Rattle.petri_atom.specs.Parts.{definition_by};
-    ghost use Rattle.petri_atom.specs.Expression.{tree_of};
-    ghost use Rattle.petri_atom.specs.Update.{update_of};
 
     /// The atom with the name and no parts.
     pub fn new(alloc: Global, name: Name) -> Self
@@ -181,13 +183,14 @@ impl AtomDraft {
     pub fn add_port(&mut self, words: &mut Words) -> Result<(), LineFault>
         ensures added { OnOk result (port_row words.old (drafted self.old) ≡ Ok (drafted self.new)) }
         ensures fault { IfErr result (IsFaultOf (port_row words.old (drafted self.old))) }
-        ensures memory { IfErr result (IsLast (port_row (take 1 words.old) (drafted self.old))) }
+        ensures memory { IfErr result (IsLast (port_row words.old (drafted self.old))) }
         ensures unchanged { OnErr result (drafted self.new ≡ drafted self.old) }
     {
         check(self.ports.len() < MAX_PORTS, LineFault::Limit)?;
         let name = next_name(words)?;
         check(self.find_port(name.as_bytes()).is_none(), LineFault::Twice)?;
         let exports = self.read_exports(words)?;
+        let exports = exports.to_vec(self.alloc)?;
         self.push_port(Port { name, exports })?;
         Ok(())
     }
@@ -208,7 +211,8 @@ impl AtomDraft {
 
     /// The number of the variable that the word exports behind these.
     fn next_export(&self, before: &[u8], word: &[u8]) -> Result<u8, LineFault>
-        ensures { result ≡ export_in (drafted self.now) before.now word.now }
+        ensures export { result ≡ export_in (drafted self.now) before.now word.now }
+        ensures room { OnOk result (length before.now < MAX_EXPORTS) }
     {
         check(before.len() < MAX_EXPORTS, LineFault::Limit)?;
         let number = self.find_variable(word).ok_or(LineFault::UnknownName)?;
@@ -217,14 +221,14 @@ impl AtomDraft {
     }
 
     /// The numbers of the variables that the words name.
-    fn read_exports(&self, words: &mut Words) -> Result<Vec<u8>, LineFault>
+    fn read_exports(&self, words: &mut Words) -> Result<ArrayVec<u8, MAX_EXPORTS>, LineFault>
         ensures exports { IfOk result (λ exports. exports_in (drafted self.now) [] words.old ≡ Ok exports.items) }
-        ensures fault { IfErr result (IsFaultOf (exports_in (drafted self.now) [] words.old)) }
+        ensures fault { IfErr result (λ fault. exports_in (drafted self.now) [] words.old ≡ Err fault) }
     {
-        let mut exports = Vec::new(self.alloc);
+        let mut exports = ArrayVec::new();
         while let Some(word) = words.next_word() {
             let number = self.next_export(&exports, word)?;
-            exports.push(number)?;
+            exports.push(number);
         }
         Ok(exports)
     }
@@ -248,24 +252,28 @@ impl AtomDraft {
         Ok(place)
     }
 
-    /// The numbers of the places that the words list.
-    fn read_places(&self, words: &mut Words) -> Result<Vec<u8>, LineFault>
+    /// The numbers of the places that the words list. Each stands there once, so there are no more than an atom has.
+    fn read_places(&self, words: &mut Words) -> Result<ArrayVec<u8, MAX_PLACES>, LineFault>
         ensures places { IfOk result (λ places. places_in (drafted self.now) [] words.old ≡ Ok (places.items, words.new)) }
-        ensures fault { IfErr result (IsFaultOf (places_in (drafted self.now) [] words.old)) }
+        ensures fault { IfErr result (λ fault. places_in (drafted self.now) [] words.old ≡ Err fault) }
         ensures within { IfOk result (λ places. IsTrue (are_places places.items)) }
     {
-        let mut places = Vec::new(self.alloc);
+        let mut places = ArrayVec::new();
         while let Some(word) = next_in_places(words) {
             let place = self.next_place(&places, word)?;
-            places.push(place)?;
+            places.push(place);
         }
         Ok(places)
     }
 
     /// The numbers of the places of a list that begins with the keyword.
-    fn read_places_behind(&self, keyword: &[u8], words: &mut Words) -> Result<Vec<u8>, LineFault>
+    fn read_places_behind(
+        &self,
+        keyword: &[u8],
+        words: &mut Words,
+    ) -> Result<ArrayVec<u8, MAX_PLACES>, LineFault>
         ensures places { IfOk result (λ places. places_behind keyword.now (drafted self.now) words.old ≡ Ok (places.items, words.new)) }
-        ensures fault { IfErr result (IsFaultOf (places_behind keyword.now (drafted self.now) words.old)) }
+        ensures fault { IfErr result (λ fault. places_behind keyword.now (drafted self.now) words.old ≡ Err fault) }
         ensures within { IfOk result (λ places. IsTrue (are_places places.items)) }
     {
         check(skip_word(words, keyword), LineFault::Shape)?;
@@ -274,95 +282,89 @@ impl AtomDraft {
         Ok(places)
     }
 
-    /// The expression that stands first in the words.
-    fn read_expression(&self, words: &mut Words) -> Result<Expression<u8>, LineFault>
-        ensures expression { IfOk result (λ expression. expression_on (drafted self.now) words.old ≡ Ok (tree_of expression, words.new)) }
-        ensures fault { IfErr result (IsFaultOf (expression_on (drafted self.now) words.old)) }
+    /// The expression that stands first in the words, as far as there is memory for it.
+    fn read_expression(
+        &self,
+        words: &mut Words,
+    ) -> Result<Result<Expression<u8>, AllocError>, LineFault>
+        ensures expression { IfOk result (IsRead tree_of (expression_on (drafted self.now) words.old) words.new) }
+        ensures fault { IfErr result (λ fault. expression_on (drafted self.now) words.old ≡ Err fault) }
     {
         Ok(read_expression(self.alloc, words, self)?)
     }
 
-    /// The guard of a transition.
-    fn read_guard(&self, words: &mut Words) -> Result<Expression<u8>, LineFault>
-        ensures guard { IfOk result (λ guard. guard_in (drafted self.now) words.old ≡ Ok (tree_of guard, words.new)) }
-        ensures fault { IfErr result (IsFaultOf (guard_in (drafted self.now) words.old)) }
+    /// The guard of a transition, as far as there is memory for it.
+    fn read_guard(
+        &self,
+        words: &mut Words,
+    ) -> Result<Result<Expression<u8>, AllocError>, LineFault>
+        ensures guard { IfOk result (IsRead tree_of (guard_in (drafted self.now) words.old) words.new) }
+        ensures fault { IfErr result (λ fault. guard_in (drafted self.now) words.old ≡ Err fault) }
     {
         if skip_word(words, b"when") {
             self.read_expression(words)
         } else {
-            Ok(Expression::Number(1))
+            Ok(Ok(Expression::Number(1)))
         }
     }
 
-    /// The update that stands first in the words.
-    fn read_update(&self, words: &mut Words) -> Result<Update, LineFault>
-        ensures update { IfOk result (λ update. update_in (drafted self.now) words.old ≡ Ok (update_of update, words.new)) }
-        ensures fault { IfErr result (IsFaultOf (update_in (drafted self.now) words.old)) }
+    /// The update that stands first in the words, as far as there is memory for it.
+    fn read_update(&self, words: &mut Words) -> Result<Result<Update, AllocError>, LineFault>
+        ensures update { IfOk result (IsRead update_of (update_in (drafted self.now) words.old) words.new) }
+        ensures fault { IfErr result (λ fault. update_in (drafted self.now) words.old ≡ Err fault) }
     {
         let word = next_word(words)?;
         let variable = self.find_variable(word).ok_or(LineFault::UnknownName)?;
         check(skip_word(words, b":="), LineFault::Shape)?;
         let value = self.read_expression(words)?;
-        Ok(Update { variable, value })
+        Ok(update(variable, value))
     }
 
-    /// The updates of a transition.
-    fn read_updates(&self, words: &mut Words) -> Result<Vec<Update>, LineFault>
-        ensures updates { IfOk result (λ updates. updates_in (drafted self.now) words.old ≡ Ok (map update_of updates.items)) }
-        ensures fault { IfErr result (IsFaultOf (updates_in (drafted self.now) words.old)) }
+    /// The updates of a transition, as far as there is memory for them.
+    fn read_updates(&self, words: &mut Words) -> Result<Result<Vec<Update>, AllocError>, LineFault>
+        ensures updates { IfOk result (AreRead (updates_in (drafted self.now) words.old)) }
+        ensures fault { IfErr result (λ fault. updates_in (drafted self.now) words.old ≡ Err fault) }
     {
         let more = goes_on(words, b"do")?;
         self.read_update_list(more, words)
     }
 
-    /// The updates of a list, where there is one.
+    /// The updates of a list, where there is one, as far as there is memory for them.
     #[tactic(auto, using(crate::proofs::Updates::no_more_updates))]
-    fn read_update_list(&self, mut more: bool, words: &mut Words) -> Result<Vec<Update>, LineFault>
-        ensures updates { IfOk result (λ updates. updates_from (drafted self.now) MAX_UPDATES [] more words.old ≡ Ok (map update_of updates.items)) }
-        ensures fault { IfErr result (IsFaultOf (updates_from (drafted self.now) MAX_UPDATES [] more words.old)) }
+    fn read_update_list(
+        &self,
+        mut more: bool,
+        words: &mut Words,
+    ) -> Result<Result<Vec<Update>, AllocError>, LineFault>
+        ensures updates { IfOk result (AreRead (updates_from (drafted self.now) MAX_UPDATES [] more words.old)) }
+        ensures fault { IfErr result (λ fault. updates_from (drafted self.now) MAX_UPDATES [] more words.old ≡ Err fault) }
     {
-        let mut updates = Vec::new(self.alloc);
+        let mut updates = Ok(Vec::new(self.alloc));
         let mut left = MAX_UPDATES;
         while more {
-            more = self.add_update(left, &mut updates, words)?;
+            check(0 < left, LineFault::Limit)?;
+            let update = self.read_update(words)?;
+            more = goes_on(words, b";")?;
+            updates = with_update(updates, update);
             left -= 1;
         }
         Ok(updates)
-    }
-
-    /// Adds the update that stands first in the words, where so many may come, and says whether one stands behind it.
-    #[tactic(auto, using(crate::proofs::Updates::one_update_too_many, crate::proofs::Updates::fault_in_update, crate::proofs::Updates::fault_behind_update, crate::proofs::Updates::updates_behind_update))]
-    fn add_update(
-        &self,
-        left: usize,
-        updates: &mut Vec<Update>,
-        words: &mut Words,
-    ) -> Result<bool, LineFault>
-        ensures added { IfOk result (λ more. updates_from (drafted self.now) left (map update_of updates.old.items) true words.old
-            ≡ updates_from (drafted self.now) (left - 1) (map update_of updates.new.items) more words.new) }
-        ensures fault { IfErr result (IsFaultOf (updates_from (drafted self.now) left (map update_of updates.old.items) true words.old)) }
-        ensures within { OnOk result (0 < left) }
-    {
-        if left == 0 {
-            return Err(LineFault::Limit);
-        }
-        let update = self.read_update(words)?;
-        let more = goes_on(words, b";")?;
-        updates.push(update)?;
-        Ok(more)
     }
 
     /// The transition that the words describe.
     fn read_transition(&self, words: &mut Words) -> Result<Transition, LineFault>
         ensures transition { IfOk result (λ transition. transition_in (drafted self.now) words.old ≡ Ok (transition_of transition)) }
         ensures fault { IfErr result (IsFaultOf (transition_in (drafted self.now) words.old)) }
+        ensures memory { IfErr result (IsLast (transition_in (drafted self.now) words.old)) }
     {
         let port = self.read_port(words)?;
         let sources = self.read_places_behind(b"from", words)?;
         let targets = self.read_places_behind(b"to", words)?;
         let guard = self.read_guard(words)?;
         let updates = self.read_updates(words)?;
-        Ok(Transition::new(port, sources, targets, guard, updates))
+        let sources = sources.to_vec(self.alloc)?;
+        let targets = targets.to_vec(self.alloc)?;
+        Ok(Transition::new(port, sources, targets, guard?, updates?))
     }
 
     /// Adds the transition of a line `trans PORT from PLACE.. to PLACE..` with its guard and updates, by the words
@@ -370,6 +372,7 @@ impl AtomDraft {
     pub fn add_transition(&mut self, words: &mut Words) -> Result<(), LineFault>
         ensures added { OnOk result (transition_row words.old (drafted self.old) ≡ Ok (drafted self.new)) }
         ensures fault { IfErr result (IsFaultOf (transition_row words.old (drafted self.old))) }
+        ensures memory { IfErr result (IsLast (transition_row words.old (drafted self.old))) }
         ensures unchanged { OnErr result (drafted self.new ≡ drafted self.old) }
     {
         check(self.transitions.len() < MAX_TRANSITIONS, LineFault::Limit)?;
@@ -396,6 +399,31 @@ impl AtomDraft {
             Err(fault) => Err(want_of_memory(fault)),
         }
     }
+}
+
+/// The update of a variable to a value, where there was memory for that.
+fn update(
+    variable: u8,
+    value: Result<Expression<u8>, AllocError>,
+) -> Result<Update, AllocError>
+    ensures { IfOk result (λ update. IsOkAnd value (λ expression. update_of update ≡ record { variable = variable; value = tree_of expression })) }
+{
+    Ok(Update {
+        variable,
+        value: value?,
+    })
+}
+
+/// The updates with one more behind them, where there was memory for all.
+fn with_update(
+    updates: Result<Vec<Update>, AllocError>,
+    update: Result<Update, AllocError>,
+) -> Result<Vec<Update>, AllocError>
+    ensures { IfOk result (λ more. IsOkAnd updates (λ before. IsOkAnd update (λ last. more.items ≡ before.items ++ last ∷ []))) }
+{
+    let mut updates = updates?;
+    updates.push(update?)?;
+    Ok(updates)
 }
 
 /// The fault that is left to parts that break no rule.

@@ -54,7 +54,6 @@ impl From<ExpressionFault> for LineFault {
             ExpressionFault::BadExpression => LineFault::BadExpression,
             ExpressionFault::BadNumber => LineFault::BadNumber,
             ExpressionFault::Limit => LineFault::Limit,
-            ExpressionFault::Memory => LineFault::Memory,
         }
     }
 }

@@ -1,5 +1,5 @@
 -- Words that were passed over.
-use Rattle.std.proofs.Common.{◌≡◌, ℕ, ◌-◌, ◌≤◌, refl, ◌<◌, true, List, [], ◌∷◌, ◌++◌, append_assoc, Option, arith, rules}
+use Rattle.std.proofs.Common.{◌≡◌, ℕ, ◌-◌, ◌≤◌, refl, sym, ◌<◌, true, List, [], ◌∷◌, ◌++◌, append_assoc, Option, arith, rules}
 use Rattle.std.proofs.lemmas.List.{length-append}
 use Rattle.std.proofs.lemmas.List.Folds.{list_all-append}
 use Rattle.plant_expressions.specs.Expressions.{has_meaning, PassesOver}
@@ -14,6 +14,10 @@ passes_both named limit middle last words rest end first second above below = re
   within = rw (length-append first.passed second.passed) (omega (arith, first.within, second.within, above, below));
   sound = grind (arith, list_all-append (has_meaning named) first.passed second.passed, first.sound, second.sound);
 }
+
+-- no word is passed over
+pub passes_none : {V : Type 0} (named : List ℕ → Option V) (limit : ℕ) (words rest : List (List ℕ)) → rest ≡ words → PassesOver named limit words rest
+passes_none named limit words rest kept = record { passed = []; splits = sym kept; within = omega arith; sound = refl }
 
 -- one word with a meaning is passed over
 pub passes_one : {V : Type 0} (named : List ℕ → Option V) (word : List ℕ) (words : List (List ℕ)) (limit left : ℕ) →

@@ -1,8 +1,6 @@
 -- Laws of readings.
-use Rattle.std.proofs.Common.{◌≡◌, ◌≢◌, ◌∙◌, refl, sym, ℕ, suc, ap, Bool, true, false, if◌then◌else◌, ℤ, codes, List, [], ◌∷◌, Option, Some, None, Result, Ok, Err, IfOk, IsOkAnd}
-use Rattle.std.specs.Option.{option_map_or}
+use Rattle.std.proofs.Common.{◌≡◌, ◌∙◌, refl, sym, ℕ, suc, ap, List, [], ◌∷◌, Option, Result, Ok, Err, IfOk, IfErr, OnOk, IsOkAnd}
 use Rattle.std.specs.declared.alloc.AllocError.{AllocError}
-use Rattle.petri_atom.specs.Name.{is_same_text}
 use Rattle.petri_atom.specs.Expression.{Tree, tree_of, negation, operation}
 use Rattle.petri_atom.specs.declared.expression.Expression.{Expression}
 use Rattle.petri_atom.specs.declared.parts.TheConstants.{MAX_WORDS}
@@ -10,15 +8,36 @@ use Rattle.petri_atom.specs.declared.expression.Operator.{Operator}
 use Rattle.plant_expressions.specs.declared.word.Word.{Word}
 use Rattle.plant_expressions.specs.declared.word.Word.TheVariants.{Negation, Operation}
 use Rattle.plant_expressions.specs.declared.fault.ExpressionFault.{ExpressionFault}
-use Rattle.plant_expressions.specs.declared.fault.ExpressionFault.TheVariants.{Memory}
-use Rattle.plant_words.specs.Numbers.{is_numeric, int_in}
-use Rattle.plant_expressions.specs.Word.{number_in, variable_in, operator_in, could_be_variable, word_in}
-use Rattle.plant_expressions.specs.Expressions.{Reading, expressions_in, expression_in, on_trees, led_by, wanted_behind, only, Stands}
+use Rattle.plant_expressions.specs.Expressions.{Reading, expressions_in, expression_in, on_trees, led_by, wanted_behind, only, words_left, Stands}
 
--- an expression that stands first in words is the one of a row of one
-pub alone : {V : Type 0} (named : List ℕ → Option V) (left : ℕ) (words rest : List (List ℕ)) (made : Result (Expression V) AllocError) (s : Stands named MAX_WORDS left words rest made) →
+-- an expression that stands first in words is the only one of a row of one
+alone : {V : Type 0} (named : List ℕ → Option V) (left : ℕ) (words rest : List (List ℕ)) (read : Result (Expression V) AllocError) (s : Stands named MAX_WORDS left words rest read) →
     expression_in named words ≡ Ok (s.tree, rest)
-alone named left words rest made s = ap only (s.says 0)
+alone named left words rest read s = ap only (s.says 0)
+
+only_one : {V : Type 0} (named : List ℕ → Option V) (left : ℕ) (words rest : List (List ℕ)) (read : Result (Expression V) AllocError) → Stands named MAX_WORDS left words rest read →
+    IfOk read (λ e. expression_in named words ≡ Ok (tree_of e, rest))
+only_one named left words rest (Ok e) s = alone named left words rest (Ok e) s ∙ ap (λ tree. Ok (tree, rest)) (sym s.is_made)
+only_one named left words rest (Err f) s = tt
+
+-- so it is the one that was made, where there was memory for it
+pub only_made : {V : Type 0} (named : List ℕ → Option V) (left : ℕ) (words rest : List (List ℕ)) (result : Result (Result (Expression V) AllocError) ExpressionFault) → IfOk result (Stands named MAX_WORDS left words rest) →
+    IfOk result (λ read. IfOk read (λ e. expression_in named words ≡ Ok (tree_of e, rest)))
+only_made named left words rest (Ok read) s = only_one named left words rest read s
+only_made named left words rest (Err f) s = tt
+
+-- and the words behind it are left
+pub only_left : {V : Type 0} (named : List ℕ → Option V) (left : ℕ) (words rest : List (List ℕ)) (result : Result (Result (Expression V) AllocError) ExpressionFault) → IfOk result (Stands named MAX_WORDS left words rest) →
+    OnOk result (words_left (expression_in named words) ≡ Ok rest)
+only_left named left words rest (Ok read) s = ap words_left (alone named left words rest read s)
+only_left named left words rest (Err f) s = tt
+
+-- the fault of one expression is the fault of the whole
+pub only_fault : {V A : Type 0} (result : Result A ExpressionFault) (reading : ℕ → Reading V) →
+    IfErr result (λ f. (more : ℕ) → reading (suc more) ≡ Err f) →
+    IfErr result (λ f. only (reading 1) ≡ Err f)
+only_fault (Ok x) reading h = tt
+only_fault (Err f) reading h = ap only (h 0)
 
 negated : {V : Type 0} (operand : Tree V) (r : Reading V) →
     on_trees (led_by Negation) (on_trees (λ trees. operand ∷ trees) r) ≡ on_trees (λ trees. negation operand ∷ trees) r
@@ -94,18 +113,3 @@ operation_stands named limit first second left words behind between rest word o 
       word o s.tree t.tree (operation o s.tree t.tree) which says s.says t.says refl;
   is_made = made_of_two o s.tree t.tree one other made s.is_made t.is_made is;
 }
-
-no_want : {V : Type 0} (negates : Bool) (operator : Option Operator) (numeric : Bool) (value : Option ℤ) (could_be : Bool) (meant : Option V) (r : Result (Word V) ExpressionFault) →
-    (if negates then Ok Negation else option_map_or (λ o. Ok (Operation o)) operator (if numeric then number_in value else variable_in could_be meant)) ≡ r → r ≢ Err Memory
-no_want true operator numeric value could_be meant r says wants = absurd (cc)
-no_want false (Some o) numeric value could_be meant r says wants = absurd (cc)
-no_want false None true None could_be meant r says wants = absurd (cc)
-no_want false None true (Some n) could_be meant r says wants = absurd (cc)
-no_want false None false value true None r says wants = absurd (cc)
-no_want false None false value false None r says wants = absurd (cc)
-no_want false None false value could_be (Some v) r says wants = absurd (cc)
-
--- the fault of a word is no want of memory
-pub word_wants_none : {V : Type 0} (named : List ℕ → Option V) (text : List ℕ) (r : Result (Word V) ExpressionFault) → word_in named text ≡ r → r ≢ Err Memory
-word_wants_none named text r says =
-    no_want (is_same_text text (codes "!")) (operator_in text) (is_numeric text) (int_in text) (could_be_variable text) (named text) r says

@@ -19,7 +19,7 @@
 //!
 //! - An expression has at most [`MAX_WORDS`](petri_atom::MAX_WORDS) words. So no text can make the calls nest deeper.
 //! - Memory is taken for an operator when its operands have been read. Where it runs out the words are read on all the
-//!   same, so want of memory is told only of words that are an expression, and the words behind it are left.
+//!   same: then too it is known whether they are an expression, and the words behind it are left.
 //!
 //! - `word`: what one word says, and which variables there are. `read`: rows of words as an expression.
 //! - `fault`: why words are no expression.

@@ -1,5 +1,5 @@
 //! Reading an expression from the words of a line.
-ghost use Rattle.std.specs.Prelude.{◌≡◌, ◌≢◌, ℕ, suc, ◌-◌, ◌≤◌, ◌<◌, Ok, IfOk, IfErr, IsOkAnd, OnOk};
+ghost use Rattle.std.specs.Prelude.{◌≡◌, ℕ, suc, ◌-◌, ◌≤◌, ◌<◌, Ok, IfOk, IfErr, IsOkAnd, OnOk};
 ghost use Rattle.petri_atom.specs.Expression.{tree_of, negation, operation};
 ghost use Rattle.petri_atom.specs.declared.parts.TheConstants.{MAX_WORDS};
 ghost use Rattle.plant_expressions.specs.Expressions.{expression_in, expressions_in, on_trees, led_by, wanted_behind, words_left, PassesOver, Stands};
@@ -10,29 +10,26 @@ use petri_atom::{Expression, MAX_WORDS, Operator};
 use plant_words::Words;
 use std::alloc::{AllocError, Global};
 
-/// The expression that stands first in the words, or the first fault from the left. Want of memory is told only where
-/// there is such an expression. The words behind it stay in either case; of a fault it is not said which words stay, but
+/// The expression that stands first in the words, as far as there is memory for it; or the first fault from the left.
+/// The words behind the expression stay, also where memory is wanting; of a fault it is not said which words stay, but
 /// that each one before them means something.
 pub fn read_expression<V: Drop, N: Variables<V>>(
     alloc: Global,
     words: &mut Words<'_>,
     names: &N,
-) -> Result<Expression<V>, ExpressionFault>
-    ensures expression { IfOk result
-        (λ expression. expression_in (N.variable_named names.now) words.old ≡ Ok (tree_of expression, words.new)) }
-    ensures fault { IfErr result
-        (λ fault. ¬ (fault ≡ ExpressionFault.Memory) → expression_in (N.variable_named names.now) words.old ≡ Err fault) }
-    ensures memory { IfErr result
-        (λ fault. fault ≡ ExpressionFault.Memory → words_left (expression_in (N.variable_named names.now) words.old) ≡ Ok words.new) }
+) -> Result<Result<Expression<V>, AllocError>, ExpressionFault>
+    ensures expression { IfOk result (λ read. IfOk read
+        (λ expression. expression_in (N.variable_named names.now) words.old ≡ Ok (tree_of expression, words.new))) }
+    ensures behind { OnOk result (words_left (expression_in (N.variable_named names.now) words.old) ≡ Ok words.new) }
+    ensures fault { IfErr result (λ fault. expression_in (N.variable_named names.now) words.old ≡ Err fault) }
     ensures passed { PassesOver (N.variable_named names.now) MAX_WORDS words.old words.new }
 {
     let mut limit = MAX_WORDS;
-    let expression = read_operand(alloc, words, &mut limit, names)?;
-    Ok(expression?)
+    read_operand(alloc, words, &mut limit, names)
 }
 
 /// The expression that stands first in the words, of at most so many, as far as there is memory for it; the limit falls
-/// by the words that it has. Words are read on where memory is wanting, so that it is told in place of no fault of theirs.
+/// by the words that it has. Where memory is wanting the words are read on all the same, so that their fault is told.
 #[tactic(auto, using(crate::proofs::Passing::passes_both))]
 fn read_operand<V: Drop, N: Variables<V>>(
     alloc: Global,
@@ -43,7 +40,6 @@ fn read_operand<V: Drop, N: Variables<V>>(
     ensures expression { IfOk result (Stands (N.variable_named names.now) limit.old limit.new words.old words.new) }
     ensures fault { IfErr result (λ fault. (more : ℕ) →
         expressions_in (N.variable_named names.now) limit.old (suc more) words.old ≡ Err fault) }
-    ensures no_memory { IfErr result (λ fault. fault ≢ ExpressionFault.Memory) }
     ensures within { limit.new ≤ limit.old }
     ensures passed { PassesOver (N.variable_named names.now) (limit.old - limit.new) words.old words.new }
 {
@@ -74,7 +70,6 @@ fn next_word<V, N: Variables<V>>(
         (expressions_in (N.variable_named names.now) limit.new (wanted_behind word more) words.new)) }
     ensures fault { IfErr result (λ fault. (more : ℕ) →
         expressions_in (N.variable_named names.now) limit.old (suc more) words.old ≡ Err fault) }
-    ensures no_memory { IfErr result (λ fault. fault ≢ ExpressionFault.Memory) }
     ensures falls { OnOk result (limit.new < limit.old) }
     ensures within { limit.new ≤ limit.old }
     ensures passed { PassesOver (N.variable_named names.now) (limit.old - limit.new) words.old words.new }

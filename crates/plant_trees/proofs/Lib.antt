@@ -1,11 +1,13 @@
 pub mod Written
 pub mod Leaves
 pub mod Depth
+pub mod Judging
 pub mod Empties
 pub mod Agreement
 pub mod Meaning
 pub mod OneTree
 pub mod Readings
+pub mod Wanting
 pub mod Named
 pub mod Drafting
 pub mod Rows

@@ -1,12 +1,15 @@
 -- Laws of readings.
-use Rattle.std.proofs.Common.{◌≡◌, ℕ, ◌+◌, ◌<◌, ◌==◌, Bool, true, false, if◌then◌else◌, List, [], ◌∷◌, ◌++◌, length, get_or, drop, Option, Some, None, IsSome, Result, Ok, Err, IfOk, refl, ap, sym, subst, ◌∙◌}
+use Rattle.std.proofs.Common.{◌≡◌, ◌≢◌, ℕ, ◌+◌, ◌<◌, ◌==◌, Bool, true, false, if◌then◌else◌, List, [], ◌∷◌, ◌++◌, length, get_or, drop, Option, Some, None, IsSome, Result, Ok, Err, IfOk, refl, ap, sym, subst, ◌∙◌, append-nil, arith}
 use Rattle.std.proofs.lemmas.Bool.{both_ways}
 use Rattle.std.proofs.lemmas.List.{drop_more}
 use Rattle.std.specs.Option.{option_map_or}
+use Rattle.connector_tree.specs.declared.faults.TreeFault.{TreeFault}
 use Rattle.plant_trees.specs.declared.token.Token.{Token}
 use Rattle.plant_trees.specs.declared.fault.TreeWordsFault.{TreeWordsFault}
 use Rattle.plant_trees.specs.declared.fault.TreeWordsFault.TheVariants.{Shape}
 use Rattle.plant_trees.specs.Tokens.{Names, Reading, word_in, level_behind, is_balanced, led_by, behind, tokens_in}
+use Rattle.plant_trees.specs.Shape.{fault_in}
+use Rattle.plant_trees.specs.Trees.{unless, judged, tree_in}
 
 -- tokens in front of those that are read behind them
 abbrev pub behind_all : List Token → Reading → Reading
@@ -55,3 +58,57 @@ pub next_level : (i level : ℕ) (tokens : List Token) (token : Token) → i < l
 next_level i level tokens token within balanced =
     is_some (level_behind (get_or tokens i token) level) (λ next. is_balanced next (drop (i + 1) tokens))
     (ap (is_balanced level) (sym (drop_more tokens i token within)) ∙ balanced)
+
+-- ---- trees of words
+
+-- words that are there are a tree where their tokens are
+tree_of_some : (named : Names) (words : List (List ℕ)) → words ≢ [] → tree_in named words ≡ judged (tokens_in named 0 words)
+tree_of_some named [] some = absurd (some refl)
+tree_of_some named (word ∷ words) some = refl
+
+-- the fault of words behind others is the fault of all
+pub fault_behind_all : (named : Names) (words : List (List ℕ)) (before : List Token) (rest : Reading) (fault : TreeWordsFault) →
+    words ≢ [] → behind_all before rest ≡ tokens_in named 0 words → rest ≡ Err fault → tree_in named words ≡ Err fault
+fault_behind_all named words before rest fault some all is =
+    tree_of_some named words some ∙ ap judged (sym all ∙ ap (behind_all before) is)
+
+-- where no word is left, the tokens are those before
+pub all_read : (named : Names) (words : List (List ℕ)) (before : List Token) (level : ℕ) (rest : Reading) → behind_all before rest ≡ tokens_in named 0 words → rest ≡ Ok [] → tokens_in named 0 words ≡ Ok before
+all_read named words before level rest all is = sym all ∙ ap (behind_all before) is ∙ ap Ok (append-nil before)
+
+-- the tokens of words are a tree, or have its fault
+pub tree_of_tokens : (named : Names) (words : List (List ℕ)) (tokens : List Token) (fault : Option TreeFault) → words ≢ [] → tokens_in named 0 words ≡ Ok tokens → fault_in tokens ≡ fault → tree_in named words ≡ unless tokens fault
+tree_of_tokens named words tokens fault some read is = tree_of_some named words some ∙ ap judged read ∙ ap (unless tokens) is
+
+first_led : (token : Token) (read : Reading) → led_by token read ≢ Ok []
+first_led token (Ok tokens) is = absurd (cc)
+first_led token (Err fault) is = absurd (cc)
+
+none_led : (token : Token) (level : Option ℕ) (read : ℕ → Reading) → option_map_or (λ next. led_by token (read next)) level (Err Shape) ≢ Ok []
+none_led token None read is = absurd (cc)
+none_led token (Some next) read = first_led token (read next)
+
+no_tokens : (said : Result Token TreeWordsFault) (level : ℕ) (read : ℕ → Reading) → behind said level read ≢ Ok []
+no_tokens (Err fault) level read is = absurd (cc)
+no_tokens (Ok token) level read = none_led token (level_behind token level) read
+
+-- words that are there have tokens
+pub some_tokens : (named : Names) (words : List (List ℕ)) (tokens : List Token) → words ≢ [] → tokens_in named 0 words ≡ Ok tokens → 0 < length tokens
+some_tokens named [] tokens some read = absurd (some refl)
+some_tokens named (word ∷ words) [] some read = absurd (no_tokens (word_in named word) 0 (λ next. tokens_in named next words) read)
+some_tokens named (word ∷ words) (token ∷ tokens) some read = omega arith
+
+-- what is read is a tree where its tokens are read and have no fault
+unless_read : (tokens read : List Token) (fault : Option TreeFault) → unless tokens fault ≡ Ok read → (tokens ≡ read) × (fault ≡ None)
+unless_read tokens read None is = (cc, refl)
+unless_read tokens read (Some fault) is = absurd (cc)
+
+judged_read : (read : Reading) (tokens : List Token) → judged read ≡ Ok tokens → (read ≡ Ok tokens) × (fault_in tokens ≡ None)
+judged_read (Err fault) tokens is = absurd (cc)
+judged_read (Ok some) tokens is =
+    let found = unless_read some tokens (fault_in some) is in
+    (ap Ok found.0, ap fault_in (sym found.0) ∙ found.1)
+
+pub tree_read : (named : Names) (words : List (List ℕ)) (tokens : List Token) → tree_in named words ≡ Ok tokens → (tokens_in named 0 words ≡ Ok tokens) × (fault_in tokens ≡ None)
+tree_read named [] tokens is = absurd (cc)
+tree_read named (word ∷ words) tokens is = judged_read (tokens_in named 0 (word ∷ words)) tokens is

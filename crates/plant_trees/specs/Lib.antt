@@ -1,5 +1,6 @@
 pub mod Tokens
 pub mod Shape
+pub mod Judging
 pub mod Trees
 pub mod Connectors
 pub mod Drafts

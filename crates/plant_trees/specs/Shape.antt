@@ -12,15 +12,15 @@ abbrev pub is_empty : List Token → Bool
 is_empty [] = true
 is_empty (token ∷ tokens) = false
 
-abbrev pub is_leaf : Token → Bool
-is_leaf (Leaf port trigger) = true
-is_leaf Open = false
-is_leaf (Close trigger) = false
-
 abbrev pub is_open : Token → Bool
 is_open (Leaf port trigger) = false
 is_open Open = true
 is_open (Close trigger) = false
+
+abbrev pub is_close : Token → Bool
+is_close (Leaf port trigger) = false
+is_close Open = false
+is_close (Close trigger) = true
 
 -- the ports, from left to right
 abbrev pub ports_in : List Token → List Port
@@ -39,9 +39,7 @@ deepest level (Close trigger ∷ tokens) = max level (deepest (level - 1) tokens
 -- the first token is the end of a bracket
 abbrev pub begins_with_close : List Token → Bool
 begins_with_close [] = false
-begins_with_close (Leaf port trigger ∷ tokens) = false
-begins_with_close (Open ∷ tokens) = false
-begins_with_close (Close trigger ∷ tokens) = true
+begins_with_close (token ∷ tokens) = is_close token
 
 -- some bracket ends directly behind its begin
 abbrev pub has_empty_bracket : List Token → Bool

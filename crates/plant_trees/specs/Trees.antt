@@ -1,5 +1,8 @@
 -- The tree that the words of a line are.
-use Rattle.std.specs.Prelude.{ℕ, List, [], ◌∷◌, Option, Some, None, Ok, Err}
+use Rattle.std.specs.Prelude.{◌≡◌, ℕ, List, [], ◌∷◌, Option, Some, None, Result, Ok, Err, IfOk}
+use Rattle.std.specs.declared.alloc.AllocError.{AllocError}
+use Rattle.std.specs.declared.alloc.Global.{Global}
+use Rattle.std.specs.declared.vec.Vec.{Vec}
 use Rattle.connector_tree.specs.declared.faults.TreeFault.{TreeFault}
 use Rattle.plant_trees.specs.declared.token.Token.{Token}
 use Rattle.plant_trees.specs.declared.fault.TreeWordsFault.TheVariants.{Shape, Tree}
@@ -21,3 +24,9 @@ judged (Err fault) = Err fault
 abbrev pub tree_in : Names → List (List ℕ) → Reading
 tree_in named [] = Err Shape
 tree_in named (word ∷ words) = judged (tokens_in named 0 (word ∷ words))
+
+-- the words are the tree with these tokens; where there was memory for them, they were made
+pub record AreRead (named : Names) (words : List (List ℕ)) (made : Result (Vec Token Global) AllocError) : Type 0 where
+  pub tokens : List Token
+  pub says : tree_in named words ≡ Ok tokens
+  pub are_made : IfOk made (λ vector. vector.items ≡ tokens)

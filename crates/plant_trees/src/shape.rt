@@ -1,47 +1,84 @@
-//! The faults of a tree, on its tokens.
-ghost use Rattle.std.specs.Prelude.{◌≡◌, ◌≤◌, ◌==◌, nat_lt, length};
+//! The faults of a tree, as its tokens are read one by one.
+ghost use Rattle.std.specs.Prelude.{◌≡◌, ◌<◌, ◌≤◌, ℕ, [], ◌∷◌, ◌++◌, ◌==◌, ◌||◌, nat_le, length, List, Some, true};
 ghost use Rattle.std.specs.List.{list_any};
-ghost use Rattle.connector_tree.specs.Faults.{has_repeat, atoms};
-ghost use Rattle.plant_trees.specs.Shape.{ports_in, deepest, is_leaf, is_open, begins_with_close, has_empty_bracket, fault_in};
+ghost use Rattle.connector_tree.specs.Faults.{has_repeat};
+ghost use Rattle.plant_trees.specs.declared.token.Token.{Token};
+ghost use Rattle.plant_trees.specs.Tokens.{level_behind};
+ghost use Rattle.plant_trees.specs.Shape.{is_open, is_close, fault_in};
+ghost use Rattle.plant_trees.specs.Judging.{fault_behind, is_too_wide_behind};
 
 use crate::token::Token;
+use arrayvec::ArrayVec;
 use connector_tree::{MAX_DEPTH, MAX_LEAVES, TreeFault};
 
-/// The first fault of the tree with these tokens, in the order of their numbers; never `Memory`.
-pub(crate) fn first_fault(tokens: &[Token]) -> Option<TreeFault>
-    ensures { result ≡ fault_in tokens.now }
-{
-    if count_leaves(tokens) > MAX_LEAVES {
-        return Some(TreeFault::TooManyLeaves);
-    }
-    if is_deeper(tokens) {
-        return Some(TreeFault::TooDeep);
-    }
-    if has_same_atom(tokens) {
-        return Some(TreeFault::SameAtom);
-    }
-    if tokens.is_empty() || has_empty_bracket(tokens) {
-        return Some(TreeFault::Empty);
-    }
-    None
+/// What the first tokens of a tree say of its faults. It takes no memory, however many there are.
+#[derive(Drop)]
+pub(crate) struct Shape {
+    /// The atoms of the ports so far, as many as a tree may have.
+    atoms: ArrayVec<u16, MAX_LEAVES>,
+    /// There were more ports than that.
+    is_too_wide: bool,
+    /// A token stood deeper than a tree may have levels.
+    is_too_deep: bool,
+    /// A bracket ended directly behind its begin.
+    has_empty_bracket: bool,
+    /// The last token began a bracket.
+    is_behind_open: bool,
 }
 
-fn count_leaves(tokens: &[Token]) -> usize
-    ensures { result ≡ length (ports_in tokens.now) }
-{
-    let mut count = 0;
-    for token in tokens {
-        if is_leaf(token) {
-            count += 1;
+impl Shape {
+    /// The shape before all tokens.
+    pub(crate) fn new() -> Self
+        ensures { (token : Token) (tokens : List Token) → fault_behind result 0 (token ∷ tokens) ≡ fault_in (token ∷ tokens) }
+    {
+        Shape {
+            atoms: ArrayVec::new(),
+            is_too_wide: false,
+            is_too_deep: false,
+            has_empty_bracket: false,
+            is_behind_open: false,
         }
     }
-    count
-}
 
-fn is_leaf(token: &Token) -> bool
-    ensures { result ≡ is_leaf token.now }
-{
-    matches!(token, Token::Leaf { .. })
+    /// Takes the next token, before which so many brackets are open.
+    pub(crate) fn add(&mut self, token: Token, level: usize)
+        ensures { (next : ℕ) → level_behind token level ≡ Some next → (tokens : List Token) → fault_behind self.old level (token ∷ tokens) ≡ fault_behind self.new next tokens }
+    {
+        self.is_too_deep |= level >= MAX_DEPTH;
+        self.has_empty_bracket |= self.is_behind_open & is_close(&token);
+        self.is_behind_open = is_open(&token);
+        if let Token::Leaf { port, .. } = token {
+            self.add_atom(port.atom);
+        }
+    }
+
+    /// Takes the atom of a port.
+    fn add_atom(&mut self, atom: u16)
+        ensures wide { (more : List ℕ) → is_too_wide_behind self.old (atom ∷ more) ≡ is_too_wide_behind self.new more }
+        ensures atoms { (more : List ℕ) → is_too_wide_behind self.new more ≡ false → self.old.atoms.items ++ atom ∷ more ≡ self.new.atoms.items ++ more }
+        ensures rest { self.new ≡ record self.old { atoms = self.new.atoms; is_too_wide = self.new.is_too_wide } }
+    {
+        if self.atoms.try_push(atom).is_err() {
+            self.is_too_wide = true;
+        }
+    }
+
+    /// The first fault of the tree, in the order of their numbers, where no token is left; never `Memory`.
+    pub(crate) fn fault(&self) -> Option<TreeFault>
+        ensures { result ≡ fault_behind self.now 0 [] }
+    {
+        if self.is_too_wide {
+            Some(TreeFault::TooManyLeaves)
+        } else if self.is_too_deep {
+            Some(TreeFault::TooDeep)
+        } else if has_repeat(&self.atoms) {
+            Some(TreeFault::SameAtom)
+        } else if self.has_empty_bracket {
+            Some(TreeFault::Empty)
+        } else {
+            None
+        }
+    }
 }
 
 fn is_open(token: &Token) -> bool
@@ -50,65 +87,26 @@ fn is_open(token: &Token) -> bool
     matches!(token, Token::Open)
 }
 
-fn begins_with_close(tokens: &[Token]) -> bool
-    ensures { result ≡ begins_with_close tokens.now }
+fn is_close(token: &Token) -> bool
+    ensures { result ≡ is_close token.now }
 {
-    matches!(tokens, [Token::Close { .. }, ..])
+    matches!(token, Token::Close { .. })
 }
 
-/// Whether a bracket has more levels than a connector may have.
-fn is_deeper(tokens: &[Token]) -> bool
-    ensures { result ≡ nat_lt MAX_DEPTH (deepest 1 tokens.now) }
+/// Whether one of the atoms stands twice. This goes over the atoms behind each one, of which there are few.
+fn has_repeat(atoms: &[u16]) -> bool
+    ensures { result ≡ has_repeat atoms.now }
 {
-    let mut level = 1;
-    for token in tokens {
-        match token {
-            Token::Leaf { .. } => {}
-            Token::Open if level == MAX_DEPTH => return true,
-            Token::Open => level += 1,
-            Token::Close { .. } => level = level.saturating_sub(1),
-        }
-    }
-    false
-}
-
-/// Whether two of the ports are of one atom. This goes over the tokens behind each port, so there may be only few ports.
-fn has_same_atom(tokens: &[Token]) -> bool
-    requires { length (ports_in tokens.now) ≤ MAX_LEAVES }
-    ensures { result ≡ has_repeat (atoms (ports_in tokens.now)) }
-{
-    for (i, token) in tokens.iter().enumerate() {
-        if let Token::Leaf { port, .. } = token
-            && has_atom(&tokens[i + 1..], port.atom)
-        {
+    for (i, atom) in atoms.iter().enumerate() {
+        if is_among(*atom, &atoms[i + 1..]) {
             return true;
         }
     }
     false
 }
 
-/// Whether one of the ports is of this atom.
-fn has_atom(tokens: &[Token], atom: u16) -> bool
-    ensures { result ≡ list_any (λ other. atom == other) (atoms (ports_in tokens.now)) }
+fn is_among(atom: u16, atoms: &[u16]) -> bool
+    ensures { result ≡ list_any (λ other. atom == other) atoms.now }
 {
-    for token in tokens {
-        if let Token::Leaf { port, .. } = token
-            && atom == port.atom
-        {
-            return true;
-        }
-    }
-    false
-}
-
-/// Whether a bracket ends directly behind its begin.
-fn has_empty_bracket(tokens: &[Token]) -> bool
-    ensures { result ≡ has_empty_bracket tokens.now }
-{
-    for (i, token) in tokens.iter().enumerate() {
-        if is_open(token) && begins_with_close(&tokens[i + 1..]) {
-            return true;
-        }
-    }
-    false
+    atoms.iter().any(|other| atom == *other)
 }

@@ -51,10 +51,12 @@ impl<'a> Words<'a> {
         Some(word)
     }
 
-    /// The next word, which stays the next, or `None` where none is left.
+    /// The next word, which stays the next, or `None` where none is left. There are no more words than bytes in a line.
+    #[tactic(auto, using(crate::proofs::Cuts::words_of_count))]
     pub fn peek(&mut self) -> Option<&'a [u8]>
         ensures word { MatchOption result (self.old ≡ []) (λ word. self.old ≡ word.now ∷ drop 1 self.old) }
         ensures kept { self.new ≡ self.old }
+        ensures count { length self.new ≤ usize.MAX }
     {
         let rest = self.rest;
         let word = self.next_word();

@@ -22,7 +22,7 @@ returns-in_err-check-clause-fault c =
 
 pub returns-in_err-check-clause-memory : goal.returns-in_err-check-clause-memory
 returns-in_err-check-clause-memory c =
-    told_before (port_row (take 1 c.args.words.now) (drafted c.args.self.now)) (check (nat_lt c.len.result MAX_PORTS) Limit) c.from_residual.result c.in_err-check.field-0.0 c.from_residual.ensures.1 (sym c.in_err-check.ensures) (check_takes_none (nat_lt c.len.result MAX_PORTS) Limit (λ is. absurd (cc)))
+    told_before (port_row c.args.words.now (drafted c.args.self.now)) (check (nat_lt c.len.result MAX_PORTS) Limit) c.from_residual.result c.in_err-check.field-0.0 c.from_residual.ensures.1 (sym c.in_err-check.ensures) (check_takes_none (nat_lt c.len.result MAX_PORTS) Limit (λ is. absurd (cc)))
 
 pub returns-in_err-check-clause-unchanged : goal.returns-in_err-check-clause-unchanged
 returns-in_err-check-clause-unchanged c = at_fault c.from_residual.result refl
@@ -37,7 +37,7 @@ returns-in_err-name-clause-fault c =
 
 pub returns-in_err-name-clause-memory : goal.returns-in_err-name-clause-memory
 returns-in_err-name-clause-memory c =
-    told_before (port_row (take 1 c.args.words.now) (drafted c.args.self.now)) (first_name c.args.words.now) c.from_residual-in_err-name.result c.in_err-name.field-0.0 c.from_residual-in_err-name.ensures.1 (sym c.in_err-name.ensures.name) (name_takes_none c.args.words.now)
+    told_before (port_row c.args.words.now (drafted c.args.self.now)) (first_name c.args.words.now) c.from_residual-in_err-name.result c.in_err-name.field-0.0 c.from_residual-in_err-name.ensures.1 (sym c.in_err-name.ensures.name) (name_takes_none c.args.words.now)
 
 pub returns-in_err-name-clause-unchanged : goal.returns-in_err-name-clause-unchanged
 returns-in_err-name-clause-unchanged c = at_fault c.from_residual-in_err-name.result refl
@@ -52,7 +52,7 @@ returns-in_err-check-2-clause-fault c =
 
 pub returns-in_err-check-2-clause-memory : goal.returns-in_err-check-2-clause-memory
 returns-in_err-check-2-clause-memory c =
-    told_before (port_row (take 1 c.args.words.now) (drafted c.args.self.now)) (check c.is_none.result Twice) c.from_residual-in_err-check-2.result c.in_err-check-2.field-0.0 c.from_residual-in_err-check-2.ensures.1 (sym c.in_err-check-2.ensures) (check_takes_none c.is_none.result Twice (λ is. absurd (cc)))
+    told_before (port_row c.args.words.now (drafted c.args.self.now)) (check c.is_none.result Twice) c.from_residual-in_err-check-2.result c.in_err-check-2.field-0.0 c.from_residual-in_err-check-2.ensures.1 (sym c.in_err-check-2.ensures) (check_takes_none c.is_none.result Twice (λ is. absurd (cc)))
 
 pub returns-in_err-check-2-clause-unchanged : goal.returns-in_err-check-2-clause-unchanged
 returns-in_err-check-2-clause-unchanged c = at_fault c.from_residual-in_err-check-2.result refl
@@ -63,12 +63,11 @@ returns-in_err-exports-clause-added c = IfOk-from_err c.from_residual-in_err-exp
 pub returns-in_err-exports-clause-fault : goal.returns-in_err-exports-clause-fault
 returns-in_err-exports-clause-fault c =
     told_fault (port_row c.args.words.now (drafted c.args.self.now)) c.from_residual-in_err-exports.result c.in_err-exports.field-0.0 c.from_residual-in_err-exports.ensures.1
-    (λ other. passes _ (room_for_port c.args.self.now.ports.items c.len.result (Ok c.in_ok-check.field-0) (c.len.ensures ∙ c.args.self.now.ports.ok.0) c.in_ok-check.ensures) (passes _ (sym c.in_ok-name.ensures.name) (passes _ (new_name (port_number (drafted c.args.self.now)) c.in_ok-name.name c.as_bytes.result.now c.find_port.result c.is_none.result (Ok c.in_ok-check-2.field-0) c.as_bytes.ensures c.find_port.ensures c.is_none.ensures c.in_ok-check-2.ensures) (fails _ (ap (exports_in (drafted c.args.self.now) []) (sym c.next_name.ensures.taken) ∙ c.in_err-exports.ensures.fault other)))))
+    (λ other. passes _ (room_for_port c.args.self.now.ports.items c.len.result (Ok c.in_ok-check.field-0) (c.len.ensures ∙ c.args.self.now.ports.ok.0) c.in_ok-check.ensures) (passes _ (sym c.in_ok-name.ensures.name) (passes _ (new_name (port_number (drafted c.args.self.now)) c.in_ok-name.name c.as_bytes.result.now c.find_port.result c.is_none.result (Ok c.in_ok-check-2.field-0) c.as_bytes.ensures c.find_port.ensures c.is_none.ensures c.in_ok-check-2.ensures) (fails _ (ap (exports_in (drafted c.args.self.now) []) (sym c.next_name.ensures.taken) ∙ c.in_err-exports.ensures.fault)))))
 
 pub returns-in_err-exports-clause-memory : goal.returns-in_err-exports-clause-memory
 returns-in_err-exports-clause-memory c =
-    told_last (port_row (take 1 c.args.words.now) (drafted c.args.self.now)) _ c.from_residual-in_err-exports.result
-    (port_alone (drafted c.args.self.now) c.args.words.now c.in_ok-name.name c.in_ok-check.field-0 c.in_ok-check-2.field-0 (room_for_port c.args.self.now.ports.items c.len.result (Ok c.in_ok-check.field-0) (c.len.ensures ∙ c.args.self.now.ports.ok.0) c.in_ok-check.ensures) (sym c.in_ok-name.ensures.name) (new_name (port_number (drafted c.args.self.now)) c.in_ok-name.name c.as_bytes.result.now c.find_port.result c.is_none.result (Ok c.in_ok-check-2.field-0) c.as_bytes.ensures c.find_port.ensures c.is_none.ensures c.in_ok-check-2.ensures))
+    told_before (port_row c.args.words.now (drafted c.args.self.now)) (exports_in (drafted c.args.self.now) [] c.next_name.new.words) c.from_residual-in_err-exports.result c.in_err-exports.field-0.0 c.from_residual-in_err-exports.ensures.1 c.in_err-exports.ensures.fault (exports_take_none (drafted c.args.self.now) [] c.next_name.new.words)
 
 pub returns-in_err-exports-clause-unchanged : goal.returns-in_err-exports-clause-unchanged
 returns-in_err-exports-clause-unchanged c = at_fault c.from_residual-in_err-exports.result refl
@@ -84,7 +83,7 @@ returns-in_err-push_port-clause-fault c = told_memory (port_row c.args.words.now
 
 pub returns-in_err-push_port-clause-memory : goal.returns-in_err-push_port-clause-memory
 returns-in_err-push_port-clause-memory c =
-    told_last (port_row (take 1 c.args.words.now) (drafted c.args.self.now)) _ c.from_residual-in_err-push_port.result
+    told_last (port_row c.args.words.now (drafted c.args.self.now)) _ c.from_residual-in_err-push_port.result
     (port_alone (drafted c.args.self.now) c.args.words.now c.in_ok-name.name c.in_ok-check.field-0 c.in_ok-check-2.field-0 (room_for_port c.args.self.now.ports.items c.len.result (Ok c.in_ok-check.field-0) (c.len.ensures ∙ c.args.self.now.ports.ok.0) c.in_ok-check.ensures) (sym c.in_ok-name.ensures.name) (new_name (port_number (drafted c.args.self.now)) c.in_ok-name.name c.as_bytes.result.now c.find_port.result c.is_none.result (Ok c.in_ok-check-2.field-0) c.as_bytes.ensures c.find_port.ensures c.is_none.ensures c.in_ok-check-2.ensures))
 
 pub returns-in_err-push_port-clause-unchanged : goal.returns-in_err-push_port-clause-unchanged
