@@ -17,7 +17,7 @@ use Rattle.atom_lines.specs.Fault.{IsLast, line_fault}
 use Rattle.atom_lines.specs.Reading.{◌>>=◌, check, first_word, first_name, first_number, at_end, mark_in, value_in}
 use Rattle.atom_lines.specs.Lookup.{place_number, variable_number, port_number}
 use Rattle.atom_lines.specs.Rows.{export_in, exports_in}
-use Rattle.atom_lines.specs.Transitions.{leads, ends_places, place_in, places_in, places_behind, on_line, expression_on, guard_in, update_in, goes_on, updates_from, transition_in}
+use Rattle.atom_lines.specs.Transitions.{leads, ends_places, place_in, places_in, places_behind, on_line, expression_on, update_in, goes_on, updates_from, updates_in}
 use Rattle.atom_lines.specs.declared.fault.LineFault.{LineFault}
 use Rattle.atom_lines.specs.declared.fault.LineFault.TheVariants.{BadName, BadNumber, UnknownName, Shape, Limit, Twice, Memory}
 
@@ -34,11 +34,11 @@ or_takes_none (Some x) fault other is = absurd (cc)
 or_takes_none None fault other is = let e : fault ≡ Memory = cc in other e
 
 -- one step behind the other
-then_takes_none : {A B : Type 0} (first : Result A LineFault) (next : A → Result B LineFault) → TakesNone first → ((x : A) → TakesNone (next x)) → TakesNone (first >>= next)
+pub then_takes_none : {A B : Type 0} (first : Result A LineFault) (next : A → Result B LineFault) → TakesNone first → ((x : A) → TakesNone (next x)) → TakesNone (first >>= next)
 then_takes_none (Ok x) next before behind = behind x
 then_takes_none (Err fault) next before behind = λ is. let e : fault ≡ Memory = cc in before (ap Err e)
 
-word_takes_none : (words : List (List ℕ)) → TakesNone (first_word words)
+pub word_takes_none : (words : List (List ℕ)) → TakesNone (first_word words)
 word_takes_none [] is = absurd (cc)
 word_takes_none (word ∷ words) is = absurd (cc)
 
@@ -68,6 +68,11 @@ pub told_before : {A B C : Type 0} (read : Result A LineFault) (step : Result C 
 told_before read step (Ok x) fault left is none = tt
 told_before read step (Err told) fault left is none = λ memory. absurd (none (is ∙ ap Err (sym left ∙ memory)))
 
+-- the fault of a step is no want of memory unless nothing else is at fault
+pub told_behind : {A B : Type 0} (read : Result A LineFault) (result : Result B LineFault) (fault : LineFault) → IsErrAnd result (λ told. told ≡ fault) → (fault ≡ Memory → IsOk read) → IfErr result (IsLast read)
+told_behind read (Ok x) fault left well = tt
+told_behind read (Err told) fault left well = λ memory. well (sym left ∙ memory)
+
 -- and where what was read has no fault, memory may be wanting
 pub told_last : {A B : Type 0} (read : Result A LineFault) (x : A) (result : Result B LineFault) → read ≡ Ok x → IfErr result (IsLast read)
 told_last read x (Ok y) is = tt
@@ -82,16 +87,16 @@ export_takes_none a before word =
 
 pub exports_take_none : (a : AtomDefinition) (before : List ℕ) (words : List (List ℕ)) → TakesNone (exports_in a before words)
 exports_take_none a before [] is = absurd (cc)
-exports_take_none a before (word ∷ words) = then_takes_none _ _ (export_takes_none a before word) (λ number. exports_take_none a (before ++ number ∷ []) words)
+exports_take_none a before (word ∷ words) is = then_takes_none _ _ (export_takes_none a before word) (λ number. exports_take_none a (before ++ number ∷ []) words) is
 
 -- an expression
-fault_is_no_want : (fault : ExpressionFault) → line_fault fault ≢ Memory
+pub fault_is_no_want : (fault : ExpressionFault) → line_fault fault ≢ Memory
 fault_is_no_want expression.UnknownName is = absurd (cc)
 fault_is_no_want expression.BadExpression is = absurd (cc)
 fault_is_no_want expression.BadNumber is = absurd (cc)
 fault_is_no_want expression.Limit is = absurd (cc)
 
-line_takes_none : {A : Type 0} (read : Result A ExpressionFault) → TakesNone (on_line read)
+pub line_takes_none : {A : Type 0} (read : Result A ExpressionFault) → TakesNone (on_line read)
 line_takes_none (Ok x) is = absurd (cc)
 line_takes_none (Err fault) is = let e : line_fault fault ≡ Memory = cc in fault_is_no_want fault e
 
@@ -110,20 +115,17 @@ place_takes_none a before word =
 
 places_take_none : (a : AtomDefinition) (before : List ℕ) (words : List (List ℕ)) → TakesNone (places_in a before words)
 places_take_none a before [] is = absurd (cc)
-places_take_none a before (word ∷ words) =
+places_take_none a before (word ∷ words) is =
     either_takes_none (ends_places (word ∷ words)) (Ok (before, word ∷ words)) (place_in a before word >>= λ place. places_in a (before ++ place ∷ []) words) (λ is. absurd (cc))
-    (then_takes_none _ _ (place_takes_none a before word) (λ place. places_take_none a (before ++ place ∷ []) words))
+    (then_takes_none _ _ (place_takes_none a before word) (λ place. places_take_none a (before ++ place ∷ []) words)) is
 
-places_behind_take_none : (keyword : List ℕ) (a : AtomDefinition) (words : List (List ℕ)) → TakesNone (places_behind keyword a words)
+pub places_behind_take_none : (keyword : List ℕ) (a : AtomDefinition) (words : List (List ℕ)) → TakesNone (places_behind keyword a words)
 places_behind_take_none keyword a words =
     then_takes_none _ _ (check_takes_none (leads keyword words) Shape (λ is. absurd (cc)))
     (λ begun. then_takes_none _ _ (places_take_none a [] (drop 1 words))
     (λ listed. then_takes_none _ _ (check_takes_none (nat_lt 0 (length listed.0)) Shape (λ is. absurd (cc))) (λ filled is. absurd (cc))))
 
--- the guard and the updates of a transition
-guard_takes_none : (a : AtomDefinition) (words : List (List ℕ)) → TakesNone (guard_in a words)
-guard_takes_none a words = either_takes_none (leads (codes "when") words) _ _ (expression_takes_none a (drop 1 words)) (λ is. absurd (cc))
-
+-- the updates of a transition
 update_takes_none : (a : AtomDefinition) (words : List (List ℕ)) → TakesNone (update_in a words)
 update_takes_none a words =
     then_takes_none _ _ (word_takes_none words)
@@ -133,27 +135,16 @@ update_takes_none a words =
 
 going_takes_none : (keyword : List ℕ) (words : List (List ℕ)) → TakesNone (goes_on keyword words)
 going_takes_none keyword [] is = absurd (cc)
-going_takes_none keyword (word ∷ words) = either_takes_none (is_same_text word keyword) (Ok true) (Err Shape) (λ is. absurd (cc)) (λ is. absurd (cc))
+going_takes_none keyword (word ∷ words) is = either_takes_none (is_same_text word keyword) (Ok true) (Err Shape) (λ is. absurd (cc)) (λ is. absurd (cc)) is
 
 updates_take_none : (a : AtomDefinition) (left : ℕ) (before : List UpdateDefinition) (more : Bool) (words : List (List ℕ)) → TakesNone (updates_from a left before more words)
 unfolding updates_from
 updates_take_none a zero before false words is = absurd (cc)
 updates_take_none a (suc left) before false words is = absurd (cc)
 updates_take_none a zero before true words is = absurd (cc)
-updates_take_none a (suc left) before true words =
+updates_take_none a (suc left) before true words is =
     then_takes_none _ _ (update_takes_none a words)
-    (λ update. then_takes_none _ _ (going_takes_none (codes ";") update.1) (λ more. updates_take_none a left (before ++ update.0 ∷ []) more (drop 1 update.1)))
+    (λ update. then_takes_none _ _ (going_takes_none (codes ";") update.1) (λ more. updates_take_none a left (before ++ update.0 ∷ []) more (drop 1 update.1))) is
 
--- a transition
-pub transition_takes_none : (a : AtomDefinition) (words : List (List ℕ)) → TakesNone (transition_in a words)
-transition_takes_none a words =
-    then_takes_none _ _ (then_takes_none _ _ (word_takes_none words) (λ word. or_takes_none (port_number a word) UnknownName (λ is. absurd (cc))))
-    (λ port. then_takes_none _ _ (places_behind_take_none (codes "from") a (drop 1 words))
-    (λ sources. then_takes_none _ _ (places_behind_take_none (codes "to") a sources.1)
-    (λ targets. then_takes_none _ _ (guard_takes_none a targets.1)
-    (λ guard. then_takes_none _ _ (then_takes_none _ _ (going_takes_none (codes "do") guard.1) (λ more. updates_take_none a MAX_UPDATES [] more (drop 1 guard.1)))
-    (λ updates is. absurd (cc))))))
-
--- the fault of what was read is no want of memory
-pub own_fault : {A B : Type 0} (read : Result A LineFault) (result : Result B LineFault) (fault : LineFault) → IsErrAnd result (λ told. told ≡ fault) → read ≡ Err fault → TakesNone read → IfErr result (IsLast read)
-own_fault read result fault left is none = told_before read read result fault left is none
+pub update_list_takes_none : (a : AtomDefinition) (words : List (List ℕ)) → TakesNone (updates_in a words)
+update_list_takes_none a words = then_takes_none _ _ (going_takes_none (codes "do") words) (λ more. updates_take_none a MAX_UPDATES [] more (drop 1 words))

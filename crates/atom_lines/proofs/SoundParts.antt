@@ -1,5 +1,5 @@
 -- What a line says of a port or of a transition is sound.
-use Rattle.std.proofs.Common.{◌≡◌, ◌∙◌, refl, sym, ap, subst, ℕ, zero, suc, ◌+◌, ◌<◌, ◌≤◌, Bool, true, false, not, pos, codes, List, [], ◌∷◌, ◌++◌, length, drop, Result, Ok, Err, arith}
+use Rattle.std.proofs.Common.{◌≡◌, ◌∙◌, refl, sym, ap, subst, ℕ, zero, suc, ◌+◌, ◌<◌, ◌≤◌, Bool, true, false, not, pos, if◌then◌else◌, codes, List, [], ◌∷◌, ◌++◌, length, drop, Result, Ok, Err, arith}
 use Rattle.std.specs.Prelude.{nat_lt, nat_le, nat_eq}
 use Rattle.std.specs.List.{list_all, list_any}
 use Rattle.std.specs.Option.{ok_or}
@@ -31,11 +31,11 @@ pub record Listed (bound : ℕ) (ks : List ℕ) : Type 0 where
   pub once : is_each_once nat_eq ks ≡ true
   pub below : are_below bound ks ≡ true
 
-pub none_listed : (bound : ℕ) → Listed bound []
+none_listed : (bound : ℕ) → Listed bound []
 none_listed bound = record { once = refl; below = refl }
 
 -- one more that is not there yet
-pub one_listed : (bound : ℕ) (ks : List ℕ) (k : ℕ) → Listed bound ks → list_any (λ j. nat_eq j k) ks ≡ false → k < bound → Listed bound (ks ++ k ∷ [])
+one_listed : (bound : ℕ) (ks : List ℕ) (k : ℕ) → Listed bound ks → list_any (λ j. nat_eq j k) ks ≡ false → k < bound → Listed bound (ks ++ k ∷ [])
 one_listed bound ks k listed new below = record {
   once = listed_once ks k listed.once new;
   below = list_all-append (λ j. nat_lt j bound) ks (k ∷ []) ∙ and_from _ _ listed.below (and_from (nat_lt k bound) true (lt-ltb k bound below) refl);
@@ -78,7 +78,7 @@ exports_sound a words name ks told =
 -- ---- places of a transition
 
 -- a place behind others is new
-pub placed : (a : AtomDefinition) (before : List ℕ) (word : List ℕ) (k : ℕ) → place_in a before word ≡ Ok k →
+placed : (a : AtomDefinition) (before : List ℕ) (word : List ℕ) (k : ℕ) → place_in a before word ≡ Ok k →
     (list_any (λ j. nat_eq j k) before ≡ false) × (k < length a.places)
 placed a before word k told =
     let after : ℕ → Result ℕ LineFault = λ n. check (not (list_any (λ j. nat_eq j n) before)) Twice >>= (λ _. Ok n) in
@@ -88,6 +88,18 @@ placed a before word k told =
       ap (λ n. list_any (λ j. nat_eq j n) before) (sym same) ∙ not-true _ (passed _ _ _ new.1),
       subst (λ n. n < length a.places) same (position-within (λ p. is_same_text p.name word) a.places known.0 (was_there _ _ _ known.1)),
     )
+
+pub more_listed : (a : AtomDefinition) (before : List ℕ) (word : List ℕ) (k : ℕ) → Listed (length a.places) before → place_in a before word ≡ Ok k → Listed (length a.places) (before ++ k ∷ [])
+more_listed a before word k listed told =
+    let facts = placed a before word k told in
+    one_listed (length a.places) before k listed facts.0 facts.1
+
+-- what is left to read behind a place leads to the same end
+pub place_behind : (a : AtomDefinition) (before after word : List ℕ) (rest words : List (List ℕ)) (k : ℕ) → after ≡ before ++ k ∷ [] → words ≡ word ∷ rest → ends_places words ≡ false → place_in a before word ≡ Ok k → places_in a after rest ≡ places_in a before words
+place_behind a before after word rest words k more is goes_on told =
+    let next : ℕ → Result (List ℕ × List (List ℕ)) LineFault = λ place. places_in a (before ++ place ∷ []) rest in
+    ap (λ places. places_in a places rest) more
+    ∙ sym (ap (places_in a before) is ∙ ap (λ ends. if ends then Ok (before, word ∷ rest) else (place_in a before word >>= next)) (ap ends_places (sym is) ∙ goes_on) ∙ ap (λ place. place >>= next) told)
 
 -- the places that words list, behind others
 places_listed : (a : AtomDefinition) (before : List ℕ) (words : List (List ℕ)) (listed : List ℕ × List (List ℕ)) → Listed (length a.places) before →

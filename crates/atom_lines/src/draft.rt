@@ -189,8 +189,8 @@ impl AtomDraft {
         check(self.ports.len() < MAX_PORTS, LineFault::Limit)?;
         let name = next_name(words)?;
         check(self.find_port(name.as_bytes()).is_none(), LineFault::Twice)?;
-        let exports = self.read_exports(words)?;
-        let exports = exports.to_vec(self.alloc)?;
+        let numbers = self.read_exports(words)?;
+        let exports = list_of(self.alloc, &numbers)?;
         self.push_port(Port { name, exports })?;
         Ok(())
     }
@@ -342,7 +342,9 @@ impl AtomDraft {
         let mut updates = Ok(Vec::new(self.alloc));
         let mut left = MAX_UPDATES;
         while more {
-            check(0 < left, LineFault::Limit)?;
+            if left == 0 {
+                return Err(LineFault::Limit);
+            }
             let update = self.read_update(words)?;
             more = goes_on(words, b";")?;
             updates = with_update(updates, update);
@@ -362,8 +364,8 @@ impl AtomDraft {
         let targets = self.read_places_behind(b"to", words)?;
         let guard = self.read_guard(words)?;
         let updates = self.read_updates(words)?;
-        let sources = sources.to_vec(self.alloc)?;
-        let targets = targets.to_vec(self.alloc)?;
+        let sources = list_of(self.alloc, &sources)?;
+        let targets = list_of(self.alloc, &targets)?;
         Ok(Transition::new(port, sources, targets, guard?, updates?))
     }
 
@@ -399,6 +401,13 @@ impl AtomDraft {
             Err(fault) => Err(want_of_memory(fault)),
         }
     }
+}
+
+/// The numbers as a list of just their length.
+fn list_of(alloc: Global, numbers: &[u8]) -> Result<Vec<u8>, AllocError>
+    ensures { IfOk result (λ list. list.items ≡ numbers.now) }
+{
+    numbers.to_vec(alloc)
 }
 
 /// The update of a variable to a value, where there was memory for that.

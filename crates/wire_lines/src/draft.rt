@@ -6,7 +6,7 @@ ghost use Rattle.connector_tree.specs.declared.tree.TheConstants.{MAX_LEAVES};
 ghost use Rattle.step_core.specs.Rules.{are_small_guards, are_small_transfers, is_small_wire};
 ghost use Rattle.step_core.specs.Wire.{wire_of, transfer_of};
 ghost use Rattle.step_core.specs.declared.wire.Export.{Export};
-ghost use Rattle.atom_lines.specs.Fault.{IsFaultOf};
+ghost use Rattle.atom_lines.specs.Fault.{IsFaultOf, IsLast};
 ghost use Rattle.wire_lines.specs.Rows.{has_target, has_targets_once, named_on, whole_expression, transfer_in, guard_row, transfer_row};
 ghost use Rattle.wire_lines.specs.Names.{variable_in};
 ghost use Rattle.wire_lines.specs.Parts.{Passes, all_pass};
@@ -88,6 +88,7 @@ impl WireDraft {
     ) -> Result<Expression<Export>, LineFault>
         ensures guard { IfOk result (λ guard. whole_expression (named_on (N.atom_named names.now) (N.export_named names.now) (drafted self.now)) words.old ≡ Ok (tree_of guard)) }
         ensures fault { IfErr result (IsFaultOf (whole_expression (named_on (N.atom_named names.now) (N.export_named names.now) (drafted self.now)) words.old)) }
+        ensures memory { IfErr result (IsLast (whole_expression (named_on (N.atom_named names.now) (N.export_named names.now) (drafted self.now)) words.old)) }
     {
         read_whole(self.alloc, words, &self.variables(names))
     }
@@ -96,6 +97,7 @@ impl WireDraft {
     fn read_transfer<N: Exports>(&self, words: &mut Words, names: &N) -> Result<Transfer, LineFault>
         ensures transfer { IfOk result (λ transfer. transfer_in (named_on (N.atom_named names.now) (N.export_named names.now) (drafted self.now)) (drafted self.now).transfers words.old ≡ Ok (transfer_of transfer)) }
         ensures fault { IfErr result (IsFaultOf (transfer_in (named_on (N.atom_named names.now) (N.export_named names.now) (drafted self.now)) (drafted self.now).transfers words.old)) }
+        ensures memory { IfErr result (IsLast (transfer_in (named_on (N.atom_named names.now) (N.export_named names.now) (drafted self.now)) (drafted self.now).transfers words.old)) }
         ensures new_target { IfOk result (λ transfer. has_target (drafted self.now).transfers transfer.target ≡ false) }
     {
         read_transfer(self.alloc, &self.transfers, words, &self.variables(names))
@@ -105,6 +107,7 @@ impl WireDraft {
     pub fn add_guard<N: Exports>(&mut self, words: &mut Words, names: &N) -> Result<(), LineFault>
         ensures added { OnOk result (guard_row (N.atom_named names.now) (N.export_named names.now) words.old (drafted self.old) ≡ Ok (drafted self.new)) }
         ensures fault { IfErr result (IsFaultOf (guard_row (N.atom_named names.now) (N.export_named names.now) words.old (drafted self.old))) }
+        ensures memory { IfErr result (IsLast (guard_row (N.atom_named names.now) (N.export_named names.now) words.old (drafted self.old))) }
         ensures unchanged { OnErr result (drafted self.new ≡ drafted self.old) }
         ensures known { OnOk result ((test : Export → Bool) → Passes test (named_on (N.atom_named names.now) (N.export_named names.now) (drafted self.old)) → all_pass test (drafted self.old) ≡ true → all_pass test (drafted self.new) ≡ true) }
     {
@@ -122,6 +125,7 @@ impl WireDraft {
     ) -> Result<(), LineFault>
         ensures added { OnOk result (transfer_row (N.atom_named names.now) (N.export_named names.now) words.old (drafted self.old) ≡ Ok (drafted self.new)) }
         ensures fault { IfErr result (IsFaultOf (transfer_row (N.atom_named names.now) (N.export_named names.now) words.old (drafted self.old))) }
+        ensures memory { IfErr result (IsLast (transfer_row (N.atom_named names.now) (N.export_named names.now) words.old (drafted self.old))) }
         ensures unchanged { OnErr result (drafted self.new ≡ drafted self.old) }
         ensures known { OnOk result ((test : Export → Bool) → Passes test (named_on (N.atom_named names.now) (N.export_named names.now) (drafted self.old)) → all_pass test (drafted self.old) ≡ true → all_pass test (drafted self.new) ≡ true) }
     {

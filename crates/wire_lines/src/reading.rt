@@ -2,7 +2,7 @@
 ghost use Rattle.std.specs.Prelude.{◌≡◌, false, drop, map, IfOk, IfErr, Ok};
 ghost use Rattle.std.specs.List.{list_any};
 ghost use Rattle.petri_atom.specs.Expression.{tree_of};
-ghost use Rattle.atom_lines.specs.Fault.{IsFaultOf};
+ghost use Rattle.atom_lines.specs.Fault.{IsFaultOf, IsLast};
 ghost use Rattle.atom_lines.specs.Reading.{check, at_end};
 ghost use Rattle.atom_lines.specs.Transitions.{leads};
 ghost use Rattle.step_core.specs.Rules.{is_same_export};
@@ -42,10 +42,11 @@ pub(crate) fn read_whole<N: Variables<Export>>(
 ) -> Result<Expression<Export>, LineFault>
     ensures expression { IfOk result (λ expression. whole_expression (N.variable_named names.now) words.old ≡ Ok (tree_of expression)) }
     ensures fault { IfErr result (IsFaultOf (whole_expression (N.variable_named names.now) words.old)) }
+    ensures memory { IfErr result (IsLast (whole_expression (N.variable_named names.now) words.old)) }
 {
     let expression = read_expression(alloc, words, names)?;
     check(words.next_word().is_none(), LineFault::Shape)?;
-    Ok(expression)
+    Ok(expression?)
 }
 
 /// Whether one of the transfers has the target.
@@ -90,6 +91,7 @@ pub(crate) fn read_transfer<N: Variables<Export>>(
 ) -> Result<Transfer, LineFault>
     ensures transfer { IfOk result (λ transfer. transfer_in (N.variable_named names.now) (map transfer_of transfers.now) words.old ≡ Ok (transfer_of transfer)) }
     ensures fault { IfErr result (IsFaultOf (transfer_in (N.variable_named names.now) (map transfer_of transfers.now) words.old)) }
+    ensures memory { IfErr result (IsLast (transfer_in (N.variable_named names.now) (map transfer_of transfers.now) words.old)) }
     ensures new_target { IfOk result (λ transfer. has_target (map transfer_of transfers.now) transfer.target ≡ false) }
 {
     let target = read_target(transfers, words, names)?;

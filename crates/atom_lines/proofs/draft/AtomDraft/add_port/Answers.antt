@@ -1,4 +1,4 @@
-use Rattle.std.proofs.Common.{◌∙◌, refl, sym, ap, [], take, Ok, Err}
+use Rattle.std.proofs.Common.{◌∙◌, refl, sym, ap, [], Ok, Err}
 use Rattle.std.specs.Prelude.{nat_lt}
 use Rattle.std.proofs.lemmas.Result.{IfOk-from_err}
 use Rattle.petri_atom.specs.declared.parts.TheConstants.{MAX_PORTS}
@@ -7,8 +7,9 @@ use Rattle.atom_lines.specs.Lookup.{port_number}
 use Rattle.atom_lines.specs.Rows.{port_row, exports_in}
 use Rattle.atom_lines.specs.Reading.{check, first_name}
 use Rattle.atom_lines.specs.declared.fault.LineFault.TheVariants.{Limit, Twice}
-use Rattle.atom_lines.proofs.Early.{check_takes_none, name_takes_none, port_alone, told_before, told_last}
+use Rattle.atom_lines.proofs.Early.{check_takes_none, name_takes_none, exports_take_none, told_before, told_last}
 use Rattle.atom_lines.proofs.Exits.{fails, passes, told_fault, told_memory, at_fault, room_for_port, new_name}
+use Rattle.atom_lines.proofs.Making.{port_says}
 use Rattle.atom_lines.proofs.SoundParts.{exports_sound}
 use Rattle.atom_lines.proofs.draft.AtomDraft.add_port.Goals as goal
 
@@ -57,26 +58,36 @@ returns-in_err-check-2-clause-memory c =
 pub returns-in_err-check-2-clause-unchanged : goal.returns-in_err-check-2-clause-unchanged
 returns-in_err-check-2-clause-unchanged c = at_fault c.from_residual-in_err-check-2.result refl
 
-pub returns-in_err-exports-clause-added : goal.returns-in_err-exports-clause-added
-returns-in_err-exports-clause-added c = IfOk-from_err c.from_residual-in_err-exports.result _ c.from_residual-in_err-exports.ensures.0
+pub returns-in_err-numbers-clause-added : goal.returns-in_err-numbers-clause-added
+returns-in_err-numbers-clause-added c = IfOk-from_err c.from_residual-in_err-numbers.result _ c.from_residual-in_err-numbers.ensures.0
+
+pub returns-in_err-numbers-clause-fault : goal.returns-in_err-numbers-clause-fault
+returns-in_err-numbers-clause-fault c =
+    told_fault (port_row c.args.words.now (drafted c.args.self.now)) c.from_residual-in_err-numbers.result c.in_err-numbers.field-0.0 c.from_residual-in_err-numbers.ensures.1
+    (λ other. passes _ (room_for_port c.args.self.now.ports.items c.len.result (Ok c.in_ok-check.field-0) (c.len.ensures ∙ c.args.self.now.ports.ok.0) c.in_ok-check.ensures) (passes _ (sym c.in_ok-name.ensures.name) (passes _ (new_name (port_number (drafted c.args.self.now)) c.in_ok-name.name c.as_bytes.result.now c.find_port.result c.is_none.result (Ok c.in_ok-check-2.field-0) c.as_bytes.ensures c.find_port.ensures c.is_none.ensures c.in_ok-check-2.ensures) (fails _ (ap (exports_in (drafted c.args.self.now) []) (sym c.next_name.ensures.taken) ∙ c.in_err-numbers.ensures.fault)))))
+
+pub returns-in_err-numbers-clause-memory : goal.returns-in_err-numbers-clause-memory
+returns-in_err-numbers-clause-memory c =
+    told_before (port_row c.args.words.now (drafted c.args.self.now)) (exports_in (drafted c.args.self.now) [] c.next_name.new.words) c.from_residual-in_err-numbers.result c.in_err-numbers.field-0.0 c.from_residual-in_err-numbers.ensures.1 c.in_err-numbers.ensures.fault (exports_take_none (drafted c.args.self.now) [] c.next_name.new.words)
+
+pub returns-in_err-numbers-clause-unchanged : goal.returns-in_err-numbers-clause-unchanged
+returns-in_err-numbers-clause-unchanged c = at_fault c.from_residual-in_err-numbers.result refl
 
 pub returns-in_err-exports-clause-fault : goal.returns-in_err-exports-clause-fault
-returns-in_err-exports-clause-fault c =
-    told_fault (port_row c.args.words.now (drafted c.args.self.now)) c.from_residual-in_err-exports.result c.in_err-exports.field-0.0 c.from_residual-in_err-exports.ensures.1
-    (λ other. passes _ (room_for_port c.args.self.now.ports.items c.len.result (Ok c.in_ok-check.field-0) (c.len.ensures ∙ c.args.self.now.ports.ok.0) c.in_ok-check.ensures) (passes _ (sym c.in_ok-name.ensures.name) (passes _ (new_name (port_number (drafted c.args.self.now)) c.in_ok-name.name c.as_bytes.result.now c.find_port.result c.is_none.result (Ok c.in_ok-check-2.field-0) c.as_bytes.ensures c.find_port.ensures c.is_none.ensures c.in_ok-check-2.ensures) (fails _ (ap (exports_in (drafted c.args.self.now) []) (sym c.next_name.ensures.taken) ∙ c.in_err-exports.ensures.fault)))))
+returns-in_err-exports-clause-fault c = told_memory (port_row c.args.words.now (drafted c.args.self.now)) c.from_residual-in_err-exports.result c.from_residual-in_err-exports.ensures.1
 
 pub returns-in_err-exports-clause-memory : goal.returns-in_err-exports-clause-memory
 returns-in_err-exports-clause-memory c =
-    told_before (port_row c.args.words.now (drafted c.args.self.now)) (exports_in (drafted c.args.self.now) [] c.next_name.new.words) c.from_residual-in_err-exports.result c.in_err-exports.field-0.0 c.from_residual-in_err-exports.ensures.1 c.in_err-exports.ensures.fault (exports_take_none (drafted c.args.self.now) [] c.next_name.new.words)
-
-pub returns-in_err-exports-clause-unchanged : goal.returns-in_err-exports-clause-unchanged
-returns-in_err-exports-clause-unchanged c = at_fault c.from_residual-in_err-exports.result refl
+    told_last (port_row c.args.words.now (drafted c.args.self.now)) _ c.from_residual-in_err-exports.result
+    (port_says (drafted c.args.self.now) c.args.words.now c.next_name.new.words c.in_ok-name.name c.in_ok-numbers.numbers.items c.in_ok-numbers.numbers.items c.in_ok-check.field-0 c.in_ok-check-2.field-0
+    (room_for_port c.args.self.now.ports.items c.len.result (Ok c.in_ok-check.field-0) (c.len.ensures ∙ c.args.self.now.ports.ok.0) c.in_ok-check.ensures)
+    (sym c.in_ok-name.ensures.name)
+    (new_name (port_number (drafted c.args.self.now)) c.in_ok-name.name c.as_bytes.result.now c.find_port.result c.is_none.result (Ok c.in_ok-check-2.field-0) c.as_bytes.ensures c.find_port.ensures c.is_none.ensures c.in_ok-check-2.ensures)
+    c.next_name.ensures.taken c.in_ok-numbers.ensures.exports refl)
 
 pub push_port-requires-clause-sound : goal.push_port-requires-clause-sound
-push_port-requires-clause-sound c = exports_sound (drafted c.args.self.now) c.next_name.new.words c.in_ok-name.name c.in_ok-exports.exports.items c.in_ok-exports.ensures.exports
-
-pub returns-in_err-push_port-clause-added : goal.returns-in_err-push_port-clause-added
-returns-in_err-push_port-clause-added c = IfOk-from_err c.from_residual-in_err-push_port.result _ c.from_residual-in_err-push_port.ensures.0
+push_port-requires-clause-sound c =
+    exports_sound (drafted c.args.self.now) c.next_name.new.words c.in_ok-name.name c.in_ok-exports.exports.items (c.in_ok-numbers.ensures.exports ∙ ap Ok (sym (c.in_ok-exports.ensures ∙ c.deref.ensures.0)))
 
 pub returns-in_err-push_port-clause-fault : goal.returns-in_err-push_port-clause-fault
 returns-in_err-push_port-clause-fault c = told_memory (port_row c.args.words.now (drafted c.args.self.now)) c.from_residual-in_err-push_port.result c.from_residual-in_err-push_port.ensures.1
@@ -84,10 +95,20 @@ returns-in_err-push_port-clause-fault c = told_memory (port_row c.args.words.now
 pub returns-in_err-push_port-clause-memory : goal.returns-in_err-push_port-clause-memory
 returns-in_err-push_port-clause-memory c =
     told_last (port_row c.args.words.now (drafted c.args.self.now)) _ c.from_residual-in_err-push_port.result
-    (port_alone (drafted c.args.self.now) c.args.words.now c.in_ok-name.name c.in_ok-check.field-0 c.in_ok-check-2.field-0 (room_for_port c.args.self.now.ports.items c.len.result (Ok c.in_ok-check.field-0) (c.len.ensures ∙ c.args.self.now.ports.ok.0) c.in_ok-check.ensures) (sym c.in_ok-name.ensures.name) (new_name (port_number (drafted c.args.self.now)) c.in_ok-name.name c.as_bytes.result.now c.find_port.result c.is_none.result (Ok c.in_ok-check-2.field-0) c.as_bytes.ensures c.find_port.ensures c.is_none.ensures c.in_ok-check-2.ensures))
+    (port_says (drafted c.args.self.now) c.args.words.now c.next_name.new.words c.in_ok-name.name c.in_ok-numbers.numbers.items c.in_ok-numbers.numbers.items c.in_ok-check.field-0 c.in_ok-check-2.field-0
+    (room_for_port c.args.self.now.ports.items c.len.result (Ok c.in_ok-check.field-0) (c.len.ensures ∙ c.args.self.now.ports.ok.0) c.in_ok-check.ensures)
+    (sym c.in_ok-name.ensures.name)
+    (new_name (port_number (drafted c.args.self.now)) c.in_ok-name.name c.as_bytes.result.now c.find_port.result c.is_none.result (Ok c.in_ok-check-2.field-0) c.as_bytes.ensures c.find_port.ensures c.is_none.ensures c.in_ok-check-2.ensures)
+    c.next_name.ensures.taken c.in_ok-numbers.ensures.exports refl)
 
 pub returns-in_err-push_port-clause-unchanged : goal.returns-in_err-push_port-clause-unchanged
 returns-in_err-push_port-clause-unchanged c = at_fault c.from_residual-in_err-push_port.result c.in_err-push_port.ensures.unchanged
 
 pub returns-clause-added : goal.returns-clause-added
-returns-clause-added c = passes _ (room_for_port c.args.self.now.ports.items c.len.result (Ok c.in_ok-check.field-0) (c.len.ensures ∙ c.args.self.now.ports.ok.0) c.in_ok-check.ensures) (passes _ (sym c.in_ok-name.ensures.name) (passes _ (new_name (port_number (drafted c.args.self.now)) c.in_ok-name.name c.as_bytes.result.now c.find_port.result c.is_none.result (Ok c.in_ok-check-2.field-0) c.as_bytes.ensures c.find_port.ensures c.is_none.ensures c.in_ok-check-2.ensures) (passes _ (ap (exports_in (drafted c.args.self.now) []) (sym c.next_name.ensures.taken) ∙ c.in_ok-exports.ensures.exports) (ap Ok (sym c.in_ok-push_port.ensures.pushed)))))
+returns-clause-added c =
+    port_says (drafted c.args.self.now) c.args.words.now c.next_name.new.words c.in_ok-name.name c.in_ok-numbers.numbers.items c.in_ok-exports.exports.items c.in_ok-check.field-0 c.in_ok-check-2.field-0
+    (room_for_port c.args.self.now.ports.items c.len.result (Ok c.in_ok-check.field-0) (c.len.ensures ∙ c.args.self.now.ports.ok.0) c.in_ok-check.ensures)
+    (sym c.in_ok-name.ensures.name)
+    (new_name (port_number (drafted c.args.self.now)) c.in_ok-name.name c.as_bytes.result.now c.find_port.result c.is_none.result (Ok c.in_ok-check-2.field-0) c.as_bytes.ensures c.find_port.ensures c.is_none.ensures c.in_ok-check-2.ensures)
+    c.next_name.ensures.taken c.in_ok-numbers.ensures.exports (c.in_ok-exports.ensures ∙ c.deref.ensures.0)
+    ∙ ap Ok (sym c.in_ok-push_port.ensures.pushed)

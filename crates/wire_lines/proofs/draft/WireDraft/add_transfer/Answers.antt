@@ -1,15 +1,20 @@
 use Rattle.std.proofs.Common.{◌<◌, ◌∙◌, ◌&&◌, ap, sym, true, length, map, [], ◌∷◌, Ok, Err, arith}
+use Rattle.std.specs.Prelude.{nat_lt}
 use Rattle.std.specs.Result.{is_ok}
 use Rattle.std.proofs.lemmas.Bool.{and_from, and_parts, le-leb}
 use Rattle.std.proofs.lemmas.List.{map-append}
 use Rattle.petri_atom.specs.Expression.{all_variables}
 use Rattle.step_core.specs.Wire.{transfer_of}
 use Rattle.step_core.specs.declared.limits.TheConstants.{MAX_TRANSFERS}
+use Rattle.atom_lines.specs.Reading.{check}
+use Rattle.atom_lines.specs.declared.fault.LineFault.TheVariants.{Limit}
+use Rattle.atom_lines.proofs.Early.{check_takes_none, told_before, told_behind, told_last}
 use Rattle.atom_lines.proofs.Exits.{told_fault, told_memory}
 use Rattle.wire_lines.specs.Draft.{drafted}
 use Rattle.wire_lines.specs.Rows.{named_on, transfer_row}
 use Rattle.wire_lines.specs.Parts.{is_small}
 use Rattle.wire_lines.proofs.Adding.{room_for, had_room, no_transfer_more, transfer_at_fault, transfer_is_added}
+use Rattle.wire_lines.proofs.Wanting.{transfer_row_is_well}
 use Rattle.wire_lines.proofs.Kept.{all_behind, small_behind, transfer_is_kept, passes_always}
 use Rattle.wire_lines.proofs.Targets.{targets_once_behind}
 use Rattle.wire_lines.proofs.draft.WireDraft.add_transfer.Goals as goal
@@ -65,3 +70,26 @@ returns-clause-known g c = λ test passing all.
     and_from _ _ (and_parts _ _ all).0
     (all_behind transfer_of (λ t. test t.target && all_variables test t.value) (is_ok c.push.result) c.args.self.now.transfers.items c.in_ok-transfer.transfer c.push.new.self.items c.push.ensures.items
     (and_parts _ _ all).1 (and_from _ _ kept.target kept.value.passing))
+
+pub returns-in_err-check-clause-memory : goal.returns-in_err-check-clause-memory
+returns-in_err-check-clause-memory g c =
+    told_before (transfer_row (g.N.Exports.atom_named c.args.names.now) (g.N.Exports.export_named c.args.names.now) c.args.words.now (drafted c.args.self.now)) (check (nat_lt c.len.result MAX_TRANSFERS) Limit) c.from_residual.result c.in_err-check.field-0.0 c.from_residual.ensures.1
+    (sym c.in_err-check.ensures) (check_takes_none (nat_lt c.len.result MAX_TRANSFERS) Limit (λ is. absurd (cc)))
+
+pub returns-in_err-transfer-clause-memory : goal.returns-in_err-transfer-clause-memory
+returns-in_err-transfer-clause-memory g c =
+    let w = drafted c.args.self.now in
+    let named = named_on (g.N.Exports.atom_named c.args.names.now) (g.N.Exports.export_named c.args.names.now) w in
+    told_behind (transfer_row (g.N.Exports.atom_named c.args.names.now) (g.N.Exports.export_named c.args.names.now) c.args.words.now w) c.from_residual-in_err-transfer.result c.in_err-transfer.field-0.0 c.from_residual-in_err-transfer.ensures.1
+    (λ memory. transfer_row_is_well named c.args.words.now w c.in_ok-check.field-0
+    (room_for c.args.self.now.transfers.items transfer_of MAX_TRANSFERS c.len.result (Ok c.in_ok-check.field-0) (c.len.ensures ∙ c.args.self.now.transfers.ok.0) c.in_ok-check.ensures)
+    (c.in_err-transfer.ensures.memory memory))
+
+pub returns-in_err-push-clause-memory : goal.returns-in_err-push-clause-memory
+returns-in_err-push-clause-memory g c =
+    let w = drafted c.args.self.now in
+    let named = named_on (g.N.Exports.atom_named c.args.names.now) (g.N.Exports.export_named c.args.names.now) w in
+    told_last (transfer_row (g.N.Exports.atom_named c.args.names.now) (g.N.Exports.export_named c.args.names.now) c.args.words.now w) _ c.from_residual-in_err-push.result
+    (transfer_is_added named c.args.words.now w (transfer_of c.in_ok-transfer.transfer) c.in_ok-check.field-0
+    (room_for c.args.self.now.transfers.items transfer_of MAX_TRANSFERS c.len.result (Ok c.in_ok-check.field-0) (c.len.ensures ∙ c.args.self.now.transfers.ok.0) c.in_ok-check.ensures)
+    c.in_ok-transfer.ensures.transfer)

@@ -1,6 +1,6 @@
 use Rattle.std.proofs.Common.{◌≡◌, subst, IfOk, IfErr, Ok}
 use Rattle.petri_atom.specs.Expression.{tree_of}
-use Rattle.atom_lines.specs.Fault.{IsFaultOf}
+use Rattle.atom_lines.specs.Fault.{IsFaultOf, IsLast}
 use Rattle.wire_lines.specs.Rows.{Named, whole_expression}
 use Rattle.wire_lines.proofs.draft.WireDraft.read_guard.Goals as goal
 
@@ -13,3 +13,8 @@ pub returns-clause-fault : goal.returns-clause-fault
 returns-clause-fault g c =
     subst (λ (named : Named). IfErr c.read_whole.result (IsFaultOf (whole_expression named c.args.words.now)))
     c.variables.ensures c.read_whole.ensures.fault
+
+pub returns-clause-memory : goal.returns-clause-memory
+returns-clause-memory g c =
+    subst (λ (named : Named). IfErr c.read_whole.result (IsLast (whole_expression named c.args.words.now)))
+    c.variables.ensures c.read_whole.ensures.memory

@@ -1,5 +1,5 @@
 use Rattle.std.proofs.Common.{◌≡◌, map, subst, List, IfOk, IfErr, Ok}
-use Rattle.atom_lines.specs.Fault.{IsFaultOf}
+use Rattle.atom_lines.specs.Fault.{IsFaultOf, IsLast}
 use Rattle.step_core.specs.Wire.{transfer_of}
 use Rattle.step_core.specs.declared.wire.Transfer.{Transfer}
 use Rattle.wire_lines.specs.Draft.{drafted}
@@ -19,3 +19,10 @@ returns-clause-fault g c =
     subst (λ (before : List Transfer). IfErr c.read_transfer.result (IsFaultOf (transfer_in variables (map transfer_of before) c.args.words.now))) c.deref.ensures.value
     (subst (λ (named : Named). IfErr c.read_transfer.result (IsFaultOf (transfer_in named (map transfer_of c.deref.result.now) c.args.words.now))) c.variables.ensures
     c.read_transfer.ensures.fault)
+
+pub returns-clause-memory : goal.returns-clause-memory
+returns-clause-memory g c =
+    let variables = named_on (g.N.Exports.atom_named c.args.names.now) (g.N.Exports.export_named c.args.names.now) (drafted c.args.self.now) in
+    subst (λ (before : List Transfer). IfErr c.read_transfer.result (IsLast (transfer_in variables (map transfer_of before) c.args.words.now))) c.deref.ensures.value
+    (subst (λ (named : Named). IfErr c.read_transfer.result (IsLast (transfer_in named (map transfer_of c.deref.result.now) c.args.words.now))) c.variables.ensures
+    c.read_transfer.ensures.memory)
