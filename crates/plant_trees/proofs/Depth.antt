@@ -1,8 +1,5 @@
 -- The deepest level of the tokens of a connector is its depth.
-use Rattle.std.proofs.Common.{◌≡◌, ℕ, ◌+◌, ◌-◌, ◌≤◌, max, Bool, List, [], ◌∷◌, ◌++◌, ap, sym, ◌∙◌, append-nil, true, nat_lt, ◌<◌, length, get_or, drop, arith}
-use Rattle.std.proofs.lemmas.Bool.{lt-ltb}
-use Rattle.std.proofs.lemmas.List.{drop_more}
-use Rattle.connector_tree.specs.declared.tree.TheConstants.{MAX_DEPTH}
+use Rattle.std.proofs.Common.{◌≡◌, ℕ, ◌+◌, ◌-◌, ◌≤◌, max, Bool, List, [], ◌∷◌, ◌++◌, ap, sym, ◌∙◌, append-nil, arith}
 use Rattle.connector_tree.specs.Tree as connectors
 use Rattle.connector_tree.specs.Tree.{Tree, no_child, child, Branch, leaf, bracket, branch_depth, depth}
 use Rattle.plant_trees.specs.declared.token.Token.{Token}
@@ -56,11 +53,3 @@ deepest-tree tree =
     ap (deepest 1) (sym (append-nil (tokens_of tree)))
     ∙ deepest_before tree 1 []
     ∙ at_root (connectors.deepest tree)
-
--- a bracket that begins on the deepest level is too deep
-pub is_too_deep : (level i : ℕ) (tokens : List Token) (token : Token) → i < length tokens → get_or tokens i token ≡ Open → level ≡ MAX_DEPTH →
-    true ≡ nat_lt MAX_DEPTH (deepest level (drop i tokens))
-is_too_deep level i tokens token within is_open lowest =
-    sym (lt-ltb MAX_DEPTH (deepest (level + 1) (drop (i + 1) tokens)) (omega (arith, level_least (level + 1) (drop (i + 1) tokens))))
-    ∙ ap (λ t. nat_lt MAX_DEPTH (deepest level (t ∷ drop (i + 1) tokens))) (sym is_open)
-    ∙ ap (λ ts. nat_lt MAX_DEPTH (deepest level ts)) (sym (drop_more tokens i token within))

@@ -1,7 +1,7 @@
 -- The faults of a tree, as its tokens are read one by one.
 use Rattle.std.proofs.Common.{◌≡◌, ◌∙◌, refl, sym, ap, ℕ, ◌+◌, ◌-◌, ◌<◌, ◌≤◌, max, Bool, true, false, ◌&&◌, ◌||◌, ◌==◌, if◌then◌else◌, List, [], ◌∷◌, ◌++◌, append_assoc, append-nil, length, Option, Some, None, arith}
 use Rattle.std.specs.Prelude.{nat_lt, nat_le}
-use Rattle.std.proofs.lemmas.Bool.{ltb-true, lt-ltb, leb-true}
+use Rattle.std.proofs.lemmas.Bool.{ltb-true, ltb-false, lt-ltb, le-ltb, leb-true, leb-false, eqb-false}
 use Rattle.connector_tree.specs.declared.tree.TheConstants.{MAX_LEAVES, MAX_DEPTH}
 use Rattle.connector_tree.specs.declared.faults.TreeFault.{TreeFault}
 use Rattle.connector_tree.specs.declared.faults.TreeFault.TheVariants.{TooManyLeaves, TooDeep, SameAtom, Empty}
@@ -13,6 +13,7 @@ use Rattle.plant_trees.specs.Tokens.{level_behind}
 use Rattle.plant_trees.specs.Shape.{ports_in, deepest, is_open, is_close, begins_with_close, has_empty_bracket, fault_in}
 use Rattle.plant_trees.specs.Judging.{is_too_wide_behind, is_too_deep_behind, has_empty_behind, fault_behind}
 use Rattle.plant_trees.proofs.Depth.{level_least}
+use Rattle.plant_trees.proofs.Readings.{some_same}
 
 -- the fault that four tests tell, in their order
 fault_at : Bool → Bool → Bool → Bool → Option TreeFault
@@ -42,24 +43,29 @@ below_more false limit level least is more = refl
 deeper : (limit level first last : ℕ) → first ≡ last → level + 1 ≤ last → nat_lt limit first ≡ (nat_le limit level || nat_lt limit last)
 deeper limit level first last same more = ap (nat_lt limit) same ∙ below_more (nat_le limit level) limit level last refl more
 
-deepest_of : (limit level last : ℕ) → nat_lt limit (max (level + 1) last) ≡ (nat_le limit level || nat_lt limit last)
-deepest_of limit level last = ?
+deepest_at : (here behind : Bool) (limit level last : ℕ) → nat_le limit level ≡ here → nat_lt limit last ≡ behind → nat_lt limit (max (level + 1) last) ≡ (here || behind)
+deepest_at true behind limit level last is next = lt-ltb limit (max (level + 1) last) (omega (arith, leb-true limit level is))
+deepest_at false true limit level last is next = lt-ltb limit (max (level + 1) last) (omega (arith, ltb-true limit last next))
+deepest_at false false limit level last is next = le-ltb limit (max (level + 1) last) (omega (arith, leb-false limit level is, ltb-false limit last next))
 
-same_level : (m n : ℕ) → ◌≡◌ {A = Option ℕ} (Some m) (Some n) → m ≡ n
-same_level m n is = cc
+deepest_of : (limit level last : ℕ) → nat_lt limit (max (level + 1) last) ≡ (nat_le limit level || nat_lt limit last)
+deepest_of limit level last = deepest_at (nat_le limit level) (nat_lt limit last) limit level last refl refl
 
 -- where so many brackets are open behind the end of one
 closed : (none : Bool) (level next : ℕ) → (level == 0) ≡ none → (if none then None else Some (level - 1)) ≡ Some next → level ≡ next + 1
-closed = ?
+closed true level next zero is = absurd (cc)
+closed false level next zero is =
+    let same : level - 1 ≡ next = some_same (level - 1) next is in
+    omega (arith, same, eqb-false level 0 zero)
 
 -- the levels behind a token, and its own
 deep_token : (limit : ℕ) (token : Token) (level next : ℕ) (tokens : List Token) → level_behind token level ≡ Some next →
     nat_lt limit (deepest (level + 1) (token ∷ tokens)) ≡ (nat_le limit level || nat_lt limit (deepest (next + 1) tokens))
 deep_token limit (Leaf port trigger) level next tokens is =
-    let same : level ≡ next = same_level level next is in
+    let same : level ≡ next = some_same level next is in
     deeper limit level (deepest (level + 1) tokens) (deepest (next + 1) tokens) (ap (λ n. deepest (n + 1) tokens) same) (omega (arith, same, level_least (next + 1) tokens))
 deep_token limit Open level next tokens is =
-    let same : level + 1 ≡ next = same_level (level + 1) next is in
+    let same : level + 1 ≡ next = some_same (level + 1) next is in
     deeper limit level (deepest (level + 1 + 1) tokens) (deepest (next + 1) tokens) (ap (λ n. deepest (n + 1) tokens) same) (omega (arith, same, level_least (next + 1) tokens))
 deep_token limit (Close trigger) level next tokens is =
     let same : level ≡ next + 1 = closed (level == 0) level next refl is in

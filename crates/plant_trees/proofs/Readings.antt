@@ -1,10 +1,11 @@
 -- Laws of readings.
-use Rattle.std.proofs.Common.{◌≡◌, ◌≢◌, ℕ, ◌+◌, ◌<◌, ◌==◌, Bool, true, false, if◌then◌else◌, List, [], ◌∷◌, ◌++◌, length, get_or, drop, Option, Some, None, IsSome, Result, Ok, Err, IfOk, refl, ap, sym, subst, ◌∙◌, append-nil, arith}
-use Rattle.std.proofs.lemmas.Bool.{both_ways}
+use Rattle.std.proofs.Common.{◌≡◌, ◌≢◌, ℕ, ◌+◌, ◌-◌, ◌<◌, ◌≤◌, ◌==◌, Bool, true, false, if◌then◌else◌, List, [], ◌∷◌, ◌++◌, length, get_or, drop, Option, Some, None, IsSome, Result, Ok, Err, IfOk, refl, ap, sym, subst, ◌∙◌, append_assoc, append-nil, arith}
+use Rattle.std.proofs.lemmas.Bool.{both_ways, ne_eqb}
 use Rattle.std.proofs.lemmas.List.{drop_more}
 use Rattle.std.specs.Option.{option_map_or}
 use Rattle.connector_tree.specs.declared.faults.TreeFault.{TreeFault}
 use Rattle.plant_trees.specs.declared.token.Token.{Token}
+use Rattle.plant_trees.specs.declared.token.Token.TheVariants.{Leaf, Open, Close}
 use Rattle.plant_trees.specs.declared.fault.TreeWordsFault.{TreeWordsFault}
 use Rattle.plant_trees.specs.declared.fault.TreeWordsFault.TheVariants.{Shape}
 use Rattle.plant_trees.specs.Tokens.{Names, Reading, word_in, level_behind, is_balanced, led_by, behind, tokens_in}
@@ -112,3 +113,50 @@ judged_read (Ok some) tokens is =
 pub tree_read : (named : Names) (words : List (List ℕ)) (tokens : List Token) → tree_in named words ≡ Ok tokens → (tokens_in named 0 words ≡ Ok tokens) × (fault_in tokens ≡ None)
 tree_read named [] tokens is = absurd (cc)
 tree_read named (word ∷ words) tokens is = judged_read (tokens_in named 0 (word ∷ words)) tokens is
+
+-- ---- one word after the other
+
+-- the fault of the next word
+pub word_at_fault : (named : Names) (level : ℕ) (words rest : List (List ℕ)) (word : List ℕ) (fault : TreeWordsFault) → words ≡ word ∷ rest → word_in named word ≡ Err fault → tokens_in named level words ≡ Err fault
+word_at_fault named level words rest word fault is said = ap (tokens_in named level) is ∙ ap (λ r. behind r level (λ next. tokens_in named next rest)) said
+
+what_word_says : (named : Names) (level : ℕ) (words rest : List (List ℕ)) (word : List ℕ) (token : Token) (next : Option ℕ) → words ≡ word ∷ rest → word_in named word ≡ Ok token → level_behind token level ≡ next →
+    tokens_in named level words ≡ option_map_or (λ n. led_by token (tokens_in named n rest)) next (Err Shape)
+what_word_says named level words rest word token next is said goes =
+    ap (tokens_in named level) is ∙ ap (λ r. behind r level (λ n. tokens_in named n rest)) said ∙ ap (λ o. option_map_or (λ n. led_by token (tokens_in named n rest)) o (Err Shape)) goes
+
+-- the next word closes a bracket that isn't open
+pub word_closes_none : (named : Names) (level : ℕ) (words rest : List (List ℕ)) (word : List ℕ) (token : Token) → words ≡ word ∷ rest → word_in named word ≡ Ok token → level_behind token level ≡ None → tokens_in named level words ≡ Err Shape
+word_closes_none named level words rest word token is said goes = what_word_says named level words rest word token None is said goes
+
+led_behind : (before : List Token) (token : Token) (r : Reading) → behind_all (before ++ token ∷ []) r ≡ behind_all before (led_by token r)
+led_behind before token (Ok tokens) = ap Ok (append_assoc before (token ∷ []) tokens)
+led_behind before token (Err fault) = refl
+
+-- the token of the next word stands behind those before
+pub word_is_behind : (named : Names) (before : List Token) (level next : ℕ) (words rest : List (List ℕ)) (word : List ℕ) (token : Token) → words ≡ word ∷ rest → word_in named word ≡ Ok token → level_behind token level ≡ Some next →
+    behind_all (before ++ token ∷ []) (tokens_in named next rest) ≡ behind_all before (tokens_in named level words)
+word_is_behind named before level next words rest word token is said goes =
+    led_behind before token (tokens_in named next rest) ∙ sym (ap (behind_all before) (what_word_says named level words rest word token (Some next) is said goes))
+
+-- two numbers that are there
+pub some_same : (m n : ℕ) → ◌≡◌ {A = Option ℕ} (Some m) (Some n) → m ≡ n
+some_same m n is = cc
+
+one_level_less : (none : Bool) (level next : ℕ) → (if none then None else Some (level - 1)) ≡ Some next → next ≤ level + 1
+one_level_less true level next is = absurd (cc)
+one_level_less false level next is = let same : level - 1 ≡ next = some_same (level - 1) next is in omega (arith, same)
+
+-- no more than one bracket more is open behind a token
+pub one_level_more : (token : Token) (level next : ℕ) → level_behind token level ≡ Some next → next ≤ level + 1
+one_level_more (Leaf port trigger) level next is = let same : level ≡ next = some_same level next is in omega (arith, same)
+one_level_more Open level next is = let same : level + 1 ≡ next = some_same (level + 1) next is in omega (arith, same)
+one_level_more (Close trigger) level next is = one_level_less (level == 0) level next is
+
+-- a bracket that stays open is at fault
+pub stays_open : (named : Names) (level : ℕ) (words : List (List ℕ)) → words ≡ [] → 0 < level → tokens_in named level words ≡ Err Shape
+stays_open named level words none open = ap (tokens_in named level) none ∙ ap (λ closed. if closed then Ok [] else Err Shape) (ne_eqb level 0 (λ is. absurd (omega (arith, is, open))))
+
+-- no bracket is open behind the last word
+pub all_closed : (named : Names) (level : ℕ) (words : List (List ℕ)) → words ≡ [] → level ≡ 0 → tokens_in named level words ≡ Ok []
+all_closed named level words none closed = ap (tokens_in named level) none ∙ ap (λ n. tokens_in named n []) closed
