@@ -17,7 +17,8 @@
 //! `specs/Transitions.antt`), on the words and the atom that `drafted` shows. A fault is told by the first word from
 //! the left that is at fault. Where a part would be one too many for the atom, that is the line's first word; where
 //! a port would export one variable too many, it is that variable's word; where a transition would have one update
-//! too many, it is the `;` before it. A refused line leaves the draft as it was.
+//! too many, it is the `;` before it. A refused line leaves the draft as it was. Want of memory is told only of a line
+//! without a fault: where a part of it is refused memory, the words behind are read on and the part isn't made.
 //!
 //! A name is declared where it is new, and has to be a [`petri_atom::Name`]. Where it is used, it is looked up alone: a
 //! word that is no name is as unknown as one that no line declared. Places, variables and ports may share names.

@@ -35,7 +35,7 @@ impl<'a, T: Drop> From<AllocFailed<T>> for PickFault<'a> {
 }
 
 /// The picks that the words write, or the first word that writes none: a pick is digits alone, within a `u64`. Words are
-/// read on where memory is wanting, so that it is told in place of no such word.
+/// read on where memory is wanting, so that it hides no such word.
 pub(crate) fn read_picks<'a>(alloc: Global, words: &[&'a str]) -> Result<Vec<u64>, PickFault<'a>>
     ensures picks { IfOk result (λ picks. picks_in (map (λ word. word.now) words.now) ≡ Ok picks.items) }
     ensures fault { IfErr result (IsFaultOf (map (λ word. word.now) words.now)) }

@@ -3,6 +3,7 @@ use Rattle.std.proofs.Common.{◌≡◌, ◌∙◌, refl, sym, ap, ℕ, ◌+◌,
 use Rattle.std.specs.Prelude.{nat_lt, nat_le}
 use Rattle.std.proofs.lemmas.Bool.{ltb-true, ltb-false, lt-ltb, le-ltb, leb-true, leb-false, eqb-false}
 use Rattle.connector_tree.specs.declared.tree.TheConstants.{MAX_LEAVES, MAX_DEPTH}
+use Rattle.connector_tree.specs.declared.tree.Port.{Port}
 use Rattle.connector_tree.specs.declared.faults.TreeFault.{TreeFault}
 use Rattle.connector_tree.specs.declared.faults.TreeFault.TheVariants.{TooManyLeaves, TooDeep, SameAtom, Empty}
 use Rattle.connector_tree.specs.Faults.{has_repeat, atoms}
@@ -100,9 +101,15 @@ pub token_added : (old new : Shape) (token : Token) (level next : ℕ) (tokens :
     level_behind token level ≡ Some next →
     fault_behind old level (token ∷ tokens) ≡ fault_behind new next tokens
 unfolding fault_at
-token_added old new token level next tokens wide same deep empty open behind =
+token_added old new token level next tokens wide same deep empty begun behind =
     same_fault _ (is_too_wide_behind new (atoms (ports_in tokens))) _ (is_too_deep_behind new next tokens) _ (has_repeat (new.atoms.items ++ atoms (ports_in tokens))) _ (has_empty_behind new tokens)
     wide
     (ap (λ b. old.is_too_deep || b) (deep_token MAX_DEPTH token level next tokens behind) ∙ or_again old.is_too_deep (nat_le MAX_DEPTH level) (nat_lt MAX_DEPTH (deepest (next + 1) tokens)) ∙ ap (λ b. b || nat_lt MAX_DEPTH (deepest (next + 1) tokens)) (sym deep))
     (λ few. ap has_repeat (same few))
-    (empty_token old.has_empty_bracket old.is_behind_open token tokens ∙ ap (λ b. (b || (is_open token && begins_with_close tokens)) || has_empty_bracket tokens) (sym empty) ∙ ap (λ b. (new.has_empty_bracket || (b && begins_with_close tokens)) || has_empty_bracket tokens) (sym open))
+    (empty_token old.has_empty_bracket old.is_behind_open token tokens ∙ ap (λ b. (b || (is_open token && begins_with_close tokens)) || has_empty_bracket tokens) (sym empty) ∙ ap (λ b. (new.has_empty_bracket || (b && begins_with_close tokens)) || has_empty_bracket tokens) (sym begun))
+
+-- a token that is no port
+pub no_port : (token : Token) (tokens : List Token) → ((port : Port) (trigger : Bool) → token ≡ Leaf port trigger → ⊥) → ports_in (token ∷ tokens) ≡ ports_in tokens
+no_port (Leaf port trigger) tokens other = absurd (other port trigger refl)
+no_port Open tokens other = refl
+no_port (Close trigger) tokens other = refl

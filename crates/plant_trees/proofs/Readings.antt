@@ -1,8 +1,11 @@
 -- Laws of readings.
-use Rattle.std.proofs.Common.{◌≡◌, ◌≢◌, ℕ, ◌+◌, ◌-◌, ◌<◌, ◌≤◌, ◌==◌, Bool, true, false, if◌then◌else◌, List, [], ◌∷◌, ◌++◌, length, get_or, drop, Option, Some, None, IsSome, Result, Ok, Err, IfOk, refl, ap, sym, subst, ◌∙◌, append_assoc, append-nil, arith}
+use Rattle.std.proofs.Common.{◌≡◌, ◌≢◌, ℕ, ◌+◌, ◌-◌, ◌<◌, ◌≤◌, ◌==◌, Bool, true, false, if◌then◌else◌, List, [], ◌∷◌, ◌++◌, length, get_or, drop, Option, Some, None, IsSome, Result, Ok, Err, IfOk, IsOkAnd, refl, ap, sym, subst, ◌∙◌, append_assoc, append-nil, arith}
 use Rattle.std.proofs.lemmas.Bool.{both_ways, ne_eqb}
 use Rattle.std.proofs.lemmas.List.{drop_more}
 use Rattle.std.specs.Option.{option_map_or}
+use Rattle.std.specs.declared.alloc.AllocError.{AllocError}
+use Rattle.std.specs.declared.alloc.Global.{Global}
+use Rattle.std.specs.declared.vec.Vec.{Vec}
 use Rattle.connector_tree.specs.declared.faults.TreeFault.{TreeFault}
 use Rattle.plant_trees.specs.declared.token.Token.{Token}
 use Rattle.plant_trees.specs.declared.token.Token.TheVariants.{Leaf, Open, Close}
@@ -87,11 +90,11 @@ first_led token (Err fault) is = absurd (cc)
 
 none_led : (token : Token) (level : Option ℕ) (read : ℕ → Reading) → option_map_or (λ next. led_by token (read next)) level (Err Shape) ≢ Ok []
 none_led token None read is = absurd (cc)
-none_led token (Some next) read = first_led token (read next)
+none_led token (Some next) read is = first_led token (read next) is
 
 no_tokens : (said : Result Token TreeWordsFault) (level : ℕ) (read : ℕ → Reading) → behind said level read ≢ Ok []
 no_tokens (Err fault) level read is = absurd (cc)
-no_tokens (Ok token) level read = none_led token (level_behind token level) read
+no_tokens (Ok token) level read is = none_led token (level_behind token level) read is
 
 -- words that are there have tokens
 pub some_tokens : (named : Names) (words : List (List ℕ)) (tokens : List Token) → words ≢ [] → tokens_in named 0 words ≡ Ok tokens → 0 < length tokens
@@ -155,8 +158,15 @@ one_level_more (Close trigger) level next is = one_level_less (level == 0) level
 
 -- a bracket that stays open is at fault
 pub stays_open : (named : Names) (level : ℕ) (words : List (List ℕ)) → words ≡ [] → 0 < level → tokens_in named level words ≡ Err Shape
-stays_open named level words none open = ap (tokens_in named level) none ∙ ap (λ closed. if closed then Ok [] else Err Shape) (ne_eqb level 0 (λ is. absurd (omega (arith, is, open))))
+stays_open named level words none some = ap (tokens_in named level) none ∙ ap (λ closed. if closed then Ok [] else Err Shape) (ne_eqb level 0 (λ is. absurd (omega (arith, is, some))))
 
 -- no bracket is open behind the last word
 pub all_closed : (named : Names) (level : ℕ) (words : List (List ℕ)) → words ≡ [] → level ≡ 0 → tokens_in named level words ≡ Ok []
 all_closed named level words none closed = ap (tokens_in named level) none ∙ ap (λ n. tokens_in named n []) closed
+
+-- tokens are made with one more where all of them are
+pub one_more_is_made : (before : List Token) (token : Token) (tokens more : Result (Vec Token Global) AllocError) →
+    IfOk tokens (λ b. b.items ≡ before) → IfOk more (λ m. IsOkAnd tokens (λ b. m.items ≡ b.items ++ token ∷ [])) → IfOk more (λ m. m.items ≡ before ++ token ∷ [])
+one_more_is_made before token (Ok b) (Ok m) made is = is ∙ ap (λ tokens. tokens ++ token ∷ []) made
+one_more_is_made before token (Err f) (Ok m) made is = absurd is
+one_more_is_made before token tokens (Err f) made is = tt

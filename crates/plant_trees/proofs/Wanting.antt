@@ -17,10 +17,10 @@ port_wants_none trigger (Some port) wants = absurd (cc)
 
 leaf_wants_none : (named : Names) (parts : Option PortParts) → leaf_in named parts ≢ Err Memory
 leaf_wants_none named None wants = absurd (cc)
-leaf_wants_none named (Some parts) = port_wants_none parts.quoted (named parts.atom parts.port)
+leaf_wants_none named (Some parts) wants = port_wants_none parts.quoted (named parts.atom parts.port) wants
 
 said_wants_none : (bracket : Option Token) (leaf : Result Token TreeWordsFault) → leaf ≢ Err Memory → option_map_or (λ b. Ok b) bracket leaf ≢ Err Memory
-said_wants_none None leaf none = none
+said_wants_none None leaf none wants = none wants
 said_wants_none (Some bracket) leaf none wants = absurd (cc)
 
 word_wants_none : (named : Names) (word : List ℕ) → word_in named word ≢ Err Memory
@@ -28,19 +28,19 @@ word_wants_none named word = said_wants_none (bracket_in word) (leaf_in named (p
 
 led_wants_none : (token : Token) (read : Reading) → read ≢ Err Memory → led_by token read ≢ Err Memory
 led_wants_none token (Ok tokens) none wants = absurd (cc)
-led_wants_none token (Err fault) none = none
+led_wants_none token (Err fault) none wants = none wants
 
 level_wants_none : (token : Token) (level : Option ℕ) (read : ℕ → Reading) → ((next : ℕ) → read next ≢ Err Memory) → option_map_or (λ next. led_by token (read next)) level (Err Shape) ≢ Err Memory
 level_wants_none token None read none wants = absurd (cc)
-level_wants_none token (Some next) read none = led_wants_none token (read next) (none next)
+level_wants_none token (Some next) read none wants = led_wants_none token (read next) (none next) wants
 
 behind_wants_none : (said : Result Token TreeWordsFault) (level : ℕ) (read : ℕ → Reading) → said ≢ Err Memory → ((next : ℕ) → read next ≢ Err Memory) → behind said level read ≢ Err Memory
-behind_wants_none (Ok token) level read first none = level_wants_none token (level_behind token level) read none
+behind_wants_none (Ok token) level read first none wants = level_wants_none token (level_behind token level) read none wants
 behind_wants_none (Err fault) level read first none wants =
     let same : fault ≡ Memory = cc in
     first (ap Err same)
 
-end_wants_none : (closed : Bool) → (if closed then Ok [] else Err Shape) ≢ Err {T = List Token} Memory
+end_wants_none : (closed : Bool) → ◌≢◌ {A = Reading} (if closed then Ok [] else Err Shape) (Err Memory)
 end_wants_none true wants = absurd (cc)
 end_wants_none false wants = absurd (cc)
 
@@ -60,4 +60,4 @@ judged_wants_none (Err fault) none = none
 -- the fault of a tree is no want of memory
 pub tree_wants_none : (named : Names) (words : List (List ℕ)) → tree_in named words ≢ Err Memory
 tree_wants_none named [] wants = absurd (cc)
-tree_wants_none named (word ∷ words) = judged_wants_none (tokens_in named 0 (word ∷ words)) (tokens_want_none named 0 (word ∷ words))
+tree_wants_none named (word ∷ words) wants = judged_wants_none (tokens_in named 0 (word ∷ words)) (tokens_want_none named 0 (word ∷ words)) wants

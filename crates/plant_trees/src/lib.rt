@@ -14,15 +14,16 @@
 //! line, or its fault, and `tokens_of` (`specs/Connectors.antt`) writes a connector down as its tokens. The connector that
 //! is read has exactly the tokens of the line, and no other connector has them.
 //!
-//! - The first word from the left with a fault is told. The faults of the tree itself are judged when each word is
+//! - The first word from the left with a fault is told. The faults of the tree itself are told when each word is
 //!   read, in the order in which `connector_tree` tells them, so that [`interactions`](connector_tree::interactions) of
 //!   a tree that was read fails for want of memory alone.
-//! - No line can make the calls nest deeper: words become a flat list of tokens, the faults of the tree are judged on
-//!   that list, and a tree is made only of a list without fault, by a loop. Each step takes time that grows with the
-//!   number of words and no faster.
+//! - Want of memory is told only of words that are a tree: what is known of its faults takes none, and where the list of
+//!   tokens is refused its room the words are read on without it.
+//! - No line can make the calls nest deeper: words become a flat list of tokens, and a tree is made only of a list
+//!   without fault, by a loop. Each step takes time that grows with the number of words and no faster.
 //!
 //! - `token`: what one word says, and which ports there are. `read`: the words of a line as a connector.
-//! - `shape`: the faults of a tree, on its tokens. `draft`: a connector made from tokens.
+//! - `shape`: the faults of a tree, as its tokens are read. `draft`: a connector made from tokens.
 //! - `fault`: why words are no tree. `laws`: what tokens say of a connector.
 #![tactic(auto)]
 

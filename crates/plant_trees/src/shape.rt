@@ -1,5 +1,5 @@
 //! The faults of a tree, as its tokens are read one by one.
-ghost use Rattle.std.specs.Prelude.{◌≡◌, ◌<◌, ◌≤◌, ℕ, [], ◌∷◌, ◌++◌, ◌==◌, ◌||◌, nat_le, length, List, Some, true};
+ghost use Rattle.std.specs.Prelude.{◌≡◌, ◌<◌, ◌≤◌, ℕ, [], ◌∷◌, ◌++◌, ◌==◌, ◌||◌, nat_le, length, List, Some, true, false};
 ghost use Rattle.std.specs.List.{list_any};
 ghost use Rattle.connector_tree.specs.Faults.{has_repeat};
 ghost use Rattle.plant_trees.specs.declared.token.Token.{Token};
@@ -67,11 +67,12 @@ impl Shape {
     pub(crate) fn fault(&self) -> Option<TreeFault>
         ensures { result ≡ fault_behind self.now 0 [] }
     {
+        let atoms = self.atoms.as_slice();
         if self.is_too_wide {
             Some(TreeFault::TooManyLeaves)
         } else if self.is_too_deep {
             Some(TreeFault::TooDeep)
-        } else if has_repeat(&self.atoms) {
+        } else if has_repeat(atoms) {
             Some(TreeFault::SameAtom)
         } else if self.has_empty_bracket {
             Some(TreeFault::Empty)

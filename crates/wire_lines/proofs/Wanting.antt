@@ -1,7 +1,7 @@
 -- Where memory may be wanting: behind words that have no fault.
-use Rattle.std.proofs.Common.{◌≡◌, ◌≢◌, ◌∙◌, refl, sym, ap, subst, ℕ, List, [], ◌∷◌, length, not, codes, drop, Option, Result, Ok, Err, IfOk}
+use Rattle.std.proofs.Common.{◌≡◌, ◌≢◌, ◌∙◌, refl, sym, ap, subst, ℕ, Bool, true, false, List, [], ◌∷◌, length, not, codes, drop, Option, Some, None, MatchOption, Result, Ok, Err}
 use Rattle.std.specs.Prelude.{nat_lt, IsOk}
-use Rattle.std.specs.Option.{ok_or}
+use Rattle.std.specs.Option.{ok_or, is_some}
 use Rattle.petri_atom.specs.Expression.{Tree}
 use Rattle.plant_expressions.specs.Expressions.{words_left}
 use Rattle.plant_expressions.specs.declared.fault.ExpressionFault.{ExpressionFault}
@@ -27,6 +27,14 @@ left_behind (Ok (tree, words)) rest left =
     let same : words ≡ rest = cc in
     (tree, ap (λ w. Ok (tree, w)) same)
 left_behind (Err fault) rest left = absurd (cc)
+
+-- no word may be left over
+pub end_reached : {X : Type 0} (now : X → List ℕ) (words rest : List (List ℕ)) (next : Option X) (none : Bool) (said : Result (Unit {0}) LineFault) →
+    MatchOption next (words ≡ []) (λ word. words ≡ now word ∷ rest) → is_some next ≡ not none → said ≡ check none Shape → at_end words ≡ said
+end_reached now words rest None true said is none told = ap at_end is ∙ sym told
+end_reached now words rest None false said is none told = absurd (cc)
+end_reached now words rest (Some word) true said is none told = absurd (cc)
+end_reached now words rest (Some word) false said is none told = ap at_end is ∙ sym told
 
 -- a word behind an expression is the fault of all
 pub word_is_over : (r : Result (Tree Export × List (List ℕ)) ExpressionFault) (rest : List (List ℕ)) (fault : LineFault) → words_left r ≡ Ok rest → at_end rest ≡ Err fault →

@@ -17,7 +17,7 @@
 //! the words and the connector that `drafted` shows. A fault is told by the first word from the left that is at fault.
 //! Where a part would be one too many for the connector, that is the line's first word. A target that isn't written
 //! `ATOM.VAR` names nothing, and is an unknown name like one that no leaf exports. A refused line leaves the draft as
-//! it was.
+//! it was. Want of memory is told only of a line without a fault.
 //!
 //! What a draft makes keeps the rules of a wire that are about its lines: [`WireDraft::into_wire`] says that it is within
 //! the limits of a wire and has each target once, and the lines that add parts say that a test which each variable passes
