@@ -34,11 +34,11 @@ or_takes_none (Some x) fault other is = absurd (cc)
 or_takes_none None fault other is = let e : fault ≡ Memory = cc in other e
 
 -- one step behind the other
-pub then_takes_none : {A B : Type 0} (first : Result A LineFault) (next : A → Result B LineFault) → TakesNone first → ((x : A) → TakesNone (next x)) → TakesNone (first >>= next)
+then_takes_none : {A B : Type 0} (first : Result A LineFault) (next : A → Result B LineFault) → TakesNone first → ((x : A) → TakesNone (next x)) → TakesNone (first >>= next)
 then_takes_none (Ok x) next before behind = behind x
 then_takes_none (Err fault) next before behind = λ is. let e : fault ≡ Memory = cc in before (ap Err e)
 
-pub word_takes_none : (words : List (List ℕ)) → TakesNone (first_word words)
+word_takes_none : (words : List (List ℕ)) → TakesNone (first_word words)
 word_takes_none [] is = absurd (cc)
 word_takes_none (word ∷ words) is = absurd (cc)
 
@@ -90,17 +90,17 @@ exports_take_none a before [] is = absurd (cc)
 exports_take_none a before (word ∷ words) is = then_takes_none _ _ (export_takes_none a before word) (λ number. exports_take_none a (before ++ number ∷ []) words) is
 
 -- an expression
-pub fault_is_no_want : (fault : ExpressionFault) → line_fault fault ≢ Memory
+fault_is_no_want : (fault : ExpressionFault) → line_fault fault ≢ Memory
 fault_is_no_want expression.UnknownName is = absurd (cc)
 fault_is_no_want expression.BadExpression is = absurd (cc)
 fault_is_no_want expression.BadNumber is = absurd (cc)
 fault_is_no_want expression.Limit is = absurd (cc)
 
-pub line_takes_none : {A : Type 0} (read : Result A ExpressionFault) → TakesNone (on_line read)
+line_takes_none : {A : Type 0} (read : Result A ExpressionFault) → TakesNone (on_line read)
 line_takes_none (Ok x) is = absurd (cc)
 line_takes_none (Err fault) is = let e : line_fault fault ≡ Memory = cc in fault_is_no_want fault e
 
-pub expression_takes_none : (a : AtomDefinition) (words : List (List ℕ)) → TakesNone (expression_on a words)
+expression_takes_none : (a : AtomDefinition) (words : List (List ℕ)) → TakesNone (expression_on a words)
 expression_takes_none a words = line_takes_none (expression_in (variable_number a) words)
 
 either_takes_none : {A : Type 0} (test : Bool) (one other : Result A LineFault) → TakesNone one → TakesNone other → TakesNone (if test then one else other)

@@ -294,10 +294,7 @@ impl AtomDraft {
     }
 
     /// The guard of a transition, as far as there is memory for it.
-    fn read_guard(
-        &self,
-        words: &mut Words,
-    ) -> Result<Result<Expression<u8>, AllocError>, LineFault>
+    fn read_guard(&self, words: &mut Words) -> Result<Result<Expression<u8>, AllocError>, LineFault>
         ensures guard { IfOk result (IsRead tree_of (guard_in (drafted self.now) words.old) words.new) }
         ensures fault { IfErr result (λ fault. guard_in (drafted self.now) words.old ≡ Err fault) }
     {
@@ -411,10 +408,7 @@ fn list_of(alloc: Global, numbers: &[u8]) -> Result<Vec<u8>, AllocError>
 }
 
 /// The update of a variable to a value, where there was memory for that.
-fn update(
-    variable: u8,
-    value: Result<Expression<u8>, AllocError>,
-) -> Result<Update, AllocError>
+fn update(variable: u8, value: Result<Expression<u8>, AllocError>) -> Result<Update, AllocError>
     ensures { IfOk result (λ update. IsOkAnd value (λ expression. update_of update ≡ record { variable = variable; value = tree_of expression })) }
 {
     Ok(Update {

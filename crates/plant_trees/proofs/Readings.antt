@@ -70,12 +70,6 @@ tree_of_some : (named : Names) (words : List (List ℕ)) → words ≢ [] → tr
 tree_of_some named [] some = absurd (some refl)
 tree_of_some named (word ∷ words) some = refl
 
--- the fault of words behind others is the fault of all
-pub fault_behind_all : (named : Names) (words : List (List ℕ)) (before : List Token) (rest : Reading) (fault : TreeWordsFault) →
-    words ≢ [] → behind_all before rest ≡ tokens_in named 0 words → rest ≡ Err fault → tree_in named words ≡ Err fault
-fault_behind_all named words before rest fault some all is =
-    tree_of_some named words some ∙ ap judged (sym all ∙ ap (behind_all before) is)
-
 -- where no word is left, the tokens are those before
 pub all_read : (named : Names) (words : List (List ℕ)) (before : List Token) (level : ℕ) (rest : Reading) → behind_all before rest ≡ tokens_in named 0 words → rest ≡ Ok [] → tokens_in named 0 words ≡ Ok before
 all_read named words before level rest all is = sym all ∙ ap (behind_all before) is ∙ ap Ok (append-nil before)
@@ -119,18 +113,10 @@ tree_read named (word ∷ words) tokens is = judged_read (tokens_in named 0 (wor
 
 -- ---- one word after the other
 
--- the fault of the next word
-pub word_at_fault : (named : Names) (level : ℕ) (words rest : List (List ℕ)) (word : List ℕ) (fault : TreeWordsFault) → words ≡ word ∷ rest → word_in named word ≡ Err fault → tokens_in named level words ≡ Err fault
-word_at_fault named level words rest word fault is said = ap (tokens_in named level) is ∙ ap (λ r. behind r level (λ next. tokens_in named next rest)) said
-
 what_word_says : (named : Names) (level : ℕ) (words rest : List (List ℕ)) (word : List ℕ) (token : Token) (next : Option ℕ) → words ≡ word ∷ rest → word_in named word ≡ Ok token → level_behind token level ≡ next →
     tokens_in named level words ≡ option_map_or (λ n. led_by token (tokens_in named n rest)) next (Err Shape)
 what_word_says named level words rest word token next is said goes =
     ap (tokens_in named level) is ∙ ap (λ r. behind r level (λ n. tokens_in named n rest)) said ∙ ap (λ o. option_map_or (λ n. led_by token (tokens_in named n rest)) o (Err Shape)) goes
-
--- the next word closes a bracket that isn't open
-pub word_closes_none : (named : Names) (level : ℕ) (words rest : List (List ℕ)) (word : List ℕ) (token : Token) → words ≡ word ∷ rest → word_in named word ≡ Ok token → level_behind token level ≡ None → tokens_in named level words ≡ Err Shape
-word_closes_none named level words rest word token is said goes = what_word_says named level words rest word token None is said goes
 
 led_behind : (before : List Token) (token : Token) (r : Reading) → behind_all (before ++ token ∷ []) r ≡ behind_all before (led_by token r)
 led_behind before token (Ok tokens) = ap Ok (append_assoc before (token ∷ []) tokens)
@@ -155,10 +141,6 @@ pub one_level_more : (token : Token) (level next : ℕ) → level_behind token l
 one_level_more (Leaf port trigger) level next is = let same : level ≡ next = some_same level next is in omega (arith, same)
 one_level_more Open level next is = let same : level + 1 ≡ next = some_same (level + 1) next is in omega (arith, same)
 one_level_more (Close trigger) level next is = one_level_less (level == 0) level next is
-
--- a bracket that stays open is at fault
-pub stays_open : (named : Names) (level : ℕ) (words : List (List ℕ)) → words ≡ [] → 0 < level → tokens_in named level words ≡ Err Shape
-stays_open named level words none some = ap (tokens_in named level) none ∙ ap (λ closed. if closed then Ok [] else Err Shape) (ne_eqb level 0 (λ is. absurd (omega (arith, is, some))))
 
 -- no bracket is open behind the last word
 pub all_closed : (named : Names) (level : ℕ) (words : List (List ℕ)) → words ≡ [] → level ≡ 0 → tokens_in named level words ≡ Ok []

@@ -12,8 +12,6 @@ use Rattle.atom_lines.specs.declared.fault.LineFault.{LineFault}
 use Rattle.atom_lines.specs.declared.fault.LineFault.TheVariants.{Twice, UnknownName, Shape, Limit}
 use Rattle.atom_lines.specs.Reading.{◌>>=◌, check, first_word, at_end}
 use Rattle.atom_lines.specs.Transitions.{leads, on_line}
-use Rattle.atom_lines.proofs.Early.{TakesNone, check_takes_none, or_takes_none, then_takes_none, word_takes_none}
-use Rattle.atom_lines.proofs.Exits.{passes}
 use Rattle.wire_lines.proofs.Adding.{guard_is_added, transfer_is_added}
 use Rattle.wire_lines.specs.Rows.{Named, has_target, whole_expression, target_in, transfer_in, guard_added, transfer_added}
 
@@ -50,21 +48,6 @@ none_is_over r rest u left ends =
     let found = left_behind r rest left in
     let whole = ap (λ s. on_line s >>= λ read. (at_end read.1 >>= λ _. Ok read.0)) found.1 ∙ ap (λ end. end >>= λ _. Ok found.0) ends in
     subst IsOk (sym whole) refl
-
--- the target of a transfer takes no memory
-pub target_takes_none : (named : Named) (before : List TransferDefinition) (words : List (List ℕ)) → TakesNone (target_in named before words)
-target_takes_none named before words =
-    then_takes_none _ _ (word_takes_none words)
-    (λ word. then_takes_none _ _ (or_takes_none (named word) UnknownName (λ is. absurd (cc)))
-    (λ target. then_takes_none _ _ (check_takes_none (not (has_target before target)) Twice (λ is. absurd (cc))) (λ new is. absurd (cc))))
-
--- a transfer has no fault where its parts have none
-pub transfer_is_well : (named : Named) (before : List TransferDefinition) (words : List (List ℕ)) (target : Export) (u : Unit {0}) →
-    target_in named before words ≡ Ok target → check (leads (codes ":=") (drop 1 words)) Shape ≡ Ok u → IsOk (whole_expression named (drop 1 (drop 1 words))) → IsOk (transfer_in named before words)
-transfer_is_well named before words target u first assigns well =
-    let value = value_of (whole_expression named (drop 1 (drop 1 words))) well in
-    let transfer : transfer_in named before words ≡ Ok (record { target = target; value = value.0 }) = passes _ first (passes _ assigns (passes _ value.1 refl)) in
-    subst IsOk (sym transfer) refl
 
 -- a line has no fault where there is room and what it adds has none
 pub guard_row_is_well : (named : Named) (words : List (List ℕ)) (w : WireDefinition) (u : Unit {0}) →

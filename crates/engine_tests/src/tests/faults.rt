@@ -60,21 +60,13 @@ fn faults_of_lines_are_told(rt: HostRuntime) -> Result<(), Fail> {
             Fault::Misplaced,
             "line 3: the line speaks of the latest atom or connector, and there is none yet",
         ),
-        (
-            4,
-            Fault::BadName,
-            "line 4: a name is malformed or reserved",
-        ),
+        (4, Fault::BadName, "line 4: a name is malformed or reserved"),
         (
             5,
             Fault::Twice,
             "line 5: a name is declared already, or stands twice where it may stand once",
         ),
-        (
-            6,
-            Fault::UnknownName,
-            "line 6: a name is not known here",
-        ),
+        (6, Fault::UnknownName, "line 6: a name is not known here"),
         (
             7,
             Fault::BadExpression,
