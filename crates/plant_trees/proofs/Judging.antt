@@ -1,8 +1,8 @@
 -- The faults of a tree, as its tokens are read one by one.
-use Rattle.std.proofs.Common.{◌≡◌, ◌∙◌, refl, sym, ap, ℕ, ◌+◌, ◌-◌, ◌<◌, ◌≤◌, max, Bool, true, false, ◌&&◌, ◌||◌, ◌==◌, if◌then◌else◌, List, [], ◌∷◌, ◌++◌, append_assoc, append-nil, length, Option, Some, None, arith}
+use Rattle.std.proofs.Common.{◌≡◌, ◌∙◌, refl, sym, ap, ℕ, ◌+◌, ◌-◌, ◌≤◌, max, Bool, true, false, ◌&&◌, ◌||◌, ◌==◌, if◌then◌else◌, List, ◌∷◌, ◌++◌, Option, Some, None, arith}
 use Rattle.std.specs.Prelude.{nat_lt, nat_le}
 use Rattle.std.proofs.lemmas.Bool.{ltb-true, ltb-false, lt-ltb, le-ltb, leb-true, leb-false, eqb-false}
-use Rattle.connector_tree.specs.declared.tree.TheConstants.{MAX_LEAVES, MAX_DEPTH}
+use Rattle.connector_tree.specs.declared.tree.TheConstants.{MAX_DEPTH}
 use Rattle.connector_tree.specs.declared.tree.Port.{Port}
 use Rattle.connector_tree.specs.declared.faults.TreeFault.{TreeFault}
 use Rattle.connector_tree.specs.declared.faults.TreeFault.TheVariants.{TooManyLeaves, TooDeep, SameAtom, Empty}
@@ -11,7 +11,7 @@ use Rattle.plant_trees.specs.declared.token.Token.{Token}
 use Rattle.plant_trees.specs.declared.token.Token.TheVariants.{Leaf, Open, Close}
 use Rattle.plant_trees.specs.declared.shape.Shape.{Shape}
 use Rattle.plant_trees.specs.Tokens.{level_behind}
-use Rattle.plant_trees.specs.Shape.{ports_in, deepest, is_open, is_close, begins_with_close, has_empty_bracket, fault_in}
+use Rattle.plant_trees.specs.Shape.{ports_in, deepest, is_open, is_close, begins_with_close, has_empty_bracket}
 use Rattle.plant_trees.specs.Judging.{is_too_wide_behind, is_too_deep_behind, has_empty_behind, fault_behind}
 use Rattle.plant_trees.proofs.Depth.{level_least}
 use Rattle.plant_trees.proofs.Readings.{some_same}

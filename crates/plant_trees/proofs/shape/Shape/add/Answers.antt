@@ -1,4 +1,4 @@
-use Rattle.std.proofs.Common.{◌≡◌, ◌∙◌, refl, sym, ap, ◌∷◌, ◌++◌, ◌&&◌, ◌||◌}
+use Rattle.std.proofs.Common.{◌∙◌, refl, ap, ◌∷◌, ◌++◌, ◌&&◌, ◌||◌}
 use Rattle.std.specs.Prelude.{nat_le}
 use Rattle.connector_tree.specs.Faults.{atoms}
 use Rattle.connector_tree.specs.declared.tree.TheConstants.{MAX_DEPTH}
