@@ -7,8 +7,8 @@
 //!
 //! - A sync that succeeds makes all last that was written before it. A failed one may forget what it did not write: the
 //!   system then takes it for written. So after a failed sync all that was written since the last one that succeeded is
-//!   written again before the next. A program that opens the file later knows nothing of that, and makes the system forget
-//!   what it kept of the file, so that a read gives what is on the disk.
+//!   written again before the next. A program that opens the file later knows nothing of that: what it reads is supposed to be
+//!   on the disk behind the sync with which it opens the file.
 //! - After a failed sync, while the file stays open, a read still gives what was written.
 //! - A write changes no byte outside its range, also where it fails or a stop cuts it. Inside, a failed write leaves any
 //!   bytes; but one that writes what a read gives changes nothing that a read gives.

@@ -55,7 +55,8 @@ impl FileDisk {
         if !metadata.is_file() {
             return Err(FileFault::NotAFile);
         }
-        if settle(&file).is_err() {
+        // What programs before this one wrote, and did not sync.
+        if file.sync_all().is_err() {
             return Err(FileFault::Unsynced);
         }
         Ok(FileDisk::over(file, metadata.len()))
@@ -129,14 +130,4 @@ fn folder_of(path: &str) -> &str {
         Some(folder) if !folder.as_str().is_empty() => folder.as_str(),
         _ => ".",
     }
-}
-
-/// Makes last what programs before this one wrote, and has the system forget what it keeps of the file.
-fn settle(file: &File) -> io::Result<()> {
-    file.sync_all()?;
-    let answer = libc::posix_fadvise(file.as_raw_fd(), 0, 0, libc::POSIX_FADV_DONTNEED);
-    if answer != 0 {
-        return Err(io::Error::from_raw_os_error(answer));
-    }
-    Ok(())
 }
