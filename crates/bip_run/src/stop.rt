@@ -9,7 +9,7 @@ use std::fmt;
 use text_io::WriteFault;
 
 /// Why the program ends without having done what it was asked for.
-#[derive(Clone, Copy, Debug, PartialEq, Eq)]
+#[derive(Clone, Copy)]
 pub(crate) enum Stop {
     /// The words of the command line ask for nothing that the program does.
     Usage,
@@ -55,7 +55,7 @@ pub(crate) fn ended(answered: Answered) -> Result<(), Stop>
 
 /// What is told of a stop, where the plant text stood at the path: a line, or nothing where `clap` told it, and where the
 /// output failed.
-#[derive(Clone, Copy, Debug)]
+#[derive(Clone, Copy)]
 pub(crate) struct Told<'a> {
     /// Why the program stops.
     pub(crate) stop: Stop,
