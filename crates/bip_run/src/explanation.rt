@@ -56,7 +56,6 @@ fn shown_line(alloc: Global, line: &[u8]) -> Result<Vec<u8>, AllocError>
 }
 
 /// The mark under the part of its line.
-#[tactic(auto, using(std::proofs::lemmas::List::take_min, std::proofs::lemmas::List::drop_min))]
 fn shown_mark(alloc: Global, mark: &Mark<'_>) -> Result<Vec<u8>, AllocError>
     ensures { IfOk result (λ text. text.items ≡ mark_under mark.now.line.now mark.now.start mark.now.len) }
 {
