@@ -4,5 +4,6 @@ mod callers;
 mod cells;
 mod devices;
 mod files;
+mod images;
 mod journal;
 mod slots;

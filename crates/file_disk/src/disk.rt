@@ -1,6 +1,6 @@
 //! A device over an open file.
-ghost use Rattle.std.specs.Prelude.{◌≡◌, ◌^◌, ◌+◌, ◌<◌, ◌≤◌, true, false, length, take, drop, is_ok, is_err, IfOk, OnOk, OnErr};
-ghost use Rattle.disk_model.specs.DiskState.{size_of, Counts, IsUnchanged, Writes, FailsToWrite, Syncs};
+ghost use Rattle.std.specs.Prelude.{◌≡◌, ◌^◌, ◌<◌, false, is_err};
+ghost use Rattle.disk_model.specs.DiskState.{size_of, Counts};
 ghost use Rattle.file_disk.specs.Opened.{opened};
 
 use crate::marks::{LARGEST_IMAGE, Marks};

@@ -91,6 +91,11 @@ fn what_is_no_file_is_refused(rt: HostRuntime) -> Result<(), Fail> {
     Ok(())
 }
 
+/// A device may go from one thread to another.
+fn sent<T: Send>(device: T) -> T {
+    device
+}
+
 /// Two programs are two openings: the lock is of an opening, and ends with it.
 #[test]
 fn a_file_is_open_once_at_a_time(rt: HostRuntime) -> Result<(), Fail> {
@@ -98,7 +103,7 @@ fn a_file_is_open_once_at_a_time(rt: HostRuntime) -> Result<(), Fail> {
     let created = FileDisk::create(&rt, path, 512)?;
     assert_eq!(rt; FileDisk::open(&rt, path).err(), Some(FileFault::InUse));
     drop(created);
-    let opened = FileDisk::open(&rt, path)?;
+    let opened = sent(FileDisk::open(&rt, path)?);
     assert_eq!(rt; FileDisk::open(&rt, path).err(), Some(FileFault::InUse));
     drop(opened);
     assert!(rt; FileDisk::open(&rt, path).is_ok());

@@ -1,0 +1,4 @@
+pub mod Contents
+pub mod Faults
+pub mod Standing
+pub mod Reading

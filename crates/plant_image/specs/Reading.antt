@@ -1,0 +1,51 @@
+-- What reading an image answers.
+use Rattle.std.specs.Prelude.{◌≡◌, ℕ, ◌≤◌, List, Option, None, Some, Result, Ok, Err, length}
+use Rattle.step_core.specs.Fitting.{IsOf, AllFit}
+use Rattle.step_core.specs.Plant.{PlantDefinition}
+use Rattle.disk_model.specs.Cells.{Cell}
+use Rattle.record_codec.specs.declared.layout.TheConstants.{LEAST_RING}
+use Rattle.gated_journal.specs.Rings.{IsReadFor, IsRing}
+use Rattle.record_replay.specs.Records.{count_of}
+use Rattle.plant_image.specs.Contents.{Contents, contents_of, counts_of, ring_held, ring_in, states_of}
+use Rattle.plant_image.specs.declared.fault.ImageFault.{ImageFault}
+use Rattle.plant_image.specs.declared.fault.ImageFault.TheVariants.{Memory}
+use Rattle.plant_image.specs.declared.standing.Held.{Held}
+use Rattle.plant_image.specs.declared.standing.Standing.{Standing}
+
+-- a fault is told where this is what is wrong; that memory ran out says nothing of what is wrong
+abbrev pub IsTold : Option ImageFault → ImageFault → Type 0
+IsTold found Memory = Unit {0}
+IsTold found fault = found ≡ Some fault
+
+-- A part of the reading answers by what is wrong with its part of the image: a value that has P where nothing is, and else the fault.
+abbrev pub Tells : {V : Type 0} → Option ImageFault → (V → Type 0) → Result V ImageFault → Type 0
+Tells found P (Ok value) = (found ≡ None) × P value
+Tells found P (Err fault) = IsTold found fault
+
+-- what was read, as contents
+abbrev pub contents_in : Held → Contents
+contents_in held = record { ring = held.ring; base_cell = held.base_cell; base = held.base; slots = held.slots.items; records = held.records.items }
+
+-- The numbers that the cells hold are in their ranges, and the cells read for the journal of these.
+pub record IsInRange (atoms : ℕ) (cells : List Cell) : Type 0 where
+  pub ring_from : LEAST_RING ≤ ring_held cells
+  pub ring : IsRing (ring_in atoms (contents_of atoms cells))
+  pub read : IsReadFor (ring_in atoms (contents_of atoms cells)) cells
+
+-- What was read is what the cells hold.
+pub record IsHeld (atoms : ℕ) (cells : List Cell) (held : Held) : Type 0 where
+  pub contents : contents_in held ≡ contents_of atoms cells
+  pub in_range : IsInRange atoms cells
+
+-- What stands is what was read, and where that leads: a state of the plant, and how often each atom has taken part in it.
+pub record IsLed (plant : PlantDefinition) (c : Contents) (standing : Standing) : Type 0 where
+  pub contents : contents_in standing.held ≡ c
+  pub states : standing.states ≡ states_of plant c
+  pub of_plant : IsOf plant standing.states
+  pub fits : AllFit plant standing.states
+  pub counts : (atom : ℕ) → count_of standing.counts atom ≡ count_of (counts_of plant c) atom
+
+-- What stands is what the cells hold, and where that leads.
+pub record IsStanding (plant : PlantDefinition) (cells : List Cell) (standing : Standing) : Type 0 where
+  pub led : IsLed plant (contents_of (length plant.atoms) cells) standing
+  pub in_range : IsInRange (length plant.atoms) cells

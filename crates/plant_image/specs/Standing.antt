@@ -1,0 +1,80 @@
+-- Which state of a plant an image stands for.
+use Rattle.std.specs.Prelude.{◌≡◌, ℕ, ◌+◌, ◌-◌, ◌*◌, ◌≤◌, ◌<◌, ◌++◌, List, None, Some, Ok, length, take, drop, slice_get, slice_set, true}
+use Rattle.std.specs.List.{list_all}
+use Rattle.petri_atom.specs.Local.{Local}
+use Rattle.petri_atom.specs.Definition.{AtomDefinition, initial}
+use Rattle.step_core.specs.Plant.{PlantDefinition}
+use Rattle.disk_model.specs.Cells.{Cell, cell}
+use Rattle.disk_model.specs.declared.cells.TheConstants.{BODY}
+use Rattle.record_codec.specs.Base.{base_bytes}
+use Rattle.record_codec.specs.Bytes.{padded}
+use Rattle.record_codec.specs.Fired.{FiredFields}
+use Rattle.record_codec.specs.Identity.{IdentityFields, identity_bytes}
+use Rattle.record_codec.specs.Ring.{identity_cell, base_cell, slot_cell, record_cell, device_cells}
+use Rattle.record_codec.specs.Saved.{SavedFields}
+use Rattle.record_replay.specs.Records.{count_of}
+use Rattle.record_replay.specs.Replay.{replay_from, is_behind}
+use Rattle.snapshot_writer.specs.Parcels.{saved_by}
+use Rattle.snapshot_writer.specs.Storing.{HoldsSaved}
+use Rattle.plant_image.specs.Contents.{Contents, contents_of, last_number, saved_position, replayed, states_of}
+use Rattle.plant_image.specs.Faults.{cell_bytes, fault_of}
+
+-- An image of so many bytes with these cells stands for a state of the plant with this digest and for the number of the last
+-- record: nothing is wrong with it, its records lead to that state, and the last of them has that number.
+pub record StandsFor (plant : PlantDefinition) (digest : List ℕ) (bytes : ℕ) (cells : List Cell) (states : List Local) (number : ℕ) : Type 0 where
+  pub sound : fault_of plant digest bytes cells ≡ None
+  pub states_are : states_of plant (contents_of (length plant.atoms) cells) ≡ states
+  pub number_is : last_number (contents_of (length plant.atoms) cells) ≡ number
+
+-- The contents lead to a state of the plant in which each atom has taken part so often, and to a number: the last record has that
+-- number, each atom is brought there by the records from its saved state, and none has taken part more often than there were firings.
+pub record Leads (plant : PlantDefinition) (c : Contents) (states : List Local) (counts : List ℕ) (number : ℕ) : Type 0 where
+  pub last : c.base + length c.records ≡ number + 1
+  pub as_many : length states ≡ length plant.atoms
+  pub counted : length plant.atoms ≤ length counts
+  pub each : (atom : ℕ) (a : AtomDefinition) (s : Local) → slice_get plant.atoms atom ≡ Some a → slice_get states atom ≡ Some s
+      → replayed c atom a ≡ Ok (record { state = s; count = count_of counts atom })
+  pub within : (atom : ℕ) → atom < length plant.atoms → count_of counts atom ≤ number
+
+-- the contents with more records behind the last
+abbrev pub with_records : List FiredFields → Contents → Contents
+with_records news c = record c { records = c.records ++ news }
+
+-- the contents with another newest state of its atom
+abbrev pub with_saved : SavedFields → Contents → Contents
+with_saved saved c = record c { slots = slice_set c.slots saved.atom saved }
+
+-- the contents without the records before a base
+abbrev pub cut_to : ℕ → ℕ → Contents → Contents
+cut_to base_cell base c = record c { base_cell = base_cell; base = base; records = drop (base - c.base) c.records }
+
+-- A state of an atom is on the way of its replay: the records up to the one that was last when it was copied bring the atom there.
+pub record IsOnTheWay (c : Contents) (a : AtomDefinition) (saved : SavedFields) : Type 0 where
+  pub from : c.base ≤ saved.at + 1
+  pub later : (saved_position c saved.atom).count ≤ saved.count
+  pub reached : replay_from a saved.atom (saved_position c saved.atom) (take (saved.at + 1 - c.base) c.records)
+      ≡ Ok (record { state = record { marking = saved.marking; values = saved.values }; count = saved.count })
+
+-- each atom's newest state is behind each of these records
+abbrev pub AreBehind : Contents → List FiredFields → Type 0
+AreBehind c records = (atom : ℕ) → list_all (is_behind atom (saved_position c atom).count) records ≡ true
+
+-- the first saved state of an atom: it has not taken part yet
+abbrev pub first_saved : ℕ → AtomDefinition → SavedFields
+first_saved atom a = saved_by atom 0 0 (initial a)
+
+-- what a device is formatted for
+abbrev pub identity_for : PlantDefinition → List ℕ → ℕ → IdentityFields
+identity_for plant digest ring = record { atoms = length plant.atoms; ring = ring; digest = digest }
+
+-- What a freshly formatted device of so many bytes holds, for a plant with this digest and a ring of so many records: the identity, base 1
+-- in the first base cell, and each atom's first state in its slot 0. All other cells are empty.
+pub record IsFormatted (plant : PlantDefinition) (digest : List ℕ) (ring bytes : ℕ) (cells : List Cell) : Type 0 where
+  pub size : bytes ≡ cell_bytes * device_cells (length plant.atoms) ring
+  pub count : length cells ≡ device_cells (length plant.atoms) ring
+  pub identity : cell cells identity_cell ≡ Some (padded BODY (identity_bytes (identity_for plant digest ring)))
+  pub base : cell cells (base_cell 0) ≡ Some (padded BODY (base_bytes 1))
+  pub no_base : cell cells (base_cell 1) ≡ None
+  pub slots : (atom : ℕ) (a : AtomDefinition) → slice_get plant.atoms atom ≡ Some a → HoldsSaved (first_saved atom a) (cell cells (slot_cell atom 0))
+  pub no_slots : (atom : ℕ) → atom < length plant.atoms → cell cells (slot_cell atom 1) ≡ None
+  pub no_records : (n : ℕ) → cell cells (record_cell (length plant.atoms) ring n) ≡ None

@@ -1,0 +1,35 @@
+//! Why an image stands for no state of a plant.
+
+use std::alloc::AllocError;
+
+/// Why an image stands for no state of a plant, or that memory ran out while this was found out.
+#[derive(Clone, Copy, Debug, PartialEq, Eq)]
+pub enum ImageFault {
+    /// The first cell is empty, or no identity begins in it: the device was never formatted, or formatting was stopped.
+    NotFormatted,
+    /// The device was formatted for another version of the layout.
+    OtherVersion,
+    /// The device was formatted for another plant text, or for another number of atoms.
+    OtherSystem,
+    /// The device is smaller than a cell, or has not the size that its first cell tells.
+    WrongSize,
+    /// The cell with this number is full, but with nothing that may stand there; or it is empty where something must stand.
+    Damaged(u64),
+    /// Firings of the atom with this number are missing among the records.
+    Gap(u16),
+    /// The record with the first number fires a transition that the state of the atom with the second number does not offer.
+    NotEnabled(u64, u16),
+    /// Memory ran out.
+    Memory,
+}
+
+impl From<AllocError> for ImageFault {
+    ghost use Rattle.std.specs.Prelude.{◌≡◌};
+    ghost use Rattle.plant_image.specs.declared.fault.ImageFault.TheVariants.{Memory};
+
+    ghost from_gives = { λ _ fault. fault ≡ Memory };
+
+    fn from(_error: AllocError) -> Self {
+        Self::Memory
+    }
+}

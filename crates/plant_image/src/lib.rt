@@ -1,0 +1,33 @@
+//! What an image of a device stands for.
+//!
+//! An *image* is what a stop leaves on a device: its size and its cells. One computed definition says what it stands for
+//! (`specs/Standing.antt`): what the cells hold (`specs/Contents.antt`: the base, the newest saved state of each atom, the live
+//! records), what may be wrong with them, in the order in which a restart looks for it (`specs/Faults.antt`), and the state that the
+//! records lead to when each atom is replayed from its saved state. So an image stands for one state and one number at most.
+//!
+//! [`read_image`] reads it from the size and the loaded cells, with no device: what the image stands for, or the first thing that is
+//! wrong with it. The laws argue each event of a durable plant once, on plain lists: appending records of a run, saving a state of an
+//! atom, letting records go, cleaning; and what each of them leaves in the cells (`laws`).
+//!
+//! - `image`: the whole reading. `identity`, `bases`, `slots`, `records`: one kind of cell each. `bodies`: the body of one cell.
+//!   `replaying`: where the records bring each atom.
+//! - `standing`: what an image stands for. `fault`: why it stands for nothing. `laws`: what becomes of what an image stands for.
+#![tactic(auto)]
+
+mod bases;
+mod bodies;
+mod fault;
+mod identity;
+mod image;
+pub mod laws;
+mod records;
+mod replaying;
+mod slots;
+mod standing;
+
+pub use fault::ImageFault;
+pub use image::read_image;
+pub use standing::{Held, Standing};
+
+// The cells of the device and the bodies that are read from them have one length.
+const _: () = prove!(disk_model::BODY == record_codec::BODY);

@@ -1,0 +1,73 @@
+//! The live records.
+ghost use Rattle.std.specs.Prelude.{◌≡◌, ◌+◌, ◌<◌, ◌≤◌, length, IfOk, IfSome};
+ghost use Rattle.std.specs.List.{range_with_len};
+ghost use Rattle.disk_model.specs.Cells.{cell};
+ghost use Rattle.gated_journal.specs.Live.{live_among, record_in};
+ghost use Rattle.record_codec.specs.Ring.{record_cell};
+ghost use Rattle.record_codec.specs.declared.layout.TheConstants.{LAST_NUMBER, MOST_RING};
+ghost use Rattle.step_core.specs.System.{plant_of};
+ghost use Rattle.plant_image.specs.Faults.{numbers_fault, record_fault};
+ghost use Rattle.plant_image.specs.Reading.{Tells};
+
+use crate::bodies::body_of;
+use crate::fault::ImageFault;
+use disk_model::BODY;
+use record_codec::Fired;
+use record_codec::ring::record_cell;
+use record_replay::is_record_of;
+use std::alloc::Global;
+use step_core::System;
+
+/// The live records of a ring of so many: the base and those behind it, up to the first cell that is empty or holds another number.
+pub(crate) fn read_records(
+    alloc: Global,
+    system: &System,
+    ring: u32,
+    base: u64,
+    cells: &[Option<[u8; BODY]>],
+) -> Result<Vec<Fired>, ImageFault>
+    requires some { 1 ≤ ring }
+    requires few { ring ≤ MOST_RING }
+    requires base { base ≤ LAST_NUMBER + 1 }
+    ensures records { Tells (numbers_fault (plant_of system.now) cells.now ring (range_with_len base ring))
+        (λ records. records.items ≡ live_among cells.now (record_cell (length (plant_of system.now).atoms) ring) (range_with_len base ring)) result }
+    ensures in_range { IfOk result (λ records. base + length records.items ≤ LAST_NUMBER + 1) }
+{
+    let mut records = Vec::with_capacity(alloc, ring as usize)?;
+    for number in base..base + u64::from(ring) {
+        let Some(fired) = read_record(system, ring, number, cells)? else {
+            return Ok(records);
+        };
+        records.push_reserved(fired);
+    }
+    Ok(records)
+}
+
+/// The record with the number, where its cell holds it.
+fn read_record(
+    system: &System,
+    ring: u32,
+    number: u64,
+    cells: &[Option<[u8; BODY]>],
+) -> Result<Option<Fired>, ImageFault>
+    requires { 1 ≤ ring }
+    ensures record { Tells (record_fault (plant_of system.now) cells.now ring number)
+        (λ found. found ≡ record_in number (cell cells.now (record_cell (length (plant_of system.now).atoms) ring number))) result }
+    ensures in_range { IfOk result (λ found. IfSome found (λ _. number ≤ LAST_NUMBER)) }
+{
+    system.keeps_its_rules();
+    let k = record_cell(system.atoms().len() as u16, ring, number);
+    let Some(body) = body_of(cells, k) else {
+        return Ok(None);
+    };
+    let Some(fired) = Fired::from_body(body) else {
+        return Err(ImageFault::Damaged(k));
+    };
+    if fired.number() != number {
+        return Ok(None);
+    }
+    if !is_record_of(system, &fired) {
+        return Err(ImageFault::Damaged(k));
+    }
+    Ok(Some(fired))
+}

@@ -1,0 +1,101 @@
+//! Where the records bring each atom.
+ghost use Rattle.std.specs.Prelude.{◌≡◌, ◌≤◌, ℕ, true, Some, Ok, length, map, nat_lt, slice_get, slice_index_or, IfOk};
+ghost use Rattle.petri_atom.specs.Atom.{definition_of};
+ghost use Rattle.petri_atom.specs.Definition.{AtomDefinition, Fits};
+ghost use Rattle.record_replay.specs.Records.{count_of};
+ghost use Rattle.record_replay.specs.Replay.{replay_from};
+ghost use Rattle.snapshot_writer.specs.Parcels.{local_in};
+ghost use Rattle.step_core.specs.Fitting.{IsOf, AllFit};
+ghost use Rattle.step_core.specs.Rules.{first_told};
+ghost use Rattle.step_core.specs.System.{plant_of};
+ghost use Rattle.plant_image.specs.Contents.{counts_of, states_of, unsaved};
+ghost use Rattle.plant_image.specs.Faults.{fault_where, is_of_atom, replay_fault, replay_told};
+ghost use Rattle.plant_image.specs.Reading.{Tells, contents_in};
+ghost use Rattle.plant_image.specs.declared.fault.ImageFault.TheVariants.{Gap};
+
+use crate::fault::ImageFault;
+use crate::standing::Held;
+use petri_atom::{Atom, AtomState};
+use record_codec::{Fired, Saved};
+use record_replay::{ReplayFault, replay_atom};
+use std::alloc::Global;
+use step_core::{MAX_ATOMS, PlantState, System};
+
+/// Where the records bring the atoms.
+#[derive(Drop)]
+pub(crate) struct Ends {
+    /// The state of each atom.
+    pub(crate) states: PlantState,
+    /// How often each atom has taken part, 0 past the last.
+    pub(crate) counts: [u64; MAX_ATOMS],
+}
+
+/// Where the records bring one atom.
+#[derive(Drop)]
+struct Reached {
+    state: AtomState,
+    count: u64,
+}
+
+/// Brings each atom from its newest saved state to where the records lead it.
+pub(crate) fn replay_all(alloc: Global, system: &System, held: &Held) -> Result<Ends, ImageFault>
+    requires as_many { length held.now.slots.items ≡ length (plant_of system.now).atoms }
+    requires of_atoms { (n : ℕ) (a : AtomDefinition) → slice_get (plant_of system.now).atoms n ≡ Some a
+        → is_of_atom n a (slice_index_or held.now.slots.items n (unsaved n)) ≡ true }
+    ensures states { Tells (first_told (replay_fault (contents_in held.now)) 0 (plant_of system.now).atoms)
+        (λ ends. ends.states ≡ states_of (plant_of system.now) (contents_in held.now)) result }
+    ensures counts { IfOk result
+        (λ ends. (atom : ℕ) → count_of ends.counts atom ≡ count_of (counts_of (plant_of system.now) (contents_in held.now)) atom) }
+    ensures of_plant { IfOk result (λ ends. IsOf (plant_of system.now) ends.states) }
+    ensures fits { IfOk result (λ ends. AllFit (plant_of system.now) ends.states) }
+{
+    system.keeps_its_rules();
+    let mut states = PlantState::init(alloc, system)?;
+    let mut counts = [0; MAX_ATOMS];
+    for (number, atom) in system.atoms().iter().enumerate() {
+        let reached = replay_saved(atom, number as u16, &held.slots[number], &held.records)?;
+        let Reached { state, count } = reached;
+        states.set(number as u16, state);
+        counts[number] = count;
+    }
+    Ok(Ends { states, counts })
+}
+
+/// Brings the atom with the number from the saved state to where the records lead it.
+fn replay_saved(
+    atom: &Atom,
+    number: u16,
+    saved: &Saved,
+    records: &[Fired],
+) -> Result<Reached, ImageFault>
+    requires { is_of_atom number (definition_of atom.now) saved.now ≡ true }
+    ensures reached { Tells (replay_told number (replay_from (definition_of atom.now) number (record { state = local_in saved.now; count = saved.now.count }) records.now))
+        (λ reached. replay_from (definition_of atom.now) number (record { state = local_in saved.now; count = saved.now.count }) records.now
+        ≡ Ok (record { state = reached.state; count = reached.count })) result }
+    ensures fits { IfOk result (λ reached. Fits (definition_of atom.now) reached.state) }
+{
+    let mut state = AtomState::with(saved.marking(), saved.values());
+    match replay_atom(atom, number, saved.count(), records, &mut state) {
+        Ok(count) => Ok(Reached { state, count }),
+        Err(ReplayFault::Gap) => Err(ImageFault::Gap(number)),
+        Err(ReplayFault::NotEnabled(record)) => Err(ImageFault::NotEnabled(record, number)),
+    }
+}
+
+/// Judges that no atom has taken part more often than there were firings.
+pub(crate) fn judge_counts(
+    atoms: &[Atom],
+    counts: &[u64; MAX_ATOMS],
+    last: u64,
+) -> Result<(), ImageFault>
+    requires { length atoms.now ≤ MAX_ATOMS }
+    ensures { Tells (first_told (λ atom (a : AtomDefinition). fault_where (nat_lt last (count_of counts.now atom)) (Gap atom)) 0 (map definition_of atoms.now))
+        (λ _. Unit {0}) result }
+{
+    for number in 0..atoms.len() {
+        if counts[number] > last {
+            return Err(ImageFault::Gap(number as u16));
+        }
+    }
+    Ok(())
+}
