@@ -84,6 +84,14 @@ impl Journal {
         self.ring.last
     }
 
+    /// How many records the ring has cells for.
+    pub fn ring(&self) -> u32
+        ensures number { result ≡ self.now.ring }
+        ensures in_range { IsRing self.now }
+    {
+        self.ring.ring
+    }
+
     /// Record `n`, where its cell holds it, whether it is live or not.
     pub fn read_record<D: Disk>(
         &self,
