@@ -16,3 +16,4 @@ pub mod StoredImages
 pub mod MovedImages
 pub mod FormattedImages
 pub mod BaseReads
+mod Rows
