@@ -1,0 +1,118 @@
+-- What a durable plant keeps, it keeps when it fires a choice.
+use Rattle.std.proofs.Common.{◌≡◌, ◌+◌, ◌<◌, ◌≤◌, ℕ, suc, refl, sym, ◌∙◌, ap, subst, List, [], ◌∷◌, ◌++◌, length, map, arith, ⊎_elim, All, Bool, true, Option, Some, None}
+use Rattle.std.specs.List.{list_all}
+use Rattle.std.proofs.lemmas.Bool.{cases_lt}
+use Rattle.std.proofs.lemmas.List.{get_or_past, length-append, length-map, map-append}
+use Rattle.std.proofs.lemmas.Option.{none-some}
+use Rattle.std.proofs.lemmas.List.Elements.{All-cons, All-nil, All-weaker}
+use Rattle.petri_atom.specs.Definition.{is_well_formed}
+use Rattle.petri_atom.specs.Local.{Local, Row}
+use Rattle.gated_journal.specs.declared.ring.Ring.{Ring}
+use Rattle.record_codec.specs.Fired.{FiredFields, IsFired, fired_in}
+use Rattle.record_codec.specs.declared.layout.TheConstants.{LAST_NUMBER}
+use Rattle.step_core.specs.Choice.{ChoiceDefinition, IsAllowed}
+use Rattle.step_core.specs.Chosen.{choice_of}
+use Rattle.step_core.specs.Delivery.{IsTold}
+use Rattle.step_core.specs.Plant.{PlantDefinition}
+use Rattle.step_core.specs.Rules.{fault_of}
+use Rattle.step_core.specs.Runs.{fold}
+use Rattle.step_core.specs.Step.{next}
+use Rattle.step_core.specs.declared.choice.Choice.{Choice}
+use Rattle.step_core.specs.declared.choice.Move.{Move}
+use Rattle.record_replay.specs.Records.{count_of, counts_after, counts_behind, record_by, records_of}
+use Rattle.record_replay.proofs.Counting.{behind-append, behind-within}
+use Rattle.record_replay.proofs.OfPlants.{record-in-range}
+use Rattle.record_replay.proofs.OnRuns.{length-records, records-append}
+use Rattle.plant_core.specs.Kept.{FitsTogether}
+use Rattle.plant_core.specs.View.{View, fired_number, view_by, with_fired}
+use Rattle.plant_core.specs.declared.limits.TheConstants.{MOST_TAIL}
+use Rattle.plant_core.proofs.Chosen.{fold-more, run-more}
+
+-- a bound on each count is one on all of the list, and the other way round
+pub all-within : (counts : List ℕ) (n : ℕ) → ((atom : ℕ) → count_of counts atom ≤ n) → All (λ count. count ≤ n) counts
+all-within [] n each = All-nil (λ count. count ≤ n)
+all-within (k ∷ ks) n each = All-cons (λ (count : ℕ). count ≤ n) k ks (each 0) (all-within ks n (λ atom. each (suc atom)))
+
+pub each-within : (counts : List ℕ) (n atom : ℕ) → All (λ count. count ≤ n) counts → count_of counts atom ≤ n
+each-within counts n atom all = ⊎_elim
+    (λ within. all atom 0 within)
+    (λ past. let none : count_of counts atom ≡ 0 = get_or_past counts atom 0 past in omega arith)
+    (cases_lt atom (length counts))
+
+-- there is a row for each move whose row is told
+pub told-many : (delivered : ℕ → Row) (moves : List Move) (rows : List Row) → IsTold moves delivered rows → length moves ≤ length rows
+told-many delivered [] rows told = omega arith
+told-many delivered (m ∷ ms) [] told = absurd (none-some (delivered m.atom) (told 0 m refl))
+told-many delivered (m ∷ ms) (row ∷ rows) told =
+    let fewer : length ms ≤ length rows = told-many delivered ms rows (λ place k there. told (suc place) k there) in
+    omega arith
+
+module _ (plant : PlantDefinition) (v : View) (bodies : List (List ℕ)) (kept : FitsTogether plant v bodies) where
+  -- there is a body for each choice of the tail
+  pub bodies-many : length bodies ≡ length v.tail
+  bodies-many =
+      sym (length-map bodies fired_in) ∙ ap length kept.held ∙
+      length-map (records_of plant v.acked v.acked_counts v.number v.tail) (λ (r : FiredFields). Some r) ∙
+      length-records plant v.acked v.acked_counts v.number v.tail
+
+  -- no atom has taken part more often than there were choices
+  pub counts-so-far : All (λ count. count ≤ fired_number v) v.counts
+  counts-so-far = subst (All (λ (count : ℕ). count ≤ fired_number v)) (sym kept.counted) (behind-within v.tail v.acked_counts v.number (all-within v.acked_counts v.number kept.counts_within))
+
+  pub count-so-far : (atom : ℕ) → count_of v.counts atom ≤ fired_number v
+  count-so-far atom = each-within v.counts (fired_number v) atom counts-so-far
+
+  module _ (c : ChoiceDefinition) (allowed : IsAllowed plant v.present c) where
+    -- the record of the choice is in the ranges of a record
+    pub next-in-range : fault_of plant ≡ None → list_all is_well_formed plant.atoms ≡ true → fired_number v < LAST_NUMBER → IsFired (record_by plant v.present v.counts (fired_number v + 1) c)
+    next-in-range valid formed last =
+        let below : All (λ count. count < fired_number v + 1) v.counts =
+        All-weaker (λ (count : ℕ). count ≤ fired_number v) (λ (count : ℕ). count < fired_number v + 1) (λ count within. omega arith) v.counts counts-so-far in
+        record-in-range plant v.present v.counts c valid allowed (fired_number v + 1) formed below (omega arith) (omega arith)
+
+    -- what is kept fits together with one choice and one body more
+    pub one-more : (body : List ℕ) → fired_in body ≡ Some (record_by plant v.present v.counts (fired_number v + 1) c) → length v.tail < MOST_TAIL
+        → fired_number v + 1 < v.base + v.ring → fired_number v < LAST_NUMBER → FitsTogether plant (with_fired plant c v) (bodies ++ body ∷ [])
+    one-more body held short room last =
+        let longer : length (v.tail ++ c ∷ []) ≡ length v.tail + 1 = length-append v.tail (c ∷ []) in
+        record {
+          of_plant = kept.of_plant;
+          fits = kept.fits;
+          run = run-more plant v.tail v.acked c kept.run (subst (λ states. IsAllowed plant states c) kept.leads allowed);
+          leads = ap (λ states. next plant states c) kept.leads ∙ fold-more plant v.tail v.acked c;
+          counted = ap (counts_after c) kept.counted ∙ sym (behind-append v.tail (c ∷ []) v.acked_counts);
+          counts_length = kept.counts_length;
+          counts_within = kept.counts_within;
+          held = all-held;
+          short = omega (arith, longer);
+          base_from = kept.base_from;
+          base_to = kept.base_to;
+          room = omega (arith, longer);
+          last_to = omega (arith, longer);
+        }
+      where
+        records : List FiredFields
+        records = records_of plant v.acked v.acked_counts v.number v.tail
+
+        told : List FiredFields → List (Option FiredFields)
+        told rs = map (λ (r : FiredFields). Some r) rs
+
+        all-held : map fired_in (bodies ++ body ∷ []) ≡ told (records_of plant v.acked v.acked_counts v.number (v.tail ++ c ∷ []))
+        all-held =
+            map-append fired_in bodies (body ∷ []) ∙
+            ap (λ os. os ++ fired_in body ∷ []) kept.held ∙
+            ap (λ o. told records ++ o ∷ []) held ∙
+            ap (λ states. told records ++ told (record_by plant states v.counts (fired_number v + 1) c ∷ [])) kept.leads ∙
+            ap (λ counts. told records ++ told (record_by plant (fold plant v.acked v.tail) counts (fired_number v + 1) c ∷ [])) kept.counted ∙
+            sym (map-append (λ (r : FiredFields). Some r) records (records_of plant (fold plant v.acked v.tail) (counts_behind v.tail v.acked_counts) (v.number + length v.tail) (c ∷ []))) ∙
+            ap told (sym (records-append plant v.tail (c ∷ []) v.acked v.acked_counts v.number))
+
+-- the view behind a fired choice, as it is kept
+pub view-of-fired : (plant : PlantDefinition) (acked present after : List Local) (acked_counts counts counts_then : List ℕ) (number : ℕ) (tail longer : List Choice) (choice : Choice) (j : Ring) (broken : Bool)
+    → longer ≡ tail ++ choice ∷ [] → after ≡ next plant present (choice_of choice) → counts_then ≡ counts_after (choice_of choice) counts
+    → view_by acked acked_counts number longer after counts_then j broken ≡ with_fired plant (choice_of choice) (view_by acked acked_counts number tail present counts j broken)
+view-of-fired plant acked present after acked_counts counts counts_then number tail longer choice j broken grown stepped counted =
+    ap (λ cs. view_by acked acked_counts number cs after counts_then j broken) grown ∙
+    ap (λ states. view_by acked acked_counts number (tail ++ choice ∷ []) states counts_then j broken) stepped ∙
+    ap (λ ks. view_by acked acked_counts number (tail ++ choice ∷ []) (next plant present (choice_of choice)) ks j broken) counted ∙
+    ap (λ (cs : List ChoiceDefinition). record (with_fired plant (choice_of choice) (view_by acked acked_counts number tail present counts j broken)) { tail = cs }) (map-append choice_of tail (choice ∷ []))

@@ -1,0 +1,104 @@
+-- What a durable plant keeps, it keeps when all that was fired is acknowledged.
+use Rattle.std.proofs.Common.{◌≡◌, ◌+◌, ◌≤◌, ℕ, zero, suc, refl, sym, ◌∙◌, ap, subst, List, [], ◌∷◌, length, take, drop, arith, Bool, false}
+use Rattle.std.specs.List.{range_with_len}
+use Rattle.std.proofs.lemmas.List.{take-append-drop}
+use Rattle.petri_atom.specs.Local.{Local}
+use Rattle.disk_model.specs.DiskState.{DiskState, size_of}
+use Rattle.disk_model.specs.Cells.{cells_in}
+use Rattle.disk_model.specs.declared.cells.TheConstants.{BODY}
+use Rattle.gated_journal.specs.Live.{AreRecords}
+use Rattle.gated_journal.specs.Rings.{IsRing, appended, cells_of_ring}
+use Rattle.gated_journal.specs.declared.ring.Ring.{Ring}
+use Rattle.step_core.specs.Choice.{ChoiceDefinition}
+use Rattle.step_core.specs.Fitting.{IsOf, AllFit}
+use Rattle.step_core.specs.Plant.{PlantDefinition}
+use Rattle.step_core.specs.Runs.{IsRun, fold}
+use Rattle.step_core.specs.Step.{next}
+use Rattle.step_core.specs.declared.choice.Choice.{Choice}
+use Rattle.step_core.specs.declared.limits.TheConstants.{MAX_ATOMS}
+use Rattle.step_core.proofs.OnRuns.{runs-cut}
+use Rattle.record_replay.specs.Records.{count_of, counts_after, record_by, records_of}
+use Rattle.record_replay.proofs.Counting.{length-behind}
+use Rattle.record_replay.proofs.OnRuns.{length-records, numbers-of}
+use Rattle.plant_core.specs.Kept.{FitsTogether, IsJournalOf}
+use Rattle.plant_core.specs.View.{View, view_by, with_all_acked}
+use Rattle.plant_core.proofs.Chosen.{run-from}
+use Rattle.plant_core.proofs.Firing.{count-so-far}
+
+-- a front of the records of choices is the records of a front of the choices
+pub records-front : (plant : PlantDefinition) (k : ℕ) (cs : List ChoiceDefinition) (states : List Local) (counts : List ℕ) (n : ℕ) → take k (records_of plant states counts n cs) ≡ records_of plant states counts n (take k cs)
+records-front plant zero cs states counts n = refl
+records-front plant (suc k) [] states counts n = refl
+records-front plant (suc k) (c ∷ cs) states counts n = ap (λ rs. record_by plant states counts (n + 1) c ∷ rs) (records-front plant k cs (next plant states c) (counts_after c counts) (n + 1))
+
+module _ (plant : PlantDefinition) (v : View) (bodies : List (List ℕ)) (kept : FitsTogether plant v bodies) where
+  -- the bodies are those of the records of the tail
+  pub are-records : (first : ℕ) → first ≡ v.number + 1 → AreRecords first bodies (records_of plant v.acked v.acked_counts v.number v.tail)
+  are-records first is = record {
+    held = kept.held;
+    numbered = numbers-of plant v.acked v.acked_counts v.number v.tail ∙
+        ap (λ (f : ℕ). range_with_len f (length v.tail)) (sym is) ∙
+        ap (range_with_len first) (sym (length-records plant v.acked v.acked_counts v.number v.tail));
+  }
+
+  -- each front of the tail is a run from the acknowledged state
+  pub front-runs : (k : ℕ) → IsRun plant v.acked (take k v.tail) (fold plant v.acked (take k v.tail))
+  front-runs k =
+      (runs-cut plant (take k v.tail) (drop k v.tail) v.acked (fold plant v.acked v.tail)
+      (subst (λ cs. IsRun plant v.acked cs (fold plant v.acked v.tail)) (sym (take-append-drop k v.tail)) (run-from plant v.tail v.acked kept.run))).0
+
+  -- with all of it acknowledged, what is kept fits together with an empty tail
+  pub all-acked : IsOf plant v.present → AllFit plant v.present → FitsTogether plant (with_all_acked v) []
+  all-acked of_plant fits = record {
+    of_plant = of_plant;
+    fits = fits;
+    run = refl;
+    leads = refl;
+    counted = refl;
+    counts_length = ap length kept.counted ∙ length-behind v.tail v.acked_counts ∙ kept.counts_length;
+    counts_within = count-so-far plant v bodies kept;
+    held = refl;
+    short = omega arith;
+    base_from = kept.base_from;
+    base_to = omega (arith, kept.base_to);
+    room = omega (arith, kept.room);
+    last_to = omega (arith, kept.last_to);
+  }
+
+-- the view behind a flush, as it is kept
+pub view-of-flushed : (acked present : List Local) (counts : List ℕ) (number sum : ℕ) (tail : List Choice) (j after : Ring) (count : ℕ) (whole broken : Bool)
+    → acked ≡ present → number ≡ sum → tail ≡ [] → after ≡ appended count j → whole ≡ broken
+    → view_by acked counts number tail present counts after whole ≡ view_by present counts sum [] present counts j broken
+view-of-flushed acked present counts number sum tail j after count whole broken same summed empty more is =
+    ap (λ states. view_by states counts number tail present counts after whole) same ∙
+    ap (λ (n : ℕ). view_by present counts n tail present counts after whole) summed ∙
+    ap (λ cs. view_by present counts sum cs present counts after whole) empty ∙
+    ap (λ (r : Ring). view_by present counts sum [] present counts r whole) more ∙
+    ap (λ (b : Bool). view_by present counts sum [] present counts j b) is
+
+-- the journal behind a flush is that of the plant
+pub journal-of-flushed : (plant : PlantDefinition) (number count : ℕ) (j after : Ring) (old new : DiskState) → after ≡ appended count j → size_of new ≡ size_of old → IsJournalOf plant number j old → IsJournalOf plant (number + count) after new
+journal-of-flushed plant number count j after old new more same is = subst (λ r. IsJournalOf plant (number + count) r new) (sym more) (record {
+  atoms = is.atoms;
+  last = ap (λ (n : ℕ). n + count) is.last;
+  inside = subst (λ (bytes : ℕ). cells_of_ring j ≤ cells_in (BODY + 1) bytes) (sym same) is.inside;
+})
+
+-- where nothing was fired since the last flush, what is kept fits together
+pub nothing-fired : (plant : PlantDefinition) (states : List Local) (counts : List ℕ) (number : ℕ) (j : Ring) → IsOf plant states → AllFit plant states → length counts ≡ MAX_ATOMS
+    → ((atom : ℕ) → count_of counts atom ≤ number) → IsRing j → j.last ≡ number → FitsTogether plant (view_by states counts number [] states counts j false) []
+nothing-fired plant states counts number j of_plant fits long within ring last = record {
+  of_plant = of_plant;
+  fits = fits;
+  run = refl;
+  leads = refl;
+  counted = refl;
+  counts_length = long;
+  counts_within = within;
+  held = refl;
+  short = omega arith;
+  base_from = ring.base_from;
+  base_to = omega (arith, ring.base_to);
+  room = omega (arith, ring.room);
+  last_to = omega (arith, ring.last_to);
+}

@@ -1,0 +1,4 @@
+pub mod Chosen
+pub mod Firing
+pub mod Flushing
+pub mod AtRest

@@ -1,0 +1,76 @@
+use Rattle.std.proofs.Common.{◌≡◌, ◌+◌, ◌≤◌, ℕ, sym, ◌∙◌, ap, subst, length, arith, true, None, Some}
+use Rattle.std.specs.List.{list_all}
+use Rattle.petri_atom.specs.Definition.{is_well_formed}
+use Rattle.record_codec.specs.Fired.{FiredFields, IsFired, fired_in}
+use Rattle.record_replay.specs.Records.{record_by, record_told}
+use Rattle.step_core.specs.Chosen.{choice_of}
+use Rattle.step_core.specs.Laws.{IsInRange}
+use Rattle.step_core.specs.Plant.{PlantDefinition}
+use Rattle.step_core.specs.Step.{transfer}
+use Rattle.step_core.specs.Rules.{fault_of}
+use Rattle.step_core.specs.Running.{plant_in, states_in}
+use Rattle.step_core.specs.System.{digest_of, plant_of}
+use Rattle.step_core.specs.declared.limits.TheConstants.{MAX_ATOMS}
+use Rattle.step_core.specs.declared.system.System.{System}
+use Rattle.plant_core.specs.Kept.{FitsTogether, IsAtRest, IsJournalOf}
+use Rattle.plant_core.specs.Plants.{view_of}
+use Rattle.plant_core.specs.View.{fired_number, view_by, with_fired}
+use Rattle.plant_core.proofs.Firing.{bodies-many, count-so-far, next-in-range, one-more, told-many, view-of-fired}
+use Rattle.plant_core.proofs.plant.Plant.go_on.Goals as goal
+
+pub body_of-body-requires : goal.body_of-body-requires
+body_of-body-requires g c =
+    let self = c.args.self.now in
+    let plant = plant_in self.stepper in
+    let v = view_of self in
+    let choice = choice_of c.args.choice in
+    let rows = c.fire_telling.new.told in
+    let valid : fault_of plant ≡ None = subst (λ p. fault_of p ≡ None) c.system.ensures.plant c.keeps_its_rules.ensures.plant in
+    let formed : list_all is_well_formed plant.atoms ≡ true = subst (λ (p : PlantDefinition). list_all is_well_formed p.atoms ≡ true) c.system.ensures.plant c.keeps_its_rules.ensures.atoms in
+    let range : IsInRange plant choice = c.an_allowed_choice_is_in_range.ensures plant v.present choice valid c.requires.allowed in
+    let told = c.a_told_record_is_the_record_of_its_choice.ensures plant v.present v.counts (fired_number v + 1) choice rows (told-many (transfer plant v.present choice) choice.moves rows c.fire_telling.ensures.told) c.fire_telling.ensures.told in
+    subst (λ (n : ℕ). IsFired (record_told (n + 1) choice rows self.counts)) (sym c.fired-number.ensures)
+    (subst IsFired (sym told) (next-in-range plant v self.bodies.items self.fits_together choice c.requires.allowed valid formed c.requires.last))
+
+pub count_participants-requires : goal.count_participants-requires
+count_participants-requires g c =
+    let self = c.args.self.now in
+    let plant = plant_in self.stepper in
+    let v = view_of self in
+    let choice = choice_of c.args.choice in
+    let valid : fault_of plant ≡ None = subst (λ p. fault_of p ≡ None) c.system.ensures.plant c.keeps_its_rules.ensures.plant in
+    let few : length plant.atoms ≤ MAX_ATOMS = subst (λ (p : PlantDefinition). length p.atoms ≤ MAX_ATOMS) c.system.ensures.plant c.keeps_its_rules.ensures.few in
+    let range : IsInRange plant choice = c.an_allowed_choice_is_in_range.ensures plant v.present choice valid c.requires.allowed in
+    record {
+      rising = range.rising;
+      there = λ m at. omega (arith, range.of_plant m at, few);
+      room = λ m at. omega (arith, count-so-far plant v self.bodies.items self.fits_together m.atom, c.requires.last);
+    }
+
+pub push_reserved-requires-2 : goal.push_reserved-requires-2
+push_reserved-requires-2 g c =
+    let self = c.args.self.now in
+    omega (arith, bodies-many (plant_in self.stepper) (view_of self) self.bodies.items self.fits_together, self.room_of_bodies, c.requires.short)
+
+pub invariant_of-self : goal.invariant_of-self
+invariant_of-self g c =
+    let self = c.args.self.now in
+    let plant = plant_in self.stepper in
+    let v = view_of self in
+    let choice = choice_of c.args.choice in
+    let rows = c.fire_telling.new.told in
+    let valid : fault_of plant ≡ None = subst (λ p. fault_of p ≡ None) c.system.ensures.plant c.keeps_its_rules.ensures.plant in
+    let told = c.a_told_record_is_the_record_of_its_choice.ensures plant v.present v.counts (fired_number v + 1) choice rows (told-many (transfer plant v.present choice) choice.moves rows c.fire_telling.ensures.told) c.fire_telling.ensures.told in
+    let held : fired_in c.body_of-body.result ≡ Some (record_by plant v.present v.counts (fired_number v + 1) choice) =
+    c.body_of-body.ensures ∙ ap (λ (n : ℕ). Some (record_told (n + 1) choice rows self.counts)) c.fired-number.ensures ∙ ap (λ (r : FiredFields). Some r) told in
+    let more = one-more plant v self.bodies.items self.fits_together choice c.requires.allowed c.body_of-body.result held c.requires.short c.requires.room c.requires.last in
+    let view = view-of-fired plant self.acked v.present (states_in c.fire_telling.new.self) self.acked_counts self.counts c.count_participants.new.counts self.number self.tail.items c.push_reserved.new.self.items c.args.choice self.journal self.broken c.push_reserved.ensures.items c.fire_telling.ensures.next c.count_participants.ensures in
+    record {
+      fits_together = subst (λ p. FitsTogether p (view_by self.acked self.acked_counts self.number c.push_reserved.new.self.items (states_in c.fire_telling.new.self) c.count_participants.new.counts self.journal self.broken) c.push_reserved-2.new.self.items) (sym c.fire_telling.ensures.plant)
+          (subst (λ w. FitsTogether plant w c.push_reserved-2.new.self.items) (sym view)
+          (subst (λ bs. FitsTogether plant (with_fired plant choice v) bs) (sym c.push_reserved-2.ensures.items) more));
+      room_of_tail = omega (arith, self.room_of_tail, c.push_reserved.ensures.capacity);
+      room_of_bodies = omega (arith, self.room_of_bodies, c.push_reserved-2.ensures.capacity);
+      of_journal = subst (λ p. IsJournalOf p self.number self.journal self.cells) (sym c.fire_telling.ensures.plant) self.of_journal;
+      at_rest = λ keeps whole. subst (λ (s : System). IsAtRest (plant_of s) (digest_of s) self.journal self.acked self.acked_counts self.number self.cells) (sym c.fire_telling.ensures.system) (self.at_rest keeps whole);
+    }

@@ -1,0 +1,9 @@
+use Rattle.step_core.specs.Running.{plant_in, system_in}
+use Rattle.step_core.specs.System.{digest_of}
+use Rattle.plant_core.proofs.AtRest.{stands-now}
+use Rattle.plant_core.proofs.plant.Plant.stands.Goals as goal
+
+pub returns : goal.returns
+returns g c = λ keeps whole cells may.
+    let self = c.args.self.now in
+    stands-now (plant_in self.stepper) (digest_of (system_in self.stepper)) self.journal self.acked self.acked_counts self.number self.cells (self.at_rest keeps whole) cells may

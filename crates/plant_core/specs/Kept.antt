@@ -1,0 +1,75 @@
+-- What a durable plant keeps whenever no call runs.
+use Rattle.std.specs.Prelude.{◌≡◌, ℕ, ◌+◌, ◌≤◌, ◌<◌, ◌&&◌, ◌==◌, Bool, true, false, List, [], ◌∷◌, None, Some, length, map}
+use Rattle.std.specs.List.{list_any}
+use Rattle.petri_atom.specs.Local.{Local}
+use Rattle.step_core.specs.Choice.{ChoiceDefinition, choices}
+use Rattle.step_core.specs.Fitting.{IsOf, AllFit}
+use Rattle.step_core.specs.Plant.{PlantDefinition}
+use Rattle.step_core.specs.Runs.{fold}
+use Rattle.step_core.specs.Step.{next}
+use Rattle.step_core.specs.declared.choice.Move.{Move}
+use Rattle.step_core.specs.declared.limits.TheConstants.{MAX_ATOMS}
+use Rattle.disk_model.specs.DiskState.{DiskState, size_of}
+use Rattle.disk_model.specs.Cells.{cell_count, seen_cells}
+use Rattle.disk_model.specs.declared.cells.TheConstants.{BODY}
+use Rattle.record_codec.specs.Fired.{FiredFields, fired_in}
+use Rattle.record_codec.specs.declared.layout.TheConstants.{LAST_NUMBER}
+use Rattle.gated_journal.specs.Rings.{cells_of_ring}
+use Rattle.gated_journal.specs.Stops.{IsReady}
+use Rattle.gated_journal.specs.declared.ring.Ring.{Ring}
+use Rattle.record_replay.specs.Records.{count_of, counts_behind, records_of}
+use Rattle.plant_image.specs.Contents.{contents_of, ring_in}
+use Rattle.plant_image.specs.Faults.{cells_fault}
+use Rattle.plant_image.specs.Standing.{Leads}
+use Rattle.plant_core.specs.View.{View, fired_number}
+use Rattle.plant_core.specs.declared.limits.TheConstants.{MOST_TAIL}
+
+-- two moves are the same, and so are lists of moves and choices
+abbrev pub is_same_move : Move → Move → Bool
+is_same_move m n = m.atom == n.atom && m.transition == n.transition
+
+abbrev pub are_same_moves : List Move → List Move → Bool
+are_same_moves [] [] = true
+are_same_moves [] (n ∷ ns) = false
+are_same_moves (m ∷ ms) [] = false
+are_same_moves (m ∷ ms) (n ∷ ns) = is_same_move m n && are_same_moves ms ns
+
+abbrev pub is_same_choice : ChoiceDefinition → ChoiceDefinition → Bool
+is_same_choice c d = c.connector == d.connector && c.mask == d.mask && are_same_moves c.moves d.moves
+
+-- whether choices are a run from a state: each is one of the choices of the state that those before it lead to
+abbrev pub is_run_from : PlantDefinition → List Local → List ChoiceDefinition → Bool
+is_run_from plant states [] = true
+is_run_from plant states (c ∷ cs) = list_any (is_same_choice c) (choices plant states) && is_run_from plant (next plant states c) cs
+
+-- What is in memory fits together: the tail is a run from the acknowledged state to the present one, the counts and the bodies are those of
+-- its records, and all numbers are in their ranges.
+pub record FitsTogether (plant : PlantDefinition) (v : View) (bodies : List (List ℕ)) : Type 0 where
+  pub of_plant : IsOf plant v.acked
+  pub fits : AllFit plant v.acked
+  pub run : is_run_from plant v.acked v.tail ≡ true
+  pub leads : v.present ≡ fold plant v.acked v.tail
+  pub counted : v.counts ≡ counts_behind v.tail v.acked_counts
+  pub counts_length : length v.acked_counts ≡ MAX_ATOMS
+  pub counts_within : (atom : ℕ) → count_of v.acked_counts atom ≤ v.number
+  pub held : map fired_in bodies ≡ map (λ (r : FiredFields). Some r) (records_of plant v.acked v.acked_counts v.number v.tail)
+  pub short : length v.tail ≤ MOST_TAIL
+  pub base_from : 1 ≤ v.base
+  pub base_to : v.base ≤ v.number + 1
+  pub room : fired_number v < v.base + v.ring
+  pub last_to : fired_number v ≤ LAST_NUMBER
+
+-- The journal is that of the plant: it has the slots of its atoms before its ring, its last record is the last that is acknowledged, and
+-- the device has its cells.
+pub record IsJournalOf (plant : PlantDefinition) (number : ℕ) (j : Ring) (s : DiskState) : Type 0 where
+  pub atoms : j.atoms ≡ length plant.atoms
+  pub last : j.last ≡ number
+  pub inside : cells_of_ring j ≤ cell_count (BODY + 1) s
+
+-- The device is at rest: nothing is pending, nothing is wrong with its cells, they lead to the acknowledged state and number, and the cell
+-- of each record that is still to come is empty.
+pub record IsAtRest (plant : PlantDefinition) (digest : List ℕ) (j : Ring) (acked : List Local) (counts : List ℕ) (number : ℕ) (s : DiskState) : Type 0 where
+  pub ready : IsReady j s
+  pub sound : cells_fault plant digest (size_of s) (seen_cells (BODY + 1) s) ≡ None
+  pub journal : j ≡ ring_in (length plant.atoms) (contents_of (length plant.atoms) (seen_cells (BODY + 1) s))
+  pub leads : Leads plant (contents_of (length plant.atoms) (seen_cells (BODY + 1) s)) acked counts number

@@ -1,0 +1,6 @@
+pub mod View
+pub mod Events
+pub mod Kept
+pub mod Plants
+pub mod Stops
+pub mod Refusals

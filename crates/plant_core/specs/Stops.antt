@@ -1,0 +1,15 @@
+-- What a stop leaves of a durable plant.
+use Rattle.std.specs.Prelude.{ℕ, ◌+◌, ◌≤◌, List, length, take}
+use Rattle.disk_model.specs.Cells.{Cell}
+use Rattle.step_core.specs.Plant.{PlantDefinition}
+use Rattle.step_core.specs.Runs.{fold}
+use Rattle.plant_image.specs.Standing.{StandsFor}
+use Rattle.plant_core.specs.View.{View}
+
+-- these cells of a device of so many bytes stand for the acknowledged state
+abbrev pub StandsForAcked : PlantDefinition → List ℕ → ℕ → View → List Cell → Type 0
+StandsForAcked plant digest bytes v cells = StandsFor plant digest bytes cells v.acked v.number
+
+-- they stand for the state behind some front of the tail
+abbrev pub StandsForFront : PlantDefinition → List ℕ → ℕ → View → List Cell → Type 0
+StandsForFront plant digest bytes v cells = (k : ℕ) × (k ≤ length v.tail) × StandsFor plant digest bytes cells (fold plant v.acked (take k v.tail)) (v.number + k)

@@ -1,0 +1,59 @@
+-- What a durable plant shows of itself.
+use Rattle.std.specs.Prelude.{ℕ, ◌+◌, Bool, List, [], ◌∷◌, ◌++◌, length, map}
+use Rattle.petri_atom.specs.Local.{Local}
+use Rattle.gated_journal.specs.declared.ring.Ring.{Ring}
+use Rattle.step_core.specs.Choice.{ChoiceDefinition}
+use Rattle.step_core.specs.Chosen.{choice_of}
+use Rattle.step_core.specs.Plant.{PlantDefinition}
+use Rattle.step_core.specs.Step.{next}
+use Rattle.step_core.specs.declared.choice.Choice.{Choice}
+use Rattle.record_replay.specs.Records.{counts_after}
+
+-- The acknowledged state, how often each atom has taken part in it, and the number of its last record; the choices that were fired since,
+-- the state and the counts that they lead to; the number of the first record that is kept, and for how many records there is room;
+-- and whether the device has failed.
+pub record View : Type 0 where
+  pub acked : List Local
+  pub acked_counts : List ℕ
+  pub number : ℕ
+  pub tail : List ChoiceDefinition
+  pub present : List Local
+  pub counts : List ℕ
+  pub base : ℕ
+  pub ring : ℕ
+  pub broken : Bool
+
+-- the view that these make, with the choices as they are kept, where the records stand so
+abbrev pub view_by : List Local → List ℕ → ℕ → List Choice → List Local → List ℕ → Ring → Bool → View
+view_by acked acked_counts number tail present counts j broken = record {
+  acked = acked;
+  acked_counts = acked_counts;
+  number = number;
+  tail = map choice_of tail;
+  present = present;
+  counts = counts;
+  base = j.base;
+  ring = j.ring;
+  broken = broken;
+}
+
+-- how many choices were fired in all
+abbrev pub fired_number : View → ℕ
+fired_number v = v.number + length v.tail
+
+-- the view behind one more fired choice
+abbrev pub with_fired : PlantDefinition → ChoiceDefinition → View → View
+with_fired plant c v = record v {
+  tail = v.tail ++ c ∷ [];
+  present = next plant v.present c;
+  counts = counts_after c v.counts;
+}
+
+-- the view where all that was fired is acknowledged
+abbrev pub with_all_acked : View → View
+with_all_acked v = record v {
+  acked = v.present;
+  acked_counts = v.counts;
+  number = fired_number v;
+  tail = [];
+}

@@ -1,0 +1,105 @@
+//! Firing a choice in memory.
+ghost use Rattle.std.specs.Prelude.{◌≡◌, ◌+◌, ◌<◌, None, Some, length};
+ghost use Rattle.record_codec.specs.Fired.{IsFired, fired_in};
+ghost use Rattle.record_codec.specs.declared.layout.TheConstants.{LAST_NUMBER};
+ghost use Rattle.record_replay.specs.Records.{record_told};
+ghost use Rattle.step_core.specs.Choice.{IsAllowed};
+ghost use Rattle.step_core.specs.Chosen.{choice_of};
+ghost use Rattle.plant_core.specs.Events.{IsFire, fire_refusal};
+ghost use Rattle.plant_core.specs.Plants.{definition_of, device_of, text_digest, view_of};
+ghost use Rattle.plant_core.specs.View.{fired_number, with_fired};
+
+use crate::events::FiredAs;
+use crate::limits::MOST_TAIL;
+use crate::plant::Plant;
+use crate::refused::Refused;
+use connector_tree::MAX_LEAVES;
+use disk_model::{BODY, Disk};
+use petri_atom::Delivered;
+use record_codec::LAST_NUMBER;
+use record_replay::laws::{
+    a_told_record_is_the_record_of_its_choice, the_record_of_a_step_is_of_its_plant,
+};
+use record_replay::{count_participants, record_of};
+use step_core::laws::an_allowed_choice_is_in_range;
+use step_core::{Choice, MAX_ATOMS};
+
+impl<'s, D: Disk> Plant<'s, D> {
+    /// Fires the choice at the place `pick`, modulo the number of choices, and tells it with its number. No call of the device is made,
+    /// and no memory taken.
+    pub fn fire(&mut self, pick: u64) -> Result<FiredAs, Refused>
+        ensures event { IsFire (definition_of self.old) (view_of self.old) pick result (view_of self.new) }
+        ensures device { device_of self.new ≡ device_of self.old }
+        ensures plant { definition_of self.new ≡ definition_of self.old }
+        ensures digest { text_digest self.new ≡ text_digest self.old }
+    {
+        if let Some(refused) = self.fire_refusal() {
+            return Err(refused);
+        }
+        let place = u128::from(pick) % self.stepper.count();
+        let choice = self.stepper.nth(place);
+        let number = self.fired() + 1;
+        self.go_on(choice.copy());
+        Ok(FiredAs { number, choice })
+    }
+
+    /// Why a fire would be refused now.
+    fn fire_refusal(&self) -> Option<Refused>
+        ensures { result ≡ fire_refusal (definition_of self.now) (view_of self.now) }
+    {
+        let fired = self.fired();
+        if self.broken {
+            return Some(Refused::Broken);
+        }
+        if fired == LAST_NUMBER {
+            return Some(Refused::Spent);
+        }
+        if self.tail.len() == MOST_TAIL {
+            return Some(Refused::TailFull);
+        }
+        if fired + 1 - self.journal.base() == u64::from(self.journal.ring()) {
+            return Some(Refused::RingFull);
+        }
+        if self.stepper.count() == 0 {
+            return Some(Refused::Stuck);
+        }
+        None
+    }
+
+    /// Fires the choice, for which there is room.
+    fn go_on(&mut self, choice: Choice)
+        requires allowed { IsAllowed (definition_of self.old) (view_of self.old).present (choice_of choice) }
+        requires short { length (view_of self.old).tail < MOST_TAIL }
+        requires room { fired_number (view_of self.old) + 1 < (view_of self.old).base + (view_of self.old).ring }
+        requires last { fired_number (view_of self.old) < LAST_NUMBER }
+        ensures view { view_of self.new ≡ with_fired (definition_of self.old) (choice_of choice) (view_of self.old) }
+        ensures device { device_of self.new ≡ device_of self.old }
+        ensures plant { definition_of self.new ≡ definition_of self.old }
+        ensures digest { text_digest self.new ≡ text_digest self.old }
+    {
+        self.stepper.system().keeps_its_rules();
+        an_allowed_choice_is_in_range();
+        a_told_record_is_the_record_of_its_choice();
+        the_record_of_a_step_is_of_its_plant();
+        let number = self.fired() + 1;
+        let mut told = [Delivered::of([None; petri_atom::MAX_EXPORTS]); MAX_LEAVES];
+        self.stepper.fire_telling(&choice, &mut told);
+        let body = body_of(number, &choice, &told, &self.counts);
+        count_participants(&choice, &mut self.counts);
+        self.tail.push_reserved(choice);
+        self.bodies.push_reserved(body);
+    }
+}
+
+/// The body of the record with the number of a choice, of which `told` has what each participant got.
+fn body_of(
+    number: u64,
+    choice: &Choice,
+    told: &[Delivered; MAX_LEAVES],
+    counts: &[u64; MAX_ATOMS],
+) -> [u8; BODY]
+    requires { IsFired (record_told number (choice_of choice.now) told.now counts.now) }
+    ensures { fired_in result ≡ Some (record_told number (choice_of choice.now) told.now counts.now) }
+{
+    record_of(number, choice, told, counts).to_body()
+}

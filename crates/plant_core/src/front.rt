@@ -1,0 +1,66 @@
+//! How far a durable plant is, and what it shows.
+ghost use Rattle.std.specs.Prelude.{◌≡◌, ◌+◌, ◌≤◌, slice_get};
+ghost use Rattle.plant_core.specs.Plants.{device_of, view_of};
+ghost use Rattle.plant_core.specs.View.{fired_number};
+
+use crate::limits::MOST_TAIL;
+use crate::plant::Plant;
+use disk_model::Disk;
+use petri_atom::AtomState;
+
+/// How far a plant is.
+#[derive(Clone, Copy, Debug, PartialEq, Eq)]
+pub struct Front {
+    /// The number of the last choice that was fired, and 0 where none was.
+    pub fired: u64,
+    /// The number of the last choice that is acknowledged.
+    pub acked: u64,
+    /// The number of the first record that is kept, or of the next where none is.
+    pub base: u64,
+}
+
+impl<'s, D: Disk> Plant<'s, D> {
+    /// How far the plant is.
+    pub fn front(&self) -> Front
+        ensures fired { result.fired ≡ fired_number (view_of self.now) }
+        ensures acked { result.acked ≡ (view_of self.now).number }
+        ensures base { result.base ≡ (view_of self.now).base }
+        ensures behind { result.acked ≤ result.fired }
+        ensures tail { result.fired ≤ result.acked + MOST_TAIL }
+        ensures ring { result.fired + 1 ≤ result.base + (view_of self.now).ring }
+        ensures base_from { 1 ≤ result.base }
+        ensures base_to { result.base ≤ result.acked + 1 }
+    {
+        Front {
+            fired: self.fired(),
+            acked: self.number,
+            base: self.journal.base(),
+        }
+    }
+
+    /// How many choices were fired in all.
+    pub(crate) fn fired(&self) -> u64
+        ensures { result ≡ fired_number (view_of self.now) }
+    {
+        self.number + self.tail.len() as u64
+    }
+
+    /// The present state of the atom with the number, where the plant has it.
+    pub fn look(&self, atom: u16) -> Option<AtomState>
+        ensures { result ≡ slice_get (view_of self.now).present atom }
+    {
+        if usize::from(atom) < self.stepper.states().len() {
+            Some(self.stepper.state(atom))
+        } else {
+            None
+        }
+    }
+
+    /// The device, which is left as it is.
+    pub fn into_disk(self) -> D
+        ensures { D.state result ≡ device_of self.entry }
+    {
+        let Plant { cells, .. } = self;
+        cells.into_disk()
+    }
+}

@@ -1,0 +1,79 @@
+//! Making a durable plant.
+ghost use Rattle.std.specs.Prelude.{◌≡◌, ◌+◌, ◌≤◌, ℕ, [], true, false, length, vec_capacity};
+ghost use Rattle.disk_model.specs.Cells.{cell_count};
+ghost use Rattle.disk_model.specs.declared.cells.TheConstants.{BODY};
+ghost use Rattle.gated_journal.specs.Rings.{cells_of_ring};
+ghost use Rattle.record_replay.specs.Records.{count_of};
+ghost use Rattle.step_core.specs.Running.{plant_in, states_in, system_in};
+ghost use Rattle.step_core.specs.System.{digest_of};
+ghost use Rattle.plant_core.specs.Kept.{IsAtRest};
+ghost use Rattle.plant_core.specs.Plants.{definition_of, device_of, text_digest, view_of};
+ghost use Rattle.plant_core.specs.View.{view_by};
+
+use crate::limits::MOST_TAIL;
+use crate::plant::Plant;
+use disk_model::{BODY, Cells, Disk};
+use gated_journal::Journal;
+use step_core::{Choice, MAX_ATOMS, PlantState, Stepper};
+
+/// What a plant is made of.
+#[derive(Drop)]
+pub struct Parts<'s, D: Disk> {
+    /// The system, in the acknowledged state.
+    pub stepper: Stepper<'s>,
+    /// That state once more.
+    pub acked: PlantState,
+    /// How often each atom has taken part in it.
+    pub counts: [u64; MAX_ATOMS],
+    /// Room for the choices that are not acknowledged.
+    pub tail: Vec<Choice>,
+    /// Room for the bodies of their records.
+    pub bodies: Vec<[u8; BODY]>,
+    /// The journal, whose last record is that of the last choice that was fired.
+    pub journal: Journal,
+    /// The device.
+    pub cells: Cells<D>,
+}
+
+impl<'s, D: Disk> Plant<'s, D> {
+    /// The plant of these parts, with nothing to acknowledge. It takes no memory, and no call of the device is made.
+    pub fn of(parts: Parts<'s, D>) -> Plant<'s, D>
+        requires same { states_in parts.stepper ≡ parts.acked }
+        requires counts { (atom : ℕ) → count_of parts.counts atom ≤ parts.journal.last }
+        requires tail { parts.tail.items ≡ [] }
+        requires bodies { parts.bodies.items ≡ [] }
+        requires room_of_tail { MOST_TAIL ≤ vec_capacity parts.tail }
+        requires room_of_bodies { MOST_TAIL ≤ vec_capacity parts.bodies }
+        requires atoms { parts.journal.atoms ≡ length (plant_in parts.stepper).atoms }
+        requires inside { cells_of_ring parts.journal ≤ cell_count (BODY + 1) parts.cells }
+        requires rests { parts.cells.keeps ≡ true
+            → IsAtRest (plant_in parts.stepper) (digest_of (system_in parts.stepper)) parts.journal parts.acked parts.counts parts.journal.last parts.cells }
+        ensures view { view_of result ≡ view_by parts.entry.acked parts.entry.counts parts.entry.journal.last [] parts.entry.acked parts.entry.counts parts.entry.journal false }
+        ensures device { device_of result ≡ parts.entry.cells }
+        ensures plant { definition_of result ≡ plant_in parts.entry.stepper }
+        ensures digest { text_digest result ≡ digest_of (system_in parts.entry.stepper) }
+    {
+        let Parts {
+            stepper,
+            acked,
+            counts,
+            tail,
+            bodies,
+            journal,
+            cells,
+        } = parts;
+        let number = journal.last();
+        Plant {
+            stepper,
+            counts,
+            acked,
+            acked_counts: counts,
+            number,
+            tail,
+            bodies,
+            journal,
+            cells,
+            broken: false,
+        }
+    }
+}

@@ -1,0 +1,34 @@
+//! A durable plant: what it holds.
+ghost use Rattle.std.specs.Prelude.{◌≡◌, ◌≤◌, true, false, vec_capacity};
+ghost use Rattle.plant_core.specs.Kept.{FitsTogether, IsAtRest, IsJournalOf};
+ghost use Rattle.plant_core.specs.View.{view_by};
+ghost use Rattle.plant_core.specs.declared.limits.TheConstants.{MOST_TAIL};
+ghost use Rattle.step_core.specs.Running.{plant_in, states_in, system_in};
+ghost use Rattle.step_core.specs.System.{digest_of};
+
+use disk_model::{BODY, Cells, Disk};
+use gated_journal::Journal;
+use step_core::{Choice, MAX_ATOMS, PlantState, Stepper};
+
+/// A plant on a device. It fires choices in memory, and writes their records when it is flushed: what was flushed is there after any
+/// stop, and of what was not a front may be.
+///
+/// Only making it takes memory. When the device fails it is broken: then it can be looked at, and the device has to be booted again.
+#[derive(Drop)]
+pub struct Plant<'s, D: Disk> {
+    pub(crate) stepper: Stepper<'s>,
+    pub(crate) counts: [u64; MAX_ATOMS],
+    pub(crate) acked: PlantState,
+    pub(crate) acked_counts: [u64; MAX_ATOMS],
+    pub(crate) number: u64,
+    pub(crate) tail: Vec<Choice>,
+    pub(crate) bodies: Vec<[u8; BODY]>,
+    pub(crate) journal: Journal,
+    pub(crate) cells: Cells<D>,
+    pub(crate) broken: bool,
+    ghost fits_together: { FitsTogether (plant_in stepper) (view_by acked acked_counts number tail.items (states_in stepper) counts journal broken) bodies.items },
+    ghost room_of_tail: { MOST_TAIL ≤ vec_capacity tail },
+    ghost room_of_bodies: { MOST_TAIL ≤ vec_capacity bodies },
+    ghost of_journal: { IsJournalOf (plant_in stepper) number journal cells },
+    ghost at_rest: { cells.keeps ≡ true → broken ≡ false → IsAtRest (plant_in stepper) (digest_of (system_in stepper)) journal acked acked_counts number cells },
+}

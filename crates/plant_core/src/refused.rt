@@ -1,0 +1,51 @@
+//! Why a call of a durable plant is refused.
+ghost use Rattle.std.specs.Prelude.{◌≡◌};
+ghost use Rattle.plant_core.specs.Refusals.{number_of};
+
+/// Why a call of a durable plant is refused. Nothing changes then, but that a plant whose device failed is broken.
+#[derive(Clone, Copy, Debug, PartialEq, Eq)]
+pub enum Refused {
+    /// No interaction is possible.
+    Stuck,
+    /// Some atom is away, and no choice is sure to be allowed.
+    Busy,
+    /// As many choices as a plant may have unacknowledged are fired since the last flush.
+    TailFull,
+    /// The ring has no room for another record: states have to be saved, and records have to go.
+    RingFull,
+    /// The record with the greatest number is fired.
+    Spent,
+    /// The atom with this number is away.
+    Away(u16),
+    /// The state of the atom with this number is behind firings that are not acknowledged.
+    Ahead(u16),
+    /// What was handed in is not what the plant has kept of it, or there is no such atom.
+    Stranger,
+    /// There is nothing new to save, or nothing that may go.
+    NothingNew,
+    /// The device failed in this call. The plant has to be booted again.
+    Disk,
+    /// The device failed in an earlier call.
+    Broken,
+}
+
+impl Refused {
+    /// The number by which the refusal is told, from 1 on.
+    pub fn number(&self) -> u8
+        ensures { result ≡ number_of self.now }
+    {
+        match self {
+            Refused::Stuck => 1,
+            Refused::Busy => 2,
+            Refused::TailFull => 3,
+            Refused::RingFull => 4,
+            Refused::Spent => 5,
+            Refused::Away(_) => 6,
+            Refused::Ahead(_) => 7,
+            Refused::Stranger => 8,
+            Refused::NothingNew => 9,
+            Refused::Disk => 10,
+            Refused::Broken => 11,
+        }
+    }
+}
