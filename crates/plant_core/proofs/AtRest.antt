@@ -2,7 +2,7 @@
 use Rattle.std.proofs.Common.{◌≡◌, ◌+◌, ◌-◌, ◌≤◌, ℕ, refl, sym, ◌∙◌, ap, subst, List, [], ◌∷◌, ◌++◌, length, take, arith, true, None}
 use Rattle.std.specs.List.{list_all}
 use Rattle.std.proofs.lemmas.Bool.{and_from}
-use Rattle.std.proofs.lemmas.List.{length-append, length-take, take_all}
+use Rattle.std.proofs.lemmas.List.{length-append, length-take, take-append-le, take_all}
 use Rattle.petri_atom.specs.Local.{Local}
 use Rattle.disk_model.specs.Cells.{Cell, Leaves, MayBe, cells_of, seen_cells}
 use Rattle.disk_model.specs.DiskState.{DiskState, size_of}
@@ -29,7 +29,9 @@ use Rattle.plant_image.proofs.AppendedImages.{appended_none, appended_reads}
 use Rattle.plant_image.proofs.KeptCells.{sound_of}
 use Rattle.plant_image.proofs.OnContents.{run_leads}
 use Rattle.plant_image.proofs.Standings.{leads_stands}
-use Rattle.plant_core.specs.Kept.{IsAtRest}
+use Rattle.plant_core.specs.Kept.{IsAtRest, IsFrontOf, number_held}
+use Rattle.plant_core.specs.Stops.{StandsForFront}
+use Rattle.plant_core.specs.View.{View, with_fired}
 use Rattle.plant_core.proofs.Flushing.{records-front}
 
 -- the records of a run can be of the plant
@@ -55,6 +57,41 @@ all-appended j news old new same all = record {
     live-before : List FiredFields
     live-before = live j (seen_cells (BODY + 1) old)
 
+-- What stands for the state behind a front of the tail says itself how long that front is, and the other way round.
+pub front-of : (plant : PlantDefinition) (digest : List ℕ) (bytes : ℕ) (v : View) (cells : List Cell) → StandsForFront plant digest bytes v cells → IsFrontOf plant digest bytes v cells
+front-of plant digest bytes v cells stands =
+    let k : ℕ = stands.0 in
+    let number : number_held plant cells ≡ v.number + k = stands.2.number_is in
+    let long : number_held plant cells - v.number ≡ k = omega (arith, number) in
+    record {
+      from = omega (arith, number);
+      to = omega (arith, number, stands.1);
+      stands = subst (λ (n : ℕ). StandsFor plant digest bytes cells (fold plant v.acked (take n v.tail)) (number_held plant cells)) (sym long)
+          (subst (λ (n : ℕ). StandsFor plant digest bytes cells (fold plant v.acked (take k v.tail)) n) (sym number) stands.2);
+    }
+
+pub of-front : (plant : PlantDefinition) (digest : List ℕ) (bytes : ℕ) (v : View) (cells : List Cell) → IsFrontOf plant digest bytes v cells → StandsForFront plant digest bytes v cells
+of-front plant digest bytes v cells front =
+    let number : number_held plant cells ≡ v.number + (number_held plant cells - v.number) = omega (arith, front.from) in (
+      number_held plant cells - v.number,
+      omega (arith, front.from, front.to),
+      subst (λ (n : ℕ). StandsFor plant digest bytes cells (fold plant v.acked (take (number_held plant cells - v.number) v.tail)) n) number front.stands,
+    )
+
+-- so before the first call whatever a stop leaves stands for a front
+pub front-now : (plant : PlantDefinition) (digest : List ℕ) (v : View) (s : DiskState) → ((cells : List Cell) → MayBe (BODY + 1) s cells → IsFrontOf plant digest (size_of s) v cells) → Leaves (BODY + 1) (StandsForFront plant digest (size_of s) v) s s
+front-now plant digest v s front = leaves_start (BODY + 1) (StandsForFront plant digest (size_of s) v) s (λ cells may. of-front plant digest (size_of s) v cells (front cells may))
+
+-- a front of the tail is one of a longer tail
+pub front-longer : (plant : PlantDefinition) (digest : List ℕ) (bytes : ℕ) (v : View) (c : ChoiceDefinition) (cells : List Cell) → IsFrontOf plant digest bytes v cells → IsFrontOf plant digest bytes (with_fired plant c v) cells
+front-longer plant digest bytes v c cells front =
+    let short : number_held plant cells - v.number ≤ length v.tail = omega (arith, front.from, front.to) in
+    record {
+      from = front.from;
+      to = omega (arith, front.to, length-append v.tail (c ∷ []));
+      stands = subst (λ (cs : List ChoiceDefinition). StandsFor plant digest bytes cells (fold plant v.acked cs) (number_held plant cells)) (sym (take-append-le (number_held plant cells - v.number) v.tail (c ∷ []) short)) front.stands;
+    }
+
 module _ (plant : PlantDefinition) (digest : List ℕ) (j : Ring) (acked : List Local) (counts : List ℕ) (number : ℕ) (old : DiskState) (rest : IsAtRest plant digest j acked counts number old) where
   -- whatever a stop now leaves stands for the acknowledged state
   pub stands-now : (cells : List Cell) → MayBe (BODY + 1) old cells → StandsFor plant digest (size_of old) cells acked number
@@ -65,11 +102,13 @@ module _ (plant : PlantDefinition) (digest : List ℕ) (j : Ring) (acked : List 
       (leads_stands plant digest (size_of old) (seen_cells (BODY + 1) old) acked number counts rest.sound rest.leads)
 
   -- which is behind no choice of any tail
-  pub rest-stands : (tail : List ChoiceDefinition) → Leaves (BODY + 1) (λ cells. (k : ℕ) × (k ≤ length tail) × StandsFor plant digest (size_of old) cells (fold plant acked (take k tail)) (number + k)) old old
-  rest-stands tail =
-      let none : number ≡ number + 0 = omega arith in
-      leaves_start (BODY + 1) (λ cells. (k : ℕ) × (k ≤ length tail) × StandsFor plant digest (size_of old) cells (fold plant acked (take k tail)) (number + k)) old
-      (λ cells may. (0, omega arith, subst (λ (n : ℕ). StandsFor plant digest (size_of old) cells acked n) none (stands-now cells may)))
+  pub rest-front : (v : View) → v.acked ≡ acked → v.number ≡ number → (cells : List Cell) → MayBe (BODY + 1) old cells → IsFrontOf plant digest (size_of old) v cells
+  rest-front v its_state its_number cells may = front-of plant digest (size_of old) v cells (
+    0,
+    omega arith,
+    subst (λ (n : ℕ). StandsFor plant digest (size_of old) cells v.acked n) (sym its_number ∙ omega arith)
+        (subst (λ states. StandsFor plant digest (size_of old) cells states number) (sym its_state) (stands-now cells may)),
+  )
 
   module _ (valid : fault_of plant ≡ None) (tail : List ChoiceDefinition) (runs : (k : ℕ) → IsRun plant acked (take k tail) (fold plant acked (take k tail))) where
     abbrev pub news : List FiredFields

@@ -84,6 +84,14 @@ journal-of-flushed plant number count j after old new more same is = subst (λ r
   inside = subst (λ (bytes : ℕ). cells_of_ring j ≤ cells_in (BODY + 1) bytes) (sym same) is.inside;
 })
 
+-- and so is that behind one that failed
+pub journal-of-failed : (plant : PlantDefinition) (number : ℕ) (j after : Ring) (old new : DiskState) → after ≡ j → size_of new ≡ size_of old → IsJournalOf plant number j old → IsJournalOf plant number after new
+journal-of-failed plant number j after old new kept same is = subst (λ r. IsJournalOf plant number r new) (sym kept) (record {
+  atoms = is.atoms;
+  last = is.last;
+  inside = subst (λ (bytes : ℕ). cells_of_ring j ≤ cells_in (BODY + 1) bytes) (sym same) is.inside;
+})
+
 -- where nothing was fired since the last flush, what is kept fits together
 pub nothing-fired : (plant : PlantDefinition) (states : List Local) (counts : List ℕ) (number : ℕ) (j : Ring) → IsOf plant states → AllFit plant states → length counts ≡ MAX_ATOMS
     → ((atom : ℕ) → count_of counts atom ≤ number) → IsRing j → j.last ≡ number → FitsTogether plant (view_by states counts number [] states counts j false) []

@@ -2,3 +2,5 @@ pub mod Chosen
 pub mod Firing
 pub mod Flushing
 pub mod AtRest
+pub mod EventRuns
+pub mod EventByEvent

@@ -1,5 +1,5 @@
 -- What a durable plant keeps whenever no call runs.
-use Rattle.std.specs.Prelude.{◌≡◌, ℕ, ◌+◌, ◌≤◌, ◌<◌, ◌&&◌, ◌==◌, Bool, true, false, List, [], ◌∷◌, None, Some, length, map}
+use Rattle.std.specs.Prelude.{◌≡◌, ℕ, ◌+◌, ◌-◌, ◌≤◌, ◌<◌, ◌&&◌, ◌==◌, Bool, true, false, List, [], ◌∷◌, None, Some, length, map, take}
 use Rattle.std.specs.List.{list_any}
 use Rattle.petri_atom.specs.Local.{Local}
 use Rattle.step_core.specs.Choice.{ChoiceDefinition, choices}
@@ -10,7 +10,7 @@ use Rattle.step_core.specs.Step.{next}
 use Rattle.step_core.specs.declared.choice.Move.{Move}
 use Rattle.step_core.specs.declared.limits.TheConstants.{MAX_ATOMS}
 use Rattle.disk_model.specs.DiskState.{DiskState, size_of}
-use Rattle.disk_model.specs.Cells.{cell_count, seen_cells}
+use Rattle.disk_model.specs.Cells.{Cell, cell_count, seen_cells}
 use Rattle.disk_model.specs.declared.cells.TheConstants.{BODY}
 use Rattle.record_codec.specs.Fired.{FiredFields, fired_in}
 use Rattle.record_codec.specs.declared.layout.TheConstants.{LAST_NUMBER}
@@ -18,9 +18,9 @@ use Rattle.gated_journal.specs.Rings.{cells_of_ring}
 use Rattle.gated_journal.specs.Stops.{IsReady}
 use Rattle.gated_journal.specs.declared.ring.Ring.{Ring}
 use Rattle.record_replay.specs.Records.{count_of, counts_behind, records_of}
-use Rattle.plant_image.specs.Contents.{contents_of, ring_in}
+use Rattle.plant_image.specs.Contents.{contents_of, last_number, ring_in}
 use Rattle.plant_image.specs.Faults.{cells_fault}
-use Rattle.plant_image.specs.Standing.{Leads}
+use Rattle.plant_image.specs.Standing.{Leads, StandsFor}
 use Rattle.plant_core.specs.View.{View, fired_number}
 use Rattle.plant_core.specs.declared.limits.TheConstants.{MOST_TAIL}
 
@@ -73,3 +73,13 @@ pub record IsAtRest (plant : PlantDefinition) (digest : List ℕ) (j : Ring) (ac
   pub sound : cells_fault plant digest (size_of s) (seen_cells (BODY + 1) s) ≡ None
   pub journal : j ≡ ring_in (length plant.atoms) (contents_of (length plant.atoms) (seen_cells (BODY + 1) s))
   pub leads : Leads plant (contents_of (length plant.atoms) (seen_cells (BODY + 1) s)) acked counts number
+
+-- the number of the last record that these cells hold
+abbrev pub number_held : PlantDefinition → List Cell → ℕ
+number_held plant cells = last_number (contents_of (length plant.atoms) cells)
+
+-- These cells stand for the state behind a front of the tail: one as long as the number that they hold is above the acknowledged one.
+pub record IsFrontOf (plant : PlantDefinition) (digest : List ℕ) (bytes : ℕ) (v : View) (cells : List Cell) : Type 0 where
+  pub from : v.number ≤ number_held plant cells
+  pub to : number_held plant cells ≤ fired_number v
+  pub stands : StandsFor plant digest bytes cells (fold plant v.acked (take (number_held plant cells - v.number) v.tail)) (number_held plant cells)

@@ -5,7 +5,8 @@ ghost use Rattle.record_codec.specs.declared.layout.TheConstants.{LAST_NUMBER};
 ghost use Rattle.record_replay.specs.Records.{record_told};
 ghost use Rattle.step_core.specs.Choice.{IsAllowed};
 ghost use Rattle.step_core.specs.Chosen.{choice_of};
-ghost use Rattle.plant_core.specs.Events.{IsFire, fire_refusal};
+ghost use Rattle.plant_core.specs.Events.{IsEvent, fire_refusal};
+ghost use Rattle.plant_core.specs.declared.events.Happened.TheVariants.{Fire};
 ghost use Rattle.plant_core.specs.Plants.{definition_of, device_of, text_digest, view_of};
 ghost use Rattle.plant_core.specs.View.{fired_number, with_fired};
 
@@ -28,7 +29,7 @@ impl<'s, D: Disk> Plant<'s, D> {
     /// Fires the choice at the place `pick`, modulo the number of choices, and tells it with its number. No call of the device is made,
     /// and no memory taken.
     pub fn fire(&mut self, pick: u64) -> Result<FiredAs, Refused>
-        ensures event { IsFire (definition_of self.old) (view_of self.old) pick result (view_of self.new) }
+        ensures event { IsEvent (definition_of self.old) (view_of self.old) (Fire pick result) (view_of self.new) }
         ensures device { device_of self.new ≡ device_of self.old }
         ensures plant { definition_of self.new ≡ definition_of self.old }
         ensures digest { text_digest self.new ≡ text_digest self.old }

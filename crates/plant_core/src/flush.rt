@@ -3,7 +3,8 @@ ghost use Rattle.std.specs.Prelude.{◌≡◌, ◌≢◌, ◌+◌, [], true, fal
 ghost use Rattle.disk_model.specs.DiskState.{CountsTwo, counted, size_of};
 ghost use Rattle.disk_model.specs.Cells.{Leaves};
 ghost use Rattle.disk_model.specs.declared.cells.TheConstants.{BODY};
-ghost use Rattle.plant_core.specs.Events.{IsFlush, is_disk};
+ghost use Rattle.plant_core.specs.Events.{IsEvent, is_disk};
+ghost use Rattle.plant_core.specs.declared.events.Happened.TheVariants.{Flush};
 ghost use Rattle.plant_core.specs.Plants.{definition_of, device_of, text_digest, view_of};
 ghost use Rattle.plant_core.specs.Stops.{StandsForFront};
 
@@ -16,11 +17,12 @@ impl<'s, D: Disk> Plant<'s, D> {
     /// Acknowledges all that was fired, and tells the number of the last: their records are written, by two syncs. Where nothing was
     /// fired since the last flush no call of the device is made.
     pub fn flush(&mut self) -> Result<u64, Refused>
-        ensures event { IsFlush (view_of self.old) result (view_of self.new) }
+        ensures event { IsEvent (definition_of self.old) (view_of self.old) (Flush result) (view_of self.new) }
         ensures idle { (view_of self.old).tail ≡ [] → device_of self.new ≡ device_of self.old }
+        ensures refused { (view_of self.old).broken ≡ true → device_of self.new ≡ device_of self.old }
         ensures counts { (view_of self.old).tail ≢ [] → (view_of self.old).broken ≡ false → CountsTwo (is_ok result) (device_of self.old) (device_of self.new) }
         ensures cause { (device_of self.new).failures ≡ counted (is_disk result) (device_of self.old).failures }
-        ensures stops { (device_of self.old).keeps ≡ true → (view_of self.old).broken ≡ false
+        ensures stops { (device_of self.old).keeps ≡ true
             → Leaves (BODY + 1) (StandsForFront (definition_of self.old) (text_digest self.old) (size_of (device_of self.old)) (view_of self.old)) (device_of self.old) (device_of self.new) }
         ensures plant { definition_of self.new ≡ definition_of self.old }
         ensures digest { text_digest self.new ≡ text_digest self.old }

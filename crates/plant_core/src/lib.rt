@@ -3,28 +3,31 @@
 //! A [`Plant`] steps in memory and keeps its records on a device. Firing makes no call of the device: the choice goes to the *tail*, and its
 //! record is spelled into room that was made when the plant was booted. A flush writes the tail by two syncs, whatever its length, and
 //! then all of it is acknowledged. Whenever no call runs and the device has not failed, whatever a stop leaves stands for the acknowledged
-//! state; a stop inside a flush leaves what stands for the state behind some front of the tail.
+//! state. A stop inside a flush, and any stop after one that failed, leaves what stands for the state behind some front of the tail.
 //!
 //! Contracts see a plant as its view (`specs/View.antt`: the acknowledged state, the tail, the present state) and its device; what each
 //! event answers and changes is `specs/Events.antt`.
 //!
-//! - `plant`: what it holds. `making`: how it is made. `fire`, `flush`: its calls. `front`: how far it is, and what it shows. `resting`:
-//!   what is on the device whenever no call runs. `events`: what it answers. `refused`: why a call is refused. `limits`: how much
-//!   is held in memory. `copying`: states that become those of another state.
+//! - `plant`: what it holds. `making`: how it is made. `fire`, `flush`: its calls. `driving`: any of them, and many. `front`: how far it is, and what
+//!   it shows. `resting`: what it keeps whenever no call runs. `laws`: what runs of events do. `events`: what is asked of it and what it
+//!   answers. `refused`: why a call is refused. `limits`: how much is held in memory. `copying`: states that become those of another state.
 #![tactic(auto)]
 
 mod copying;
+mod driving;
 mod events;
 mod fire;
 mod flush;
 mod front;
+pub mod laws;
 mod limits;
 mod making;
 mod plant;
 mod refused;
 mod resting;
 
-pub use events::FiredAs;
+pub use driving::{drive, meet};
+pub use events::{Event, FiredAs, Happened};
 pub use front::Front;
 pub use limits::MOST_TAIL;
 pub use making::Parts;

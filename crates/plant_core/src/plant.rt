@@ -1,6 +1,9 @@
 //! A durable plant: what it holds.
-ghost use Rattle.std.specs.Prelude.{◌≡◌, ◌≤◌, true, false, vec_capacity};
-ghost use Rattle.plant_core.specs.Kept.{FitsTogether, IsAtRest, IsJournalOf};
+ghost use Rattle.std.specs.Prelude.{◌≡◌, ◌+◌, ◌≤◌, List, true, false, vec_capacity};
+ghost use Rattle.disk_model.specs.Cells.{Cell, MayBe};
+ghost use Rattle.disk_model.specs.DiskState.{size_of};
+ghost use Rattle.disk_model.specs.declared.cells.TheConstants.{BODY};
+ghost use Rattle.plant_core.specs.Kept.{FitsTogether, IsAtRest, IsFrontOf, IsJournalOf};
 ghost use Rattle.plant_core.specs.View.{view_by};
 ghost use Rattle.plant_core.specs.declared.limits.TheConstants.{MOST_TAIL};
 ghost use Rattle.step_core.specs.Running.{plant_in, states_in, system_in};
@@ -31,4 +34,6 @@ pub struct Plant<'s, D: Disk> {
     ghost room_of_bodies: { MOST_TAIL ≤ vec_capacity bodies },
     ghost of_journal: { IsJournalOf (plant_in stepper) number journal cells },
     ghost at_rest: { cells.keeps ≡ true → broken ≡ false → IsAtRest (plant_in stepper) (digest_of (system_in stepper)) journal acked acked_counts number cells },
+    ghost at_a_stop: { cells.keeps ≡ true → (image : List Cell) → MayBe (BODY + 1) cells image
+        → IsFrontOf (plant_in stepper) (digest_of (system_in stepper)) (size_of cells) (view_by acked acked_counts number tail.items (states_in stepper) counts journal broken) image },
 }

@@ -8,13 +8,15 @@ use Rattle.step_core.specs.Laws.{IsInRange}
 use Rattle.step_core.specs.Plant.{PlantDefinition}
 use Rattle.step_core.specs.Step.{transfer}
 use Rattle.step_core.specs.Rules.{fault_of}
-use Rattle.step_core.specs.Running.{plant_in, states_in}
+use Rattle.disk_model.specs.DiskState.{size_of}
+use Rattle.step_core.specs.Running.{plant_in, states_in, system_in}
 use Rattle.step_core.specs.System.{digest_of, plant_of}
 use Rattle.step_core.specs.declared.limits.TheConstants.{MAX_ATOMS}
 use Rattle.step_core.specs.declared.system.System.{System}
-use Rattle.plant_core.specs.Kept.{FitsTogether, IsAtRest, IsJournalOf}
+use Rattle.plant_core.specs.Kept.{FitsTogether, IsAtRest, IsFrontOf, IsJournalOf}
 use Rattle.plant_core.specs.Plants.{view_of}
 use Rattle.plant_core.specs.View.{fired_number, view_by, with_fired}
+use Rattle.plant_core.proofs.AtRest.{front-longer}
 use Rattle.plant_core.proofs.Firing.{bodies-many, count-so-far, next-in-range, one-more, told-many, view-of-fired}
 use Rattle.plant_core.proofs.plant.Plant.go_on.Goals as goal
 
@@ -73,4 +75,7 @@ invariant_of-self g c =
       room_of_bodies = omega (arith, self.room_of_bodies, c.push_reserved-2.ensures.capacity);
       of_journal = subst (λ p. IsJournalOf p self.number self.journal self.cells) (sym c.fire_telling.ensures.plant) self.of_journal;
       at_rest = λ keeps whole. subst (λ (s : System). IsAtRest (plant_of s) (digest_of s) self.journal self.acked self.acked_counts self.number self.cells) (sym c.fire_telling.ensures.system) (self.at_rest keeps whole);
+      at_a_stop = λ keeps image may. subst (λ (s : System). IsFrontOf (plant_of s) (digest_of s) (size_of self.cells) (view_by self.acked self.acked_counts self.number c.push_reserved.new.self.items (states_in c.fire_telling.new.self) c.count_participants.new.counts self.journal self.broken) image) (sym c.fire_telling.ensures.system)
+          (subst (λ w. IsFrontOf plant (digest_of (system_in self.stepper)) (size_of self.cells) w image) (sym view)
+          (front-longer plant (digest_of (system_in self.stepper)) (size_of self.cells) v choice image (self.at_a_stop keeps image may)));
     }

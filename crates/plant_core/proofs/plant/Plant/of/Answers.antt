@@ -1,4 +1,4 @@
-use Rattle.std.proofs.Common.{◌≡◌, ◌≤◌, ℕ, List, [], length, false, sym, subst, rules}
+use Rattle.std.proofs.Common.{◌≡◌, ◌≤◌, ℕ, List, [], length, false, refl, sym, subst, rules}
 use Rattle.petri_atom.specs.Local.{Local}
 use Rattle.record_replay.specs.Records.{count_of}
 use Rattle.step_core.specs.Running.{plant_in, states_in, system_in}
@@ -6,6 +6,7 @@ use Rattle.step_core.specs.System.{digest_of}
 use Rattle.step_core.specs.declared.limits.TheConstants.{MAX_ATOMS}
 use Rattle.plant_core.specs.Kept.{FitsTogether, IsAtRest}
 use Rattle.plant_core.specs.View.{view_by}
+use Rattle.plant_core.proofs.AtRest.{rest-front}
 use Rattle.plant_core.proofs.Flushing.{nothing-fired}
 use Rattle.plant_core.proofs.plant.Plant.of.Goals as goal
 
@@ -26,4 +27,6 @@ invariant_of-result g c =
       room_of_bodies = c.requires.room_of_bodies;
       of_journal = record { atoms = c.requires.atoms; last = sym c.last-number.ensures.number; inside = c.requires.inside };
       at_rest = λ keeps whole. subst (λ (n : ℕ). IsAtRest plant (digest_of (system_in parts.stepper)) parts.journal parts.acked parts.counts n parts.cells) (sym c.last-number.ensures.number) (c.requires.rests keeps);
+      at_a_stop = λ keeps image may. rest-front plant (digest_of (system_in parts.stepper)) parts.journal parts.acked parts.counts parts.journal.last parts.cells (c.requires.rests keeps)
+          (view_by parts.acked parts.counts number parts.tail.items states parts.counts parts.journal false) refl c.last-number.ensures.number image may;
     }

@@ -1,0 +1,114 @@
+-- Runs of events: what they fire, and what they acknowledge.
+use Rattle.std.proofs.Common.{◌≡◌, ◌+◌, ◌-◌, ◌≤◌, ℕ, refl, sym, ◌∙◌, ap, subst, List, [], ◌∷◌, ◌++◌, length, take, drop, arith, true, Ok, Err}
+use Rattle.std.proofs.Math.Seq.{drop-append-add, take-append-add}
+use Rattle.std.proofs.lemmas.List.{append-nil, append_assoc, flat_map_more, length-append}
+use Rattle.petri_atom.specs.Local.{Local}
+use Rattle.step_core.specs.Choice.{ChoiceDefinition, IsAllowed, choices}
+use Rattle.step_core.specs.Chosen.{choice_of}
+use Rattle.step_core.specs.Plant.{PlantDefinition}
+use Rattle.step_core.specs.Runs.{IsRun, fold}
+use Rattle.step_core.specs.Step.{next}
+use Rattle.step_core.proofs.Membership.{entry-in}
+use Rattle.plant_core.specs.Events.{IsAckedOf, IsEvent, IsEventRun, all_fired, fired_by}
+use Rattle.plant_core.specs.View.{View, with_all_acked, with_fired}
+use Rattle.plant_core.specs.declared.events.Happened.{Happened}
+use Rattle.plant_core.specs.declared.events.Happened.TheVariants.{Fire, Flush}
+use Rattle.plant_core.specs.declared.refused.Refused.TheVariants.{Broken, Disk}
+use Rattle.plant_core.proofs.Chosen.{fold-more}
+
+module _ (plant : PlantDefinition) where
+  -- An event leaves the view, fires an allowed choice, acknowledges all, or breaks the plant: what holds at each of these holds at it.
+  pub event-cases : (v w : View) (h : Happened) (P : List ChoiceDefinition → View → Type 0) → P [] v → ((c : ChoiceDefinition) → IsAllowed plant v.present c → P (c ∷ []) (with_fired plant c v)) → P [] (with_all_acked v) → P [] (record v { broken = true })
+      → IsEvent plant v h w → P (fired_by h) w
+  event-cases v w (Fire pick (Err refused)) P stays fires acks breaks did = subst (P []) (sym did.1) stays
+  event-cases v w (Fire pick (Ok fired)) P stays fires acks breaks did =
+      subst (P (choice_of fired.choice ∷ [])) (sym did.3) (fires (choice_of fired.choice) (entry-in (choices plant v.present) _ (choice_of fired.choice) did.2))
+  event-cases v w (Flush (Ok number)) P stays fires acks breaks did = subst (P []) (sym did.2) acks
+  event-cases v w (Flush (Err Broken)) P stays fires acks breaks did = subst (P []) (sym did.1) stays
+  event-cases v w (Flush (Err Disk)) P stays fires acks breaks did = subst (P []) (sym did.2) breaks
+  event-cases v w (Flush (Err other)) P stays fires acks breaks did = absurd did
+
+  -- two runs of events one after the other
+  pub events-join : (before behind : List Happened) (v u w : View) → IsEventRun plant v before u → IsEventRun plant u behind w → IsEventRun plant v (before ++ behind) w
+  events-join [] behind v u w first second = subst (λ x. IsEventRun plant x behind w) first second
+  events-join (h ∷ hs) behind v u w first second = (first.0, first.1, events-join hs behind first.0 u w first.2 second)
+
+  -- what was fired is a run
+  pub events-run : (hs : List Happened) (v w : View) → IsEventRun plant v hs w → IsRun plant v.present (all_fired hs) w.present
+  events-run [] v w run = sym (ap (λ (u : View). u.present) run)
+  events-run (h ∷ hs) v w run = event-cases v run.0 h
+      (λ cs x. IsRun plant x.present (all_fired hs) w.present → IsRun plant v.present (cs ++ all_fired hs) w.present)
+      (λ rest. rest)
+      (λ c allowed rest. (allowed, rest))
+      (λ rest. rest)
+      (λ rest. rest)
+      run.1 (events-run hs run.0 w run.2)
+
+  -- the tail leads to the present state behind an event where it did before, and so behind each run of events
+  pub event-leads : (h : Happened) (v w : View) → v.present ≡ fold plant v.acked v.tail → IsEvent plant v h w → w.present ≡ fold plant w.acked w.tail
+  event-leads h v w leads event = event-cases v w h
+      (λ cs x. x.present ≡ fold plant x.acked x.tail)
+      leads
+      (λ c allowed. ap (λ states. next plant states c) leads ∙ fold-more plant v.tail v.acked c)
+      refl
+      leads
+      event
+
+  pub events-lead : (hs : List Happened) (v w : View) → v.present ≡ fold plant v.acked v.tail → IsEventRun plant v hs w → w.present ≡ fold plant w.acked w.tail
+  events-lead [] v w leads run = subst (λ (x : View). x.present ≡ fold plant x.acked x.tail) (sym run) leads
+  events-lead (h ∷ hs) v w leads run = events-lead hs run.0 w (event-leads h v run.0 leads run.1) run.2
+
+  -- the state behind choices and then more
+  pub fold-append : (xs ys : List ChoiceDefinition) (states : List Local) → fold plant states (xs ++ ys) ≡ fold plant (fold plant states xs) ys
+  fold-append [] ys states = refl
+  fold-append (x ∷ xs) ys states = fold-append xs ys (next plant states x)
+
+  -- the first k of these choices were acknowledged, from a state and a number on
+  abbrev Acked : List Local → ℕ → List ChoiceDefinition → View → Type 0
+  Acked acked number cs w = (k : ℕ) × (w.number ≡ number + k) × (k ≤ length cs) × (w.acked ≡ fold plant acked (take k cs)) × (w.tail ≡ drop k cs)
+
+  -- where all of the tail is acknowledged, these are so many more
+  acked-more : (acked : List Local) (number : ℕ) (tail rest : List ChoiceDefinition) (w : View) → Acked (fold plant acked tail) (number + length tail) rest w → Acked acked number (tail ++ rest) w
+  acked-more acked number tail rest w more =
+      let k : ℕ = more.0 in
+      let few : k ≤ length rest = more.2 in (
+        length tail + k,
+        omega (arith, more.1),
+        omega (arith, few, length-append tail rest),
+        more.3 ∙ sym (fold-append tail (take k rest) acked) ∙ ap (fold plant acked) (sym (take-append-add tail rest k)),
+        more.4 ∙ sym (drop-append-add tail rest k),
+      )
+
+  acked-by : (hs : List Happened) (v w : View) → v.present ≡ fold plant v.acked v.tail → IsEventRun plant v hs w → Acked v.acked v.number (v.tail ++ all_fired hs) w
+  acked-by [] v w leads run = (
+    0,
+    ap (λ (x : View). x.number) run ∙ omega arith,
+    omega arith,
+    ap (λ (x : View). x.acked) run,
+    ap (λ (x : View). x.tail) run ∙ sym (append-nil v.tail),
+  )
+  acked-by (h ∷ hs) v w leads run = event-cases v run.0 h
+      (λ cs x. (x.present ≡ fold plant x.acked x.tail → Acked x.acked x.number (x.tail ++ all_fired hs) w) → Acked v.acked v.number (v.tail ++ (cs ++ all_fired hs)) w)
+      (λ rest. rest leads)
+      (λ c allowed rest. subst (λ cs. Acked v.acked v.number cs w) (append_assoc v.tail (c ∷ []) (all_fired hs))
+      (rest (ap (λ states. next plant states c) leads ∙ fold-more plant v.tail v.acked c)))
+      (λ rest. acked-more v.acked v.number v.tail (all_fired hs) w (subst (λ states. Acked states (v.number + length v.tail) (all_fired hs) w) leads (rest refl)))
+      (λ rest. rest leads)
+      run.1 (λ leads_on. acked-by hs run.0 w leads_on run.2)
+
+  -- what was acknowledged is a front of the tail and of what was fired
+  pub events-ack : (hs : List Happened) (v w : View) → v.present ≡ fold plant v.acked v.tail → IsEventRun plant v hs w → IsAckedOf plant v (all_fired hs) w
+  events-ack hs v w leads run =
+      let found = acked-by hs v w leads run in
+      let k : ℕ = found.0 in
+      let long : k ≡ w.number - v.number = omega (arith, found.1) in
+      record {
+        grows = omega (arith, found.1);
+        within = subst (λ (n : ℕ). n ≤ length (v.tail ++ all_fired hs)) long found.2;
+        acked = subst (λ (n : ℕ). w.acked ≡ fold plant v.acked (take n (v.tail ++ all_fired hs))) long found.3;
+        tail = subst (λ (n : ℕ). w.tail ≡ drop n (v.tail ++ all_fired hs)) long found.4;
+      }
+
+-- what one event more fired comes last
+pub fired-more : (hs : List Happened) (h : Happened) → all_fired (hs ++ h ∷ []) ≡ all_fired hs ++ fired_by h
+fired-more hs h = sym (flat_map_more fired_by [] hs h)

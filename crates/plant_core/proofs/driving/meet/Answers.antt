@@ -1,0 +1,14 @@
+use Rattle.std.proofs.Common.{◌+◌, sym, subst}
+use Rattle.disk_model.specs.Cells.{Leaves}
+use Rattle.disk_model.specs.DiskState.{size_of}
+use Rattle.disk_model.specs.declared.cells.TheConstants.{BODY}
+use Rattle.plant_core.specs.Plants.{definition_of, device_of, text_digest, view_of}
+use Rattle.plant_core.specs.Stops.{StandsForFront}
+use Rattle.plant_core.proofs.AtRest.{front-now}
+use Rattle.plant_core.proofs.driving.meet.Goals as goal
+
+pub returns-in-Fire-clause-stops : goal.returns-in-Fire-clause-stops
+returns-in-Fire-clause-stops g c = λ keeps.
+    let p = c.args.plant.now in
+    subst (λ t. Leaves (BODY + 1) (StandsForFront (definition_of p) (text_digest p) (size_of (device_of p)) (view_of p)) (device_of p) t) (sym c.fire.ensures.device)
+    (front-now (definition_of p) (text_digest p) (view_of p) (device_of p) (p.at_a_stop keeps))
