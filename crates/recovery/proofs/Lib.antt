@@ -1,0 +1,4 @@
+pub mod FirstStates
+pub mod FormattedCells
+pub mod PartlyLoaded
+pub mod Prepared

@@ -1,0 +1,163 @@
+-- What the cells of a device stand for that are loaded up to as many as any device for the plant has.
+use Rattle.std.proofs.Common.{◌≡◌, ◌≢◌, ℕ, ◌+◌, ◌*◌, ◌<◌, ◌≤◌, ◌==◌, min, nat_lt, Bool, true, false, not, List, [], ◌∷◌, ◌++◌, length, take, Option, Some, None, refl, sym, ◌∙◌, ap, arith}
+use Rattle.std.specs.Option.{option_and_then, option_map_or}
+use Rattle.std.proofs.lemmas.Bool.{eqb-true, ltb-true, ltb-false}
+use Rattle.std.proofs.lemmas.List.{get_or-take, take_all, take_more}
+use Rattle.disk_model.specs.Cells.{Cell, cell, cells_in, seen_cells}
+use Rattle.disk_model.specs.DiskState.{Counts, CountsUpTo, DiskState, Reads, counted, size_of}
+use Rattle.disk_model.specs.Moments.{seen_length}
+use Rattle.disk_model.specs.declared.cells.TheConstants.{BODY}
+use Rattle.record_codec.specs.Identity.{IdentityFields, identity_in}
+use Rattle.record_codec.specs.Ring.{device_cells, identity_cell}
+use Rattle.record_codec.specs.declared.layout.TheConstants.{MOST_RING, VERSION}
+use Rattle.record_codec.proofs.Identities.{held_identity_is_spelled}
+use Rattle.step_core.specs.Plant.{PlantDefinition}
+use Rattle.step_core.specs.Rules.{first_of, first_told}
+use Rattle.plant_image.specs.Contents.{contents_of, identity_held, ring_held}
+use Rattle.plant_image.specs.Faults.{atom_fault, base_fault, cell_bytes, cells_fault, fault_of, fault_where, first_cell_fault, first_fault, identity_fault, is_for, leading_fault, records_fault}
+use Rattle.plant_image.specs.declared.fault.ImageFault.{ImageFault}
+use Rattle.plant_image.specs.declared.fault.ImageFault.TheVariants.{WrongSize, OtherSystem}
+use Rattle.plant_image.proofs.AtomSlots.{no_first, no_later, not_wrong}
+use Rattle.plant_image.proofs.KeptCells.{identity_same, sound_of}
+
+-- a test that is not passed over
+not_false : (t : Bool) → not t ≡ false → t ≡ true
+not_false true is = refl
+not_false false is = absurd (let is = is in cc)
+
+-- as many as the most, or as there are
+pub taken : {X : Type 0} (most count read : ℕ) (all : List X) → length all ≡ count → read ≡ min most count → take read all ≡ take most all
+taken {X} most count read all long is = by_test (nat_lt count most) refl
+  where
+    by_test : (t : Bool) → nat_lt count most ≡ t → take read all ≡ take most all
+    by_test true less =
+        let below : count < most = ltb-true count most less in
+        take_all read all (omega arith) ∙ sym (take_all most all (omega arith))
+    by_test false more =
+        let above : most ≤ count = ltb-false count most more in
+        let same : read ≡ most = omega arith in
+        ap (λ (k : ℕ). take k all) same
+
+-- one more of them
+pub taken_more : (all list next : List Cell) (found : Cell) (k : ℕ) → k < length all → list ≡ take k all → next ≡ list ++ found ∷ [] → found ≡ cell all k → next ≡ take (k + 1) all
+taken_more all list next found k inside so_far pushed is =
+    pushed
+    ∙ ap (λ (l : List Cell). l ++ found ∷ []) so_far
+    ∙ ap (λ (x : Cell). take k all ++ x ∷ []) is
+    ∙ sym (take_more all k None inside)
+
+-- an identity that a body holds has a ring of no more than the most
+ring_within : (body : List ℕ) (identity : IdentityFields) → identity_in body ≡ Some identity → identity.ring ≤ MOST_RING
+unfolding identity_in
+ring_within body identity held = (held_identity_is_spelled VERSION body identity held).in_range.ring_within
+
+-- and so has any device
+pub ring_most : (cells : List Cell) → ring_held cells ≤ MOST_RING
+ring_most cells = by_cell (cell cells identity_cell)
+  where
+    by_value : (body : List ℕ) (o : Option IdentityFields) → identity_in body ≡ o → option_map_or (λ (identity : IdentityFields). identity.ring) o 0 ≤ MOST_RING
+    by_value body None is = omega arith
+    by_value body (Some identity) is = ring_within body identity is
+
+    by_cell : (c : Cell) → option_map_or (λ (identity : IdentityFields). identity.ring) (option_and_then identity_in c) 0 ≤ MOST_RING
+    by_cell None = omega arith
+    by_cell (Some body) = by_value body (identity_in body) refl
+
+module _ (atoms : ℕ) (digest : List ℕ) (bytes : ℕ) (cells : List Cell) (none : identity_fault atoms digest bytes cells ≡ None) where
+  -- with no fault of its first cell a device has the size that this tells
+  pub size_told : bytes ≡ cell_bytes * device_cells atoms (ring_held cells)
+  size_told =
+      let second = no_later (fault_where (nat_lt bytes cell_bytes) WrongSize) _ none in
+      let third = no_later (first_cell_fault (cell cells identity_cell)) _ second in
+      let fourth = no_later (fault_where (not (option_map_or (is_for atoms digest) (identity_held cells) false)) OtherSystem) _ third in
+      let right : not (bytes == cell_bytes * device_cells atoms (ring_held cells)) ≡ false =
+      not_wrong (not (bytes == cell_bytes * device_cells atoms (ring_held cells))) WrongSize (no_first _ None fourth) in
+      eqb-true bytes (cell_bytes * device_cells atoms (ring_held cells)) (not_false _ right)
+
+  -- so many cells
+  pub cells_told : cells_in cell_bytes bytes ≡ device_cells atoms (ring_held cells)
+  cells_told = let told = size_told in omega arith
+
+  -- which is no more than any device for so many atoms has
+  pub cells_most : cells_in cell_bytes bytes ≤ device_cells atoms MOST_RING
+  cells_most = let told = cells_told in let most = ring_most cells in omega arith
+
+-- where a first part tells a fault, what comes behind it does not count
+first_alone : {F : Type 0} (found a b later other : Option F) → found ≢ None → first_of (first_of found a) later ≡ first_of (first_of found b) other
+first_alone None a b later other some = absurd (some refl)
+first_alone (Some fault) a b later other some = refl
+
+-- where something is wrong by the first cell, that is told
+same_fault : (plant : PlantDefinition) (digest : List ℕ) (bytes : ℕ) (cells others : List Cell)
+    → identity_fault (length plant.atoms) digest bytes others ≡ identity_fault (length plant.atoms) digest bytes cells → identity_fault (length plant.atoms) digest bytes cells ≢ None
+    → fault_of plant digest bytes cells ≡ fault_of plant digest bytes others
+same_fault plant digest bytes cells others same some =
+    first_alone (identity_fault (length plant.atoms) digest bytes cells) (behind cells) (behind others) (leading_fault plant (contents_of (length plant.atoms) cells)) (leading_fault plant (contents_of (length plant.atoms) others)) some
+    ∙ ap (λ (o : Option ImageFault). first_of (first_of o (behind others)) (leading_fault plant (contents_of (length plant.atoms) others))) (sym same)
+  where
+    -- what is wrong behind the first cell
+    behind : List Cell → Option ImageFault
+    behind found = first_fault (base_fault found ∷ first_told (atom_fault found) 0 plant.atoms ∷ records_fault plant found ∷ [])
+
+-- how many cells a device for the plant has at most
+abbrev pub most : PlantDefinition → ℕ
+most plant = device_cells (length plant.atoms) MOST_RING
+
+module _ (plant : PlantDefinition) (digest : List ℕ) (bytes : ℕ) (all : List Cell) (many : length all ≡ cells_in cell_bytes bytes) where
+  -- the first cell is among those that are loaded
+  first_loaded : cell (take (most plant) all) identity_cell ≡ cell all identity_cell
+  first_loaded = get_or-take (most plant) all identity_cell None (omega arith)
+
+  -- nothing is wrong with those that are loaded only where they are all
+  pub all_loaded : fault_of plant digest bytes (take (most plant) all) ≡ None → take (most plant) all ≡ all
+  all_loaded none =
+      let sound = sound_of plant digest bytes (take (most plant) all) (no_first (cells_fault plant digest bytes (take (most plant) all)) _ none) in
+      let few = cells_most (length plant.atoms) digest bytes (take (most plant) all) sound.identity in
+      take_all (most plant) all (omega arith)
+
+  too_many : most plant < length all → identity_fault (length plant.atoms) digest bytes (take (most plant) all) ≢ None
+  too_many more none = let few = cells_most (length plant.atoms) digest bytes (take (most plant) all) none in absurd (omega arith)
+
+  -- what is wrong with them is what is wrong with all
+  pub loaded_alike : fault_of plant digest bytes (take (most plant) all) ≡ fault_of plant digest bytes all
+  loaded_alike = by_test (nat_lt (most plant) (length all)) refl
+    where
+      by_test : (t : Bool) → nat_lt (most plant) (length all) ≡ t → fault_of plant digest bytes (take (most plant) all) ≡ fault_of plant digest bytes all
+      by_test false is = ap (fault_of plant digest bytes) (take_all (most plant) all (ltb-false (most plant) (length all) is))
+      by_test true is = same_fault plant digest bytes (take (most plant) all) all
+          (sym (identity_same all (take (most plant) all) first_loaded (length plant.atoms) digest bytes))
+          (too_many (ltb-true (most plant) (length all) is))
+
+module _ (plant : PlantDefinition) (digest : List ℕ) (bytes : ℕ) (list : List Cell) (s : DiskState) (size : bytes ≡ size_of s) (loaded : list ≡ take (most plant) (seen_cells (BODY + 1) s)) where
+  -- so what was loaded of a device tells what is wrong with it
+  pub told_alike : fault_of plant digest bytes list ≡ fault_of plant digest (size_of s) (seen_cells (BODY + 1) s)
+  told_alike =
+      ap (λ (n : ℕ). fault_of plant digest n list) size
+      ∙ ap (fault_of plant digest (size_of s)) loaded
+      ∙ loaded_alike plant digest (size_of s) (seen_cells (BODY + 1) s) (seen_length (BODY + 1) s)
+
+  -- and where nothing is, it is all
+  pub read_whole : fault_of plant digest bytes list ≡ None → list ≡ seen_cells (BODY + 1) s
+  read_whole none =
+      loaded ∙ all_loaded plant digest (size_of s) (seen_cells (BODY + 1) s) (seen_length (BODY + 1) s)
+      (ap (fault_of plant digest (size_of s)) (sym loaded) ∙ ap (λ (n : ℕ). fault_of plant digest n list) (sym size) ∙ none)
+
+-- a sync and then reading alone
+pub sync_then_read : (old mid new : DiskState) → Counts false true old mid → Reads false mid new → Counts false true old new
+sync_then_read old mid new first second = record {
+  size = second.counts.size ∙ first.size;
+  keeps = second.counts.keeps ∙ first.keeps;
+  failures = second.counts.failures ∙ first.failures;
+  syncs = second.counts.syncs ∙ first.syncs;
+}
+
+-- which may fail
+pub sync_up_to_read : (failed : Bool) (old mid new : DiskState) → Counts false true old mid → Reads failed mid new → CountsUpTo failed 1 old new
+sync_up_to_read failed old mid new first second = record {
+  size = second.counts.size ∙ first.size;
+  keeps = second.counts.keeps ∙ first.keeps;
+  failures = second.counts.failures ∙ ap (counted failed) first.failures;
+  synced = 1;
+  few = omega arith;
+  syncs = second.counts.syncs ∙ first.syncs;
+}

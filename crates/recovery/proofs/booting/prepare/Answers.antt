@@ -1,0 +1,79 @@
+use Rattle.std.proofs.Common.{◌≡◌, ◌≤◌, List, ℕ, length, true, false, sym, ◌∙◌, ap, subst, rules}
+use Rattle.std.proofs.lemmas.Result.{err_from_is_err_and}
+use Rattle.disk_model.specs.Cells.{seen_cells}
+use Rattle.disk_model.specs.Counting.{up_to_one}
+use Rattle.disk_model.specs.DiskState.{DiskState}
+use Rattle.disk_model.specs.Moments.{seen_after}
+use Rattle.gated_journal.specs.Stops.{HasCleaned, IsReady}
+use Rattle.gated_journal.specs.declared.ring.Ring.{Ring}
+use Rattle.record_replay.specs.Records.{count_of}
+use Rattle.step_core.specs.Plant.{PlantDefinition}
+use Rattle.step_core.specs.System.{plant_of, digest_of}
+use Rattle.step_core.specs.declared.limits.TheConstants.{MAX_ATOMS}
+use Rattle.plant_image.specs.Contents.{ring_in}
+use Rattle.plant_image.specs.Reading.{contents_in}
+use Rattle.plant_image.specs.declared.standing.Standing.{Standing}
+use Rattle.recovery.proofs.Prepared.{counts_one, counts_two, inside_read, last_read, rests_read, shows_read, still_old, stops_read}
+use Rattle.recovery.proofs.booting.prepare.Goals as goal
+
+pub returns-in_err-memory-clause-stops : goal.returns-in_err-memory-clause-stops
+returns-in_err-memory-clause-stops g c keeps =
+    still_old (plant_of c.args.system.now) (digest_of c.args.system.now) c.args.cells.now c.judge.new.cells (c.judge.ensures.leaves keeps)
+
+pub returns-in_err-memory-clause-cause : goal.returns-in_err-memory-clause-cause
+returns-in_err-memory-clause-cause g c =
+    let p = err_from_is_err_and c.from_residual-in_err-memory.result c.from_residual-in_err-memory.ensures.1 in
+    rw (p.1, p.2) (up_to_one false true c.args.cells.now c.judge.new.cells c.in_ok-standing.ensures.counts)
+
+pub returns-in_err-clean-clause-stops : goal.returns-in_err-clean-clause-stops
+returns-in_err-clean-clause-stops g c keeps =
+    let still : c.judge.new.cells.keeps ≡ true = c.in_ok-standing.ensures.counts.keeps ∙ keeps in
+    let long : length c.in_ok-standing.standing.counts ≡ MAX_ATOMS = search rules in
+    stops_read (plant_of c.args.system.now) (digest_of c.args.system.now) c.judge.new.cells c.in_ok-standing.standing c.in_ok-standing.ensures.read c.in_ok-memory.memory.journal c.in_ok-memory.ensures.journal long
+    c.args.cells.now c.clean.new.cells still c.in_ok-standing.ensures.counts.size (c.judge.ensures.same keeps) (c.judge.ensures.leaves keeps) (c.clean.ensures.leaves still)
+
+pub returns-clause-stops : goal.returns-clause-stops
+returns-clause-stops g c keeps =
+    let still : c.judge.new.cells.keeps ≡ true = c.in_ok-standing.ensures.counts.keeps ∙ keeps in
+    let long : length c.in_ok-standing.standing.counts ≡ MAX_ATOMS = search rules in
+    stops_read (plant_of c.args.system.now) (digest_of c.args.system.now) c.judge.new.cells c.in_ok-standing.standing c.in_ok-standing.ensures.read c.in_ok-memory.memory.journal c.in_ok-memory.ensures.journal long
+    c.args.cells.now c.clean.new.cells still c.in_ok-standing.ensures.counts.size (c.judge.ensures.same keeps) (c.judge.ensures.leaves keeps) (c.clean.ensures.leaves still)
+
+pub returns-in_err-clean-clause-cause : goal.returns-in_err-clean-clause-cause
+returns-in_err-clean-clause-cause g c =
+    let p = err_from_is_err_and c.from_residual-in_err-clean.result c.from_residual-in_err-clean.ensures.1 in
+    rw (p.1, p.2) (counts_one c.args.cells.now c.judge.new.cells c.clean.new.cells c.in_ok-standing.ensures.counts c.in_err-clean.ensures.counts)
+
+pub returns-clause-cause : goal.returns-clause-cause
+returns-clause-cause g c = counts_two c.args.cells.now c.judge.new.cells c.clean.new.cells c.in_ok-standing.ensures.counts c.in_ok-clean.ensures.counts
+
+pub returns-clause-prepared : goal.returns-clause-prepared
+returns-clause-prepared g c =
+    let plant : PlantDefinition = plant_of c.args.system.now in
+    let digest : List ℕ = digest_of c.args.system.now in
+    let old : DiskState = c.args.cells.now in
+    let mid : DiskState = c.judge.new.cells in
+    let new : DiskState = c.clean.new.cells in
+    let standing : Standing = c.in_ok-standing.standing in
+    let was = c.in_ok-standing.ensures.read in
+    let made = c.in_ok-memory.ensures in
+    let first : Ring = c.in_ok-memory.memory.journal in
+    let j : Ring = c.clean.new.self in
+    let kept : j ≡ first = c.clean.ensures.journal in
+    let journal : j ≡ ring_in (length plant.atoms) (contents_in standing.held) = kept ∙ made.journal in
+    let long : length standing.counts ≡ MAX_ATOMS = search rules in
+    record {
+      of_system = made.of_system;
+      same = made.states ∙ sym made.acked;
+      counts = λ atom. subst (λ (ns : List ℕ). count_of ns atom ≤ j.last) (sym made.counts) (last_read plant digest mid standing was j journal atom);
+      room = record { tail = made.room.tail; bodies = made.room.bodies; room_of_tail = made.room.room_of_tail; room_of_bodies = made.room.room_of_bodies };
+      atoms = ap (λ (r : Ring). r.atoms) journal;
+      inside = inside_read plant digest mid standing was j journal new c.clean.ensures.counts.size;
+      rests = λ holds.
+          let still : mid.keeps ≡ true = sym c.clean.ensures.counts.keeps ∙ holds in
+          let cleaned : HasCleaned first (seen_cells 512 mid) (seen_cells 512 new) = seen_after 512 (HasCleaned first (seen_cells 512 mid)) mid new (c.clean.ensures.leaves still) in
+          rests_read plant digest mid standing was j journal long new _ _ still c.clean.ensures.counts.size made.acked made.counts
+          (subst (λ r. IsReady r new) (sym kept) (c.in_ok-clean.ensures.cleaned still))
+          (subst (λ r. HasCleaned r (seen_cells 512 mid) (seen_cells 512 new)) (sym kept) cleaned);
+      booted = λ keeps. shows_read plant digest mid standing was j journal old _ _ (c.in_ok-standing.ensures.counts.keeps ∙ keeps) c.in_ok-standing.ensures.counts.size (c.judge.ensures.same keeps) made.acked made.counts;
+    }

@@ -1,0 +1,58 @@
+-- What booting gives, and what it leaves of a device, wherever a stop falls.
+use Rattle.std.specs.Prelude.{◌≡◌, ◌⊎◌, ℕ, ◌+◌, Bool, true, false, List, [], Option, None, Result, Ok, Err, length}
+use Rattle.petri_atom.specs.Local.{Local}
+use Rattle.disk_model.specs.DiskState.{DiskState, size_of}
+use Rattle.disk_model.specs.Cells.{Cell, MayBe, seen_cells}
+use Rattle.disk_model.specs.declared.cells.TheConstants.{BODY}
+use Rattle.record_replay.specs.Records.{count_of}
+use Rattle.step_core.specs.Plant.{PlantDefinition}
+use Rattle.plant_image.specs.Contents.{contents_of, counts_of, last_number, states_of}
+use Rattle.plant_image.specs.Faults.{fault_of}
+use Rattle.plant_image.specs.Reading.{IsTold}
+use Rattle.plant_image.specs.Standing.{StandsFor}
+use Rattle.plant_image.specs.declared.fault.ImageFault.{ImageFault}
+use Rattle.plant_core.specs.View.{View}
+use Rattle.recovery.specs.declared.fault.BootFault.{BootFault}
+use Rattle.recovery.specs.declared.fault.BootFault.TheVariants.{Image, Disk}
+
+-- the fault is that the device failed
+abbrev pub is_disk : BootFault → Bool
+is_disk (Image fault) = false
+is_disk Disk = true
+
+-- the same of an answer
+abbrev pub has_failed : {V : Type 0} → Result V BootFault → Bool
+has_failed (Ok value) = false
+has_failed (Err fault) = is_disk fault
+
+-- A fault of the image is told where this is what is wrong with it; that the device failed says nothing of what is wrong.
+abbrev pub IsToldBy : Option ImageFault → BootFault → Type 0
+IsToldBy found (Image fault) = IsTold found fault
+IsToldBy found Disk = Unit {0}
+
+-- These cells and those hold the same, and stand for the same state and number.
+pub record StandAlike (plant : PlantDefinition) (digest : List ℕ) (bytes : ℕ) (before cells : List Cell) : Type 0 where
+  pub states : List Local
+  pub number : ℕ
+  pub stood : StandsFor plant digest bytes before states number
+  pub stand : StandsFor plant digest bytes cells states number
+  pub held : contents_of (length plant.atoms) cells ≡ contents_of (length plant.atoms) before
+
+-- Cells that a stop leaves of a device that is booted: some that a stop at its start might have left, or they hold and stand for what a
+-- read gave then.
+abbrev pub IsBooting : PlantDefinition → List ℕ → DiskState → List Cell → Type 0
+IsBooting plant digest old cells = MayBe (BODY + 1) old cells ⊎ StandAlike plant digest (size_of old) (seen_cells (BODY + 1) old) cells
+
+-- The view of a plant that is booted from a device of so many bytes with these cells: nothing is wrong with them, and the plant is where they lead, with
+-- nothing to acknowledge.
+pub record IsBooted (plant : PlantDefinition) (digest : List ℕ) (bytes : ℕ) (cells : List Cell) (v : View) : Type 0 where
+  pub sound : fault_of plant digest bytes cells ≡ None
+  pub acked : v.acked ≡ states_of plant (contents_of (length plant.atoms) cells)
+  pub number : v.number ≡ last_number (contents_of (length plant.atoms) cells)
+  pub acked_counts : (atom : ℕ) → count_of v.acked_counts atom ≡ count_of (counts_of plant (contents_of (length plant.atoms) cells)) atom
+  pub tail : v.tail ≡ []
+  pub present : v.present ≡ v.acked
+  pub counts : v.counts ≡ v.acked_counts
+  pub base : v.base ≡ (contents_of (length plant.atoms) cells).base
+  pub ring : v.ring ≡ (contents_of (length plant.atoms) cells).ring
+  pub broken : v.broken ≡ false

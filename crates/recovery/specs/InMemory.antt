@@ -1,0 +1,58 @@
+-- What is made in memory while a plant is booted.
+use Rattle.std.specs.Prelude.{◌≡◌, ℕ, ◌+◌, ◌≤◌, true, false, List, [], None, length, vec_capacity}
+use Rattle.disk_model.specs.DiskState.{DiskState, size_of}
+use Rattle.disk_model.specs.Cells.{Cell, cell_count, seen_cells}
+use Rattle.disk_model.specs.declared.cells.TheConstants.{BODY}
+use Rattle.gated_journal.specs.Rings.{cells_of_ring}
+use Rattle.record_replay.specs.Records.{count_of}
+use Rattle.step_core.specs.Plant.{PlantDefinition}
+use Rattle.step_core.specs.Running.{states_in, system_in}
+use Rattle.step_core.specs.System.{plant_of, digest_of}
+use Rattle.step_core.specs.declared.system.System.{System}
+use Rattle.plant_image.specs.Contents.{ring_in}
+use Rattle.plant_image.specs.Faults.{fault_of}
+use Rattle.plant_image.specs.Reading.{IsStanding, contents_in}
+use Rattle.plant_image.specs.declared.standing.Standing.{Standing}
+use Rattle.plant_core.specs.Kept.{IsAtRest}
+use Rattle.plant_core.specs.View.{View, view_by}
+use Rattle.plant_core.specs.declared.limits.TheConstants.{MOST_TAIL}
+use Rattle.recovery.specs.Booting.{IsBooted}
+use Rattle.recovery.specs.declared.booting.InMemory.{InMemory}
+
+-- What stands was read of some cells with which nothing is wrong: those that a read of the device gives, where it keeps the disk model.
+pub record WasRead (plant : PlantDefinition) (digest : List ℕ) (s : DiskState) (standing : Standing) : Type 0 where
+  pub cells : List Cell
+  pub seen : s.keeps ≡ true → cells ≡ seen_cells (BODY + 1) s
+  pub sound : fault_of plant digest (size_of s) cells ≡ None
+  pub is : IsStanding plant cells standing
+
+-- Room for a tail is there, and nothing in it.
+pub record IsEmptyTail (memory : InMemory) : Type 0 where
+  pub tail : memory.tail.items ≡ []
+  pub bodies : memory.bodies.items ≡ []
+  pub room_of_tail : MOST_TAIL ≤ vec_capacity memory.tail
+  pub room_of_bodies : MOST_TAIL ≤ vec_capacity memory.bodies
+
+-- What is in memory is what stands: the state twice, the counts, and the journal of the live records; and room for a tail.
+pub record IsMadeOf (system : System) (standing : Standing) (memory : InMemory) : Type 0 where
+  pub of_system : system_in memory.stepper ≡ system
+  pub states : states_in memory.stepper ≡ standing.states
+  pub acked : memory.acked ≡ standing.states
+  pub counts : memory.counts ≡ standing.counts
+  pub journal : memory.journal ≡ ring_in (length (plant_of system).atoms) (contents_in standing.held)
+  pub room : IsEmptyTail memory
+
+-- the view of the plant that is made of it
+abbrev pub view_in : InMemory → View
+view_in memory = view_by memory.acked memory.counts memory.journal.last [] memory.acked memory.counts memory.journal false
+
+-- What is in memory and what is on the device make a plant, as booting has to give it.
+pub record IsPrepared (system : System) (old new : DiskState) (memory : InMemory) : Type 0 where
+  pub of_system : system_in memory.stepper ≡ system
+  pub same : states_in memory.stepper ≡ memory.acked
+  pub counts : (atom : ℕ) → count_of memory.counts atom ≤ memory.journal.last
+  pub room : IsEmptyTail memory
+  pub atoms : memory.journal.atoms ≡ length (plant_of system).atoms
+  pub inside : cells_of_ring memory.journal ≤ cell_count (BODY + 1) new
+  pub rests : new.keeps ≡ true → IsAtRest (plant_of system) (digest_of system) memory.journal memory.acked memory.counts memory.journal.last new
+  pub booted : old.keeps ≡ true → IsBooted (plant_of system) (digest_of system) (size_of old) (seen_cells (BODY + 1) old) (view_in memory)

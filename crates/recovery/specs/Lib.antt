@@ -1,0 +1,3 @@
+pub mod Formatting
+pub mod Booting
+pub mod InMemory
