@@ -4,3 +4,4 @@ pub mod Flushing
 pub mod AtRest
 pub mod EventRuns
 pub mod EventByEvent
+pub mod Crossing

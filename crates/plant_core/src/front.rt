@@ -1,12 +1,14 @@
 //! How far a durable plant is, and what it shows.
 ghost use Rattle.std.specs.Prelude.{◌≡◌, ◌+◌, ◌≤◌, slice_get};
-ghost use Rattle.plant_core.specs.Plants.{device_of, view_of};
+ghost use Rattle.step_core.specs.System.{digest_of, plant_of};
+ghost use Rattle.plant_core.specs.Plants.{definition_of, device_of, text_digest, view_of};
 ghost use Rattle.plant_core.specs.View.{fired_number};
 
 use crate::limits::MOST_TAIL;
 use crate::plant::Plant;
 use disk_model::Disk;
 use petri_atom::AtomState;
+use step_core::System;
 
 /// How far a plant is.
 #[derive(Clone, Copy, Debug, PartialEq, Eq)]
@@ -43,6 +45,14 @@ impl<'s, D: Disk> Plant<'s, D> {
         ensures { result ≡ fired_number (view_of self.now) }
     {
         self.number + self.tail.len() as u64
+    }
+
+    /// The system that the plant runs.
+    pub fn system(&self) -> &'s System
+        ensures plant { plant_of result.now ≡ definition_of self.now }
+        ensures digest { digest_of result.now ≡ text_digest self.now }
+    {
+        self.stepper.system()
     }
 
     /// The present state of the atom with the number, where the plant has it.

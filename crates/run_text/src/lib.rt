@@ -8,7 +8,8 @@
 //!
 //! - `trace`: [`trace_as`] fires what a list of picks chooses, and prints it in a format; [`trace_to`] prints the fixed lines.
 //! - `fired`: [`print_choice`] prints a fired interaction, as `2 send A.t/0 B.u/0`.
-//! - `states`: [`print_states`] prints the states, as `state A [s] n=4`, and the lines of the states in each format.
+//! - `states`: [`print_states`] prints the states, as `state A [s] n=4`, [`print_state`] that of one atom; and the lines of the states in
+//!   each format.
 //! - `csv` and `jsonl`: the rows, and the objects.
 //! - `delivered`: the values that a firing delivers, as words.
 //! - `format` and `word`: the formats, and what in a line differs by them alone.
@@ -32,5 +33,5 @@ mod word;
 pub use fault::TraceFault;
 pub use fired::print_choice;
 pub use format::Format;
-pub use states::print_states;
+pub use states::{print_state, print_states};
 pub use trace::{trace_as, trace_to};

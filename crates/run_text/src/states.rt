@@ -67,8 +67,13 @@ fn print_atom<W: Write>(
     }
 }
 
-/// Prints the fixed line of an atom in a state, without its end.
-fn print_state<W: Write>(atom: &Atom, state: &AtomState, output: &mut W) -> Result<(), WriteFault>
+/// Prints the fixed line of an atom in a state: `state`, the atom's name, its marked places in brackets, and its variables, each as
+/// `NAME=VALUE`. The line is not ended.
+pub fn print_state<W: Write>(
+    atom: &Atom,
+    state: &AtomState,
+    output: &mut W,
+) -> Result<(), WriteFault>
     ensures { OnOk result (Appends (W.contents output.old) (W.contents output.new)
         (state_line (definition_of atom.now) state.now)) }
 {

@@ -1,0 +1,64 @@
+-- The lines of what happened to a durable plant, and of where it stands.
+use Rattle.std.specs.Prelude.{ℕ, List, [], ◌++◌, Option, None, Some, Ok, Err, codes, decimal}
+use Rattle.step_core.specs.Chosen.{choice_of}
+use Rattle.step_core.specs.Plant.{PlantDefinition}
+use Rattle.run_text.specs.Line.{fired_line, states_text}
+use Rattle.plant_core.specs.Refusals.{number_of}
+use Rattle.plant_core.specs.View.{View, fired_number}
+use Rattle.plant_core.specs.declared.events.Happened.{Happened}
+use Rattle.plant_core.specs.declared.events.Happened.TheVariants.{Fire, Flush}
+use Rattle.plant_core.specs.declared.front.Front.{Front}
+use Rattle.plant_core.specs.declared.refused.Refused.{Refused}
+use Rattle.plant_core.specs.declared.refused.Refused.TheVariants.{Stuck, Busy, TailFull, RingFull, Spent, Away, Ahead, Stranger, NothingNew, Disk, Broken}
+
+-- the name of a refusal
+abbrev pub name_of : Refused → List ℕ
+name_of Stuck = codes "Stuck"
+name_of Busy = codes "Busy"
+name_of TailFull = codes "TailFull"
+name_of RingFull = codes "RingFull"
+name_of Spent = codes "Spent"
+name_of (Away atom) = codes "Away"
+name_of (Ahead atom) = codes "Ahead"
+name_of Stranger = codes "Stranger"
+name_of NothingNew = codes "NothingNew"
+name_of Disk = codes "Disk"
+name_of Broken = codes "Broken"
+
+-- the number of the atom that a refusal speaks of
+abbrev pub atom_in : Refused → Option ℕ
+atom_in (Away atom) = Some atom
+atom_in (Ahead atom) = Some atom
+atom_in other = None
+
+-- the number of an atom, in parentheses
+abbrev pub atom_said : Option ℕ → List ℕ
+atom_said None = []
+atom_said (Some atom) = codes "(" ++ decimal atom ++ codes ")"
+
+-- a refusal: its number, its name, and the atom that it speaks of
+abbrev pub refused_line : Refused → List ℕ
+refused_line refused = codes "refused " ++ decimal (number_of refused) ++ codes " " ++ name_of refused ++ atom_said (atom_in refused)
+
+-- a flush: up to which number all is acknowledged
+abbrev pub flushed_line : ℕ → List ℕ
+flushed_line number = codes "flushed " ++ decimal number
+
+-- What happened: a choice that was fired as a trace prints it, up to where all was acknowledged, or why the plant refused.
+abbrev pub happened_line : PlantDefinition → Happened → List ℕ
+happened_line plant (Fire pick (Ok fired)) = fired_line plant fired.number (choice_of fired.choice)
+happened_line plant (Fire pick (Err refused)) = refused_line refused
+happened_line plant (Flush (Ok number)) = flushed_line number
+happened_line plant (Flush (Err refused)) = refused_line refused
+
+-- how far a plant is: the last that was fired, the last that is acknowledged, and the first record that is kept
+abbrev pub front_line : Front → List ℕ
+front_line front = codes "front " ++ decimal front.fired ++ codes " " ++ decimal front.acked ++ codes " " ++ decimal front.base
+
+-- how far a plant is that shows this
+abbrev pub front_of : View → Front
+front_of v = record { fired = fired_number v; acked = v.number; base = v.base }
+
+-- Where a plant stands: a line for each atom in its present state, and how far it is.
+abbrev pub standing_text : PlantDefinition → View → List ℕ
+standing_text plant v = states_text plant v.present ++ front_line (front_of v) ++ codes "\n"

@@ -1,0 +1,104 @@
+//! The lines of answers, refusals and fronts.
+ghost use Rattle.std.specs.Prelude.{◌≡◌, OnOk};
+ghost use Rattle.std.specs.Io.KnownBytes.{Appends};
+ghost use Rattle.step_core.specs.System.{plant_of};
+ghost use Rattle.script_lines.specs.Answers.{atom_in, atom_said, flushed_line, front_line, happened_line, name_of, refused_line};
+
+use plant_core::{Front, Happened, Refused};
+use run_text::print_choice;
+use std::io::Write;
+use step_core::System;
+use text_io::{WriteFault, print_number, print_text};
+
+/// Prints what happened to a durable plant of the system: a choice that was fired as a trace prints it, `flushed N` where all up to number N
+/// is acknowledged, and `refused NUMBER NAME` where the plant refused. The line is not ended.
+pub fn print_happened<W: Write>(
+    system: &System,
+    happened: &Happened,
+    output: &mut W,
+) -> Result<(), WriteFault>
+    ensures { OnOk result (Appends (W.contents output.old) (W.contents output.new)
+        (happened_line (plant_of system.now) happened.now)) }
+{
+    match happened {
+        Happened::Fire(_, Ok(fired)) => print_choice(fired.number, system, &fired.choice, output),
+        Happened::Fire(_, Err(refused)) => print_refused(*refused, output),
+        Happened::Flush(Ok(number)) => print_flushed(*number, output),
+        Happened::Flush(Err(refused)) => print_refused(*refused, output),
+    }
+}
+
+/// Prints up to which number all is acknowledged.
+fn print_flushed<W: Write>(number: u64, output: &mut W) -> Result<(), WriteFault>
+    ensures { OnOk result (Appends (W.contents output.old) (W.contents output.new) (flushed_line number)) }
+{
+    print_text(output, b"flushed ")?;
+    print_number(output, number)
+}
+
+/// Prints a refusal: its number, its name, and in parentheses the number of the atom that it speaks of.
+fn print_refused<W: Write>(refused: Refused, output: &mut W) -> Result<(), WriteFault>
+    ensures { OnOk result (Appends (W.contents output.old) (W.contents output.new) (refused_line refused)) }
+{
+    print_text(output, b"refused ")?;
+    print_number(output, u64::from(refused.number()))?;
+    print_text(output, b" ")?;
+    print_text(output, refused_name(refused))?;
+    print_atom(atom_in(refused), output)
+}
+
+/// Prints the number of an atom in parentheses, where there is one.
+fn print_atom<W: Write>(atom: Option<u16>, output: &mut W) -> Result<(), WriteFault>
+    ensures { OnOk result (Appends (W.contents output.old) (W.contents output.new) (atom_said atom)) }
+{
+    match atom {
+        Some(atom) => {
+            print_text(output, b"(")?;
+            print_number(output, u64::from(atom))?;
+            print_text(output, b")")
+        }
+        None => print_text(output, b""),
+    }
+}
+
+/// The name of a refusal.
+pub fn refused_name(refused: Refused) -> &'static [u8]
+    ensures { result.now ≡ name_of refused }
+{
+    match refused {
+        Refused::Stuck => b"Stuck",
+        Refused::Busy => b"Busy",
+        Refused::TailFull => b"TailFull",
+        Refused::RingFull => b"RingFull",
+        Refused::Spent => b"Spent",
+        Refused::Away(_) => b"Away",
+        Refused::Ahead(_) => b"Ahead",
+        Refused::Stranger => b"Stranger",
+        Refused::NothingNew => b"NothingNew",
+        Refused::Disk => b"Disk",
+        Refused::Broken => b"Broken",
+    }
+}
+
+/// The number of the atom that a refusal speaks of.
+fn atom_in(refused: Refused) -> Option<u16>
+    ensures { result ≡ atom_in refused }
+{
+    match refused {
+        Refused::Away(atom) | Refused::Ahead(atom) => Some(atom),
+        _ => None,
+    }
+}
+
+/// Prints how far a plant is: the number of the last choice that was fired, of the last that is acknowledged, and of the first record that is
+/// kept. The line is not ended.
+pub fn print_front<W: Write>(front: Front, output: &mut W) -> Result<(), WriteFault>
+    ensures { OnOk result (Appends (W.contents output.old) (W.contents output.new) (front_line front)) }
+{
+    print_text(output, b"front ")?;
+    print_number(output, front.fired)?;
+    print_text(output, b" ")?;
+    print_number(output, front.acked)?;
+    print_text(output, b" ")?;
+    print_number(output, front.base)
+}

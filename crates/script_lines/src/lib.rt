@@ -1,0 +1,29 @@
+//! The lines of a durable run.
+//!
+//! A script is a text with an event on each line: `fire P` or `flush`. [`read_script`] turns it into events, [`run_script`] asks them of a
+//! [`Plant`](plant_core::Plant), one after another, and prints what happened: a line for each answer, and at the end a line for the state of
+//! each atom and one that says how far the plant is.
+//!
+//! What a script means is one definition, `script_meaning` (`specs/Script.antt`), what is printed is `happened_line` and `standing_text`
+//! (`specs/Answers.antt`), and what a run is stands in `specs/Runs.antt`. Contracts say that exactly these bytes were appended to a writer,
+//! where its type says which bytes it took; they say nothing of when a writer fails, nor of when it is flushed.
+//!
+//! - `script`: a script, line by line. `line`: what one line says. `fault`: why a script is refused.
+//! - `answers`: the lines of answers, refusals and fronts. `standing`: where a plant stands.
+//! - `run`: the events of a script, asked and answered.
+//!
+//! Memory is taken only for the events of a script. A run takes none.
+#![tactic(auto)]
+
+mod answers;
+mod fault;
+mod line;
+mod run;
+mod script;
+mod standing;
+
+pub use answers::{print_front, print_happened, refused_name};
+pub use fault::ScriptFault;
+pub use run::run_script;
+pub use script::read_script;
+pub use standing::print_standing;

@@ -1,0 +1,75 @@
+//! What one line of a script says.
+ghost use Rattle.std.specs.Prelude.{◌≡◌};
+ghost use Rattle.script_lines.specs.Script.{asked_for, event_in, fire_in, flush_in, line_in};
+
+use plant_core::Event;
+use plant_words::{Words, is_legal, read_decimal};
+
+/// What a line of a script says.
+#[derive(Clone, Copy, Debug, PartialEq, Eq)]
+pub(crate) enum ScriptLine {
+    /// It has no words.
+    Nothing,
+    /// It asks for this event.
+    Asks(Event),
+    /// Its words ask for no event, or it has a byte that no plant text may hold.
+    Unreadable,
+}
+
+/// What the line says.
+pub(crate) fn read_line(line: &[u8]) -> ScriptLine
+    ensures { result ≡ line_in line.now }
+{
+    if !is_legal(line) {
+        return ScriptLine::Unreadable;
+    }
+    let mut words = Words::new(line);
+    match words.next_word() {
+        Some(first) => asked_for(event_in(first, &mut words)),
+        None => ScriptLine::Nothing,
+    }
+}
+
+/// A line whose words ask for this event, if for any.
+fn asked_for(event: Option<Event>) -> ScriptLine
+    ensures { result ≡ asked_for event }
+{
+    match event {
+        Some(event) => ScriptLine::Asks(event),
+        None => ScriptLine::Unreadable,
+    }
+}
+
+/// The event that a first word and the words behind it ask for.
+fn event_in(first: &[u8], words: &mut Words<'_>) -> Option<Event>
+    ensures { result ≡ event_in first.now words.old }
+{
+    if first == b"fire".as_slice() {
+        fire_in(words)
+    } else if first == b"flush".as_slice() {
+        flush_in(words)
+    } else {
+        None
+    }
+}
+
+/// The event that the words behind `fire` ask for.
+fn fire_in(words: &mut Words<'_>) -> Option<Event>
+    ensures { result ≡ fire_in words.old }
+{
+    let word = words.next_word()?;
+    match words.next_word() {
+        Some(_) => None,
+        None => Some(Event::Fire(read_decimal(word)?)),
+    }
+}
+
+/// The event that the words behind `flush` ask for.
+fn flush_in(words: &mut Words<'_>) -> Option<Event>
+    ensures { result ≡ flush_in words.old }
+{
+    match words.next_word() {
+        Some(_) => None,
+        None => Some(Event::Flush),
+    }
+}
