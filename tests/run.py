@@ -3,6 +3,7 @@
 
 A case is a folder tests/COMMAND/CASE. The program runs in a fresh copy of it, in which `examples` leads to the plants of examples/.
 
+    before        runs of the program that are made first, in the same folder: the words of each on a line; each ends with status 0
     args          the words of the command line, one a line
     stdin         the standard input; without the file there is none
     stdout        what is printed; without the file nothing
@@ -15,16 +16,20 @@ A case is a folder tests/COMMAND/CASE. The program runs in a fresh copy of it, i
                       standard output full                the standard output takes nothing
                       standard error on a terminal        what is told goes to a terminal
                       memory of COUNT KiB                 the program gets no more memory for its data
-                      FILE begins with COUNT line feeds   the file, too long to be stored, has these before; or `spaces`
+                      FILE begins with COUNT line feeds   the file, too long to be stored, has these before; or `spaces`, or `zeros`
                       FILE ends with COUNT line feeds     the file has these behind, or is made of them
                       FILE is EXAMPLE without LINE        the file is made: an example, but for one line
+                      FILE has BYTES at PLACE             these bytes, to the base 16, go into the file behind the runs of `before`
+                      FILE is in use                      another program has the file open and locked
     any other     a file that the words may name; `about`, if there, says what the case shows
 
-Each run that examples/README.md shows is a case too, shown/WORDS.
+Each run that examples/README.md shows is a case too, shown/WORDS, and so is each stop of tests/stops.py, stops/MOMENT.
 
 Words on the command line choose cases: `tests/run.py check` runs those whose COMMAND/CASE has `check` in it.
 """
 
+import contextlib
+import fcntl
 import os
 import pty
 import re
@@ -36,6 +41,8 @@ import tty
 import unittest
 from pathlib import Path
 
+import stops
+
 TESTS = Path(__file__).resolve().parent
 ROOT = TESTS.parent
 # Where the gate leaves the program that it has proved and built.
@@ -46,7 +53,10 @@ OUTPUTS = {"standard output closed": ">&-", "standard output full": ">/dev/full"
 # The setting that gives the program a terminal.
 TERMINAL = "standard error on a terminal"
 # What a setting may grow a file by.
-BYTES = {"line feeds": b"\n", "spaces": b" "}
+BYTES = {"line feeds": b"\n", "spaces": b" ", "zeros": b"\0"}
+# The settings that are made behind the runs of `before`: FILE has BYTES at PLACE, and FILE is in use.
+PATCH = re.compile(r"(\S+) has ([0-9a-f]+) at (\d+)")
+IN_USE = re.compile(r"(\S+) is in use")
 
 
 def built_program():
@@ -69,6 +79,13 @@ def grow(file, end, more):
     """Puts more bytes before what the file holds, or behind it."""
     own = file.read_bytes() if file.exists() else b""
     file.write_bytes(more + own if end == "begins" else own + more)
+
+
+def patch(file, place, new):
+    """Writes new bytes over those of a file from a place on."""
+    with open(file, "r+b") as opened:
+        opened.seek(place)
+        opened.write(new)
 
 
 def run_on_terminal(command, how):
@@ -114,7 +131,7 @@ class Case:
         os.symlink(ROOT / "examples", place / "examples")
         command = 'exec "$0" "$@"'
         for line in self.lines_of("setting"):
-            if grown := re.fullmatch(r"(\S+) (begins|ends) with (\d+) (line feeds|spaces)", line):
+            if grown := re.fullmatch(r"(\S+) (begins|ends) with (\d+) (line feeds|spaces|zeros)", line):
                 grow(place / grown[1], grown[2], int(grown[3]) * BYTES[grown[4]])
             elif made := re.fullmatch(r"(\S+) is (examples/\S+) without (.+)", line):
                 (place / made[1]).write_text(without_line((ROOT / made[2]).read_text(), made[3]))
@@ -122,19 +139,41 @@ class Case:
                 command = f"ulimit -d {given[1]} && {command}"
             elif line in OUTPUTS:
                 command = f"{command} {OUTPUTS[line]}"
-            elif line != TERMINAL:
+            elif line != TERMINAL and not PATCH.fullmatch(line) and not IN_USE.fullmatch(line):
                 raise ValueError(f"{self.name}: no such setting: {line}")
         return command
+
+    def run_before(self, program, place):
+        """Makes the runs of `before`, and then the settings that touch the files that these leave."""
+        for line in self.lines_of("before"):
+            subprocess.run([str(program), *line.split()], cwd=place, stdout=subprocess.DEVNULL, timeout=SECONDS, check=True)
+        for line in self.lines_of("setting"):
+            if patched := PATCH.fullmatch(line):
+                patch(place / patched[1], int(patched[3]), bytes.fromhex(patched[2]))
+
+    @contextlib.contextmanager
+    def files_in_use(self, place):
+        """Keeps the files open and locked that the settings say are in use."""
+        with contextlib.ExitStack() as held:
+            for line in self.lines_of("setting"):
+                if used := IN_USE.fullmatch(line):
+                    fcntl.flock(held.enter_context(open(place / used[1], "rb")), fcntl.LOCK_EX)
+            yield
 
     def run(self, program):
         """Runs the program, and gives its status, standard output and standard error."""
         with tempfile.TemporaryDirectory() as folder:
             command = ["sh", "-c", self.make_files(Path(folder)), str(program), *self.lines_of("args")]
-            how = {"input": self.bytes_of("stdin") or b"", "stdout": subprocess.PIPE, "cwd": folder, "timeout": SECONDS}
-            if TERMINAL in self.lines_of("setting"):
-                return run_on_terminal(command, how)
-            ran = subprocess.run(command, stderr=subprocess.PIPE, **how)
-            return ran.returncode, ran.stdout, ran.stderr
+            self.run_before(program, Path(folder))
+            with self.files_in_use(Path(folder)):
+                return self.run_in(folder, command)
+
+    def run_in(self, folder, command):
+        how = {"input": self.bytes_of("stdin") or b"", "stdout": subprocess.PIPE, "cwd": folder, "timeout": SECONDS}
+        if TERMINAL in self.lines_of("setting"):
+            return run_on_terminal(command, how)
+        ran = subprocess.run(command, stderr=subprocess.PIPE, **how)
+        return ran.returncode, ran.stdout, ran.stderr
 
 
 class Shown(Case):
@@ -182,8 +221,8 @@ def cases(words):
     return [case for case in found if not words or any(word in case.name for word in words)]
 
 
-def suite(chosen):
-    tests = unittest.TestSuite()
+def suite(chosen, words):
+    tests = stops.suite(built_program, words)
     for case in chosen:
         setattr(Answers, f"test {case.name}", lambda self, case=case: self.check_case(case))
         tests.addTest(Answers(f"test {case.name}"))
@@ -192,10 +231,10 @@ def suite(chosen):
 
 def main():
     chosen = cases(sys.argv[1:])
-    result = unittest.TextTestRunner(stream=sys.stdout, verbosity=1).run(suite(chosen))
+    result = unittest.TextTestRunner(stream=sys.stdout, verbosity=1).run(suite(chosen, sys.argv[1:]))
     failed = len(result.failures) + len(result.errors)
     print(f"{result.testsRun - failed} passed, {failed} failed")
-    return 0 if chosen and failed == 0 else 1
+    return 0 if result.testsRun and failed == 0 else 1
 
 
 if __name__ == "__main__":

@@ -9,7 +9,7 @@ use Rattle.bip_run.specs.Printed.{counted, printed_of, Prints}
 use Rattle.bip_run.specs.Stop.{Tells, IsOfOutput}
 use Rattle.command_line.specs.declared.request.Task.{Task}
 use Rattle.bip_run.specs.declared.stop.Stop.{Stop}
-use Rattle.bip_run.specs.declared.stop.Stop.TheVariants.{Usage, Plant, Unopened, Memory, Unwritten}
+use Rattle.bip_run.specs.declared.stop.Stop.TheVariants.{Usage, Plant, Unopened, Script, ScriptUnread, ImageUnopened, Image, Memory, Unwritten}
 
 -- what was appended stays so where the bytes are kept
 pub appended_and_kept : (a b c : Option (List ℕ)) (text : List ℕ) → Appends a b text → Keeps b c → Appends a c text
@@ -46,13 +46,23 @@ pub output_tells : (stop : Stop) (bytes : List ℕ) (plant : PlantText) → mean
 output_tells (Plant told) bytes plant means of = absurd of
 output_tells Usage bytes plant means of = absurd of
 output_tells Unopened bytes plant means of = absurd of
+output_tells (Script line) bytes plant means of = absurd of
+output_tells ScriptUnread bytes plant means of = absurd of
+output_tells (ImageUnopened fault) bytes plant means of = absurd of
+output_tells (Image stop) bytes plant means of = absurd of
 output_tells Memory bytes plant means of = tt
 output_tells Unwritten bytes plant means of = (plant, means)
 
--- a result that is a stop of the output, behind a text of a plant, as far as the text is known
-pub refused_behind_a_plant : {A : Type 0} (result : Result A Stop) (stop : Stop) (known : Option (List ℕ)) (text : List ℕ) (plant : PlantText) →
-    result ≡ Err stop → IsOfOutput stop → meaning text ≡ Ok plant → IfSome known (λ bytes. text ≡ bytes) → IfErr result (λ told. IfSome known (λ bytes. Tells told bytes))
-refused_behind_a_plant (Ok done) stop known text plant is of means same = absurd (cc)
-refused_behind_a_plant (Err told) stop known text plant is of means same =
+-- a stop of the output, behind bytes that mean a plant as far as they are known
+stop_tells : (stop : Stop) (known : Option (List ℕ)) (plant : PlantText) → IsOfOutput stop → IfSome known (λ bytes. meaning bytes ≡ Ok plant) →
+    IfSome known (λ bytes. Tells stop bytes)
+stop_tells stop None plant of means = tt
+stop_tells stop (Some bytes) plant of means = output_tells stop bytes plant means of
+
+-- a result that is such a stop
+pub refused_behind_a_plant : {A : Type 0} (result : Result A Stop) (stop : Stop) (known : Option (List ℕ)) (plant : PlantText) →
+    result ≡ Err stop → IsOfOutput stop → IfSome known (λ bytes. meaning bytes ≡ Ok plant) → IfErr result (λ told. IfSome known (λ bytes. Tells told bytes))
+refused_behind_a_plant (Ok done) stop known plant is of means = absurd (cc)
+refused_behind_a_plant (Err told) stop known plant is of means =
     let one : stop ≡ told = cc in
-    of_known known text (Tells told) same (output_tells told text plant means (subst IsOfOutput one of))
+    stop_tells told known plant (subst IsOfOutput one of) means

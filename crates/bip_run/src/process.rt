@@ -3,27 +3,30 @@ ghost use Rattle.std.specs.Prelude.{◌≡◌};
 ghost use Rattle.bip_run.specs.Stop.{status_of};
 
 use crate::explanation::explanation_in;
-use crate::stop::{Stop, Told, ended, exit_status};
-use crate::task::perform;
-use command_line::{Request, read_request};
+use crate::script::read_events;
+use crate::stop::{More, Paths, Stop, Told, ended, exit_status};
+use crate::task::{perform, read_plant};
+use command_line::{ImageTask, Request, Task, Work, is_standard_input, read_request};
+use file_disk::{FileDisk, FileFault};
+use image_commands::{format_image, image_bytes, recover_image, run_image};
+use plant_core::Event;
 use plant_text::PlantFault;
 use std::alloc::AllocError;
-use std::io::{BufWriter, ErrorKind as IoErrorKind};
+use std::fs::File;
+use std::io::{BufWriter, ErrorKind as IoErrorKind, Write};
 use std::rt::{Env, Files};
 use std::{env, fs, io, str};
+use step_core::System;
 
-/// The path that stands for the standard input.
-const STANDARD_INPUT: &str = "-";
-
-/// Does what the words of the command line ask for, and gives the exit status. The line of a fault is shown where `explain`
-/// says so or the words ask for it.
-pub(crate) fn run<R: Env + Files + Input + Print + Eprint + AllocGlobal>(
+/// Does what the words of the command line ask for, and gives the exit status. More is told of a fault where `explain` says so or
+/// the words ask for it.
+pub(crate) fn run<R: Env + Files<File = File> + Input + Print + Eprint + AllocGlobal>(
     rt: &R,
     explain: bool,
 ) -> u8 {
     match words(rt) {
         Ok(words) => answer(rt, words.as_slice(), explain),
-        Err(stop) => end(rt, "", Err(stop)),
+        Err(stop) => end(rt, Paths::none(), Err(stop)),
     }
 }
 
@@ -40,48 +43,143 @@ fn words<R: Env + Eprint + AllocGlobal>(rt: &R) -> Result<Vec<String>, Stop> {
 }
 
 /// Answers the words of the command line.
-fn answer<R: Files + Input + Print + Eprint + AllocGlobal>(
+fn answer<R: Files<File = File> + Input + Print + Eprint + AllocGlobal>(
     rt: &R,
     words: &[String],
     explain: bool,
 ) -> u8 {
     match read_request(rt, words) {
         Ok(request) => serve(rt, &request, explain),
-        Err(answered) => end(rt, "", ended(answered)),
+        Err(answered) => end(rt, Paths::none(), ended(answered)),
     }
 }
 
 /// Does what was asked for, tells why not where it stops, and gives the exit status.
-fn serve<R: Files + Input + Print + Eprint + AllocGlobal>(
+fn serve<R: Files<File = File> + Input + Print + Eprint + AllocGlobal>(
     rt: &R,
     request: &Request<'_>,
     explain: bool,
 ) -> u8 {
     let mut text = Vec::new(rt.alloc());
     let ended = work(rt, request, &mut text);
-    let status = end(rt, request.plant, ended);
-    if let Err(Stop::Plant(told)) = ended
+    let status = end(rt, Paths::of(request), ended);
+    if let Err(stop) = ended
         && (explain || request.explain)
     {
-        // What can't be shown for want of memory has been told by its line.
-        let _ = show_line(rt, &text, &told);
+        tell_more(rt, &text, stop);
     }
     status
 }
 
 /// Does what was asked for. The text of the plant is put into `text`.
-fn work<R: Files + Input + Print + AllocGlobal>(
+fn work<R: Files<File = File> + Input + Print + AllocGlobal>(
     rt: &R,
     request: &Request<'_>,
     text: &mut Vec<u8>,
 ) -> Result<(), Stop> {
-    let alloc = rt.alloc();
-    let mut output = BufWriter::new(alloc, io::writer(rt)).map_err(|_| Stop::Memory)?;
-    if request.plant == STANDARD_INPUT {
-        return perform(alloc, &request.task, &mut rt.reader(), text, &mut output);
+    let mut output = BufWriter::new(rt.alloc(), io::writer(rt)).map_err(|_| Stop::Memory)?;
+    match &request.work {
+        Work::OfPlant(task) => work_of_plant(rt, task, request.plant, text, &mut output),
+        Work::OnImage(image, task) => {
+            let system = plant_at(rt, request.plant, text)?;
+            work_on_image(rt, *task, &system, image, &mut output)
+        }
     }
-    let mut file = fs::open(rt, request.plant).map_err(|_| Stop::Unopened)?;
-    perform(alloc, &request.task, &mut file, text, &mut output)
+}
+
+/// Does a task of the plant alone that stands at the path.
+fn work_of_plant<R: Files<File = File> + Input + AllocGlobal, W: Write>(
+    rt: &R,
+    task: &Task,
+    plant: &str,
+    text: &mut Vec<u8>,
+    output: &mut W,
+) -> Result<(), Stop> {
+    if is_standard_input(plant) {
+        return perform(rt.alloc(), task, &mut rt.reader(), text, output);
+    }
+    let mut file = fs::open(rt, plant).map_err(|_| Stop::Unopened)?;
+    perform(rt.alloc(), task, &mut file, text, output)
+}
+
+/// Does a task of the plant on its image, the file at the path.
+fn work_on_image<R: Files<File = File> + Input + AllocGlobal, W: Write>(
+    rt: &R,
+    task: ImageTask<'_>,
+    system: &System,
+    image: &str,
+    output: &mut W,
+) -> Result<(), Stop> {
+    let alloc = rt.alloc();
+    match task {
+        ImageTask::Format(ring) => {
+            let disk = device_to_format(rt, image, image_bytes(system, ring.records))?;
+            format_image(alloc, system, ring.records, disk, output)?;
+        }
+        ImageTask::Run(script) => {
+            let events = script_at(rt, script)?;
+            let disk = device_at(rt, image)?;
+            run_image(alloc, system, &events, disk, output)?;
+        }
+        ImageTask::Recover => {
+            let disk = device_at(rt, image)?;
+            recover_image(alloc, system, disk, output)?;
+        }
+    }
+    Ok(())
+}
+
+/// The plant that stands at the path. Its text is put into `text`.
+fn plant_at<R: Files<File = File> + Input + AllocGlobal>(
+    rt: &R,
+    path: &str,
+    text: &mut Vec<u8>,
+) -> Result<System, Stop> {
+    if is_standard_input(path) {
+        return read_plant(rt.alloc(), &mut rt.reader(), text);
+    }
+    let mut file = fs::open(rt, path).map_err(|_| Stop::Unopened)?;
+    read_plant(rt.alloc(), &mut file, text)
+}
+
+/// The events of the script that stands at the path.
+fn script_at<R: Files<File = File> + Input + AllocGlobal>(
+    rt: &R,
+    path: &str,
+) -> Result<Vec<Event>, Stop> {
+    if is_standard_input(path) {
+        return read_events(rt.alloc(), &mut rt.reader());
+    }
+    let mut file = fs::open(rt, path).map_err(|_| Stop::ScriptUnread)?;
+    read_events(rt.alloc(), &mut file)
+}
+
+/// The image that is at the path.
+fn device_at<R: Files<File = File>>(rt: &R, path: &str) -> Result<FileDisk, Stop> {
+    FileDisk::open(rt, path).map_err(Stop::ImageUnopened)
+}
+
+/// The file at the path, which is to be an image of so many bytes: it is made, full of zeros, where nothing is there.
+fn device_to_format<R: Files<File = File>>(
+    rt: &R,
+    path: &str,
+    bytes: u64,
+) -> Result<FileDisk, Stop> {
+    match FileDisk::create(rt, path, bytes) {
+        Ok(disk) => Ok(disk),
+        Err(FileFault::AlreadyThere) => device_at(rt, path),
+        Err(fault) => Err(Stop::ImageUnopened(fault)),
+    }
+}
+
+/// Tells more of a stop than its line: of a plant's fault the line of the text, and of any other what it means.
+fn tell_more<R: Eprint + AllocGlobal>(rt: &R, text: &[u8], stop: Stop) {
+    // What can't be shown for want of memory has been told by its line.
+    if let Stop::Plant(told) = stop {
+        let _ = show_line(rt, text, &told);
+    } else {
+        let _ = rt.eprint(More { stop });
+    }
 }
 
 /// Shows the line of the text that has the fault, if it is one of a line, with a mark under what is at fault.
@@ -96,11 +194,11 @@ fn show_line<R: Eprint + AllocGlobal>(
 }
 
 /// Tells why the program stops, where it does, and gives the exit status.
-fn end<R: Eprint>(rt: &R, plant: &str, ended: Result<(), Stop>) -> u8
+fn end<R: Eprint>(rt: &R, paths: Paths<'_>, ended: Result<(), Stop>) -> u8
     ensures { result ≡ status_of ended }
 {
     if let Err(stop) = ended {
-        let _ = rt.eprint(Told { stop, plant });
+        let _ = rt.eprint(Told { stop, paths });
     }
     exit_status(&ended)
 }

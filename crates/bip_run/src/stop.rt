@@ -2,9 +2,12 @@
 ghost use Rattle.std.specs.Prelude.{◌≡◌};
 ghost use Rattle.bip_run.specs.Stop.{ended_by, status_of};
 
-use command_line::Answered;
+use command_line::{Answered, ImageTask, Request, Work};
+use file_disk::FileFault;
+use image_commands::ImageStop;
 use plant_text::{Fault, PlantFault};
 use run_text::TraceFault;
+use script_lines::ScriptFault;
 use std::fmt;
 use text_io::WriteFault;
 
@@ -15,16 +18,24 @@ pub(crate) enum Stop {
     Usage,
     /// The text is no plant, or could not be read.
     Plant(PlantFault),
-    /// The file could not be opened.
+    /// The plant's file could not be opened.
     Unopened,
+    /// The script is refused at the line with this number, and at 0 where it is too long.
+    Script(u32),
+    /// The script could not be opened or read.
+    ScriptUnread,
+    /// The image's file could not be opened or made.
+    ImageUnopened(FileFault),
+    /// The command on the image ended early.
+    Image(ImageStop),
     /// Memory ran out.
     Memory,
     /// The standard output could not be written.
     Unwritten,
 }
 
-/// The exit status of the program: 0 where it did what it was asked for, 1 where the plant is refused, 2 where the words
-/// of the command line were not understood, and 3 where a file, the memory or the output failed.
+/// The exit status of the program: 0 where it did what it was asked for, 1 where the plant, the script or the image is refused,
+/// 2 where the words of the command line were not understood, and 3 where a file, a device, the memory or the output failed.
 pub(crate) fn exit_status(ended: &Result<(), Stop>) -> u8
     ensures { result ≡ status_of ended.now }
 {
@@ -36,6 +47,10 @@ pub(crate) fn exit_status(ended: &Result<(), Stop>) -> u8
             _ => 1,
         },
         Err(Stop::Unopened) => 3,
+        Err(Stop::Script(_)) => 1,
+        Err(Stop::ScriptUnread) => 3,
+        Err(Stop::ImageUnopened(_)) => 3,
+        Err(Stop::Image(stop)) => stop.exit_status(),
         Err(Stop::Memory) => 3,
         Err(Stop::Unwritten) => 3,
     }
@@ -53,27 +68,73 @@ pub(crate) fn ended(answered: Answered) -> Result<(), Stop>
     }
 }
 
-/// What is told of a stop, where the plant text stood at the path: a line, or nothing where `clap` told it, and where the
-/// output failed.
+/// Where the plant text, the script and the image are, as the words of the command line name them; empty where they name none.
+#[derive(Clone, Copy)]
+pub(crate) struct Paths<'a> {
+    /// The plant text.
+    pub(crate) plant: &'a str,
+    /// The script.
+    pub(crate) script: &'a str,
+    /// The image.
+    pub(crate) image: &'a str,
+}
+
+impl<'a> Paths<'a> {
+    ghost use Rattle.std.specs.Prelude.{◌≡◌, []};
+    ghost use Rattle.bip_run.specs.Paths.{image_in, script_in};
+
+    /// No paths.
+    pub(crate) fn none() -> Self
+        ensures plant { result.plant.now ≡ [] }
+        ensures script { result.script.now ≡ [] }
+        ensures image { result.image.now ≡ [] }
+    {
+        Paths {
+            plant: "",
+            script: "",
+            image: "",
+        }
+    }
+
+    /// The paths of a request.
+    pub(crate) fn of(request: &Request<'a>) -> Self
+        ensures plant { result.plant.now ≡ request.now.plant.now }
+        ensures script { result.script.now ≡ script_in request.now.work }
+        ensures image { result.image.now ≡ image_in request.now.work }
+    {
+        let (script, image) = match &request.work {
+            Work::OfPlant(_) => ("", ""),
+            Work::OnImage(image, ImageTask::Run(script)) => (*script, *image),
+            Work::OnImage(image, _) => ("", *image),
+        };
+        Paths {
+            plant: request.plant,
+            script,
+            image,
+        }
+    }
+}
+
+/// What is told of a stop: a line, or nothing where `clap` or the answers of a run told it, and where the output failed.
 #[derive(Clone, Copy)]
 pub(crate) struct Told<'a> {
     /// Why the program stops.
     pub(crate) stop: Stop,
-    /// The path of the plant text.
-    pub(crate) plant: &'a str,
+    /// Where its texts and its image are.
+    pub(crate) paths: Paths<'a>,
 }
 
 impl<'a> fmt::Display for Told<'a> {
     ghost use Rattle.std.specs.Prelude.{Some};
     ghost use Rattle.bip_run.specs.Stop.{told_text};
 
-    ghost output = { λ told. Some (told_text told.plant.now told.stop) };
+    ghost output = { λ told. Some (told_text told.paths told.stop) };
 
     fn fmt<W: fmt::Write>(&self, f: &mut fmt::Formatter<W>) -> fmt::Result {
         match self.stop {
             Stop::Usage => Ok(()),
             Stop::Plant(told) => match (told.fault, told.fault.subject()) {
-                (Fault::Read, _) => writeln!(f, "file {}", self.plant),
+                (Fault::Read, _) => writeln!(f, "file {}", self.paths.plant),
                 (fault, None) => writeln!(
                     f,
                     "plant line {}: fault {} {}",
@@ -89,9 +150,41 @@ impl<'a> fmt::Display for Told<'a> {
                     fault.name()
                 ),
             },
-            Stop::Unopened => writeln!(f, "file {}", self.plant),
+            Stop::Unopened => writeln!(f, "file {}", self.paths.plant),
+            Stop::Script(line) => writeln!(f, "script line {line}"),
+            Stop::ScriptUnread => writeln!(f, "file {}", self.paths.script),
+            Stop::ImageUnopened(FileFault::InUse) => {
+                writeln!(f, "file {} in use", self.paths.image)
+            }
+            Stop::ImageUnopened(_) => writeln!(f, "file {}", self.paths.image),
+            Stop::Image(ImageStop::Refused(refusal)) => writeln!(f, "{refusal}"),
+            Stop::Image(_) => Ok(()),
             Stop::Memory => f.write_str("memory\n"),
             Stop::Unwritten => Ok(()),
+        }
+    }
+}
+
+/// What is told of a stop behind its line, where more is to be told: what it means, and what can be done. Of a plant's fault the
+/// line of the text is shown in its place.
+#[derive(Clone, Copy)]
+pub(crate) struct More {
+    /// Why the program stops.
+    pub(crate) stop: Stop,
+}
+
+impl fmt::Display for More {
+    ghost use Rattle.std.specs.Prelude.{Some};
+    ghost use Rattle.bip_run.specs.Stop.{more_text};
+
+    ghost output = { λ more. Some (more_text more.stop) };
+
+    fn fmt<W: fmt::Write>(&self, f: &mut fmt::Formatter<W>) -> fmt::Result {
+        match self.stop {
+            Stop::Script(line) => writeln!(f, "  {}", ScriptFault::Line(line)),
+            Stop::ImageUnopened(fault) => writeln!(f, "  {fault}"),
+            Stop::Image(ImageStop::Refused(refusal)) => writeln!(f, "  {}", refusal.advice()),
+            _ => Ok(()),
         }
     }
 }
@@ -113,6 +206,29 @@ impl From<WriteFault> for Stop {
 
     fn from(_: WriteFault) -> Self {
         Stop::Unwritten
+    }
+}
+
+impl From<ScriptFault> for Stop {
+    ghost use Rattle.bip_run.specs.Script.{of_script};
+
+    ghost from_gives = { λ fault stop. stop ≡ of_script fault };
+
+    fn from(fault: ScriptFault) -> Self {
+        match fault {
+            ScriptFault::Line(number) => Stop::Script(number),
+            ScriptFault::Memory => Stop::Memory,
+        }
+    }
+}
+
+impl From<ImageStop> for Stop {
+    ghost use Rattle.bip_run.specs.declared.stop.Stop.TheVariants.{Image};
+
+    ghost from_gives = { λ told stop. stop ≡ Image told };
+
+    fn from(stop: ImageStop) -> Self {
+        Stop::Image(stop)
     }
 }
 

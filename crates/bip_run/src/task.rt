@@ -1,8 +1,10 @@
 //! What is done with a plant text, from a reader to a writer.
-ghost use Rattle.std.specs.Prelude.{◌≡◌, ◌≢◌, ◌<◌, IfErr, IfOk, IfSome, OnOk, Err};
+ghost use Rattle.std.specs.Prelude.{◌≡◌, ◌≢◌, ◌<◌, IfErr, IfOk, IfSome, OnOk, Ok, Err};
 ghost use Rattle.std.specs.Io.KnownBytes.{Appends, Keeps};
 ghost use Rattle.step_core.specs.System.{plant_of};
+ghost use Rattle.plant_text.specs.Meaning.{meaning};
 ghost use Rattle.plant_text.specs.Taken.{TakesFew};
+ghost use Rattle.plant_text.specs.Text.{text_of};
 ghost use Rattle.plant_text.specs.declared.fault.PlantFault.{PlantFault};
 ghost use Rattle.bip_run.specs.Printed.{printed_of, Prints};
 ghost use Rattle.bip_run.specs.Stop.{Tells, IsOfOutput};
@@ -34,11 +36,25 @@ pub(crate) fn perform<R: Read, W: Write>(
     ensures kept { (told : PlantFault) → result ≡ Err (Plant told) → 0 < told.line → IfSome (R.remaining reader.old) (λ bytes. text.new.items ≡ bytes) }
     ensures few { TakesFew (R.remaining reader.old) (R.remaining reader.new) }
 {
-    *text = read_bytes(alloc, reader)?;
-    let system = plant_of_text(alloc, text)?;
+    let system = read_plant(alloc, reader, text)?;
     print_task(alloc, task, &system, output)?;
     flush(output)?;
     Ok(())
+}
+
+/// Reads a plant text to the reader's end, and gives the plant. The text is put into `text`.
+pub(crate) fn read_plant<R: Read>(
+    alloc: Global,
+    reader: &mut R,
+    text: &mut Vec<u8>,
+) -> Result<System, Stop>
+    ensures plant { IfOk result (λ system. IfSome (R.remaining reader.old) (λ bytes. meaning bytes ≡ Ok (text_of (plant_of system)))) }
+    ensures refused { IfErr result (λ stop. IfSome (R.remaining reader.old) (λ bytes. Tells stop bytes)) }
+    ensures kept { (told : PlantFault) → result ≡ Err (Plant told) → 0 < told.line → IfSome (R.remaining reader.old) (λ bytes. text.new.items ≡ bytes) }
+    ensures few { TakesFew (R.remaining reader.old) (R.remaining reader.new) }
+{
+    *text = read_bytes(alloc, reader)?;
+    Ok(plant_of_text(alloc, text)?)
 }
 
 /// The bytes of a plant text.

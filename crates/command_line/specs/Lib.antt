@@ -1,2 +1,4 @@
 pub mod Formats
 pub mod Picks
+pub mod Rings
+pub mod Inputs

@@ -1,124 +1,55 @@
-//! The words of the command line: the commands with their help, and how a request is read.
+//! The words of the command line: the commands, and how a request is read.
 use crate::answer::{Answered, show};
 use crate::formats::format_named;
+use crate::help::{
+    ABOUT, AFTER, CHECK_ABOUT, CHECK_AFTER, CHECK_BRIEF, DRAW_ABOUT, DRAW_AFTER, DRAW_BRIEF,
+    FORMAT_ABOUT, FORMAT_AFTER, FORMAT_BRIEF, RECOVER_ABOUT, RECOVER_AFTER, RECOVER_BRIEF,
+    RUN_ABOUT, RUN_AFTER, RUN_BRIEF, TRACE_ABOUT, TRACE_AFTER, TRACE_BRIEF,
+};
+use crate::input::are_one_input;
 use crate::picks::{PickFault, read_picks};
-use crate::request::{Request, Task};
+use crate::request::{ImageTask, Request, Task, Work};
+use crate::ring::{RingLength, ring_named};
 use clap::builder::ValueParser;
 use clap::error::ErrorKind;
 use clap::{Arg, ArgAction, ArgMatches, Command, Error};
+use record_codec::{LEAST_RING, MOST_RING};
 use run_text::Format;
 use std::alloc::{AllocError, Global};
-
-const ABOUT: &str = "Reads the text of a plant, and says what stands in it, draws it or runs it.
-
-A plant is atoms (machines with places, variables and ports), connectors (which ports
-move together, under which guards, and what data passes between them) and priorities
-(what goes before what). Its text has a line for each part; examples/ has plants to
-begin with.";
-
-const AFTER: &str = "Exit status:
-  0  what was asked for is done
-  1  the text is no plant; the standard error has 'plant line L: fault K NAME'
-  2  the words of the command line were not understood
-  3  a file ('file PATH'), the memory ('memory', or 'plant line 0: fault 15 Memory')
-     or the standard output failed
-
-Example:
-  bip_run trace examples/sample.plant 0 1 0 1";
-
-const CHECK_BRIEF: &str = "Counts the parts of a plant";
-
-const CHECK_ABOUT: &str = "Counts the parts of a plant.
-
-Prints one line: how many atoms, connectors, interactions and priority rules the plant
-has. An interaction is a set of ports of one connector that may move together.";
-
-const CHECK_AFTER: &str = "Example:
-  bip_run check examples/sample.plant
-prints
-  atoms 2 connectors 2 interactions 2 rules 0
-
-Exit status:
-  0  the counts are printed
-  1  the text is no plant; the standard error has 'plant line L: fault K NAME'
-  2  the words of the command line were not understood
-  3  a file ('file PATH'), the memory ('memory', or 'plant line 0: fault 15 Memory')
-     or the standard output failed";
-
-const TRACE_BRIEF: &str = "Runs a plant from its first state, and prints the run";
-
-const TRACE_ABOUT: &str = "Runs a plant from its first state, and prints the run.
-
-Prints a line for each pick: the number of the interaction that it fires, its connector,
-and each participant as ATOM.PORT/TRANSITION. A pick takes the entry of the state's
-choices at the pick modulo their number. Where nothing is possible the line 'stuck' is
-printed, and the picks that follow are passed over. At the end there is a line for each
-atom: its marked places, and its variables with their values.
-
-With --format csv the run is a table, with a row for each of these and a first row that
-names the columns; with --format jsonl it is a JSON object on each line. Both tell the
-values that each firing delivered, too.";
-
-const TRACE_AFTER: &str = "Example:
-  bip_run trace examples/sample.plant 0 1
-prints
-  1 tick A.t/0
-  2 send A.t/0 B.u/0
-  state A [s] n=2
-  state B [s] m=1
-and with --format csv
-  kind,number,name,parts,values
-  step,1,tick,A.t/0,
-  step,2,send,A.t/0 B.u/0,B.m=1
-  state,,A,s,n=2
-  state,,B,s,m=1
-
-Exit status:
-  0  the run is printed, also one that is stuck
-  1  the text is no plant; the standard error has 'plant line L: fault K NAME'
-  2  the words of the command line were not understood
-  3  a file ('file PATH'), the memory ('memory', or 'plant line 0: fault 15 Memory')
-     or the standard output failed";
-
-const DRAW_BRIEF: &str = "Draws a plant, as a graph for Graphviz's dot";
-
-const DRAW_ABOUT: &str = "Draws a plant, as a graph for Graphviz's dot.
-
-Prints the text of a directed graph. Each atom is a frame with its places, its ports and
-its transitions; a place that is marked at first is filled. Each connector is a rounded
-box with its tree, its guards and its transfers, joined to its ports: by an arrow to a
-trigger, and by a line that ends in a dot to any other. A priority is a dashed arrow from
-the lower connector to the higher.";
-
-const DRAW_AFTER: &str = "Example:
-  bip_run draw examples/sample.plant | dot -Tsvg -o sample.svg
-makes a picture of the plant. The program dot is part of Graphviz.
-
-Exit status:
-  0  the graph is printed
-  1  the text is no plant; the standard error has 'plant line L: fault K NAME'
-  2  the words of the command line were not understood
-  3  a file ('file PATH'), the memory ('memory', or 'plant line 0: fault 15 Memory')
-     or the standard output failed";
 
 const PLANT: &str = "PLANT";
 
 const PICK: &str = "PICK";
 
-const FORMAT: &str = "format";
+const IMAGE: &str = "IMAGE";
+
+const SCRIPT: &str = "SCRIPT";
+
+const TRACE_FORMAT: &str = "format";
 
 const LINES: &str = "lines";
 
-const EXPLAIN: &str = "explain";
-
 /// The formats in which a run is printed, as `format_named` knows them.
 const FORMATS: &[&str] = &[LINES, "csv", "jsonl"];
+
+const RING: &str = "ring";
+
+/// The length of a ring where none is named.
+const USUAL_RING: &str = "64";
+
+const EXPLAIN: &str = "explain";
 
 const CHECK: &str = "check";
 
 const TRACE: &str = "trace";
 
 const DRAW: &str = "draw";
+
+const FORMAT: &str = "format";
+
+const RUN: &str = "run";
+
+const RECOVER: &str = "recover";
 
 /// What the words of the command line ask for, the program's own name first. Where they ask for help, or for nothing that the
 /// program does, that is printed, and it is told how the program ends.
@@ -134,34 +65,56 @@ fn request_in<'a>(alloc: Global, words: &'a [String]) -> Result<Request<'a>, Err
     let mut program = program(alloc)?;
     let matches = program.try_get_matches_from_mut(words)?;
     match matches.subcommand() {
-        Some((CHECK, found)) => request(&mut program, found, Task::Check),
+        Some((CHECK, found)) => plant_request(&mut program, found, Task::Check),
         Some((TRACE, found)) => trace_request(alloc, &mut program, found),
-        Some((DRAW, found)) => request(&mut program, found, Task::Draw),
+        Some((DRAW, found)) => plant_request(&mut program, found, Task::Draw),
+        Some((FORMAT, found)) => format_request(alloc, &mut program, found),
+        Some((RUN, found)) => run_request(&mut program, found),
+        Some((RECOVER, found)) => image_request(&mut program, found, ImageTask::Recover),
         _ => Err(program.error(ErrorKind::MissingSubcommand, "a command is missing")?),
     }
 }
 
-/// The request to do this with a plant.
+/// The request to do this.
 fn request<'a>(
     program: &mut Command<'a>,
     found: &ArgMatches<'a>,
-    task: Task,
+    work: Work<'a>,
 ) -> Result<Request<'a>, Error> {
     Ok(Request {
-        task,
-        plant: plant_given(program, found)?,
+        work,
+        plant: path_given(program, found, PLANT)?,
         explain: found.get_flag(EXPLAIN),
     })
 }
 
-/// The request to run a plant.
+/// The request to do this with a plant alone.
+fn plant_request<'a>(
+    program: &mut Command<'a>,
+    found: &ArgMatches<'a>,
+    task: Task,
+) -> Result<Request<'a>, Error> {
+    request(program, found, Work::OfPlant(task))
+}
+
+/// The request to do this with a plant and its image.
+fn image_request<'a>(
+    program: &mut Command<'a>,
+    found: &ArgMatches<'a>,
+    task: ImageTask<'a>,
+) -> Result<Request<'a>, Error> {
+    let image = path_given(program, found, IMAGE)?;
+    request(program, found, Work::OnImage(image, task))
+}
+
+/// The request to run a plant from its first state.
 fn trace_request<'a>(
     alloc: Global,
     program: &mut Command<'a>,
     found: &ArgMatches<'a>,
 ) -> Result<Request<'a>, Error> {
     match read_picks(alloc, found.get_strs(PICK).unwrap_or(&[])) {
-        Ok(picks) => request(program, found, Task::Trace(picks, format_given(found))),
+        Ok(picks) => plant_request(program, found, Task::Trace(picks, format_given(found))),
         Err(PickFault::NoPick(word)) => Err(no_pick(alloc, program, word)?),
         Err(PickFault::Memory) => Err(Error::from(AllocError)),
     }
@@ -169,14 +122,44 @@ fn trace_request<'a>(
 
 /// The format in which a run is to be printed.
 fn format_given(found: &ArgMatches<'_>) -> Format {
-    format_named(found.get_str(FORMAT).unwrap_or(LINES))
+    format_named(found.get_str(TRACE_FORMAT).unwrap_or(LINES))
 }
 
-/// The word that says where the plant text stands.
-fn plant_given<'a>(program: &mut Command<'a>, found: &ArgMatches<'a>) -> Result<&'a str, Error> {
-    match found.get_str(PLANT) {
-        Some(plant) => Ok(plant),
-        None => Err(program.error(ErrorKind::MissingRequiredArgument, "a plant is missing")?),
+/// The request to make an image of a plant.
+fn format_request<'a>(
+    alloc: Global,
+    program: &mut Command<'a>,
+    found: &ArgMatches<'a>,
+) -> Result<Request<'a>, Error> {
+    let word = found.get_str(RING).unwrap_or(USUAL_RING);
+    match ring_named(word) {
+        Some(ring) => image_request(program, found, ImageTask::Format(ring)),
+        None => Err(no_ring(alloc, program, word)?),
+    }
+}
+
+/// The request to run a plant on its image. The plant and the script cannot both be read from the standard input.
+fn run_request<'a>(
+    program: &mut Command<'a>,
+    found: &ArgMatches<'a>,
+) -> Result<Request<'a>, Error> {
+    let plant = path_given(program, found, PLANT)?;
+    let script = path_given(program, found, SCRIPT)?;
+    if are_one_input(plant, script) {
+        return Err(one_input(program)?);
+    }
+    image_request(program, found, ImageTask::Run(script))
+}
+
+/// The path that stands for this argument.
+fn path_given<'a>(
+    program: &mut Command<'a>,
+    found: &ArgMatches<'a>,
+    argument: &str,
+) -> Result<&'a str, Error> {
+    match found.get_str(argument) {
+        Some(path) => Ok(path),
+        None => Err(program.error(ErrorKind::MissingRequiredArgument, "a path is missing")?),
     }
 }
 
@@ -188,6 +171,22 @@ fn no_pick(alloc: Global, program: &mut Command<'_>, word: &str) -> Result<Error
     program.error(ErrorKind::ValueValidation, message.as_str())
 }
 
+/// The answer to a word that stands for the length of a ring and is none.
+fn no_ring(alloc: Global, program: &mut Command<'_>, word: &str) -> Result<Error, AllocError> {
+    let message = format!(in alloc;
+        "invalid value '{word}' for '--ring <N>': a ring is digits alone, from {LEAST_RING} to {MOST_RING}"
+    )?;
+    program.error(ErrorKind::ValueValidation, message.as_str())
+}
+
+/// The answer where the plant and the script are both to be read from the standard input.
+fn one_input(program: &mut Command<'_>) -> Result<Error, AllocError> {
+    program.error(
+        ErrorKind::ArgumentConflict,
+        "the standard input cannot be both the plant and the script",
+    )
+}
+
 /// The program with its commands.
 fn program<'a>(alloc: Global) -> Result<Command<'a>, AllocError> {
     Command::new(alloc, "bip_run")
@@ -197,7 +196,10 @@ fn program<'a>(alloc: Global) -> Result<Command<'a>, AllocError> {
         .arg_required_else_help(true)
         .subcommand(check_command(alloc)?)?
         .subcommand(trace_command(alloc)?)?
-        .subcommand(draw_command(alloc)?)
+        .subcommand(draw_command(alloc)?)?
+        .subcommand(format_command(alloc)?)?
+        .subcommand(run_command(alloc)?)?
+        .subcommand(recover_command(alloc)?)
 }
 
 /// The command that counts the parts of a plant.
@@ -216,7 +218,7 @@ fn trace_command<'a>(alloc: Global) -> Result<Command<'a>, AllocError> {
         .about(TRACE_BRIEF)
         .long_about(TRACE_ABOUT)
         .after_help(TRACE_AFTER)
-        .arg(format_argument(alloc))?
+        .arg(trace_format_argument(alloc))?
         .arg(explain_argument(alloc))?
         .arg(plant_argument(alloc))?
         .arg(pick_argument(alloc))
@@ -232,6 +234,41 @@ fn draw_command<'a>(alloc: Global) -> Result<Command<'a>, AllocError> {
         .arg(plant_argument(alloc))
 }
 
+/// The command that makes an image of a plant.
+fn format_command<'a>(alloc: Global) -> Result<Command<'a>, AllocError> {
+    Command::new(alloc, FORMAT)
+        .about(FORMAT_BRIEF)
+        .long_about(FORMAT_ABOUT)
+        .after_help(FORMAT_AFTER)
+        .arg(ring_argument(alloc))?
+        .arg(explain_argument(alloc))?
+        .arg(plant_argument(alloc))?
+        .arg(image_argument(alloc))
+}
+
+/// The command that runs a plant on its image.
+fn run_command<'a>(alloc: Global) -> Result<Command<'a>, AllocError> {
+    Command::new(alloc, RUN)
+        .about(RUN_BRIEF)
+        .long_about(RUN_ABOUT)
+        .after_help(RUN_AFTER)
+        .arg(explain_argument(alloc))?
+        .arg(plant_argument(alloc))?
+        .arg(image_argument(alloc))?
+        .arg(script_argument(alloc))
+}
+
+/// The command that tells where a plant stands.
+fn recover_command<'a>(alloc: Global) -> Result<Command<'a>, AllocError> {
+    Command::new(alloc, RECOVER)
+        .about(RECOVER_BRIEF)
+        .long_about(RECOVER_ABOUT)
+        .after_help(RECOVER_AFTER)
+        .arg(explain_argument(alloc))?
+        .arg(plant_argument(alloc))?
+        .arg(image_argument(alloc))
+}
+
 /// The argument that says where the plant text stands.
 fn plant_argument<'a>(alloc: Global) -> Arg<'a> {
     Arg::new(alloc, PLANT).required(true).help(
@@ -239,18 +276,41 @@ fn plant_argument<'a>(alloc: Global) -> Arg<'a> {
     )
 }
 
-/// The option that has the line of a fault shown.
+/// The argument that names the image.
+fn image_argument<'a>(alloc: Global) -> Arg<'a> {
+    Arg::new(alloc, IMAGE)
+        .required(true)
+        .help("The file in which the plant is kept")
+}
+
+/// The argument that says where the script stands.
+fn script_argument<'a>(alloc: Global) -> Arg<'a> {
+    Arg::new(alloc, SCRIPT).required(true).help(
+        "The file with the events, or - for the standard input, where that is not the plant",
+    )
+}
+
+/// The option that says for how many records there is room.
+fn ring_argument<'a>(alloc: Global) -> Arg<'a> {
+    Arg::new(alloc, RING)
+        .long(RING)
+        .value_name("N")
+        .default_value(USUAL_RING)
+        .help("For how many records the image has room")
+}
+
+/// The option that has more told of a fault.
 fn explain_argument<'a>(alloc: Global) -> Arg<'a> {
     Arg::new(alloc, EXPLAIN)
         .long(EXPLAIN)
         .action(ArgAction::SetTrue)
-        .help("Shows the plant's line below a fault, as it is done on a terminal")
+        .help("Tells more of a fault below its line, as it is done on a terminal")
 }
 
 /// The option that says in which format a run is printed.
-fn format_argument<'a>(alloc: Global) -> Arg<'a> {
-    Arg::new(alloc, FORMAT)
-        .long(FORMAT)
+fn trace_format_argument<'a>(alloc: Global) -> Arg<'a> {
+    Arg::new(alloc, TRACE_FORMAT)
+        .long(TRACE_FORMAT)
         .value_name("FORMAT")
         .value_parser(ValueParser::Names(FORMATS))
         .default_value(LINES)

@@ -1,0 +1,22 @@
+-- Which paths the words of the command line name.
+use Rattle.std.specs.Prelude.{ℕ, List, []}
+use Rattle.command_line.specs.declared.request.ImageTask.{ImageTask}
+use Rattle.command_line.specs.declared.request.ImageTask.TheVariants.{Format, Run, Recover}
+use Rattle.command_line.specs.declared.request.Work.{Work}
+use Rattle.command_line.specs.declared.request.Work.TheVariants.{OfPlant, OnImage}
+
+-- where the script is of a task on an image; only a run has one
+abbrev pub script_of : ImageTask → List ℕ
+script_of (Format ring) = []
+script_of (Run script) = script.now
+script_of Recover = []
+
+-- where the script is of what is to be done, if it has one
+abbrev pub script_in : Work → List ℕ
+script_in (OfPlant task) = []
+script_in (OnImage image task) = script_of task
+
+-- where the image is, if it has one
+abbrev pub image_in : Work → List ℕ
+image_in (OfPlant task) = []
+image_in (OnImage image task) = image.now

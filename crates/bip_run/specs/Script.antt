@@ -1,0 +1,20 @@
+-- Where the script of a run ends the program.
+use Rattle.std.specs.Prelude.{◌≡◌, ℕ, List, Err}
+use Rattle.script_lines.specs.Script.{script_meaning}
+use Rattle.script_lines.specs.declared.fault.ScriptFault.{ScriptFault}
+use Rattle.script_lines.specs.declared.fault.ScriptFault.TheVariants as script
+use Rattle.bip_run.specs.declared.stop.Stop.{Stop}
+use Rattle.bip_run.specs.declared.stop.Stop.TheVariants.{Script, ScriptUnread, Memory}
+
+-- the stop where a script is refused
+abbrev pub of_script : ScriptFault → Stop
+of_script (script.Line number) = Script number
+of_script script.Memory = Memory
+
+-- A stop behind these bytes of a script: the line is the one for which they are refused; the reader may fail, and memory may be wanting; and
+-- nothing else has a part in it.
+abbrev pub TellsOfScript : Stop → List ℕ → Type 0
+TellsOfScript (Script line) bytes = script_meaning bytes ≡ Err line
+TellsOfScript ScriptUnread bytes = Unit {0}
+TellsOfScript Memory bytes = Unit {0}
+TellsOfScript stop bytes = ⊥

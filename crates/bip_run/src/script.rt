@@ -1,0 +1,34 @@
+//! The script of a run, from a reader.
+ghost use Rattle.std.specs.Prelude.{◌≡◌, IfErr, IfOk, IfSome, Ok};
+ghost use Rattle.bip_run.specs.Script.{TellsOfScript};
+ghost use Rattle.script_lines.specs.Script.{script_meaning};
+
+use crate::stop::Stop;
+use plant_core::Event;
+use script_lines::read_script;
+use std::alloc::Global;
+use std::io::Read;
+use text_io::{TextFault, read_text};
+
+/// Reads a script to the reader's end, and gives the events that it asks for.
+pub(crate) fn read_events<R: Read>(alloc: Global, reader: &mut R) -> Result<Vec<Event>, Stop>
+    ensures events { IfOk result (λ events. IfSome (R.remaining reader.old) (λ bytes. script_meaning bytes ≡ Ok events.items)) }
+    ensures refused { IfErr result (λ stop. IfSome (R.remaining reader.old) (λ bytes. TellsOfScript stop bytes)) }
+{
+    let text = script_text(alloc, reader)?;
+    Ok(read_script(alloc, &text)?)
+}
+
+/// The bytes of a script.
+#[tactic(auto, using(crate::proofs::Scripts::long_text_refused))]
+fn script_text<R: Read>(alloc: Global, reader: &mut R) -> Result<Vec<u8>, Stop>
+    ensures all { IfOk result (λ text. IfSome (R.remaining reader.old) (λ bytes. text.items ≡ bytes)) }
+    ensures refused { IfErr result (λ stop. IfSome (R.remaining reader.old) (λ bytes. TellsOfScript stop bytes)) }
+{
+    match read_text(alloc, reader) {
+        Ok(text) => Ok(text),
+        Err(TextFault::TooLong) => Err(Stop::Script(0)),
+        Err(TextFault::Memory) => Err(Stop::Memory),
+        Err(TextFault::Read) => Err(Stop::ScriptUnread),
+    }
+}

@@ -1,0 +1,191 @@
+//! The help of the commands.
+
+pub(crate) const ABOUT: &str =
+    "Reads the text of a plant, and says what stands in it, draws it or runs it.
+
+With an image, a file that holds what was fired, a plant goes on from there after any
+stop: 'format' makes an image, 'run' runs the plant on it, and 'recover' tells where the
+plant stands.
+
+A plant is atoms (machines with places, variables and ports), connectors (which ports
+move together, under which guards, and what data passes between them) and priorities
+(what goes before what). Its text has a line for each part; examples/ has plants to
+begin with.";
+
+pub(crate) const AFTER: &str = "Exit status:
+  0  what was asked for is done
+  1  the plant, the script or the image is refused; the standard error has
+     'plant line L: fault K NAME', 'script line L' or 'image: refusal K NAME'
+  2  the words of the command line were not understood
+  3  a file ('file PATH'), the device below an image ('image: refusal 8 Disk'), the
+     memory ('memory', 'plant line 0: fault 15 Memory' or 'image: refusal 9 Memory')
+     or the standard output failed
+
+Examples:
+  bip_run trace examples/sample.plant 0 1 0 1
+  bip_run format examples/sample.plant sample.image";
+
+pub(crate) const CHECK_BRIEF: &str = "Counts the parts of a plant";
+
+pub(crate) const CHECK_ABOUT: &str = "Counts the parts of a plant.
+
+Prints one line: how many atoms, connectors, interactions and priority rules the plant
+has. An interaction is a set of ports of one connector that may move together.";
+
+pub(crate) const CHECK_AFTER: &str = "Example:
+  bip_run check examples/sample.plant
+prints
+  atoms 2 connectors 2 interactions 2 rules 0
+
+Exit status:
+  0  the counts are printed
+  1  the text is no plant; the standard error has 'plant line L: fault K NAME'
+  2  the words of the command line were not understood
+  3  a file ('file PATH'), the memory ('memory', or 'plant line 0: fault 15 Memory')
+     or the standard output failed";
+
+pub(crate) const TRACE_BRIEF: &str = "Runs a plant from its first state, and prints the run";
+
+pub(crate) const TRACE_ABOUT: &str = "Runs a plant from its first state, and prints the run.
+
+Prints a line for each pick: the number of the interaction that it fires, its connector,
+and each participant as ATOM.PORT/TRANSITION. A pick takes the entry of the state's
+choices at the pick modulo their number. Where nothing is possible the line 'stuck' is
+printed, and the picks that follow are passed over. At the end there is a line for each
+atom: its marked places, and its variables with their values.
+
+With --format csv the run is a table, with a row for each of these and a first row that
+names the columns; with --format jsonl it is a JSON object on each line. Both tell the
+values that each firing delivered, too.";
+
+pub(crate) const TRACE_AFTER: &str = "Example:
+  bip_run trace examples/sample.plant 0 1
+prints
+  1 tick A.t/0
+  2 send A.t/0 B.u/0
+  state A [s] n=2
+  state B [s] m=1
+and with --format csv
+  kind,number,name,parts,values
+  step,1,tick,A.t/0,
+  step,2,send,A.t/0 B.u/0,B.m=1
+  state,,A,s,n=2
+  state,,B,s,m=1
+
+Exit status:
+  0  the run is printed, also one that is stuck
+  1  the text is no plant; the standard error has 'plant line L: fault K NAME'
+  2  the words of the command line were not understood
+  3  a file ('file PATH'), the memory ('memory', or 'plant line 0: fault 15 Memory')
+     or the standard output failed";
+
+pub(crate) const DRAW_BRIEF: &str = "Draws a plant, as a graph for Graphviz's dot";
+
+pub(crate) const DRAW_ABOUT: &str = "Draws a plant, as a graph for Graphviz's dot.
+
+Prints the text of a directed graph. Each atom is a frame with its places, its ports and
+its transitions; a place that is marked at first is filled. Each connector is a rounded
+box with its tree, its guards and its transfers, joined to its ports: by an arrow to a
+trigger, and by a line that ends in a dot to any other. A priority is a dashed arrow from
+the lower connector to the higher.";
+
+pub(crate) const DRAW_AFTER: &str = "Example:
+  bip_run draw examples/sample.plant | dot -Tsvg -o sample.svg
+makes a picture of the plant. The program dot is part of Graphviz.
+
+Exit status:
+  0  the graph is printed
+  1  the text is no plant; the standard error has 'plant line L: fault K NAME'
+  2  the words of the command line were not understood
+  3  a file ('file PATH'), the memory ('memory', or 'plant line 0: fault 15 Memory')
+     or the standard output failed";
+
+pub(crate) const FORMAT_BRIEF: &str =
+    "Makes an image of a plant, in which it stands in its first state";
+
+pub(crate) const FORMAT_ABOUT: &str =
+    "Makes an image of a plant, in which it stands in its first state.
+
+An image is the file in which a plant is kept: it holds what was fired, so that each run
+goes on where the one before it ended, whatever ended it. IMAGE is made where nothing is
+there. A file that is there must have the size of the image, and loses all that it held.
+
+The image has room for the records of N interactions, from 8 to 4096. It has 3 cells, 2
+more for each atom, and one for each record, each of 512 bytes. Prints one line: how many
+cells it has.";
+
+pub(crate) const FORMAT_AFTER: &str = "Example:
+  bip_run format examples/sample.plant sample.image --ring 8
+prints
+  formatted 15
+
+Exit status:
+  0  the image is formatted
+  1  the text is no plant ('plant line L: fault K NAME' on the standard error), or IMAGE
+     is a file of another size, which is left as it was ('image: refusal 4 WrongSize')
+  2  the words of the command line were not understood
+  3  a file ('file PATH'; 'file PATH in use' where another program has the image open),
+     the device below the image ('image: refusal 8 Disk'), the memory ('memory', 'plant
+     line 0: fault 15 Memory' or 'image: refusal 9 Memory') or the standard output failed";
+
+pub(crate) const RUN_BRIEF: &str = "Runs a plant by a script, from where its image stands";
+
+pub(crate) const RUN_ABOUT: &str = "Runs a plant by a script, from where its image stands.
+
+A script has an event on each line. 'fire P' fires the entry of the state's choices at P
+modulo their number; 'flush' has all that was fired saved in the image. A line without
+words asks for nothing.
+
+Prints a line for each event. A fired interaction is told as 'trace' tells it, numbered
+from the first that was ever fired on the image; 'flushed N' tells that all of them up to
+number N are saved; 'refused K NAME' tells that nothing was done, and why. At the end
+there is a line for each atom, as 'trace' prints it, and 'front F A B': the number of the
+last interaction that was fired, of the last that is saved, and of the first whose record
+the image still holds.
+
+What 'flushed N' tells of stays, whatever stops the program or the machine. What was fired
+since may be lost, from the last one back.";
+
+pub(crate) const RUN_AFTER: &str = "Example:
+  printf 'fire 0\nfire 1\nflush\n' | bip_run run examples/sample.plant sample.image -
+prints, on an image that was formatted just before
+  1 tick A.t/0
+  2 send A.t/0 B.u/0
+  flushed 2
+  state A [s] n=2
+  state B [s] m=1
+  front 2 2 1
+
+Exit status:
+  0  the script was run to its end, also where the plant refused some of its events
+  1  the plant, the script or the image is refused, and nothing was fired; the standard
+     error has 'plant line L: fault K NAME', 'script line L' or 'image: refusal K NAME'
+  2  the words of the command line were not understood
+  3  a file ('file PATH'; 'file PATH in use' where another program has the image open),
+     the device below the image ('image: refusal 8 Disk', or the lines 'refused 10 Disk'
+     and 'refused 11 Broken' of a run), the memory ('memory', 'plant line 0: fault 15
+     Memory' or 'image: refusal 9 Memory') or the standard output failed";
+
+pub(crate) const RECOVER_BRIEF: &str = "Tells where a plant stands by its image";
+
+pub(crate) const RECOVER_ABOUT: &str = "Tells where a plant stands by its image, after any stop.
+
+Prints a line for each atom, its marked places and its variables with their values, and
+'front F A B': the number of the last interaction that the image holds, twice, and of the
+first whose record it still holds. Remains of what was never saved are cleared away.";
+
+pub(crate) const RECOVER_AFTER: &str = "Example:
+  bip_run recover examples/sample.plant sample.image
+prints, where tick, send, tick and send were saved
+  state A [s] n=4
+  state B [s] m=3
+  front 4 4 1
+
+Exit status:
+  0  it is told where the plant stands
+  1  the plant or the image is refused; the standard error has 'plant line L: fault K
+     NAME' or 'image: refusal K NAME'
+  2  the words of the command line were not understood
+  3  a file ('file PATH'; 'file PATH in use' where another program has the image open),
+     the device below the image ('image: refusal 8 Disk'), the memory ('memory', 'plant
+     line 0: fault 15 Memory' or 'image: refusal 9 Memory') or the standard output failed";

@@ -1,0 +1,4 @@
+pub mod Told
+pub mod Appending
+pub mod Sound
+pub mod Standing

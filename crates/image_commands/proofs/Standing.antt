@@ -1,0 +1,55 @@
+-- Whatever a stop leaves of a plant's device stands for what is acknowledged.
+use Rattle.std.proofs.Common.{◌≡◌, ◌∙◌, sym, subst, ℕ, Bool, true, false, List, Option}
+use Rattle.std.specs.Prelude.{◌+◌, length}
+use Rattle.disk_model.specs.DiskState.{DiskState, size_of}
+use Rattle.disk_model.specs.Cells.{seen_cells}
+use Rattle.disk_model.specs.declared.cells.TheConstants.{BODY}
+use Rattle.step_core.specs.Plant.{PlantDefinition}
+use Rattle.plant_image.specs.Contents.{contents_of, last_number}
+use Rattle.plant_image.specs.Standing.{StandsFor}
+use Rattle.plant_core.specs.View.{View}
+use Rattle.plant_core.specs.declared.events.Event.{Event}
+use Rattle.recovery.specs.Booting.{IsBooted}
+use Rattle.script_lines.specs.Runs.{IsRunOf}
+use Rattle.image_commands.specs.Runs.{HasRunOn, IsBootedFrom, StandsAsRead, StandsForAllAcked}
+use Rattle.image_commands.proofs.Sound.{sound_behind}
+
+-- A plant on a device, by names of its own: what it says of the device holds of the same device, plant and text by other names.
+stands_by_name : (p q : PlantDefinition) (d e : List ℕ) (mid new : DiskState) (v : View) → p ≡ q → d ≡ e → new ≡ mid →
+    StandsForAllAcked p d mid v → StandsForAllAcked q e new v
+stands_by_name p q d e mid new v same_plant same_digest same_device stands =
+    subst (λ s. StandsForAllAcked q e s v) (sym same_device)
+    (subst (λ digest. StandsForAllAcked q digest mid v) same_digest (subst (λ plant. StandsForAllAcked plant d mid v) same_plant stands))
+
+-- where the plant is as it was booted, that is what its device read for
+stands_as_read : (plant : PlantDefinition) (digest : List ℕ) (old new : DiskState) (v : View) →
+    IsBooted plant digest (size_of old) (seen_cells (BODY + 1) old) v → StandsForAllAcked plant digest new v → StandsAsRead plant digest old new
+stands_as_read plant digest old new v booted stands cells may =
+    subst (λ states. StandsFor plant digest (size_of new) cells states (last_number (contents_of (length plant.atoms) (seen_cells (BODY + 1) old)))) booted.acked
+    (subst (λ number. StandsFor plant digest (size_of new) cells v.acked number) booted.number (stands cells may))
+
+-- a plant that is let go as it was booted leaves an image that stands for what was read
+pub recovered_stands : (p q : PlantDefinition) (d e : List ℕ) (old mid new : DiskState) (v : View) → p ≡ q → d ≡ e → new ≡ mid →
+    mid.keeps ≡ old.keeps → IsBootedFrom q e old v → (mid.keeps ≡ true → v.broken ≡ false → StandsForAllAcked p d mid v) →
+    old.keeps ≡ true → StandsAsRead q e old new
+recovered_stands p q d e old mid new v same_plant same_digest same_device kept booted stands keeps =
+    stands_as_read q e old new v (booted keeps)
+    (stands_by_name p q d e mid new v same_plant same_digest same_device (stands (kept ∙ keeps) (booted keeps).broken))
+
+-- a run in which the device did not fail leaves an image that stands for all that it acknowledged
+pub run_stands : (p r q : PlantDefinition) (d e : List ℕ) (old mid new : DiskState) (events : List Event) (failed : Bool) (before after : View)
+    (from to : Option (List ℕ)) → p ≡ r → r ≡ q → d ≡ e → new ≡ mid → IsBootedFrom q e old before → failed ≡ false →
+    IsRunOf r before events failed after from to →
+    (mid.keeps ≡ true → after.broken ≡ false → StandsForAllAcked p d mid after) → HasRunOn q e old events new from to
+run_stands p r q d e old mid new events failed before after from to first_name second_name same_digest same_device booted sound ran stands =
+    let run : IsRunOf q before events false after from to =
+    subst (λ plant. IsRunOf plant before events false after from to) second_name
+    (subst (λ (f : Bool). IsRunOf r before events f after from to) sound ran) in
+    record {
+      after = after;
+      run = record { before = before; booted = booted; ran = run };
+      stands = λ keeps kept.
+          stands_by_name p q d e mid new after (first_name ∙ second_name) same_digest same_device
+          (stands (subst (λ (s : DiskState). s.keeps ≡ true) same_device kept)
+          (sound_behind q run.happened before after run.ran (sym run.told) ∙ (booted keeps).broken));
+    }

@@ -1,0 +1,4 @@
+pub mod Refusals
+pub mod Stops
+pub mod Printed
+pub mod Runs

@@ -1,0 +1,47 @@
+//! Running a plant on its image.
+ghost use Rattle.std.specs.Prelude.{◌≡◌, ◌+◌, true, IfErr, IfOk, Err};
+ghost use Rattle.disk_model.specs.DiskState.{size_of};
+ghost use Rattle.disk_model.specs.Cells.{seen_cells};
+ghost use Rattle.disk_model.specs.declared.cells.TheConstants.{BODY};
+ghost use Rattle.step_core.specs.System.{digest_of, plant_of};
+ghost use Rattle.plant_image.specs.Faults.{fault_of};
+ghost use Rattle.plant_core.specs.View.{View};
+ghost use Rattle.image_commands.specs.Runs.{HasRunOn, IsRunOn};
+ghost use Rattle.image_commands.specs.Stops.{IsToldOf};
+ghost use Rattle.image_commands.specs.declared.refusal.ImageRefusal.{ImageRefusal};
+ghost use Rattle.image_commands.specs.declared.stop.ImageStop.TheVariants.{Failed, Refused};
+
+use crate::booting::booted;
+use crate::stop::ImageStop;
+use disk_model::Disk;
+use plant_core::Event;
+use script_lines::run_script;
+use std::alloc::Global;
+use std::io::Write;
+use step_core::System;
+
+/// Boots the plant of the system from the device, after any stop, asks the events of it, one after another, and prints the answer of each; behind
+/// them, where the plant then stands. What was printed is handed on before each flush of the plant, behind its answer, and at the end.
+pub fn run_image<D: Disk + Drop, W: Write>(
+    alloc: Global,
+    system: &System,
+    events: &[Event],
+    disk: D,
+    output: &mut W,
+) -> Result<D, ImageStop>
+    ensures ran { IfOk result (λ image. HasRunOn (plant_of system.now) (digest_of system.now) (D.state disk) events.now (D.state image) (W.contents output.old) (W.contents output.new)) }
+    ensures failed { result ≡ Err Failed → (after : View) × IsRunOn (plant_of system.now) (digest_of system.now) (D.state disk) events.now true after (W.contents output.old) (W.contents output.new) }
+    ensures told { (D.state disk).keeps ≡ true → IfErr result (IsToldOf (fault_of (plant_of system.now) (digest_of system.now)
+        (size_of (D.state disk)) (seen_cells (BODY + 1) (D.state disk)))) }
+    ensures nothing_printed { (refusal : ImageRefusal) → result ≡ Err (Refused refusal) → output.new ≡ output.old }
+{
+    let mut plant = match booted(alloc, system, disk) {
+        Ok(plant) => plant,
+        Err(refusal) => return Err(ImageStop::Refused(refusal)),
+    };
+    if run_script(&mut plant, events, output)? {
+        return Err(ImageStop::Failed);
+    }
+    plant.stands();
+    Ok(plant.into_disk())
+}

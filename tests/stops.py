@@ -1,0 +1,109 @@
+"""A plant over real stops: the program is killed in the middle of a long run, and the image then has to give back what it told.
+
+At each moment the run is killed while it prints and saves. What it had printed by then says what it fired and what it had saved:
+`recover` must tell the state behind some number of those firings, no fewer than were saved, and the run must go on from there. The
+states are worked out here, from what examples/sample.plant says, and not by the program.
+"""
+
+import subprocess
+import tempfile
+import time
+import unittest
+from pathlib import Path
+
+ROOT = Path(__file__).resolve().parent.parent
+PLANT = ROOT / "examples" / "sample.plant"
+MOMENTS = 20
+FIRINGS = 4000
+# A run is killed behind so many saves, and no later than so many seconds from its start.
+SAVES_APART = 6
+LATEST = 0.4
+
+
+def script():
+    """Some thousand events: ticks and sends by no short pattern, and a save behind some of them."""
+    lines = []
+    for number in range(FIRINGS):
+        lines.append(f"fire {number * number // 3}")
+        if number * number % 31 < 8:
+            lines.append("flush")
+    return "".join(f"{line}\n" for line in lines)
+
+
+def state_behind(fired):
+    """The lines of the states behind these lines of firings: each counts in A, and a send hands A's count to B before that."""
+    n = m = 0
+    for line in fired:
+        if " send " in line:
+            m = n
+        n += 1
+    return [f"state A [s] n={n}", f"state B [s] m={m}"]
+
+
+def line_of(number, name):
+    return f"{number} {name} " + {"tick": "A.t/0", "send": "A.t/0 B.u/0"}[name]
+
+
+class Stops(unittest.TestCase):
+    """The run is killed at twenty moments."""
+
+    program = None
+
+    def made(self, *words):
+        ran = subprocess.run([str(self.program()), *map(str, words)], capture_output=True, text=True, timeout=60)
+        self.assertEqual((ran.returncode, ran.stderr), (0, ""), words[0])
+        return ran.stdout.splitlines()
+
+    def killed_run(self, image, events, moment):
+        """Runs the events, kills the program at the moment, and gives the whole lines that it had printed."""
+        started = time.monotonic()
+        command = [str(self.program()), "run", str(PLANT), str(image), str(events)]
+        with subprocess.Popen(command, stdout=subprocess.PIPE) as running:
+            lines, saves = [], 0
+            for line in running.stdout:
+                lines.append(line)
+                saves += line.startswith(b"flushed ")
+                if saves > SAVES_APART * moment or time.monotonic() > started + LATEST:
+                    break
+            # Not always at the same place behind a save.
+            time.sleep(moment % 5 / 5000)
+            running.kill()
+            lines += running.stdout.readlines()
+        self.assertEqual(running.returncode, -9, "the run ended before it was killed")
+        return [line.decode().rstrip("\n") for line in lines if line.endswith(b"\n")]
+
+    def check_moment(self, moment):
+        with tempfile.TemporaryDirectory() as folder:
+            image, events = Path(folder) / "image", Path(folder) / "events"
+            events.write_text(script())
+            self.made("format", PLANT, image, "--ring", "4096")
+            printed = self.killed_run(image, events, moment)
+            fired = [line for line in printed if not line.startswith("flushed ")]
+            self.assertEqual(fired, [line_of(k + 1, line.split()[1]) for k, line in enumerate(fired)], "what was fired")
+            saved = max((int(line.split()[1]) for line in printed if line.startswith("flushed ")), default=0)
+            *states, front = self.made("recover", PLANT, image)
+            number = int(front.split()[1])
+            self.assertEqual(front, f"front {number} {number} 1")
+            self.assertTrue(saved <= number <= len(fired), f"{saved} saved, {number} recovered, {len(fired)} fired")
+            self.assertEqual(states, state_behind(fired[:number]))
+            self.check_on(image, fired[:number], Path(folder) / "more")
+
+    def check_on(self, image, fired, events):
+        """The run goes on behind these firings."""
+        events.write_text("fire 1\nflush\n")
+        more = line_of(len(fired) + 1, "send")
+        number = len(fired) + 1
+        told = [more, f"flushed {number}", *state_behind([*fired, more]), f"front {number} {number} 1"]
+        self.assertEqual(self.made("run", PLANT, image, events), told)
+
+
+def suite(program, words):
+    """The stops whose name has one of the words in it; all, where there is no word."""
+    Stops.program = staticmethod(program)
+    tests = unittest.TestSuite()
+    for moment in range(MOMENTS):
+        name = f"stops/{moment}"
+        if not words or any(word in name for word in words):
+            setattr(Stops, f"test {name}", lambda self, moment=moment: self.check_moment(moment))
+            tests.addTest(Stops(f"test {name}"))
+    return tests
