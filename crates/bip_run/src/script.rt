@@ -1,7 +1,9 @@
 //! The script of a run, from a reader.
-ghost use Rattle.std.specs.Prelude.{◌≡◌, IfErr, IfOk, IfSome, Ok};
+ghost use Rattle.std.specs.Prelude.{◌≡◌, IfErr, IfOk, IfSome, Ok, Err};
 ghost use Rattle.bip_run.specs.Script.{TellsOfScript};
+ghost use Rattle.bip_run.specs.declared.stop.Stop.TheVariants.{ScriptUnread};
 ghost use Rattle.script_lines.specs.Script.{script_meaning};
+ghost use Rattle.text_io.specs.Reading.{GivesUp};
 
 use crate::stop::Stop;
 use plant_core::Event;
@@ -14,6 +16,7 @@ use text_io::{TextFault, read_text};
 pub(crate) fn read_events<R: Read>(alloc: Global, reader: &mut R) -> Result<Vec<Event>, Stop>
     ensures events { IfOk result (λ events. IfSome (R.remaining reader.old) (λ bytes. script_meaning bytes ≡ Ok events.items)) }
     ensures refused { IfErr result (λ stop. IfSome (R.remaining reader.old) (λ bytes. TellsOfScript stop bytes)) }
+    ensures unread { result ≡ Err ScriptUnread → GivesUp TextFault.Read (R.remaining reader.old) (R.remaining reader.new) }
 {
     let text = script_text(alloc, reader)?;
     Ok(read_script(alloc, &text)?)
@@ -24,6 +27,7 @@ pub(crate) fn read_events<R: Read>(alloc: Global, reader: &mut R) -> Result<Vec<
 fn script_text<R: Read>(alloc: Global, reader: &mut R) -> Result<Vec<u8>, Stop>
     ensures all { IfOk result (λ text. IfSome (R.remaining reader.old) (λ bytes. text.items ≡ bytes)) }
     ensures refused { IfErr result (λ stop. IfSome (R.remaining reader.old) (λ bytes. TellsOfScript stop bytes)) }
+    ensures unread { result ≡ Err ScriptUnread → GivesUp TextFault.Read (R.remaining reader.old) (R.remaining reader.new) }
 {
     match read_text(alloc, reader) {
         Ok(text) => Ok(text),
