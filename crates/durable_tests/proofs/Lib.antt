@@ -1,3 +1,4 @@
 pub mod FiveCells
 pub mod AppendThenMove
 pub mod NewDevice
+pub mod Captured

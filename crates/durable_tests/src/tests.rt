@@ -2,8 +2,11 @@
 mod bodies;
 mod callers;
 mod cells;
+mod common;
 mod devices;
 mod files;
 mod images;
 mod journal;
+mod restarts;
 mod slots;
+mod threads;

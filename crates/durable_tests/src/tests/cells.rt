@@ -4,14 +4,13 @@ ghost use Rattle.disk_model.specs.DiskState.{IsSettled, size_of};
 ghost use Rattle.disk_model.specs.Cells.{cell_count, seen_cells, Leaves, OldOrEmptyAt};
 ghost use Rattle.disk_model.specs.MemDisk.{state_of};
 
+use super::common::TEARS;
 use disk_model::{BODY, Cells, Disk, DiskFault, MemDisk, Tear};
 use std::alloc::Global;
 use std::process::Abort;
 use std::test::Fail;
 
 type Engine = Cells<MemDisk>;
-
-const TEARS: [Tear; 4] = [Tear::Old, Tear::New, Tear::Gates, Tear::Mixed];
 
 fn check_whole(rt: &impl Abort, body: &[u8; BODY]) {
     for byte in body {

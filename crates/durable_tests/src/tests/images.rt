@@ -1,15 +1,13 @@
 // What images stand for: that of the sample after four firings with A saved behind all of them, and those that are changed by hand.
 ghost use Rattle.std.specs.Prelude.{◌≤◌, length};
 
+use super::common::SAMPLE;
 use disk_model::BODY;
 use plant_image::{ImageFault, Standing, read_image};
 use plant_text::plant_of_text;
 use std::alloc::Global;
 use std::test::Fail;
 use step_core::System;
-
-const SAMPLE: &[u8] =
-    b"atom A\nplace s init\nvar n 0\nport t n\ntrans t from s to s do n := + n 1\natom B\nplace s init\nvar m 0\nport u m\ntrans u from s to s\nconnector tick A.t\nconnector send A.t B.u\nmove B.m := A.n\n";
 
 /// The cells of the sample's device with a ring of 8, and its bytes.
 const CELLS: usize = 15;

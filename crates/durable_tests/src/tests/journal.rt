@@ -5,6 +5,7 @@ ghost use Rattle.disk_model.specs.MemDisk.{state_of};
 ghost use Rattle.gated_journal.specs.Rings.{IsRing};
 ghost use Rattle.durable_tests.specs.Opened.{IsOpened};
 
+use super::common::{TEARS, Untold};
 use disk_model::{BODY, Cells, Disk, DiskFault, MemDisk, Tear};
 use gated_journal::{Journal, Ring};
 use record_codec::ring::{base_cell, device_cells, record_cell};
@@ -13,41 +14,7 @@ use std::alloc::Global;
 use std::process::Abort;
 use std::test::Fail;
 
-const TEARS: [Tear; 4] = [Tear::Old, Tear::New, Tear::Gates, Tear::Mixed];
-
 const ATOMS: u16 = 2;
-
-/// A device in memory of which contracts are told the size and the counts alone: what the cells read for is seen here by running.
-#[derive(Drop)]
-struct Untold {
-    disk: MemDisk,
-    ghost small: { size_of (state_of disk) < 2 ^ 64 },
-}
-
-impl Disk for Untold {
-    ghost use Rattle.std.specs.Prelude.{false};
-    ghost use Rattle.disk_model.specs.MemDisk.{state_of};
-
-    ghost state = { λ d. record (state_of d.disk) { keeps = false } };
-
-    ghost fits = { λ d. d.small };
-
-    fn size(&mut self) -> Result<u64, DiskFault> {
-        self.disk.size()
-    }
-
-    fn read_at(&mut self, at: u64, into: &mut [u8]) -> Result<(), DiskFault> {
-        self.disk.read_at(at, into)
-    }
-
-    fn write_at(&mut self, at: u64, from: &[u8]) -> Result<(), DiskFault> {
-        self.disk.write_at(at, from)
-    }
-
-    fn sync(&mut self) -> Result<(), DiskFault> {
-        self.disk.sync()
-    }
-}
 
 type Engine = Cells<Untold>;
 
@@ -55,12 +22,11 @@ fn cells_of(disk: MemDisk) -> Engine
     ensures untold { result.keeps ≡ false }
     ensures size { size_of result ≡ size_of (state_of disk) }
 {
-    Cells::new(Untold { disk })
+    Cells::new(Untold::over(disk))
 }
 
 fn disk_of(cells: Engine) -> MemDisk {
-    let Untold { disk } = cells.into_disk();
-    disk
+    cells.into_disk().into_memory()
 }
 
 /// Which call is made.

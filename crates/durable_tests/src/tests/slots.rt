@@ -1,6 +1,7 @@
 // What a stop leaves of an atom's slots, call by call, on devices of two atoms. Each state's marking and value are its count.
 ghost use Rattle.std.specs.Prelude.{◌≡◌, ◌<◌, ◌≤◌};
 
+use super::common::TEARS;
 use disk_model::{BODY, Cells, DiskFault, MemDisk, Tear};
 use petri_atom::AtomState;
 use record_codec::Saved;
@@ -11,8 +12,6 @@ use std::process::Abort;
 use std::test::Fail;
 
 type Engine = Cells<MemDisk>;
-
-const TEARS: [Tear; 4] = [Tear::Old, Tear::New, Tear::Gates, Tear::Mixed];
 
 /// The last record when the states are taken.
 const AT: u64 = 100;

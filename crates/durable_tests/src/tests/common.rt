@@ -1,0 +1,103 @@
+// What several tests share: a plant, and a device of which contracts are told little, so that to prove the tests costs little.
+ghost use Rattle.std.specs.Prelude.{◌≡◌, ◌^◌, ◌<◌, false};
+ghost use Rattle.disk_model.specs.DiskState.{size_of};
+ghost use Rattle.disk_model.specs.MemDisk.{state_of};
+
+use disk_model::{Disk, DiskFault, MemDisk, Tear};
+use record_codec::ring::device_cells;
+use record_codec::{LEAST_RING, MOST_RING};
+use recovery::format;
+use std::alloc::Global;
+use std::test::Fail;
+use step_core::System;
+
+/// A counts, and B takes what A has counted.
+pub(super) const SAMPLE: &[u8] =
+    b"atom A\nplace s init\nvar n 0\nport t n\ntrans t from s to s do n := + n 1\natom B\nplace s init\nvar m 0\nport u m\ntrans u from s to s\nconnector tick A.t\nconnector send A.t B.u\nmove B.m := A.n\n";
+
+/// All ways in which a stop tears what is pending.
+pub(super) const TEARS: [Tear; 4] = [Tear::Old, Tear::New, Tear::Gates, Tear::Mixed];
+
+/// A device in memory of which contracts are told the size and the counts alone: what its cells read for is seen by running. It counts
+/// its calls and its syncs.
+#[derive(Drop)]
+pub(super) struct Untold {
+    disk: MemDisk,
+    calls: u64,
+    syncs: u64,
+    ghost small: { size_of (state_of disk) < 2 ^ 64 },
+}
+
+impl Untold {
+    pub(super) fn over(disk: MemDisk) -> Untold
+        ensures { result.disk ≡ disk }
+    {
+        Untold {
+            disk,
+            calls: 0,
+            syncs: 0,
+        }
+    }
+
+    pub(super) fn into_memory(self) -> MemDisk {
+        let Untold { disk, .. } = self;
+        disk
+    }
+
+    pub(super) fn calls(&self) -> u64 {
+        self.calls
+    }
+
+    pub(super) fn syncs(&self) -> u64 {
+        self.syncs
+    }
+}
+
+impl Disk for Untold {
+    ghost use Rattle.std.specs.Prelude.{false};
+    ghost use Rattle.disk_model.specs.MemDisk.{state_of};
+
+    ghost state = { λ d. record (state_of d.disk) { keeps = false } };
+
+    ghost fits = { λ d. d.small };
+
+    fn size(&mut self) -> Result<u64, DiskFault> {
+        self.calls = self.calls.saturating_add(1);
+        self.disk.size()
+    }
+
+    fn read_at(&mut self, at: u64, into: &mut [u8]) -> Result<(), DiskFault> {
+        self.calls = self.calls.saturating_add(1);
+        self.disk.read_at(at, into)
+    }
+
+    fn write_at(&mut self, at: u64, from: &[u8]) -> Result<(), DiskFault> {
+        self.calls = self.calls.saturating_add(1);
+        self.disk.write_at(at, from)
+    }
+
+    fn sync(&mut self) -> Result<(), DiskFault> {
+        self.calls = self.calls.saturating_add(1);
+        self.syncs = self.syncs.saturating_add(1);
+        self.disk.sync()
+    }
+}
+
+/// A device in memory that is formatted for the plant, with a ring of so many records and room for so many writes and syncs.
+pub(super) fn formatted(
+    alloc: Global,
+    system: &System,
+    ring: u32,
+    room: usize,
+) -> Result<MemDisk, Fail> {
+    if !(LEAST_RING..=MOST_RING).contains(&ring) {
+        return Err(Fail::new("no such ring"));
+    }
+    system.keeps_its_rules();
+    let bytes = 512 * device_cells(system.atoms().len() as u16, ring);
+    let disk = Untold::over(MemDisk::new(alloc, bytes, room)?);
+    match format(alloc, disk, system, ring) {
+        Ok(disk) => Ok(disk.into_memory()),
+        Err(_) => Err(Fail::new("the device was not formatted")),
+    }
+}

@@ -1,0 +1,67 @@
+// A durable plant under a lock, which two threads fire and flush.
+use super::common::{SAMPLE, Untold, formatted};
+use disk_model::Disk;
+use plant_core::Plant;
+use plant_text::plant_of_text;
+use recovery::boot;
+use std::alloc::Global;
+use std::sync::{Mutex, Wait};
+use std::test::Fail;
+use std::thread::{Threads, join};
+use step_core::System;
+
+/// How often each thread fires and flushes.
+const ROUNDS: u64 = 20;
+
+/// Room for the records of both.
+const RING: u32 = 64;
+
+/// A plant in its first state, with nothing fired.
+fn first_plant(alloc: Global, system: &System) -> Result<Plant<'_, Untold>, Fail> {
+    let disk = formatted(alloc, system, RING, 1_000)?;
+    match boot(alloc, Untold::over(disk), system) {
+        Ok(plant) => Ok(plant),
+        Err(_) => Err(Fail::new("the image is refused")),
+    }
+}
+
+/// Fires by the pick and flushes, time after time, and tells how many choices it fired.
+fn fire_and_flush<D: Disk>(rt: &impl Wait, shared: &Mutex<Plant<'_, D>>, pick: u64) -> u64 {
+    let mut fired = 0u64;
+    for _ in 0..ROUNDS {
+        let mut plant = shared.lock(rt);
+        if plant.fire(pick).is_ok() && plant.flush().is_ok() {
+            fired = fired.saturating_add(1);
+        }
+    }
+    fired
+}
+
+/// Two threads do so with one plant, by different picks.
+fn by_two_threads<D: Disk + Send, R: Threads + Wait + Sync>(
+    rt: &R,
+    shared: &Mutex<Plant<'_, D>>,
+) -> (u64, u64) {
+    join(
+        rt,
+        || fire_and_flush(rt, shared, 0),
+        || fire_and_flush(rt, shared, 1),
+    )
+}
+
+#[test]
+fn two_threads_fire_and_flush_one_plant(rt: HostRuntime) -> Result<(), Fail> {
+    let system = plant_of_text(rt.alloc(), SAMPLE)?;
+    let shared = Mutex::new(first_plant(rt.alloc(), &system)?);
+    let (first, second) = by_two_threads(&rt, &shared);
+    assert_eq!(rt; first, ROUNDS);
+    assert_eq!(rt; second, ROUNDS);
+    let plant = shared.into_inner();
+    let front = plant.front();
+    assert_eq!(rt; front.fired, 40);
+    assert_eq!(rt; front.acked, 40);
+    // Each firing is a step of A, which counts them.
+    let counted = plant.look(0).ok_or("A has a state")?;
+    assert!(rt; counted.values() == [40].as_slice());
+    Ok(())
+}
