@@ -64,13 +64,22 @@ pub fn read_request<'a, R: Print + Eprint + AllocGlobal>(
 fn request_in<'a>(alloc: Global, words: &'a [String]) -> Result<Request<'a>, Error> {
     let mut program = program(alloc)?;
     let matches = program.try_get_matches_from_mut(words)?;
+    request_of(alloc, &mut program, &matches)
+}
+
+/// What the words ask for that matched so.
+fn request_of<'a>(
+    alloc: Global,
+    program: &mut Command<'a>,
+    matches: &ArgMatches<'a>,
+) -> Result<Request<'a>, Error> {
     match matches.subcommand() {
-        Some((CHECK, found)) => plant_request(&mut program, found, Task::Check),
-        Some((TRACE, found)) => trace_request(alloc, &mut program, found),
-        Some((DRAW, found)) => plant_request(&mut program, found, Task::Draw),
-        Some((FORMAT, found)) => format_request(alloc, &mut program, found),
-        Some((RUN, found)) => run_request(&mut program, found),
-        Some((RECOVER, found)) => image_request(&mut program, found, ImageTask::Recover),
+        Some((CHECK, found)) => plant_request(program, found, Task::Check),
+        Some((TRACE, found)) => trace_request(alloc, program, found),
+        Some((DRAW, found)) => plant_request(program, found, Task::Draw),
+        Some((FORMAT, found)) => format_request(alloc, program, found),
+        Some((RUN, found)) => run_request(program, found),
+        Some((RECOVER, found)) => image_request(program, found, ImageTask::Recover),
         _ => Err(program.error(ErrorKind::MissingSubcommand, "a command is missing")?),
     }
 }
@@ -189,84 +198,103 @@ fn one_input(program: &mut Command<'_>) -> Result<Error, AllocError> {
 
 /// The program with its commands.
 fn program<'a>(alloc: Global) -> Result<Command<'a>, AllocError> {
-    Command::new(alloc, "bip_run")
+    let program = Command::new(alloc, "bip_run")
         .about(ABOUT)
         .after_help(AFTER)
         .subcommand_required(true)
-        .arg_required_else_help(true)
-        .subcommand(check_command(alloc)?)?
-        .subcommand(trace_command(alloc)?)?
-        .subcommand(draw_command(alloc)?)?
-        .subcommand(format_command(alloc)?)?
-        .subcommand(run_command(alloc)?)?
-        .subcommand(recover_command(alloc)?)
+        .arg_required_else_help(true);
+    let program = with_command(Ok(program), check_command(alloc));
+    let program = with_command(program, trace_command(alloc));
+    let program = with_command(program, draw_command(alloc));
+    let program = with_command(program, format_command(alloc));
+    let program = with_command(program, run_command(alloc));
+    with_command(program, recover_command(alloc))
+}
+
+/// The program with one more command, where there was memory for both.
+//
+// The parts of the program are put together by calls that hand want of memory on: a function with a `?` at each part takes the
+// prover as long as all else of this crate.
+fn with_command<'a>(
+    program: Result<Command<'a>, AllocError>,
+    command: Result<Command<'a>, AllocError>,
+) -> Result<Command<'a>, AllocError> {
+    program?.subcommand(command?)
+}
+
+/// The command with one more argument, where there was memory for it.
+fn with_argument<'a>(
+    command: Result<Command<'a>, AllocError>,
+    argument: Arg<'a>,
+) -> Result<Command<'a>, AllocError> {
+    command?.arg(argument)
 }
 
 /// The command that counts the parts of a plant.
 fn check_command<'a>(alloc: Global) -> Result<Command<'a>, AllocError> {
-    Command::new(alloc, CHECK)
+    let command = Command::new(alloc, CHECK)
         .about(CHECK_BRIEF)
         .long_about(CHECK_ABOUT)
-        .after_help(CHECK_AFTER)
-        .arg(explain_argument(alloc))?
-        .arg(plant_argument(alloc))
+        .after_help(CHECK_AFTER);
+    let command = with_argument(Ok(command), explain_argument(alloc));
+    with_argument(command, plant_argument(alloc))
 }
 
 /// The command that runs a plant.
 fn trace_command<'a>(alloc: Global) -> Result<Command<'a>, AllocError> {
-    Command::new(alloc, TRACE)
+    let command = Command::new(alloc, TRACE)
         .about(TRACE_BRIEF)
         .long_about(TRACE_ABOUT)
-        .after_help(TRACE_AFTER)
-        .arg(trace_format_argument(alloc))?
-        .arg(explain_argument(alloc))?
-        .arg(plant_argument(alloc))?
-        .arg(pick_argument(alloc))
+        .after_help(TRACE_AFTER);
+    let command = with_argument(Ok(command), trace_format_argument(alloc));
+    let command = with_argument(command, explain_argument(alloc));
+    let command = with_argument(command, plant_argument(alloc));
+    with_argument(command, pick_argument(alloc))
 }
 
 /// The command that draws a plant.
 fn draw_command<'a>(alloc: Global) -> Result<Command<'a>, AllocError> {
-    Command::new(alloc, DRAW)
+    let command = Command::new(alloc, DRAW)
         .about(DRAW_BRIEF)
         .long_about(DRAW_ABOUT)
-        .after_help(DRAW_AFTER)
-        .arg(explain_argument(alloc))?
-        .arg(plant_argument(alloc))
+        .after_help(DRAW_AFTER);
+    let command = with_argument(Ok(command), explain_argument(alloc));
+    with_argument(command, plant_argument(alloc))
 }
 
 /// The command that makes an image of a plant.
 fn format_command<'a>(alloc: Global) -> Result<Command<'a>, AllocError> {
-    Command::new(alloc, FORMAT)
+    let command = Command::new(alloc, FORMAT)
         .about(FORMAT_BRIEF)
         .long_about(FORMAT_ABOUT)
-        .after_help(FORMAT_AFTER)
-        .arg(ring_argument(alloc))?
-        .arg(explain_argument(alloc))?
-        .arg(plant_argument(alloc))?
-        .arg(image_argument(alloc))
+        .after_help(FORMAT_AFTER);
+    let command = with_argument(Ok(command), ring_argument(alloc));
+    let command = with_argument(command, explain_argument(alloc));
+    let command = with_argument(command, plant_argument(alloc));
+    with_argument(command, image_argument(alloc))
 }
 
 /// The command that runs a plant on its image.
 fn run_command<'a>(alloc: Global) -> Result<Command<'a>, AllocError> {
-    Command::new(alloc, RUN)
+    let command = Command::new(alloc, RUN)
         .about(RUN_BRIEF)
         .long_about(RUN_ABOUT)
-        .after_help(RUN_AFTER)
-        .arg(explain_argument(alloc))?
-        .arg(plant_argument(alloc))?
-        .arg(image_argument(alloc))?
-        .arg(script_argument(alloc))
+        .after_help(RUN_AFTER);
+    let command = with_argument(Ok(command), explain_argument(alloc));
+    let command = with_argument(command, plant_argument(alloc));
+    let command = with_argument(command, image_argument(alloc));
+    with_argument(command, script_argument(alloc))
 }
 
 /// The command that tells where a plant stands.
 fn recover_command<'a>(alloc: Global) -> Result<Command<'a>, AllocError> {
-    Command::new(alloc, RECOVER)
+    let command = Command::new(alloc, RECOVER)
         .about(RECOVER_BRIEF)
         .long_about(RECOVER_ABOUT)
-        .after_help(RECOVER_AFTER)
-        .arg(explain_argument(alloc))?
-        .arg(plant_argument(alloc))?
-        .arg(image_argument(alloc))
+        .after_help(RECOVER_AFTER);
+    let command = with_argument(Ok(command), explain_argument(alloc));
+    let command = with_argument(command, plant_argument(alloc));
+    with_argument(command, image_argument(alloc))
 }
 
 /// The argument that says where the plant text stands.
