@@ -1,7 +1,7 @@
 """A plant over real stops: the program is killed in the middle of a long run, and the image then has to give back what it told.
 
-At each moment the run is killed while it prints and saves. What it had printed by then says what it fired and what it had saved:
-`recover` must tell the state behind some number of those firings, no fewer than were saved, and the run must go on from there. The
+At each moment the run is killed while it prints, flushes and saves atoms. What it had printed by then says what it fired and what it had flushed:
+`recover` must tell the state behind some number of those firings, no fewer than were flushed, and the run must go on from there. The
 states are worked out here, from what examples/sample.plant says, and not by the program.
 """
 
@@ -15,18 +15,22 @@ ROOT = Path(__file__).resolve().parent.parent
 PLANT = ROOT / "examples" / "sample.plant"
 MOMENTS = 20
 FIRINGS = 4000
-# A run is killed behind so many saves, and no later than so many seconds from its start.
-SAVES_APART = 6
+# A run is killed behind so many flushes, and no later than so many seconds from its start.
+FLUSHES_APART = 6
 LATEST = 0.4
 
 
 def script():
-    """Some thousand events: ticks and sends by no short pattern, and a save behind some of them."""
+    """Some thousand events: ticks and sends by no short pattern, a flush behind some of them, and an atom that is asked for or stored behind others."""
     lines = []
     for number in range(FIRINGS):
         lines.append(f"fire {number * number // 3}")
         if number * number % 31 < 8:
             lines.append("flush")
+        if number % 5 == 1:
+            lines.append(f"ask {'AB'[number % 2]}")
+        if number % 5 == 3:
+            lines.append(f"put {'AB'[number // 2 % 2]}")
     return "".join(f"{line}\n" for line in lines)
 
 
@@ -59,13 +63,13 @@ class Stops(unittest.TestCase):
         started = time.monotonic()
         command = [str(self.program()), "run", str(PLANT), str(image), str(events)]
         with subprocess.Popen(command, stdout=subprocess.PIPE) as running:
-            lines, saves = [], 0
+            lines, flushes = [], 0
             for line in running.stdout:
                 lines.append(line)
-                saves += line.startswith(b"flushed ")
-                if saves > SAVES_APART * moment or time.monotonic() > started + LATEST:
+                flushes += line.startswith(b"flushed ")
+                if flushes > FLUSHES_APART * moment or time.monotonic() > started + LATEST:
                     break
-            # Not always at the same place behind a save.
+            # Not always at the same place behind a flush.
             time.sleep(moment % 5 / 5000)
             running.kill()
             lines += running.stdout.readlines()
@@ -78,13 +82,13 @@ class Stops(unittest.TestCase):
             events.write_text(script())
             self.made("format", PLANT, image, "--ring", "4096")
             printed = self.killed_run(image, events, moment)
-            fired = [line for line in printed if not line.startswith("flushed ")]
+            fired = [line for line in printed if line[:1].isdigit()]
             self.assertEqual(fired, [line_of(k + 1, line.split()[1]) for k, line in enumerate(fired)], "what was fired")
-            saved = max((int(line.split()[1]) for line in printed if line.startswith("flushed ")), default=0)
+            flushed = max((int(line.split()[1]) for line in printed if line.startswith("flushed ")), default=0)
             *states, front = self.made("recover", PLANT, image)
             number = int(front.split()[1])
             self.assertEqual(front, f"front {number} {number} 1")
-            self.assertTrue(saved <= number <= len(fired), f"{saved} saved, {number} recovered, {len(fired)} fired")
+            self.assertTrue(flushed <= number <= len(fired), f"{flushed} flushed, {number} recovered, {len(fired)} fired")
             self.assertEqual(states, state_behind(fired[:number]))
             self.check_on(image, fired[:number], Path(folder) / "more")
 

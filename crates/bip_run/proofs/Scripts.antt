@@ -1,6 +1,7 @@
 -- Why a script ends the program.
 use Rattle.std.proofs.Common.{◌≡◌, ◌<◌, ℕ, List, length, Err, arith, Option, None, Some}
 use Rattle.std.specs.Prelude.{IfSome}
+use Rattle.step_core.specs.Plant.{PlantDefinition}
 use Rattle.text_io.specs.declared.reading.TheConstants.{MAX_TEXT}
 use Rattle.script_lines.specs.Script.{IsFaultOf, script_meaning}
 use Rattle.script_lines.specs.declared.fault.ScriptFault.{ScriptFault}
@@ -9,15 +10,15 @@ use Rattle.bip_run.specs.Script.{TellsOfScript, of_script}
 use Rattle.bip_run.specs.declared.stop.Stop.TheVariants.{Script}
 
 -- a script that is too long is refused with number 0
-long_text_is_refused : (bytes : List ℕ) → MAX_TEXT < length bytes → script_meaning bytes ≡ Err 0
-long_text_is_refused bytes long = grind (arith, long)
+long_text_is_refused : (plant : PlantDefinition) (bytes : List ℕ) → MAX_TEXT < length bytes → script_meaning plant bytes ≡ Err 0
+long_text_is_refused plant bytes long = grind (arith, long)
 
 -- as far as it is known
-pub long_text_refused : (known : Option (List ℕ)) → IfSome known (λ bytes. MAX_TEXT < length bytes) → IfSome known (λ bytes. TellsOfScript (Script 0) bytes)
-long_text_refused None long = tt
-long_text_refused (Some bytes) long = long_text_is_refused bytes long
+pub long_text_refused : (plant : PlantDefinition) (known : Option (List ℕ)) → IfSome known (λ bytes. MAX_TEXT < length bytes) → IfSome known (λ bytes. TellsOfScript plant (Script 0) bytes)
+long_text_refused plant None long = tt
+long_text_refused plant (Some bytes) long = long_text_is_refused plant bytes long
 
 -- the fault of a script is told as a stop
-pub script_tells : (text : List ℕ) (fault : ScriptFault) → IsFaultOf text fault → TellsOfScript (of_script fault) text
-script_tells text (Line number) is = is
-script_tells text Memory is = tt
+pub script_tells : (plant : PlantDefinition) (text : List ℕ) (fault : ScriptFault) → IsFaultOf plant text fault → TellsOfScript plant (of_script fault) text
+script_tells plant text (Line number) is = is
+script_tells plant text Memory is = tt

@@ -1,5 +1,6 @@
 -- Where the script of a run ends the program.
 use Rattle.std.specs.Prelude.{◌≡◌, ℕ, List, Err}
+use Rattle.step_core.specs.Plant.{PlantDefinition}
 use Rattle.script_lines.specs.Script.{script_meaning}
 use Rattle.script_lines.specs.declared.fault.ScriptFault.{ScriptFault}
 use Rattle.script_lines.specs.declared.fault.ScriptFault.TheVariants as script
@@ -11,10 +12,10 @@ abbrev pub of_script : ScriptFault → Stop
 of_script (script.Line number) = Script number
 of_script script.Memory = Memory
 
--- A stop behind these bytes of a script: the line is the one for which they are refused; the reader may fail, and memory may be wanting; and
--- nothing else has a part in it.
-abbrev pub TellsOfScript : Stop → List ℕ → Type 0
-TellsOfScript (Script line) bytes = script_meaning bytes ≡ Err line
-TellsOfScript ScriptUnread bytes = Unit {0}
-TellsOfScript Memory bytes = Unit {0}
-TellsOfScript stop bytes = ⊥
+-- A stop behind these bytes of a script for a plant: the line is the one for which they are refused; the reader may fail, and memory may be
+-- wanting; and nothing else has a part in it.
+abbrev pub TellsOfScript : PlantDefinition → Stop → List ℕ → Type 0
+TellsOfScript plant (Script line) bytes = script_meaning plant bytes ≡ Err line
+TellsOfScript plant ScriptUnread bytes = Unit {0}
+TellsOfScript plant Memory bytes = Unit {0}
+TellsOfScript plant stop bytes = ⊥

@@ -117,7 +117,7 @@ fn work_on_image<R: Files<File = File> + Input + AllocGlobal, W: Write>(
             format_image(alloc, system, ring.records, disk, output)?;
         }
         ImageTask::Run(script) => {
-            let events = script_at(rt, script)?;
+            let events = script_at(rt, system, script)?;
             let disk = device_at(rt, image)?;
             run_image(alloc, system, &events, disk, output)?;
         }
@@ -142,16 +142,17 @@ fn plant_at<R: Files<File = File> + Input + AllocGlobal>(
     read_plant(rt.alloc(), &mut file, text)
 }
 
-/// The events of the script that stands at the path.
+/// The events that the script at the path asks of a plant of the system.
 fn script_at<R: Files<File = File> + Input + AllocGlobal>(
     rt: &R,
+    system: &System,
     path: &str,
 ) -> Result<Vec<Event>, Stop> {
     if is_standard_input(path) {
-        return read_events(rt.alloc(), &mut rt.reader());
+        return read_events(rt.alloc(), system, &mut rt.reader());
     }
     let mut file = fs::open(rt, path).map_err(|_| Stop::ScriptUnread)?;
-    read_events(rt.alloc(), &mut file)
+    read_events(rt.alloc(), system, &mut file)
 }
 
 /// The image that is at the path.

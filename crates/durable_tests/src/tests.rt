@@ -8,5 +8,7 @@ mod files;
 mod images;
 mod journal;
 mod restarts;
+mod runs;
+mod saves;
 mod slots;
 mod threads;

@@ -1,9 +1,10 @@
 -- Whatever a stop leaves of a plant's device stands for what is acknowledged.
-use Rattle.std.proofs.Common.{◌≡◌, ◌∙◌, sym, subst, ℕ, Bool, true, false, List, Option}
-use Rattle.std.specs.Prelude.{◌+◌, length}
+use Rattle.std.proofs.Common.{◌≡◌, ◌∙◌, sym, subst, ℕ, Bool, true, false, List, Option, None}
+use Rattle.std.specs.Prelude.{◌+◌, length, replicate}
 use Rattle.disk_model.specs.DiskState.{DiskState, size_of}
 use Rattle.disk_model.specs.Cells.{seen_cells}
 use Rattle.disk_model.specs.declared.cells.TheConstants.{BODY}
+use Rattle.record_codec.specs.Saved.{SavedFields}
 use Rattle.step_core.specs.Plant.{PlantDefinition}
 use Rattle.plant_image.specs.Contents.{contents_of, last_number}
 use Rattle.plant_image.specs.Standing.{StandsFor}
@@ -36,20 +37,28 @@ recovered_stands p q d e old mid new v same_plant same_digest same_device kept b
     stands_as_read q e old new v (booted keeps)
     (stands_by_name p q d e mid new v same_plant same_digest same_device (stands (kept ∙ keeps) (booted keeps).broken))
 
+-- a run from empty hands, told of the same plant by another name
+pub run_by_name : (r q : PlantDefinition) (events : List Event) (failed : Bool) (before after : View) (hands hands_after : List (Option SavedFields))
+    (from to : Option (List ℕ)) → r ≡ q → hands ≡ replicate (length q.atoms) None → IsRunOf r before hands events failed after hands_after from to →
+    IsRunOf q before (replicate (length q.atoms) None) events failed after hands_after from to
+run_by_name r q events failed before after hands hands_after from to same_plant empty ran =
+    subst (λ held. IsRunOf q before held events failed after hands_after from to) empty
+    (subst (λ plant. IsRunOf plant before hands events failed after hands_after from to) same_plant ran)
+
 -- a run in which the device did not fail leaves an image that stands for all that it acknowledged
 pub run_stands : (p r q : PlantDefinition) (d e : List ℕ) (old mid new : DiskState) (events : List Event) (failed : Bool) (before after : View)
-    (from to : Option (List ℕ)) → p ≡ r → r ≡ q → d ≡ e → new ≡ mid → IsBootedFrom q e old before → failed ≡ false →
-    IsRunOf r before events failed after from to →
+    (hands hands_after : List (Option SavedFields)) (from to : Option (List ℕ)) → p ≡ r → r ≡ q → d ≡ e → new ≡ mid → IsBootedFrom q e old before →
+    hands ≡ replicate (length q.atoms) None → failed ≡ false → IsRunOf r before hands events failed after hands_after from to →
     (mid.keeps ≡ true → after.broken ≡ false → StandsForAllAcked p d mid after) → HasRunOn q e old events new from to
-run_stands p r q d e old mid new events failed before after from to first_name second_name same_digest same_device booted sound ran stands =
-    let run : IsRunOf q before events false after from to =
-    subst (λ plant. IsRunOf plant before events false after from to) second_name
-    (subst (λ (f : Bool). IsRunOf r before events f after from to) sound ran) in
+run_stands p r q d e old mid new events failed before after hands hands_after from to first_name second_name same_digest same_device booted empty sound ran stands =
+    let run = run_by_name r q events failed before after hands hands_after from to second_name empty ran in
+    let silent : IsRunOf q before (replicate (length q.atoms) None) events false after hands_after from to =
+    subst (λ (f : Bool). IsRunOf q before (replicate (length q.atoms) None) events f after hands_after from to) sound run in
     record {
       after = after;
-      run = record { before = before; booted = booted; ran = run };
+      run = record { before = before; hands = hands_after; booted = booted; ran = silent };
       stands = λ keeps kept.
           stands_by_name p q d e mid new after (first_name ∙ second_name) same_digest same_device
           (stands (subst (λ (s : DiskState). s.keeps ≡ true) same_device kept)
-          (sound_behind q run.happened before after run.ran (sym run.told) ∙ (booted keeps).broken));
+          (sound_behind q silent.happened before after silent.ran (sym silent.told) ∙ (booted keeps).broken));
     }

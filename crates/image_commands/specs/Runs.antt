@@ -1,9 +1,10 @@
 -- Plants on images, and their runs.
-use Rattle.std.specs.Prelude.{◌≡◌, ℕ, ◌+◌, Bool, true, false, List, Option, length}
+use Rattle.std.specs.Prelude.{◌≡◌, ℕ, ◌+◌, Bool, true, false, List, Option, None, length, replicate}
 use Rattle.step_core.specs.Plant.{PlantDefinition}
 use Rattle.disk_model.specs.DiskState.{DiskState, size_of}
 use Rattle.disk_model.specs.Cells.{Cell, MayBe, seen_cells}
 use Rattle.disk_model.specs.declared.cells.TheConstants.{BODY}
+use Rattle.record_codec.specs.Saved.{SavedFields}
 use Rattle.plant_image.specs.Contents.{contents_of, last_number, states_of}
 use Rattle.plant_image.specs.Standing.{StandsFor}
 use Rattle.plant_core.specs.Stops.{StandsForAcked}
@@ -26,12 +27,13 @@ StandsAsRead plant digest old new = (cells : List Cell) → MayBe (BODY + 1) new
 abbrev pub StandsForAllAcked : PlantDefinition → List ℕ → DiskState → View → Type 0
 StandsForAllAcked plant digest s v = (cells : List Cell) → MayBe (BODY + 1) s cells → StandsForAcked plant digest (size_of s) v cells
 
--- A run of these events on a device, up to a view: the plant was booted from the device, each event was answered, and this tells whether the device
--- failed. What was printed are the answers, and where the plant stands at the end.
+-- A run of these events on a device, up to a view: the plant was booted from the device, nothing was in the hands of its atoms, each event
+-- was answered, and this tells whether the device failed. What was printed are the answers, and where the plant stands at the end.
 pub record IsRunOn (plant : PlantDefinition) (digest : List ℕ) (s : DiskState) (events : List Event) (failed : Bool) (after : View) (old new : Option (List ℕ)) : Type 0 where
   pub before : View
+  pub hands : List (Option SavedFields)
   pub booted : IsBootedFrom plant digest s before
-  pub ran : IsRunOf plant before events failed after old new
+  pub ran : IsRunOf plant before (replicate (length plant.atoms) None) events failed after hands old new
 
 -- A run that ended well: the device failed in no call, and where it keeps the disk model, whatever a stop now leaves of it stands for all that was
 -- acknowledged.

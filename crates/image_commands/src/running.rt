@@ -12,16 +12,18 @@ ghost use Rattle.image_commands.specs.declared.refusal.ImageRefusal.{ImageRefusa
 ghost use Rattle.image_commands.specs.declared.stop.ImageStop.TheVariants.{Failed, Refused};
 
 use crate::booting::booted;
+use crate::refusal::ImageRefusal;
 use crate::stop::ImageStop;
 use disk_model::Disk;
-use plant_core::Event;
+use plant_core::{Event, Hands};
 use script_lines::run_script;
 use std::alloc::Global;
 use std::io::Write;
 use step_core::System;
 
 /// Boots the plant of the system from the device, after any stop, asks the events of it, one after another, and prints the answer of each; behind
-/// them, where the plant then stands. What was printed is handed on before each flush of the plant, behind its answer, and at the end.
+/// them, where the plant then stands. What was printed is handed on before each flush of the plant and each state that is stored, behind the
+/// answer, and at the end. The hands of the atoms are empty at first; they are made before the device is asked for anything.
 pub fn run_image<D: Disk + Drop, W: Write>(
     alloc: Global,
     system: &System,
@@ -35,11 +37,15 @@ pub fn run_image<D: Disk + Drop, W: Write>(
         (size_of (D.state disk)) (seen_cells (BODY + 1) (D.state disk)))) }
     ensures nothing_printed { (refusal : ImageRefusal) → result ≡ Err (Refused refusal) → output.new ≡ output.old }
 {
+    let mut hands = match Hands::new(alloc, system.atoms().len()) {
+        Ok(hands) => hands,
+        Err(_) => return Err(ImageStop::Refused(ImageRefusal::Memory)),
+    };
     let mut plant = match booted(alloc, system, disk) {
         Ok(plant) => plant,
         Err(refusal) => return Err(ImageStop::Refused(refusal)),
     };
-    if run_script(&mut plant, events, output)? {
+    if run_script(&mut plant, &mut hands, events, output)? {
         return Err(ImageStop::Failed);
     }
     plant.stands();

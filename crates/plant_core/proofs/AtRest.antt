@@ -1,5 +1,5 @@
 -- What a stop leaves of a durable plant, and that its device is at rest behind a flush.
-use Rattle.std.proofs.Common.{◌≡◌, ◌+◌, ◌-◌, ◌≤◌, ℕ, refl, sym, ◌∙◌, ap, subst, List, [], ◌∷◌, ◌++◌, length, take, arith, true, None}
+use Rattle.std.proofs.Common.{◌≡◌, ◌+◌, ◌-◌, ◌≤◌, ℕ, refl, sym, ◌∙◌, ap, subst, List, [], ◌∷◌, ◌++◌, length, map, take, arith, true, Bool, false, None}
 use Rattle.std.specs.List.{list_all}
 use Rattle.std.proofs.lemmas.Bool.{and_from}
 use Rattle.std.proofs.lemmas.List.{length-append, length-take, take-append-le, take_all}
@@ -30,7 +30,9 @@ use Rattle.plant_image.proofs.KeptCells.{sound_of}
 use Rattle.plant_image.proofs.OnContents.{run_leads}
 use Rattle.plant_image.proofs.Standings.{leads_stands}
 use Rattle.plant_core.specs.Kept.{IsAtRest, IsFrontOf, number_held}
-use Rattle.plant_core.specs.Stops.{StandsForFront}
+use Rattle.plant_core.specs.Snapshots.{mark_of}
+use Rattle.plant_core.specs.Stops.{StandsForAcked, StandsForFront}
+use Rattle.trimmer.specs.declared.saved.SavedAt.{SavedAt}
 use Rattle.plant_core.specs.View.{View, with_fired}
 use Rattle.plant_core.proofs.Flushing.{records-front}
 
@@ -78,9 +80,22 @@ of-front plant digest bytes v cells front =
       subst (λ (n : ℕ). StandsFor plant digest bytes cells (fold plant v.acked (take (number_held plant cells - v.number) v.tail)) n) number front.stands,
     )
 
+-- what stands for the acknowledged state stands for the front of length 0
+pub acked-front : (plant : PlantDefinition) (digest : List ℕ) (bytes : ℕ) (v : View) (cells : List Cell) → StandsForAcked plant digest bytes v cells → StandsForFront plant digest bytes v cells
+acked-front plant digest bytes v cells stands = (0, omega arith, subst (λ (n : ℕ). StandsFor plant digest bytes cells v.acked n) (omega arith) stands)
+
 -- so before the first call whatever a stop leaves stands for a front
 pub front-now : (plant : PlantDefinition) (digest : List ℕ) (v : View) (s : DiskState) → ((cells : List Cell) → MayBe (BODY + 1) s cells → IsFrontOf plant digest (size_of s) v cells) → Leaves (BODY + 1) (StandsForFront plant digest (size_of s) v) s s
 front-now plant digest v s front = leaves_start (BODY + 1) (StandsForFront plant digest (size_of s) v) s (λ cells may. of-front plant digest (size_of s) v cells (front cells may))
+
+-- Where a state is handed in to be stored the device is left as it was, or whatever a stop leaves stands for the acknowledged state.
+pub put-front : (plant : PlantDefinition) (digest : List ℕ) (v : View) (old new : DiskState) → ((cells : List Cell) → MayBe (BODY + 1) old cells → IsFrontOf plant digest (size_of old) v cells) → (v.broken ≡ true → new ≡ old)
+    → (v.broken ≡ false → Leaves (BODY + 1) (StandsForAcked plant digest (size_of old) v) old new) → Leaves (BODY + 1) (StandsForFront plant digest (size_of old) v) old new
+put-front plant digest v old new front same stops = by v.broken refl
+  where
+    by : (broken : Bool) → v.broken ≡ broken → Leaves (BODY + 1) (StandsForFront plant digest (size_of old) v) old new
+    by true is = subst (Leaves (BODY + 1) (StandsForFront plant digest (size_of old) v) old) (sym (same is)) (front-now plant digest v old front)
+    by false is = leaves_weaker (BODY + 1) (StandsForAcked plant digest (size_of old) v) (StandsForFront plant digest (size_of old) v) old new (acked-front plant digest (size_of old) v) (stops is)
 
 -- a front of the tail is one of a longer tail
 pub front-longer : (plant : PlantDefinition) (digest : List ℕ) (bytes : ℕ) (v : View) (c : ChoiceDefinition) (cells : List Cell) → IsFrontOf plant digest bytes v cells → IsFrontOf plant digest bytes (with_fired plant c v) cells
@@ -92,7 +107,7 @@ front-longer plant digest bytes v c cells front =
       stands = subst (λ (cs : List ChoiceDefinition). StandsFor plant digest bytes cells (fold plant v.acked cs) (number_held plant cells)) (sym (take-append-le (number_held plant cells - v.number) v.tail (c ∷ []) short)) front.stands;
     }
 
-module _ (plant : PlantDefinition) (digest : List ℕ) (j : Ring) (acked : List Local) (counts : List ℕ) (number : ℕ) (old : DiskState) (rest : IsAtRest plant digest j acked counts number old) where
+module _ (plant : PlantDefinition) (digest : List ℕ) (j : Ring) (acked : List Local) (counts : List ℕ) (number : ℕ) (saved : List SavedAt) (old : DiskState) (rest : IsAtRest plant digest j acked counts number saved old) where
   -- whatever a stop now leaves stands for the acknowledged state
   pub stands-now : (cells : List Cell) → MayBe (BODY + 1) old cells → StandsFor plant digest (size_of old) cells acked number
   stands-now cells may =
@@ -156,9 +171,18 @@ module _ (plant : PlantDefinition) (digest : List ℕ) (j : Ring) (acked : List 
         → Leaves (BODY + 1) (λ cells. (k : ℕ) × (k ≤ length tail) × StandsFor plant digest (size_of old) cells (fold plant acked (take k tail)) (number + k)) old new
     stops-stand new left = leaves_weaker (BODY + 1) (HasAppended j news (seen_cells (BODY + 1) old)) (λ cells. (k : ℕ) × (k ≤ length tail) × StandsFor plant digest (size_of old) cells (fold plant acked (take k tail)) (number + k)) old new stop-stands left
 
-    -- and with all of the records appended the device is at rest again
+    -- with all of the records appended the cells hold them too
+    pub again-reads : (new : DiskState) → HasAppendedAll j news old new → size_of new ≡ size_of old → contents_of (length plant.atoms) (seen_cells (BODY + 1) new) ≡ with_records news (contents_of (length plant.atoms) (seen_cells (BODY + 1) old))
+    unfolding all-appended
+    again-reads new all same =
+        let before : Contents = contents_of (length plant.atoms) (seen_cells (BODY + 1) old) in
+        let ring : Ring = ring_in (length plant.atoms) before in
+        let left : HasAppended ring news (seen_cells (BODY + 1) old) (seen_cells (BODY + 1) new) = all-appended ring news old new same (subst (λ r. HasAppendedAll r news old new) rest.journal all) in
+        appended_reads plant digest (size_of old) news (seen_cells (BODY + 1) old) (seen_cells (BODY + 1) new) (sound_of plant digest (size_of old) (seen_cells (BODY + 1) old) rest.sound) fit left ∙ ap (λ rs. with_records rs before) (take_all (length news) news (omega arith))
+
+    -- and the device is at rest again
     pub rest-again : (after : Ring) (new : DiskState) → HasAppendedAll j news old new → size_of new ≡ size_of old → after ≡ appended (length news) j
-        → IsAtRest plant digest after (fold plant acked tail) (counts_behind tail counts) (number + length tail) new
+        → IsAtRest plant digest after (fold plant acked tail) (counts_behind tail counts) (number + length tail) saved new
     unfolding all-appended
     rest-again after new all same more =
         let before : Contents = contents_of (length plant.atoms) (seen_cells (BODY + 1) old) in
@@ -166,15 +190,15 @@ module _ (plant : PlantDefinition) (digest : List ℕ) (j : Ring) (acked : List 
         let left : HasAppended ring news (seen_cells (BODY + 1) old) (seen_cells (BODY + 1) new) = all-appended ring news old new same (subst (λ r. HasAppendedAll r news old new) rest.journal all) in
         let judged = sound_of plant digest (size_of old) (seen_cells (BODY + 1) old) rest.sound in
         let run : IsRun plant acked tail (fold plant acked tail) = subst (λ cs. IsRun plant acked cs (fold plant acked cs)) (take_all (length tail) tail (omega arith)) (runs (length tail)) in
-        let reads : contents_of (length plant.atoms) (seen_cells (BODY + 1) new) ≡ with_records news before =
-        appended_reads plant digest (size_of old) news (seen_cells (BODY + 1) old) (seen_cells (BODY + 1) new) judged fit left ∙ ap (λ rs. with_records rs before) (take_all (length news) news (omega arith)) in
+        let reads : contents_of (length plant.atoms) (seen_cells (BODY + 1) new) ≡ with_records news before = again-reads new all same in
         let long : length (before.records ++ news) ≡ length before.records + length news = length-append before.records news in
         let last : last_number before + length news ≡ before.base + length (before.records ++ news) - 1 = omega (arith, long, rest.leads.last) in
-        subst (λ r. IsAtRest plant digest r (fold plant acked tail) (counts_behind tail counts) (number + length tail) new) (sym more) (record {
+        subst (λ r. IsAtRest plant digest r (fold plant acked tail) (counts_behind tail counts) (number + length tail) saved new) (sym more) (record {
           ready = all.ready;
           sound = subst (λ (bytes : ℕ). cells_fault plant digest bytes (seen_cells (BODY + 1) new) ≡ None) (sym same)
               (appended_none plant digest (size_of old) news (seen_cells (BODY + 1) old) (seen_cells (BODY + 1) new) judged fit left);
           journal = ap (appended (length news)) rest.journal ∙ ap (λ (n : ℕ). record ring { last = n }) last ∙ ap (ring_in (length plant.atoms)) (sym reads);
           leads = subst (λ c. Leads plant c (fold plant acked tail) (counts_behind tail counts) (number + length tail)) (sym reads)
               (run_leads plant before acked counts number rest.leads (fold plant acked tail) tail run);
+          slots = rest.slots ∙ ap (λ (c : Contents). map mark_of c.slots) (sym reads);
         })

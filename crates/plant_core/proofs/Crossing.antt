@@ -10,7 +10,7 @@ use Rattle.plant_core.specs.contracts.plant.Plant as plant
 use Rattle.step_core.proofs.Crossing.{Stepper-send}
 
 pub Plant-send : (κ : NamedLft) (D : RattleType) (g : Ghosts D.Denot) → IsSend D → IsSend (plant.the_field κ D g).row
-Plant-send κ D g send = search (Stepper-send, cells.the_send, sendable, crosses) depth 60
+Plant-send κ D g send = search (Stepper-send, cells.the_send, sendable, crosses) depth 60 fits 10000
 
 pub Plant-row-send : (κ : NamedLft) (D : RattleType) (g : Ghosts D.Denot) → IsSend D → IsSend (plant.the_row κ D g)
 Plant-row-send κ D g send = search (Plant-send, sendable)

@@ -11,20 +11,21 @@ use Rattle.disk_model.specs.DiskState.{DiskState, counted, size_of}
 use Rattle.disk_model.specs.Moments.{leaves_start, leaves_then, leaves_weaker}
 use Rattle.disk_model.specs.declared.cells.TheConstants.{BODY}
 use Rattle.plant_image.specs.Standing.{StandsFor}
+use Rattle.record_codec.specs.Saved.{SavedFields}
 use Rattle.record_codec.specs.declared.layout.TheConstants.{LAST_NUMBER}
 use Rattle.step_core.specs.Choice.{ChoiceDefinition}
 use Rattle.step_core.specs.Plant.{PlantDefinition}
 use Rattle.step_core.specs.Runs.{fold}
-use Rattle.plant_core.specs.Events.{IsAckedOf, IsEvent, IsEventRun, IsFire, all_fired, asked_in, fired_by, first_refusal, has_failed, is_disk, is_fire, is_stuck, refused_where}
+use Rattle.plant_core.specs.Events.{IsAckedOf, IsEvent, IsEventRun, AreHandedIn, IsFire, IsHandedIn, all_fired, asked_in, fired_by, first_refusal, hands_behind, has_failed, is_disk, is_in_memory, is_stuck, refused_where}
 use Rattle.plant_core.specs.Stops.{StandsForFront, StandsForFrontSince}
 use Rattle.plant_core.specs.View.{View, fired_number}
 use Rattle.plant_core.specs.declared.events.Event.{Event}
 use Rattle.plant_core.specs.declared.events.FiredAs.{FiredAs}
 use Rattle.plant_core.specs.declared.events.Happened.{Happened}
-use Rattle.plant_core.specs.declared.events.Happened.TheVariants.{Fire, Flush}
+use Rattle.plant_core.specs.declared.events.Happened.TheVariants.{Fire, Flush, Ask, Put, Empty}
 use Rattle.plant_core.specs.declared.limits.TheConstants.{MOST_TAIL}
 use Rattle.plant_core.specs.declared.refused.Refused.{Refused}
-use Rattle.plant_core.specs.declared.refused.Refused.TheVariants.{Stuck, TailFull, RingFull, Spent, Disk, Broken}
+use Rattle.plant_core.specs.declared.refused.Refused.TheVariants.{Stuck, TailFull, RingFull, Spent, Ahead, Stranger, NothingNew, Disk, Broken}
 use Rattle.plant_core.proofs.EventRuns.{events-ack, event-cases, events-join, fold-append, fired-more}
 
 -- ---- what fails
@@ -56,6 +57,18 @@ failing-breaks plant v w (Flush (Ok number)) did failed = absurd (false≢true f
 failing-breaks plant v w (Flush (Err Broken)) did failed = absurd (false≢true failed)
 failing-breaks plant v w (Flush (Err Disk)) did failed = (did.0, ap (λ (x : View). x.broken) did.2)
 failing-breaks plant v w (Flush (Err other)) did failed = absurd did
+failing-breaks plant v w (Ask atom (Ok saved)) did failed = absurd (false≢true failed)
+failing-breaks plant v w (Ask atom (Err Broken)) did failed = absurd (false≢true failed)
+failing-breaks plant v w (Ask atom (Err Stranger)) did failed = absurd (false≢true failed)
+failing-breaks plant v w (Ask atom (Err NothingNew)) did failed = absurd (false≢true failed)
+failing-breaks plant v w (Ask atom (Err other)) did failed = absurd did
+failing-breaks plant v w (Put saved (Ok count)) did failed = absurd (false≢true failed)
+failing-breaks plant v w (Put saved (Err Broken)) did failed = absurd (false≢true failed)
+failing-breaks plant v w (Put saved (Err Stranger)) did failed = absurd (false≢true failed)
+failing-breaks plant v w (Put saved (Err (Ahead atom))) did failed = absurd (false≢true failed)
+failing-breaks plant v w (Put saved (Err Disk)) did failed = (did.0.whole, ap (λ (x : View). x.broken) did.1)
+failing-breaks plant v w (Put saved (Err other)) did failed = absurd did
+failing-breaks plant v w (Empty atom) did failed = absurd (false≢true failed)
 
 -- a plant that is broken stays so
 stays-broken : (plant : PlantDefinition) (v w : View) (h : Happened) → IsEvent plant v h w → v.broken ≡ true → w.broken ≡ true
@@ -64,10 +77,11 @@ stays-broken plant v w h event broken = event-cases plant v w h
     broken
     (λ c allowed. broken)
     broken
+    (λ saved kept. broken)
     refl
     event
 
-not-true : (b : Bool) → (b ≡ true → ⊥) → b ≡ false
+pub not-true : (b : Bool) → (b ≡ true → ⊥) → b ≡ false
 not-true true none = absurd (none refl)
 not-true false none = refl
 
@@ -118,25 +132,34 @@ module _ (plant : PlantDefinition) (digest : List ℕ) (bytes : ℕ) (v : View) 
             (subst (λ states. StandsFor plant digest bytes cells states (u.number + k)) state stands.2),
       )
 
+-- ---- what is handed in
+
+-- one more event behind those
+pub handed-more : (hs : List Happened) (h : Happened) (hands held after : List (Option SavedFields)) → AreHandedIn hands hs held → IsHandedIn held h → after ≡ hands_behind h held → AreHandedIn hands (hs ++ h ∷ []) after
+handed-more [] h hands held after before handed behind = (subst (λ (x : List (Option SavedFields)). IsHandedIn x h) before handed, behind ∙ ap (hands_behind h) before)
+handed-more (g ∷ gs) h hands held after before handed behind = (before.0, handed-more gs h (hands_behind g hands) held after before.1 handed behind)
+
 -- ---- some events
 
 -- What is so where a plant was asked for these events, these things happened, and the view and the device are these now.
-pub record SoFar (plant : PlantDefinition) (digest : List ℕ) (v : View) (s : DiskState) (events : List Event) (hs : List Happened) (u : View) (m : DiskState) : Type 0 where
+pub record SoFar (plant : PlantDefinition) (digest : List ℕ) (v : View) (s : DiskState) (hands : List (Option SavedFields)) (events : List Event) (hs : List Happened) (u : View) (m : DiskState) (held : List (Option SavedFields)) : Type 0 where
   pub asked : map asked_in hs ≡ events
   pub run : IsEventRun plant v hs u
+  pub handed : AreHandedIn hands hs held
   pub stops : s.keeps ≡ true → Leaves (BODY + 1) (StandsForFrontSince plant digest (size_of s) v (all_fired hs)) s m
   pub cause : m.failures ≡ counted (list_any has_failed hs) s.failures
   pub failed : list_any has_failed hs ≡ true → u.broken ≡ true
-  pub idle : list_all is_fire events ≡ true → m ≡ s
+  pub idle : list_all is_in_memory events ≡ true → m ≡ s
   pub size : size_of m ≡ size_of s
   pub keeps : m.keeps ≡ s.keeps
 
-module _ (plant : PlantDefinition) (digest : List ℕ) (v : View) (s : DiskState) where
+module _ (plant : PlantDefinition) (digest : List ℕ) (v : View) (s : DiskState) (hands : List (Option SavedFields)) where
   -- before the first
-  pub so-far-none : (s.keeps ≡ true → (cells : List Cell) → MayBe (BODY + 1) s cells → StandsForFront plant digest (size_of s) v cells) → SoFar plant digest v s [] [] v s
+  pub so-far-none : (s.keeps ≡ true → (cells : List Cell) → MayBe (BODY + 1) s cells → StandsForFront plant digest (size_of s) v cells) → SoFar plant digest v s hands [] [] v s hands
   so-far-none front = record {
     asked = refl;
     run = refl;
+    handed = refl;
     stops = λ keeps. leaves_start (BODY + 1) (StandsForFrontSince plant digest (size_of s) v []) s
         (λ cells may. subst (λ cs. (n : ℕ) × (n ≤ length cs) × StandsFor plant digest (size_of s) cells (fold plant v.acked (take n cs)) (v.number + n)) (sym (append-nil v.tail)) (front keeps cells may));
     cause = refl;
@@ -146,14 +169,16 @@ module _ (plant : PlantDefinition) (digest : List ℕ) (v : View) (s : DiskState
     keeps = refl;
   }
 
-  module _ (leads : v.present ≡ fold plant v.acked v.tail) (events : List Event) (hs : List Happened) (u : View) (m : DiskState) (so_far : SoFar plant digest v s events hs u m) where
+  module _ (leads : v.present ≡ fold plant v.acked v.tail) (events : List Event) (hs : List Happened) (u : View) (m : DiskState) (held : List (Option SavedFields)) (so_far : SoFar plant digest v s hands events hs u m held) where
     module _ (h : Happened) (w : View) (t : DiskState) (event : IsEvent plant u h w) where
       -- behind one more
       pub so-far-more : (e : Event) → asked_in h ≡ e → (m.keeps ≡ true → Leaves (BODY + 1) (StandsForFront plant digest (size_of m) u) m t) → t.failures ≡ counted (has_failed h) m.failures
-          → (is_fire e ≡ true → t ≡ m) → size_of t ≡ size_of m → t.keeps ≡ m.keeps → SoFar plant digest v s (events ++ e ∷ []) (hs ++ h ∷ []) w t
-      so-far-more e asked stops cause idle size keeps = record {
+          → (is_in_memory e ≡ true → t ≡ m) → size_of t ≡ size_of m → t.keeps ≡ m.keeps → (after : List (Option SavedFields)) → IsHandedIn held h → after ≡ hands_behind h held
+          → SoFar plant digest v s hands (events ++ e ∷ []) (hs ++ h ∷ []) w t after
+      so-far-more e asked stops cause idle size keeps after handed behind = record {
         asked = map_push asked_in hs h ∙ ap (λ es. es ++ asked_in h ∷ []) so_far.asked ∙ ap (λ x. events ++ x ∷ []) asked;
         run = events-join plant hs (h ∷ []) v u w so_far.run (w, event, refl);
+        handed = handed-more hs h hands held after so_far.handed handed behind;
         stops = λ kept.
             let first : Leaves (BODY + 1) (StandsForFrontSince plant digest (size_of s) v (all_fired hs)) s m = so_far.stops kept in
             let second : Leaves (BODY + 1) (StandsForFront plant digest (size_of s) u) m t =
@@ -173,8 +198,8 @@ module _ (plant : PlantDefinition) (digest : List ℕ) (v : View) (s : DiskState
             (λ is. (failing-breaks plant u w h event is).1)
             (sym (list_any-append has_failed hs (h ∷ [])) ∙ some);
         idle = λ all.
-            let both = and_parts (list_all is_fire events) (is_fire e && true) (sym (list_all-append is_fire events (e ∷ [])) ∙ all) in
-            idle (and_parts (is_fire e) true both.1).0 ∙ so_far.idle both.0;
+            let both = and_parts (list_all is_in_memory events) (is_in_memory e && true) (sym (list_all-append is_in_memory events (e ∷ [])) ∙ all) in
+            idle (and_parts (is_in_memory e) true both.1).0 ∙ so_far.idle both.0;
         size = size ∙ so_far.size;
         keeps = keeps ∙ so_far.keeps;
       }

@@ -1,5 +1,5 @@
 -- Runs of events: what they fire, and what they acknowledge.
-use Rattle.std.proofs.Common.{◌≡◌, ◌+◌, ◌-◌, ◌≤◌, ℕ, refl, sym, ◌∙◌, ap, subst, List, [], ◌∷◌, ◌++◌, length, take, drop, arith, true, Ok, Err}
+use Rattle.std.proofs.Common.{◌≡◌, ◌+◌, ◌-◌, ◌≤◌, ℕ, refl, sym, ◌∙◌, ap, subst, List, [], ◌∷◌, ◌++◌, length, take, drop, arith, true, Option, Ok, Err}
 use Rattle.std.proofs.Math.Seq.{drop-append-add, take-append-add}
 use Rattle.std.proofs.lemmas.List.{append-nil, append_assoc, flat_map_more, length-append}
 use Rattle.petri_atom.specs.Local.{Local}
@@ -10,23 +10,39 @@ use Rattle.step_core.specs.Runs.{IsRun, fold}
 use Rattle.step_core.specs.Step.{next}
 use Rattle.step_core.proofs.Membership.{entry-in}
 use Rattle.plant_core.specs.Events.{IsAckedOf, IsEvent, IsEventRun, all_fired, fired_by}
+use Rattle.record_codec.specs.Saved.{SavedFields}
+use Rattle.trimmer.specs.declared.saved.SavedAt.{SavedAt}
+use Rattle.plant_core.specs.Snapshots.{with_held, with_mark, without}
 use Rattle.plant_core.specs.View.{View, with_all_acked, with_fired}
 use Rattle.plant_core.specs.declared.events.Happened.{Happened}
-use Rattle.plant_core.specs.declared.events.Happened.TheVariants.{Fire, Flush}
-use Rattle.plant_core.specs.declared.refused.Refused.TheVariants.{Broken, Disk}
+use Rattle.plant_core.specs.declared.events.Happened.TheVariants.{Fire, Flush, Ask, Put, Empty}
+use Rattle.plant_core.specs.declared.refused.Refused.TheVariants.{Ahead, Stranger, NothingNew, Broken, Disk}
 use Rattle.plant_core.proofs.Chosen.{fold-more}
 
 module _ (plant : PlantDefinition) where
-  -- An event leaves the view, fires an allowed choice, acknowledges all, or breaks the plant: what holds at each of these holds at it.
-  pub event-cases : (v w : View) (h : Happened) (P : List ChoiceDefinition → View → Type 0) → P [] v → ((c : ChoiceDefinition) → IsAllowed plant v.present c → P (c ∷ []) (with_fired plant c v)) → P [] (with_all_acked v) → P [] (record v { broken = true })
+  -- An event leaves the view, fires an allowed choice, acknowledges all, changes what is known of saved states, or breaks the plant: what holds at
+  -- each of these holds at it.
+  pub event-cases : (v w : View) (h : Happened) (P : List ChoiceDefinition → View → Type 0) → P [] v → ((c : ChoiceDefinition) → IsAllowed plant v.present c → P (c ∷ []) (with_fired plant c v)) → P [] (with_all_acked v) → ((saved : List SavedAt) (kept : List (Option SavedFields)) → P [] (record v { saved = saved; kept = kept })) → P [] (record v { broken = true })
       → IsEvent plant v h w → P (fired_by h) w
-  event-cases v w (Fire pick (Err refused)) P stays fires acks breaks did = subst (P []) (sym did.1) stays
-  event-cases v w (Fire pick (Ok fired)) P stays fires acks breaks did =
+  event-cases v w (Fire pick (Err refused)) P stays fires acks notes breaks did = subst (P []) (sym did.1) stays
+  event-cases v w (Fire pick (Ok fired)) P stays fires acks notes breaks did =
       subst (P (choice_of fired.choice ∷ [])) (sym did.3) (fires (choice_of fired.choice) (entry-in (choices plant v.present) _ (choice_of fired.choice) did.2))
-  event-cases v w (Flush (Ok number)) P stays fires acks breaks did = subst (P []) (sym did.2) acks
-  event-cases v w (Flush (Err Broken)) P stays fires acks breaks did = subst (P []) (sym did.1) stays
-  event-cases v w (Flush (Err Disk)) P stays fires acks breaks did = subst (P []) (sym did.2) breaks
-  event-cases v w (Flush (Err other)) P stays fires acks breaks did = absurd did
+  event-cases v w (Flush (Ok number)) P stays fires acks notes breaks did = subst (P []) (sym did.2) acks
+  event-cases v w (Flush (Err Broken)) P stays fires acks notes breaks did = subst (P []) (sym did.1) stays
+  event-cases v w (Flush (Err Disk)) P stays fires acks notes breaks did = subst (P []) (sym did.2) breaks
+  event-cases v w (Flush (Err other)) P stays fires acks notes breaks did = absurd did
+  event-cases v w (Ask atom (Ok saved)) P stays fires acks notes breaks did = subst (P []) (sym did.3) (notes v.saved (with_held saved v.kept))
+  event-cases v w (Ask atom (Err Broken)) P stays fires acks notes breaks did = subst (P []) (sym did.1) stays
+  event-cases v w (Ask atom (Err Stranger)) P stays fires acks notes breaks did = subst (P []) (sym did.2) stays
+  event-cases v w (Ask atom (Err NothingNew)) P stays fires acks notes breaks did = subst (P []) (sym did.3) stays
+  event-cases v w (Ask atom (Err other)) P stays fires acks notes breaks did = absurd did
+  event-cases v w (Put saved (Ok count)) P stays fires acks notes breaks did = subst (P []) (sym did.2) (notes (with_mark saved v.saved) (without saved v.kept))
+  event-cases v w (Put saved (Err Broken)) P stays fires acks notes breaks did = subst (P []) (sym did.1) stays
+  event-cases v w (Put saved (Err Stranger)) P stays fires acks notes breaks did = subst (P []) (sym did.2) stays
+  event-cases v w (Put saved (Err (Ahead atom))) P stays fires acks notes breaks did = subst (P []) (sym did.4) stays
+  event-cases v w (Put saved (Err Disk)) P stays fires acks notes breaks did = subst (P []) (sym did.1) breaks
+  event-cases v w (Put saved (Err other)) P stays fires acks notes breaks did = absurd did
+  event-cases v w (Empty atom) P stays fires acks notes breaks did = subst (P []) (sym did) stays
 
   -- two runs of events one after the other
   pub events-join : (before behind : List Happened) (v u w : View) → IsEventRun plant v before u → IsEventRun plant u behind w → IsEventRun plant v (before ++ behind) w
@@ -41,6 +57,7 @@ module _ (plant : PlantDefinition) where
       (λ rest. rest)
       (λ c allowed rest. (allowed, rest))
       (λ rest. rest)
+      (λ saved kept rest. rest)
       (λ rest. rest)
       run.1 (events-run hs run.0 w run.2)
 
@@ -51,6 +68,7 @@ module _ (plant : PlantDefinition) where
       leads
       (λ c allowed. ap (λ states. next plant states c) leads ∙ fold-more plant v.tail v.acked c)
       refl
+      (λ saved kept. leads)
       leads
       event
 
@@ -93,6 +111,7 @@ module _ (plant : PlantDefinition) where
       (λ c allowed rest. subst (λ cs. Acked v.acked v.number cs w) (append_assoc v.tail (c ∷ []) (all_fired hs))
       (rest (ap (λ states. next plant states c) leads ∙ fold-more plant v.tail v.acked c)))
       (λ rest. acked-more v.acked v.number v.tail (all_fired hs) w (subst (λ states. Acked states (v.number + length v.tail) (all_fired hs) w) leads (rest refl)))
+      (λ saved kept rest. rest leads)
       (λ rest. rest leads)
       run.1 (λ leads_on. acked-by hs run.0 w leads_on run.2)
 

@@ -23,7 +23,10 @@ use Rattle.record_replay.specs.Records.{count_of, counts_after, counts_behind, r
 use Rattle.record_replay.proofs.Counting.{behind-append, behind-within}
 use Rattle.record_replay.proofs.OfPlants.{record-in-range}
 use Rattle.record_replay.proofs.OnRuns.{length-records, records-append}
-use Rattle.plant_core.specs.Kept.{FitsTogether}
+use Rattle.record_codec.specs.Saved.{SavedFields}
+use Rattle.trimmer.specs.declared.saved.SavedAt.{SavedAt}
+use Rattle.plant_core.specs.Kept.{FitsTogether, IsCopy, SnapshotsFit}
+use Rattle.plant_core.specs.Snapshots.{SnapshotFields}
 use Rattle.plant_core.specs.View.{View, fired_number, view_by, with_fired}
 use Rattle.plant_core.specs.declared.limits.TheConstants.{MOST_TAIL}
 use Rattle.plant_core.proofs.Chosen.{fold-more, run-more}
@@ -46,6 +49,19 @@ told-many delivered (m ∷ ms) [] told = absurd (none-some (delivered m.atom) (t
 told-many delivered (m ∷ ms) (row ∷ rows) told =
     let fewer : length ms ≤ length rows = told-many delivered ms rows (λ place k there. told (suc place) k there) in
     omega arith
+
+-- what is known of saved states fits where more was acknowledged and fired since
+pub snapshots-later : (plant : PlantDefinition) (marks : List SavedAt) (held : List (Option SavedFields)) (counts later : List ℕ) (fired last : ℕ) → ((atom : ℕ) → count_of counts atom ≤ count_of later atom) → fired ≤ last
+    → SnapshotsFit plant marks held counts fired → SnapshotsFit plant marks held later last
+snapshots-later plant marks held counts later fired last grown more fit = record {
+  marks_many = fit.marks_many;
+  marks_within = λ atom. omega (arith, fit.marks_within atom, grown atom);
+  places = fit.places;
+  own = fit.own;
+  copies = λ atom saved there.
+      let copy : IsCopy plant marks fired saved = fit.copies atom saved there in
+      record { of_atom = copy.of_atom; last = omega (arith, copy.last, more); newer = copy.newer };
+}
 
 module _ (plant : PlantDefinition) (v : View) (bodies : List (List ℕ)) (kept : FitsTogether plant v bodies) where
   -- there is a body for each choice of the tail
@@ -89,6 +105,7 @@ module _ (plant : PlantDefinition) (v : View) (bodies : List (List ℕ)) (kept :
           base_to = kept.base_to;
           room = omega (arith, longer);
           last_to = omega (arith, longer);
+          snapshots = snapshots-later plant v.saved v.kept v.acked_counts v.acked_counts (fired_number v) (v.number + length (v.tail ++ c ∷ [])) (λ atom. omega arith) (omega (arith, longer)) kept.snapshots;
         }
       where
         records : List FiredFields
@@ -108,11 +125,11 @@ module _ (plant : PlantDefinition) (v : View) (bodies : List (List ℕ)) (kept :
             ap told (sym (records-append plant v.tail (c ∷ []) v.acked v.acked_counts v.number))
 
 -- the view behind a fired choice, as it is kept
-pub view-of-fired : (plant : PlantDefinition) (acked present after : List Local) (acked_counts counts counts_then : List ℕ) (number : ℕ) (tail longer : List Choice) (choice : Choice) (j : Ring) (broken : Bool)
+pub view-of-fired : (plant : PlantDefinition) (acked present after : List Local) (acked_counts counts counts_then : List ℕ) (number : ℕ) (tail longer : List Choice) (choice : Choice) (j : Ring) (s : SnapshotFields) (broken : Bool)
     → longer ≡ tail ++ choice ∷ [] → after ≡ next plant present (choice_of choice) → counts_then ≡ counts_after (choice_of choice) counts
-    → view_by acked acked_counts number longer after counts_then j broken ≡ with_fired plant (choice_of choice) (view_by acked acked_counts number tail present counts j broken)
-view-of-fired plant acked present after acked_counts counts counts_then number tail longer choice j broken grown stepped counted =
-    ap (λ cs. view_by acked acked_counts number cs after counts_then j broken) grown ∙
-    ap (λ states. view_by acked acked_counts number (tail ++ choice ∷ []) states counts_then j broken) stepped ∙
-    ap (λ ks. view_by acked acked_counts number (tail ++ choice ∷ []) (next plant present (choice_of choice)) ks j broken) counted ∙
-    ap (λ (cs : List ChoiceDefinition). record (with_fired plant (choice_of choice) (view_by acked acked_counts number tail present counts j broken)) { tail = cs }) (map-append choice_of tail (choice ∷ []))
+    → view_by acked acked_counts number longer after counts_then j s broken ≡ with_fired plant (choice_of choice) (view_by acked acked_counts number tail present counts j s broken)
+view-of-fired plant acked present after acked_counts counts counts_then number tail longer choice j s broken grown stepped counted =
+    ap (λ cs. view_by acked acked_counts number cs after counts_then j s broken) grown ∙
+    ap (λ states. view_by acked acked_counts number (tail ++ choice ∷ []) states counts_then j s broken) stepped ∙
+    ap (λ ks. view_by acked acked_counts number (tail ++ choice ∷ []) (next plant present (choice_of choice)) ks j s broken) counted ∙
+    ap (λ (cs : List ChoiceDefinition). record (with_fired plant (choice_of choice) (view_by acked acked_counts number tail present counts j s broken)) { tail = cs }) (map-append choice_of tail (choice ∷ []))

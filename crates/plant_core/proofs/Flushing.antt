@@ -1,7 +1,9 @@
 -- What a durable plant keeps, it keeps when all that was fired is acknowledged.
-use Rattle.std.proofs.Common.{◌≡◌, ◌+◌, ◌≤◌, ℕ, zero, suc, refl, sym, ◌∙◌, ap, subst, List, [], ◌∷◌, length, take, drop, arith, Bool, false}
+use Rattle.std.proofs.Common.{◌≡◌, ◌+◌, ◌≤◌, ℕ, zero, suc, refl, sym, ◌∙◌, ap, subst, ⊎_elim, List, [], ◌∷◌, length, replicate, take, drop, arith, Bool, false, Option, None}
 use Rattle.std.specs.List.{range_with_len}
-use Rattle.std.proofs.lemmas.List.{take-append-drop}
+use Rattle.std.proofs.lemmas.Bool.{cases_lt}
+use Rattle.std.proofs.lemmas.List.{get_or_past, length-replicate, take-append-drop}
+use Rattle.std.proofs.lemmas.Option.{none-some}
 use Rattle.petri_atom.specs.Local.{Local}
 use Rattle.disk_model.specs.DiskState.{DiskState, size_of}
 use Rattle.disk_model.specs.Cells.{cells_in}
@@ -17,19 +19,41 @@ use Rattle.step_core.specs.Step.{next}
 use Rattle.step_core.specs.declared.choice.Choice.{Choice}
 use Rattle.step_core.specs.declared.limits.TheConstants.{MAX_ATOMS}
 use Rattle.step_core.proofs.OnRuns.{runs-cut}
-use Rattle.record_replay.specs.Records.{count_of, counts_after, record_by, records_of}
-use Rattle.record_replay.proofs.Counting.{length-behind}
+use Rattle.record_codec.specs.Saved.{SavedFields}
+use Rattle.record_replay.specs.Records.{count_of, counted_by, counts_after, counts_behind, record_by, records_of}
+use Rattle.record_replay.proofs.Counting.{counted-entry, counted-grows, length-behind}
 use Rattle.record_replay.proofs.OnRuns.{length-records, numbers-of}
-use Rattle.plant_core.specs.Kept.{FitsTogether, IsJournalOf}
-use Rattle.plant_core.specs.View.{View, view_by, with_all_acked}
+use Rattle.trimmer.specs.Covered.{saved_count}
+use Rattle.trimmer.specs.declared.saved.SavedAt.{SavedAt}
+use Rattle.plant_core.specs.Kept.{FitsTogether, IsJournalOf, SnapshotsFit}
+use Rattle.plant_core.specs.Snapshots.{SnapshotFields, held_at}
+use Rattle.plant_core.specs.View.{View, fired_number, view_by, with_all_acked}
 use Rattle.plant_core.proofs.Chosen.{run-from}
-use Rattle.plant_core.proofs.Firing.{count-so-far}
+use Rattle.plant_core.proofs.Firing.{count-so-far, snapshots-later}
 
 -- a front of the records of choices is the records of a front of the choices
 pub records-front : (plant : PlantDefinition) (k : ℕ) (cs : List ChoiceDefinition) (states : List Local) (counts : List ℕ) (n : ℕ) → take k (records_of plant states counts n cs) ≡ records_of plant states counts n (take k cs)
 records-front plant zero cs states counts n = refl
 records-front plant (suc k) [] states counts n = refl
 records-front plant (suc k) (c ∷ cs) states counts n = ap (λ rs. record_by plant states counts (n + 1) c ∷ rs) (records-front plant k cs (next plant states c) (counts_after c counts) (n + 1))
+
+-- no choice makes an atom count back
+pub counts-grow : (cs : List ChoiceDefinition) (counts : List ℕ) (atom : ℕ) → count_of counts atom ≤ count_of (counts_behind cs counts) atom
+counts-grow [] counts atom = omega arith
+counts-grow (c ∷ cs) counts atom = ⊎_elim
+    (λ within.
+    let here : count_of (counts_after c counts) atom ≡ counted_by c.moves atom (count_of counts atom) = counted-entry c.moves atom counts within in
+    omega (arith, here, counted-grows c.moves atom (count_of counts atom), counts-grow cs (counts_after c counts) atom))
+    (λ past.
+    let none : count_of counts atom ≡ 0 = get_or_past counts atom 0 past in
+    omega arith)
+    (cases_lt atom (length counts))
+
+-- where none is held, none is found
+pub none-held : (many atom : ℕ) → held_at (replicate many None) atom ≡ None
+none-held zero atom = refl
+none-held (suc many) zero = refl
+none-held (suc many) (suc atom) = none-held many atom
 
 module _ (plant : PlantDefinition) (v : View) (bodies : List (List ℕ)) (kept : FitsTogether plant v bodies) where
   -- the bodies are those of the records of the tail
@@ -47,6 +71,10 @@ module _ (plant : PlantDefinition) (v : View) (bodies : List (List ℕ)) (kept :
       (runs-cut plant (take k v.tail) (drop k v.tail) v.acked (fold plant v.acked v.tail)
       (subst (λ cs. IsRun plant v.acked cs (fold plant v.acked v.tail)) (sym (take-append-drop k v.tail)) (run-from plant v.tail v.acked kept.run))).0
 
+  -- no atom has taken part less often than was acknowledged
+  pub counts-grown : (atom : ℕ) → count_of v.acked_counts atom ≤ count_of v.counts atom
+  counts-grown atom = subst (λ (ks : List ℕ). count_of v.acked_counts atom ≤ count_of ks atom) (sym kept.counted) (counts-grow v.tail v.acked_counts atom)
+
   -- with all of it acknowledged, what is kept fits together with an empty tail
   pub all-acked : IsOf plant v.present → AllFit plant v.present → FitsTogether plant (with_all_acked v) []
   all-acked of_plant fits = record {
@@ -63,18 +91,19 @@ module _ (plant : PlantDefinition) (v : View) (bodies : List (List ℕ)) (kept :
     base_to = omega (arith, kept.base_to);
     room = omega (arith, kept.room);
     last_to = omega (arith, kept.last_to);
+    snapshots = snapshots-later plant v.saved v.kept v.acked_counts v.counts (fired_number v) (fired_number v + 0) counts-grown (omega arith) kept.snapshots;
   }
 
 -- the view behind a flush, as it is kept
-pub view-of-flushed : (acked present : List Local) (counts : List ℕ) (number sum : ℕ) (tail : List Choice) (j after : Ring) (count : ℕ) (whole broken : Bool)
+pub view-of-flushed : (acked present : List Local) (counts : List ℕ) (number sum : ℕ) (tail : List Choice) (j after : Ring) (count : ℕ) (s : SnapshotFields) (whole broken : Bool)
     → acked ≡ present → number ≡ sum → tail ≡ [] → after ≡ appended count j → whole ≡ broken
-    → view_by acked counts number tail present counts after whole ≡ view_by present counts sum [] present counts j broken
-view-of-flushed acked present counts number sum tail j after count whole broken same summed empty more is =
-    ap (λ states. view_by states counts number tail present counts after whole) same ∙
-    ap (λ (n : ℕ). view_by present counts n tail present counts after whole) summed ∙
-    ap (λ cs. view_by present counts sum cs present counts after whole) empty ∙
-    ap (λ (r : Ring). view_by present counts sum [] present counts r whole) more ∙
-    ap (λ (b : Bool). view_by present counts sum [] present counts j b) is
+    → view_by acked counts number tail present counts after s whole ≡ view_by present counts sum [] present counts j s broken
+view-of-flushed acked present counts number sum tail j after count s whole broken same summed empty more is =
+    ap (λ states. view_by states counts number tail present counts after s whole) same ∙
+    ap (λ (n : ℕ). view_by present counts n tail present counts after s whole) summed ∙
+    ap (λ cs. view_by present counts sum cs present counts after s whole) empty ∙
+    ap (λ (r : Ring). view_by present counts sum [] present counts r s whole) more ∙
+    ap (λ (b : Bool). view_by present counts sum [] present counts j s b) is
 
 -- the journal behind a flush is that of the plant
 pub journal-of-flushed : (plant : PlantDefinition) (number count : ℕ) (j after : Ring) (old new : DiskState) → after ≡ appended count j → size_of new ≡ size_of old → IsJournalOf plant number j old → IsJournalOf plant (number + count) after new
@@ -83,6 +112,26 @@ journal-of-flushed plant number count j after old new more same is = subst (λ r
   last = ap (λ (n : ℕ). n + count) is.last;
   inside = subst (λ (bytes : ℕ). cells_of_ring j ≤ cells_in (BODY + 1) bytes) (sym same) is.inside;
 })
+
+-- what is known of saved states, and whether the device has failed, says nothing of the rest
+pub noted-fits : (plant : PlantDefinition) (v : View) (bodies : List (List ℕ)) (saved : List SavedAt) (held : List (Option SavedFields)) (broken : Bool) → SnapshotsFit plant saved held v.acked_counts (fired_number v)
+    → FitsTogether plant v bodies → FitsTogether plant (record v { saved = saved; kept = held; broken = broken }) bodies
+noted-fits plant v bodies saved held broken fit kept = record {
+  of_plant = kept.of_plant;
+  fits = kept.fits;
+  run = kept.run;
+  leads = kept.leads;
+  counted = kept.counted;
+  counts_length = kept.counts_length;
+  counts_within = kept.counts_within;
+  held = kept.held;
+  short = kept.short;
+  base_from = kept.base_from;
+  base_to = kept.base_to;
+  room = kept.room;
+  last_to = kept.last_to;
+  snapshots = fit;
+}
 
 -- and so is that behind one that failed
 pub journal-of-failed : (plant : PlantDefinition) (number : ℕ) (j after : Ring) (old new : DiskState) → after ≡ j → size_of new ≡ size_of old → IsJournalOf plant number j old → IsJournalOf plant number after new
@@ -94,8 +143,9 @@ journal-of-failed plant number j after old new kept same is = subst (λ r. IsJou
 
 -- where nothing was fired since the last flush, what is kept fits together
 pub nothing-fired : (plant : PlantDefinition) (states : List Local) (counts : List ℕ) (number : ℕ) (j : Ring) → IsOf plant states → AllFit plant states → length counts ≡ MAX_ATOMS
-    → ((atom : ℕ) → count_of counts atom ≤ number) → IsRing j → j.last ≡ number → FitsTogether plant (view_by states counts number [] states counts j false) []
-nothing-fired plant states counts number j of_plant fits long within ring last = record {
+    → ((atom : ℕ) → count_of counts atom ≤ number) → IsRing j → j.last ≡ number → (s : SnapshotFields) → length s.saved ≡ length plant.atoms
+    → ((atom : ℕ) → saved_count s.saved atom ≤ count_of counts atom) → s.kept ≡ replicate (length s.saved) None → FitsTogether plant (view_by states counts number [] states counts j s false) []
+nothing-fired plant states counts number j of_plant fits long within ring last s marks marks_within none = record {
   of_plant = of_plant;
   fits = fits;
   run = refl;
@@ -109,4 +159,14 @@ nothing-fired plant states counts number j of_plant fits long within ring last =
   base_to = omega (arith, ring.base_to);
   room = omega (arith, ring.room);
   last_to = omega (arith, ring.last_to);
+  snapshots = record {
+    marks_many = marks;
+    marks_within = marks_within;
+    places = ap (λ (held : List (Option SavedFields)). length held) none ∙ length-replicate (length s.saved) None ∙ marks;
+    own = λ atom saved there. absurd (none-some saved (sym (held-none atom) ∙ there));
+    copies = λ atom saved there. absurd (none-some saved (sym (held-none atom) ∙ there));
+  };
 }
+  where
+    held-none : (atom : ℕ) → held_at s.kept atom ≡ None
+    held-none atom = ap (λ (held : List (Option SavedFields)). held_at held atom) none ∙ none-held (length s.saved) atom

@@ -1,7 +1,12 @@
+pub mod Answered
 pub mod Chosen
 pub mod Firing
 pub mod Flushing
 pub mod AtRest
 pub mod EventRuns
 pub mod EventByEvent
+pub mod Copies
+pub mod Saving
+pub mod Stored
+pub mod Taken
 pub mod Crossing

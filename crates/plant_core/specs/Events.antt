@@ -1,19 +1,25 @@
 -- What a durable plant does at each event: which answer it gives, and what it shows then.
-use Rattle.std.specs.Prelude.{◌≡◌, ◌≢◌, ℕ, ◌+◌, ◌-◌, ◌%◌, ◌≤◌, ◌==◌, Bool, true, false, if◌then◌else◌, List, [], ◌∷◌, ◌++◌, Option, None, Some, Result, Ok, Err, length, take, drop, flat_map, slice_get}
+use Rattle.std.specs.Prelude.{◌≡◌, ◌≢◌, ℕ, ◌+◌, ◌-◌, ◌%◌, ◌≤◌, ◌<◌, ◌==◌, Bool, true, false, if◌then◌else◌, List, [], ◌∷◌, ◌++◌, Option, None, Some, Result, Ok, Err, length, take, drop, flat_map, slice_get}
+use Rattle.std.specs.Option.{option_map}
+use Rattle.record_codec.specs.Saved.{SavedFields}
 use Rattle.record_codec.specs.declared.layout.TheConstants.{LAST_NUMBER}
+use Rattle.record_replay.specs.Records.{count_of}
+use Rattle.snapshot_writer.specs.Parcels.{saved_by}
 use Rattle.step_core.specs.Choice.{ChoiceDefinition, choices}
 use Rattle.step_core.specs.Chosen.{choice_of}
 use Rattle.step_core.specs.Plant.{PlantDefinition}
 use Rattle.step_core.specs.Runs.{fold}
-use Rattle.plant_core.specs.View.{View, fired_number, with_fired, with_all_acked}
+use Rattle.trimmer.specs.Covered.{saved_count}
+use Rattle.plant_core.specs.Snapshots.{held_at, with_held, without}
+use Rattle.plant_core.specs.View.{View, fired_number, with_all_acked, with_asked, with_fired, with_stored}
 use Rattle.plant_core.specs.declared.events.Event.{Event}
 use Rattle.plant_core.specs.declared.events.Event.TheVariants as asked
 use Rattle.plant_core.specs.declared.events.FiredAs.{FiredAs}
 use Rattle.plant_core.specs.declared.events.Happened.{Happened}
-use Rattle.plant_core.specs.declared.events.Happened.TheVariants.{Fire, Flush}
+use Rattle.plant_core.specs.declared.events.Happened.TheVariants.{Fire, Flush, Ask, Put, Empty}
 use Rattle.plant_core.specs.declared.limits.TheConstants.{MOST_TAIL}
 use Rattle.plant_core.specs.declared.refused.Refused.{Refused}
-use Rattle.plant_core.specs.declared.refused.Refused.TheVariants.{Stuck, TailFull, RingFull, Spent, Disk, Broken}
+use Rattle.plant_core.specs.declared.refused.Refused.TheVariants.{Stuck, TailFull, RingFull, Spent, Ahead, Stranger, NothingNew, Disk, Broken}
 
 -- the refusal, where its cause is there
 abbrev pub refused_where : Bool → Refused → Option Refused
@@ -56,15 +62,51 @@ IsFlush v (Err Broken) w = (v.broken ≡ true) × (w ≡ v)
 IsFlush v (Err Disk) w = (v.broken ≢ true) × (v.tail ≢ []) × (w ≡ record v { broken = true })
 IsFlush v (Err other) w = ⊥
 
+-- the present state of an atom as it is saved: with how often the atom has taken part, and the fired number
+abbrev pub copy_in : View → ℕ → Option SavedFields
+copy_in v atom = option_map (saved_by atom (count_of v.counts atom) (fired_number v)) (slice_get v.present atom)
+
+-- A state is asked for: a plant whose device has failed refuses it, and so does one that has not the atom, and one whose atom has not taken part since
+-- its newest state was saved. Else it answers the present state of the atom, and keeps a copy, in place of one that it kept before.
+abbrev pub IsAsk : View → ℕ → Result SavedFields Refused → View → Type 0
+IsAsk v atom (Ok saved) w =
+    (v.broken ≢ true) × (count_of v.counts atom ≢ saved_count v.saved atom) × (copy_in v atom ≡ Some saved) × (w ≡ with_asked saved v)
+IsAsk v atom (Err Broken) w = (v.broken ≡ true) × (w ≡ v)
+IsAsk v atom (Err Stranger) w = (v.broken ≢ true) × (length v.present ≤ atom) × (w ≡ v)
+IsAsk v atom (Err NothingNew) w =
+    (v.broken ≢ true) × (atom < length v.present) × (count_of v.counts atom ≡ saved_count v.saved atom) × (w ≡ v)
+IsAsk v atom (Err other) w = ⊥
+
+-- The plant takes this state to be stored: it keeps a copy of it, and all firings that the state is behind are acknowledged.
+pub record IsTaken (v : View) (saved : SavedFields) : Type 0 where
+  pub whole : v.broken ≢ true
+  pub kept : held_at v.kept saved.atom ≡ Some saved
+  pub behind : saved.count ≤ count_of v.acked_counts saved.atom
+
+-- A state is handed in to be stored: a plant whose device has failed refuses it, and so does one that keeps no such copy, and one where it is behind
+-- firings of its atom that are not acknowledged. Else it is the newest of its atom and its copy is given up, and its count is answered;
+-- or the device fails, and then the plant is broken.
+abbrev pub IsPut : View → SavedFields → Result ℕ Refused → View → Type 0
+IsPut v saved (Ok count) w = IsTaken v saved × (count ≡ saved.count) × (w ≡ with_stored saved v)
+IsPut v saved (Err Broken) w = (v.broken ≡ true) × (w ≡ v)
+IsPut v saved (Err Stranger) w = (v.broken ≢ true) × (held_at v.kept saved.atom ≢ Some saved) × (w ≡ v)
+IsPut v saved (Err (Ahead atom)) w =
+    (v.broken ≢ true) × (held_at v.kept saved.atom ≡ Some saved) × (count_of v.acked_counts saved.atom < saved.count) × (atom ≡ saved.atom) × (w ≡ v)
+IsPut v saved (Err Disk) w = IsTaken v saved × (w ≡ record v { broken = true })
+IsPut v saved (Err other) w = ⊥
+
 -- the answer is that the device failed in the call
 abbrev pub is_disk : {X : Type 0} → Result X Refused → Bool
 is_disk (Err Disk) = true
 is_disk other = false
 
--- what happened, and how it changes the view: each kind of event has its own rule
+-- what happened, and how it changes the view: each kind of event has its own rule, and where no state is at hand to be stored nothing changes
 abbrev pub IsEvent : PlantDefinition → View → Happened → View → Type 0
 IsEvent plant v (Fire pick answer) w = IsFire plant v pick answer w
 IsEvent plant v (Flush answer) w = IsFlush v answer w
+IsEvent plant v (Ask atom answer) w = IsAsk v atom answer w
+IsEvent plant v (Put saved answer) w = IsPut v saved answer w
+IsEvent plant v (Empty atom) w = w ≡ v
 
 -- the choices that it fired: the one that a fire answers
 abbrev pub fired_by : Happened → List ChoiceDefinition
@@ -79,21 +121,46 @@ all_fired hs = flat_map fired_by hs
 abbrev pub asked_in : Happened → Event
 asked_in (Fire pick answer) = asked.Fire pick
 asked_in (Flush answer) = asked.Flush
+asked_in (Ask atom answer) = asked.Ask atom
+asked_in (Put saved answer) = asked.Put saved.atom
+asked_in (Empty atom) = asked.Put atom
 
--- it is to fire
-abbrev pub is_fire : Event → Bool
-is_fire (asked.Fire pick) = true
-is_fire asked.Flush = false
+-- it makes no call of the device
+abbrev pub is_in_memory : Event → Bool
+is_in_memory (asked.Fire pick) = true
+is_in_memory asked.Flush = false
+is_in_memory (asked.Ask atom) = true
+is_in_memory (asked.Put atom) = false
 
 -- the device failed in it
 abbrev pub has_failed : Happened → Bool
 has_failed (Fire pick answer) = is_disk answer
 has_failed (Flush answer) = is_disk answer
+has_failed (Ask atom answer) = is_disk answer
+has_failed (Put saved answer) = is_disk answer
+has_failed (Empty atom) = false
 
 -- Events one after another: each changes the view that those before it left.
 abbrev pub IsEventRun : PlantDefinition → View → List Happened → View → Type 0
 IsEventRun plant v [] w = w ≡ v
 IsEventRun plant v (h ∷ hs) w = (u : View) × IsEvent plant v h u × IsEventRun plant u hs w
+
+-- What is in the hands of the atoms behind an event: a state that was asked for is in its atom's hand, and one that was stored is no more.
+abbrev pub hands_behind : Happened → List (Option SavedFields) → List (Option SavedFields)
+hands_behind (Ask atom (Ok saved)) hands = with_held saved hands
+hands_behind (Put saved (Ok count)) hands = without saved hands
+hands_behind other hands = hands
+
+-- What is handed in is what is in its atom's hand; where none is handed in to be stored, there is none in that hand, or no such hand.
+abbrev pub IsHandedIn : List (Option SavedFields) → Happened → Type 0
+IsHandedIn hands (Put saved answer) = held_at hands saved.atom ≡ Some saved
+IsHandedIn hands (Empty atom) = held_at hands atom ≡ None
+IsHandedIn hands other = Unit {0}
+
+-- The same of events one after another.
+abbrev pub AreHandedIn : List (Option SavedFields) → List Happened → List (Option SavedFields) → Type 0
+AreHandedIn hands [] after = after ≡ hands
+AreHandedIn hands (h ∷ hs) after = IsHandedIn hands h × AreHandedIn (hands_behind h hands) hs after
 
 -- What was acknowledged between two views, where these choices were fired: a front of the tail and of these choices, as long as the
 -- acknowledged number has grown. The rest is the tail.

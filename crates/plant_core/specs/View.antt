@@ -1,5 +1,5 @@
 -- What a durable plant shows of itself.
-use Rattle.std.specs.Prelude.{ℕ, ◌+◌, Bool, List, [], ◌∷◌, ◌++◌, length, map}
+use Rattle.std.specs.Prelude.{ℕ, ◌+◌, Bool, List, [], ◌∷◌, ◌++◌, Option, length, map}
 use Rattle.petri_atom.specs.Local.{Local}
 use Rattle.gated_journal.specs.declared.ring.Ring.{Ring}
 use Rattle.step_core.specs.Choice.{ChoiceDefinition}
@@ -7,11 +7,14 @@ use Rattle.step_core.specs.Chosen.{choice_of}
 use Rattle.step_core.specs.Plant.{PlantDefinition}
 use Rattle.step_core.specs.Step.{next}
 use Rattle.step_core.specs.declared.choice.Choice.{Choice}
+use Rattle.record_codec.specs.Saved.{SavedFields}
 use Rattle.record_replay.specs.Records.{counts_after}
+use Rattle.trimmer.specs.declared.saved.SavedAt.{SavedAt}
+use Rattle.plant_core.specs.Snapshots.{SnapshotFields, with_held, with_mark, without}
 
 -- The acknowledged state, how often each atom has taken part in it, and the number of its last record; the choices that were fired since,
--- the state and the counts that they lead to; the number of the first record that is kept, and for how many records there is room;
--- and whether the device has failed.
+-- the state and the counts that they lead to; the number of the first record that is kept, and for how many records there is room; what is known
+-- of the newest state in the slots of each atom, and the copies of states that were asked for; and whether the device has failed.
 pub record View : Type 0 where
   pub acked : List Local
   pub acked_counts : List ℕ
@@ -21,11 +24,13 @@ pub record View : Type 0 where
   pub counts : List ℕ
   pub base : ℕ
   pub ring : ℕ
+  pub saved : List SavedAt
+  pub kept : List (Option SavedFields)
   pub broken : Bool
 
 -- the view that these make, with the choices as they are kept, where the records stand so
-abbrev pub view_by : List Local → List ℕ → ℕ → List Choice → List Local → List ℕ → Ring → Bool → View
-view_by acked acked_counts number tail present counts j broken = record {
+abbrev pub view_by : List Local → List ℕ → ℕ → List Choice → List Local → List ℕ → Ring → SnapshotFields → Bool → View
+view_by acked acked_counts number tail present counts j snapshots broken = record {
   acked = acked;
   acked_counts = acked_counts;
   number = number;
@@ -34,6 +39,8 @@ view_by acked acked_counts number tail present counts j broken = record {
   counts = counts;
   base = j.base;
   ring = j.ring;
+  saved = snapshots.saved;
+  kept = snapshots.kept;
   broken = broken;
 }
 
@@ -56,4 +63,15 @@ with_all_acked v = record v {
   acked_counts = v.counts;
   number = fired_number v;
   tail = [];
+}
+
+-- the view where a copy of this state is kept
+abbrev pub with_asked : SavedFields → View → View
+with_asked saved v = record v { kept = with_held saved v.kept }
+
+-- the view where this state is stored, and its copy given up
+abbrev pub with_stored : SavedFields → View → View
+with_stored saved v = record v {
+  saved = with_mark saved v.saved;
+  kept = without saved v.kept;
 }

@@ -1,5 +1,6 @@
 //! What is asked of a durable plant, and what it answers.
 use crate::refused::Refused;
+use record_codec::Saved;
 use step_core::Choice;
 
 /// What is asked of a durable plant.
@@ -9,6 +10,10 @@ pub enum Event {
     Fire(u64),
     /// To acknowledge all that was fired.
     Flush,
+    /// To copy the present state of the atom with the number, into its hand.
+    Ask(u16),
+    /// To store what the hand of the atom with the number holds.
+    Put(u16),
 }
 
 /// A choice that was fired, with its number.
@@ -27,4 +32,10 @@ pub enum Happened {
     Fire(u64, Result<FiredAs, Refused>),
     /// What was fired was to be acknowledged: up to this number it is, or the plant refused it.
     Flush(Result<u64, Refused>),
+    /// The present state of the atom with the number was to be copied: this is it, or the plant refused it.
+    Ask(u16, Result<Saved, Refused>),
+    /// This state was to be stored: it is the newest of its atom, which had taken part so often, or the plant refused it.
+    Put(Saved, Result<u64, Refused>),
+    /// What the hand of the atom with the number holds was to be stored, and it holds nothing, or there is no such hand.
+    Empty(u16),
 }

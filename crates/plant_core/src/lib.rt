@@ -5,31 +5,43 @@
 //! then all of it is acknowledged. Whenever no call runs and the device has not failed, whatever a stop leaves stands for the acknowledged
 //! state. A stop inside a flush, and any stop after one that failed, leaves what stands for the state behind some front of the tail.
 //!
-//! Contracts see a plant as its view (`specs/View.antt`: the acknowledged state, the tail, the present state) and its device; what each
-//! event answers and changes is `specs/Events.antt`.
+//! The state of each atom is saved by itself, while the others step: [`Plant::ask`] copies it, it is encoded away from the plant, and
+//! [`Plant::put`] stores it, once all firings that it is behind are acknowledged. A restart then replays for each atom what lies behind its
+//! newest saved state, however often the other atoms had taken part when theirs were saved.
 //!
-//! - `plant`: what it holds. `making`: how it is made. `fire`, `flush`: its calls. `driving`: any of them, and many. `front`: how far it is, and what
-//!   it shows. `resting`: what it keeps whenever no call runs. `laws`: what runs of events do. `events`: what is asked of it and what it
-//!   answers. `refused`: why a call is refused. `limits`: how much is held in memory. `copying`: states that become those of another state.
+//! Contracts see a plant as its view (`specs/View.antt`: the acknowledged state, the tail, the present state, what is known of saved states)
+//! and its device; what each event answers and changes is `specs/Events.antt`.
+//!
+//! - `plant`: what it holds. `making`: how it is made. `fire`, `flush`, `asking`, `putting`: its calls. `driving`: any of them, and many.
+//! - `snapshots`: what it knows of saved states. `hands`: what is handed in to be stored.
+//! - `front`: how far it is, and what it shows. `resting`: what it keeps whenever no call runs. `laws`: what runs of events do.
+//! - `events`: what is asked of it and what it answers. `refused`: why a call is refused. `limits`: how much is held in memory. `copying`:
+//!   states that become those of another state.
 #![tactic(auto)]
 
+mod asking;
 mod copying;
 mod driving;
 mod events;
 mod fire;
 mod flush;
 mod front;
+mod hands;
 pub mod laws;
 mod limits;
 mod making;
 mod plant;
+mod putting;
 mod refused;
 mod resting;
+mod snapshots;
 
 pub use driving::{drive, meet};
 pub use events::{Event, FiredAs, Happened};
 pub use front::Front;
+pub use hands::Hands;
 pub use limits::MOST_TAIL;
 pub use making::Parts;
 pub use plant::Plant;
-pub use refused::Refused;
+pub use refused::{PutRefused, Refused};
+pub use snapshots::Snapshots;

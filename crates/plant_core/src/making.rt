@@ -1,5 +1,5 @@
 //! Making a durable plant.
-ghost use Rattle.std.specs.Prelude.{◌≡◌, ◌+◌, ◌≤◌, ℕ, [], true, false, length, vec_capacity};
+ghost use Rattle.std.specs.Prelude.{◌≡◌, ◌+◌, ◌≤◌, ℕ, [], None, true, false, length, replicate, vec_capacity};
 ghost use Rattle.disk_model.specs.Cells.{cell_count};
 ghost use Rattle.disk_model.specs.declared.cells.TheConstants.{BODY};
 ghost use Rattle.gated_journal.specs.Rings.{cells_of_ring};
@@ -9,9 +9,11 @@ ghost use Rattle.step_core.specs.System.{digest_of};
 ghost use Rattle.plant_core.specs.Kept.{IsAtRest};
 ghost use Rattle.plant_core.specs.Plants.{definition_of, device_of, text_digest, view_of};
 ghost use Rattle.plant_core.specs.View.{view_by};
+ghost use Rattle.trimmer.specs.Covered.{saved_count};
 
 use crate::limits::MOST_TAIL;
 use crate::plant::Plant;
+use crate::snapshots::Snapshots;
 use disk_model::{BODY, Cells, Disk};
 use gated_journal::Journal;
 use step_core::{Choice, MAX_ATOMS, PlantState, Stepper};
@@ -31,6 +33,8 @@ pub struct Parts<'s, D: Disk> {
     pub bodies: Vec<[u8; BODY]>,
     /// The journal, whose last record is that of the last choice that was fired.
     pub journal: Journal,
+    /// What is known of the newest saved states of the atoms, of which none was asked for.
+    pub snapshots: Snapshots,
     /// The device.
     pub cells: Cells<D>,
 }
@@ -46,9 +50,12 @@ impl<'s, D: Disk> Plant<'s, D> {
         requires room_of_bodies { MOST_TAIL ≤ vec_capacity parts.bodies }
         requires atoms { parts.journal.atoms ≡ length (plant_in parts.stepper).atoms }
         requires inside { cells_of_ring parts.journal ≤ cell_count (BODY + 1) parts.cells }
+        requires marks { length parts.snapshots.saved ≡ length (plant_in parts.stepper).atoms }
+        requires marks_within { (atom : ℕ) → saved_count parts.snapshots.saved atom ≤ count_of parts.counts atom }
+        requires nothing_kept { parts.snapshots.kept ≡ replicate (length parts.snapshots.saved) None }
         requires rests { parts.cells.keeps ≡ true
-            → IsAtRest (plant_in parts.stepper) (digest_of (system_in parts.stepper)) parts.journal parts.acked parts.counts parts.journal.last parts.cells }
-        ensures view { view_of result ≡ view_by parts.entry.acked parts.entry.counts parts.entry.journal.last [] parts.entry.acked parts.entry.counts parts.entry.journal false }
+            → IsAtRest (plant_in parts.stepper) (digest_of (system_in parts.stepper)) parts.journal parts.acked parts.counts parts.journal.last parts.snapshots.saved parts.cells }
+        ensures view { view_of result ≡ view_by parts.entry.acked parts.entry.counts parts.entry.journal.last [] parts.entry.acked parts.entry.counts parts.entry.journal parts.entry.snapshots false }
         ensures device { device_of result ≡ parts.entry.cells }
         ensures plant { definition_of result ≡ plant_in parts.entry.stepper }
         ensures digest { text_digest result ≡ digest_of (system_in parts.entry.stepper) }
@@ -60,6 +67,7 @@ impl<'s, D: Disk> Plant<'s, D> {
             tail,
             bodies,
             journal,
+            snapshots,
             cells,
         } = parts;
         let number = journal.last();
@@ -72,6 +80,7 @@ impl<'s, D: Disk> Plant<'s, D> {
             tail,
             bodies,
             journal,
+            snapshots,
             cells,
             broken: false,
         }

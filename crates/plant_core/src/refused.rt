@@ -2,6 +2,8 @@
 ghost use Rattle.std.specs.Prelude.{◌≡◌};
 ghost use Rattle.plant_core.specs.Refusals.{number_of};
 
+use snapshot_writer::Encoded;
+
 /// Why a call of a durable plant is refused. Nothing changes then, but that a plant whose device failed is broken.
 #[derive(Clone, Copy, Debug, PartialEq, Eq)]
 pub enum Refused {
@@ -48,4 +50,13 @@ impl Refused {
             Refused::Broken => 11,
         }
     }
+}
+
+/// A state that was not stored, and why not.
+#[derive(Drop)]
+pub struct PutRefused {
+    /// The state, as it was handed in.
+    pub encoded: Encoded,
+    /// Why it was not stored.
+    pub refused: Refused,
 }

@@ -1,9 +1,11 @@
 //! What each plant keeps by its type, whenever no call runs. These functions make no call: their clauses are the laws.
-ghost use Rattle.std.specs.Prelude.{◌≡◌, ◌+◌, List, true, false};
-ghost use Rattle.disk_model.specs.Cells.{Cell, MayBe};
+ghost use Rattle.std.specs.Prelude.{◌≡◌, ◌+◌, List, true, false, length, map};
+ghost use Rattle.disk_model.specs.Cells.{Cell, MayBe, seen_cells};
 ghost use Rattle.disk_model.specs.DiskState.{size_of};
 ghost use Rattle.disk_model.specs.declared.cells.TheConstants.{BODY};
+ghost use Rattle.plant_image.specs.Contents.{contents_of};
 ghost use Rattle.plant_core.specs.Plants.{definition_of, device_of, text_digest, view_of};
+ghost use Rattle.plant_core.specs.Snapshots.{mark_of};
 ghost use Rattle.plant_core.specs.Stops.{StandsForAcked, StandsForFront};
 ghost use Rattle.step_core.specs.Runs.{IsRun};
 
@@ -23,6 +25,12 @@ impl<'s, D: Disk> Plant<'s, D> {
         ensures { (device_of self.now).keeps ≡ true
             → (cells : List Cell) → MayBe (BODY + 1) (device_of self.now) cells
             → StandsForFront (definition_of self.now) (text_digest self.now) (size_of (device_of self.now)) (view_of self.now) cells }
+    {}
+
+    /// Where the device has not failed, what is known of saved states is what the slots of the atoms hold.
+    pub fn knows_its_slots(&self)
+        ensures { (device_of self.now).keeps ≡ true → (view_of self.now).broken ≡ false
+            → (view_of self.now).saved ≡ map mark_of (contents_of (length (definition_of self.now).atoms) (seen_cells (BODY + 1) (device_of self.now))).slots }
     {}
 
     /// The tail is a run from the acknowledged state to the present one.

@@ -1,6 +1,8 @@
 -- The plant that what was read makes, and what a stop in the cleaning leaves.
-use Rattle.std.proofs.Common.{◌≡◌, inl, inr, ℕ, ◌+◌, ◌≤◌, nat_lt, Bool, true, false, List, [], length, None, Ok, refl, sym, ◌∙◌, ap, subst, arith}
+use Rattle.std.proofs.Common.{◌≡◌, inl, inr, ℕ, zero, suc, ◌+◌, ◌≤◌, nat_lt, Bool, true, false, List, [], ◌∷◌, length, map, replicate, slice_index_or, None, Ok, refl, sym, ◌∙◌, ap, subst, arith}
 use Rattle.std.proofs.lemmas.Bool.{ltb-true, ltb-false}
+use Rattle.std.proofs.lemmas.List.{get_or_past, length-map}
+use Rattle.std.proofs.lemmas.List.FromFn.{length-map-range_with_len}
 use Rattle.petri_atom.specs.Local.{Local}
 use Rattle.disk_model.specs.Cells.{Cell, cells_in, cell_count, seen_cells, Leaves, MayBe}
 use Rattle.disk_model.specs.DiskState.{Counts, CountsTwo, CountsUpTo, DiskState, counted, size_of}
@@ -9,21 +11,25 @@ use Rattle.disk_model.specs.declared.cells.TheConstants.{BODY}
 use Rattle.gated_journal.specs.Rings.{IsWhole, cells_of_ring}
 use Rattle.gated_journal.specs.Stops.{HasCleaned, IsReady}
 use Rattle.gated_journal.specs.declared.ring.Ring.{Ring}
+use Rattle.record_codec.specs.Saved.{SavedFields}
 use Rattle.record_replay.specs.Records.{count_of}
+use Rattle.record_replay.proofs.OverRecords.{replay-grows}
 use Rattle.step_core.specs.Plant.{PlantDefinition}
 use Rattle.step_core.specs.declared.limits.TheConstants.{MAX_ATOMS}
-use Rattle.plant_image.specs.Contents.{Contents, contents_of, counts_of, last_number, ring_in}
+use Rattle.plant_image.specs.Contents.{Contents, contents_of, counts_of, last_number, newest_held, ring_in, saved_position, unsaved}
 use Rattle.plant_image.specs.Faults.{cells_fault, fault_of, leading_fault}
 use Rattle.plant_image.specs.Reading.{IsStanding, contents_in}
 use Rattle.plant_image.specs.Standing.{Leads, StandsFor}
 use Rattle.plant_image.specs.declared.standing.Standing.{Standing}
 use Rattle.plant_image.proofs.AtomSlots.{no_first}
-use Rattle.plant_image.proofs.ByAtoms.{counts_past}
+use Rattle.plant_image.proofs.ByAtoms.{counts_past, element_at}
 use Rattle.plant_image.proofs.CleanedImages.{cleaned_none, cleaned_same}
 use Rattle.plant_image.proofs.KeptCells.{sound_of}
 use Rattle.plant_image.proofs.Standings.{stands_leads, leads_stands}
 use Rattle.plant_core.specs.Kept.{IsAtRest}
+use Rattle.plant_core.specs.Snapshots.{SnapshotFields, mark_of, nothing_kept}
 use Rattle.plant_core.specs.View.{view_by}
+use Rattle.trimmer.specs.Covered.{saved_count}
 use Rattle.recovery.specs.Booting.{IsBooted, IsBooting, StandAlike}
 use Rattle.recovery.specs.InMemory.{WasRead}
 use Rattle.recovery.proofs.PartlyLoaded.{cells_told}
@@ -38,6 +44,12 @@ leads_counted plant c states counts others number same long leads = record {
   each = λ atom a s at its. leads.each atom a s at its ∙ ap (λ (n : ℕ). Ok (record { state = s; count = n })) (sym (same atom));
   within = λ atom below. omega (arith, leads.within atom below, same atom);
 }
+
+-- how often an atom had taken part when its newest state was saved
+count_known : (slots : List SavedFields) (atom : ℕ) (none : SavedFields) → none.count ≡ 0 → saved_count (map mark_of slots) atom ≡ (slice_index_or slots atom none).count
+count_known [] atom none never = sym never
+count_known (s ∷ slots) zero none never = refl
+count_known (s ∷ slots) (suc atom) none never = count_known slots atom none never
 
 module _ (plant : PlantDefinition) (digest : List ℕ) (bytes : ℕ) (cells : List Cell) (standing : Standing) (sound : fault_of plant digest bytes cells ≡ None) (is : IsStanding plant cells standing) where
   abbrev pub held : Contents
@@ -58,6 +70,29 @@ module _ (plant : PlantDefinition) (digest : List ℕ) (bytes : ℕ) (cells : Li
       by_test true below = omega (arith, is.led.counts atom, (stands_leads plant digest bytes cells standing.states (last_number held) stood).within atom (ltb-true atom (length plant.atoms) below))
       by_test false past = omega (arith, is.led.counts atom, counts_past held plant atom (ltb-false atom (length plant.atoms) past))
 
+  -- a slot is known of each atom
+  pub slots_many : length held.slots ≡ length plant.atoms
+  slots_many = length-map-range_with_len (newest_held cells) 0 (length plant.atoms)
+
+  -- no atom had taken part more often when its newest state was saved: a replay never counts back
+  pub marks_within : (atom : ℕ) → saved_count (map mark_of held.slots) atom ≤ count_of standing.counts atom
+  marks_within atom = by_test (nat_lt atom (length plant.atoms)) refl
+    where
+      known : saved_count (map mark_of held.slots) atom ≡ (saved_position held atom).count
+      known = count_known held.slots atom (unsaved atom) refl
+
+      by_test : (t : Bool) → nat_lt atom (length plant.atoms) ≡ t → saved_count (map mark_of held.slots) atom ≤ count_of standing.counts atom
+      by_test true below =
+          let led = stands_leads plant digest bytes cells standing.states (last_number held) stood in
+          let a = element_at plant.atoms atom (ltb-true atom (length plant.atoms) below) in
+          let s = element_at standing.states atom (omega (arith, ltb-true atom (length plant.atoms) below, led.as_many)) in
+          let grows : (saved_position held atom).count ≤ count_of (counts_of plant held) atom =
+          replay-grows a.0 atom (saved_position held atom).count held.records (saved_position held atom) _ (led.each atom a.0 s.0 a.1 s.1) in
+          omega (arith, known, grows, is.led.counts atom)
+      by_test false past =
+          let never : (saved_position held atom).count ≡ 0 = ap (λ (s : SavedFields). s.count) (get_or_past held.slots atom (unsaved atom) (omega (arith, ltb-false atom (length plant.atoms) past, slots_many))) in
+          omega (arith, known, never)
+
   -- the device has the cells of the journal
   pub cells_inside : (s : DiskState) → size_of s ≡ bytes → cells_of_ring (ring_in (length plant.atoms) held) ≤ cell_count (BODY + 1) s
   cells_inside s same =
@@ -66,9 +101,9 @@ module _ (plant : PlantDefinition) (digest : List ℕ) (bytes : ℕ) (cells : Li
       omega arith
 
   -- what is made in memory shows what stands
-  pub shows : (acked : List Local) (counts : List ℕ) (j : Ring) → acked ≡ standing.states → counts ≡ standing.counts → j ≡ ring_in (length plant.atoms) held
-      → IsBooted plant digest bytes cells (view_by acked counts j.last [] acked counts j false)
-  shows acked counts j states same journal = record {
+  pub shows : (acked : List Local) (counts : List ℕ) (j : Ring) (known : SnapshotFields) → acked ≡ standing.states → counts ≡ standing.counts → j ≡ ring_in (length plant.atoms) held → known ≡ nothing_kept held.slots
+      → IsBooted plant digest bytes cells (view_by acked counts j.last [] acked counts j known false)
+  shows acked counts j known states same journal snapshots = record {
     sound = sound;
     acked = states ∙ is.led.states;
     number = ap (λ (r : Ring). r.last) journal;
@@ -78,6 +113,8 @@ module _ (plant : PlantDefinition) (digest : List ℕ) (bytes : ℕ) (cells : Li
     counts = refl;
     base = ap (λ (r : Ring). r.base) journal;
     ring = ap (λ (r : Ring). r.ring) journal;
+    saved = ap (λ (k : SnapshotFields). k.saved) snapshots;
+    kept = ap (λ (k : SnapshotFields). k.kept) snapshots ∙ ap (λ (n : ℕ). replicate n None) slots_many;
     broken = refl;
   }
 
@@ -108,12 +145,13 @@ module _ (plant : PlantDefinition) (digest : List ℕ) (bytes : ℕ) (cells : Li
 
     -- and a device that is cleaned is at rest
     pub rests_cleaned : (new : DiskState) → size_of new ≡ bytes → IsReady (ring_in (length plant.atoms) held) new → HasCleaned (ring_in (length plant.atoms) held) cells (seen_cells (BODY + 1) new)
-        → IsAtRest plant digest (ring_in (length plant.atoms) held) standing.states standing.counts (last_number held) new
+        → IsAtRest plant digest (ring_in (length plant.atoms) held) standing.states standing.counts (last_number held) (map mark_of held.slots) new
     rests_cleaned new same ready cleaned = record {
       ready = ready;
       sound = subst (λ (n : ℕ). cells_fault plant digest n (seen_cells (BODY + 1) new) ≡ None) (sym same) (after_none (seen_cells (BODY + 1) new) cleaned);
       journal = ap (ring_in (length plant.atoms)) (sym (after_same (seen_cells (BODY + 1) new) cleaned));
       leads = after_leads (seen_cells (BODY + 1) new) cleaned;
+      slots = ap (λ (c : Contents). map mark_of c.slots) (sym (after_same (seen_cells (BODY + 1) new) cleaned));
     }
 
 -- before the cleaning a stop leaves what it left at the start
@@ -143,6 +181,27 @@ module _ (plant : PlantDefinition) (digest : List ℕ) (mid : DiskState) (standi
   cleaned_read keeps cells cleaned = subst (λ (before : List Cell). HasCleaned (ring_in (length plant.atoms) (contents_of (length plant.atoms) was.cells)) before cells) (sym (was.seen keeps))
       (subst (λ r. HasCleaned r (seen_cells (BODY + 1) mid) cells) ring_read cleaned)
 
+  -- what is known of saved states is what stands in the slots that were read
+  known_read : (known : SnapshotFields) → known ≡ nothing_kept (contents_in standing.held).slots → known ≡ nothing_kept (contents_of (length plant.atoms) was.cells).slots
+  known_read known made = made ∙ ap (λ (c : Contents). nothing_kept c.slots) was.is.led.contents
+
+  -- so it is known of each atom
+  pub marks_read : (known : SnapshotFields) → known ≡ nothing_kept (contents_in standing.held).slots → length known.saved ≡ length plant.atoms
+  marks_read known made =
+      ap (λ (k : SnapshotFields). length k.saved) (known_read known made) ∙
+      length-map (contents_of (length plant.atoms) was.cells).slots mark_of ∙
+      slots_many plant digest (size_of mid) was.cells standing was.sound was.is
+
+  -- no saved state is behind more of its atom's firings than there were
+  pub within_read : (known : SnapshotFields) → known ≡ nothing_kept (contents_in standing.held).slots → (atom : ℕ) → saved_count known.saved atom ≤ count_of standing.counts atom
+  within_read known made atom = subst (λ (k : SnapshotFields). saved_count k.saved atom ≤ count_of standing.counts atom) (sym (known_read known made)) (marks_within plant digest (size_of mid) was.cells standing was.sound was.is atom)
+
+  -- and none was asked for
+  pub none_read : (known : SnapshotFields) → known ≡ nothing_kept (contents_in standing.held).slots → known.kept ≡ replicate (length known.saved) None
+  none_read known made =
+      ap (λ (k : SnapshotFields). k.kept) made ∙
+      ap (λ (n : ℕ). replicate n None) (sym (length-map (contents_in standing.held).slots mark_of) ∙ ap (λ (k : SnapshotFields). length k.saved) (sym made))
+
   module _ (long : length standing.counts ≡ MAX_ATOMS) where
     enough : length plant.atoms ≤ length standing.counts
     enough = let few = was.is.in_range.ring.atoms in omega arith
@@ -163,13 +222,14 @@ module _ (plant : PlantDefinition) (digest : List ℕ) (mid : DiskState) (standi
         (leaves_weaker (BODY + 1) (HasCleaned j (seen_cells (BODY + 1) mid)) (IsBooting plant digest old) mid new (λ cells cleaned. inr (alike_read old keeps size same cells cleaned)) second)
 
     -- and behind it the device is at rest
-    pub rests_read : (new : DiskState) (acked : List Local) (counts : List ℕ) → mid.keeps ≡ true → size_of new ≡ size_of mid → acked ≡ standing.states → counts ≡ standing.counts
-        → IsReady j new → HasCleaned j (seen_cells (BODY + 1) mid) (seen_cells (BODY + 1) new) → IsAtRest plant digest j acked counts j.last new
-    rests_read new acked counts keeps size states same ready cleaned =
+    pub rests_read : (new : DiskState) (acked : List Local) (counts : List ℕ) (known : SnapshotFields) → mid.keeps ≡ true → size_of new ≡ size_of mid → acked ≡ standing.states → counts ≡ standing.counts
+        → known ≡ nothing_kept (contents_in standing.held).slots → IsReady j new → HasCleaned j (seen_cells (BODY + 1) mid) (seen_cells (BODY + 1) new) → IsAtRest plant digest j acked counts j.last known.saved new
+    rests_read new acked counts known keeps size states same made ready cleaned =
         let rest = rests_cleaned plant digest (size_of mid) was.cells standing was.sound was.is enough new size (subst (λ r. IsReady r new) ring_read ready) (cleaned_read keeps (seen_cells (BODY + 1) new) cleaned) in
-        subst (λ (r : Ring). IsAtRest plant digest r acked counts r.last new) (sym ring_read)
-        (subst (λ (ss : List Local). IsAtRest plant digest ring ss counts (last_number read) new) (sym states)
-        (subst (λ (ns : List ℕ). IsAtRest plant digest ring standing.states ns (last_number read) new) (sym same) rest))
+        subst (λ (r : Ring). IsAtRest plant digest r acked counts r.last known.saved new) (sym ring_read)
+        (subst (λ (ss : List Local). IsAtRest plant digest ring ss counts (last_number read) known.saved new) (sym states)
+        (subst (λ (ns : List ℕ). IsAtRest plant digest ring standing.states ns (last_number read) known.saved new) (sym same)
+        (subst (λ (k : SnapshotFields). IsAtRest plant digest ring standing.states standing.counts (last_number read) k.saved new) (sym (known_read known made)) rest)))
       where
         read : Contents
         read = contents_of (length plant.atoms) was.cells
@@ -178,12 +238,13 @@ module _ (plant : PlantDefinition) (digest : List ℕ) (mid : DiskState) (standi
         ring = ring_in (length plant.atoms) read
 
   -- it shows what a read gave
-  pub shows_read : (old : DiskState) (acked : List Local) (counts : List ℕ) → mid.keeps ≡ true → size_of mid ≡ size_of old → seen_cells (BODY + 1) mid ≡ seen_cells (BODY + 1) old → acked ≡ standing.states → counts ≡ standing.counts
-      → IsBooted plant digest (size_of old) (seen_cells (BODY + 1) old) (view_by acked counts j.last [] acked counts j false)
-  shows_read old acked counts keeps size seen states same =
-      subst (λ (n : ℕ). IsBooted plant digest n (seen_cells (BODY + 1) old) (view_by acked counts j.last [] acked counts j false)) size
-      (subst (λ (cells : List Cell). IsBooted plant digest (size_of mid) cells (view_by acked counts j.last [] acked counts j false)) (was.seen keeps ∙ seen)
-      (shows plant digest (size_of mid) was.cells standing was.sound was.is acked counts j states same ring_read))
+  pub shows_read : (old : DiskState) (acked : List Local) (counts : List ℕ) (known : SnapshotFields) → mid.keeps ≡ true → size_of mid ≡ size_of old → seen_cells (BODY + 1) mid ≡ seen_cells (BODY + 1) old
+      → acked ≡ standing.states → counts ≡ standing.counts → known ≡ nothing_kept (contents_in standing.held).slots
+      → IsBooted plant digest (size_of old) (seen_cells (BODY + 1) old) (view_by acked counts j.last [] acked counts j known false)
+  shows_read old acked counts known keeps size seen states same made =
+      subst (λ (n : ℕ). IsBooted plant digest n (seen_cells (BODY + 1) old) (view_by acked counts j.last [] acked counts j known false)) size
+      (subst (λ (cells : List Cell). IsBooted plant digest (size_of mid) cells (view_by acked counts j.last [] acked counts j known false)) (was.seen keeps ∙ seen)
+      (shows plant digest (size_of mid) was.cells standing was.sound was.is acked counts j known states same ring_read (known_read known made)))
 
 -- two calls of one sync each
 pub counts_two : (old mid new : DiskState) → Counts false true old mid → Counts false true mid new → CountsTwo true old new

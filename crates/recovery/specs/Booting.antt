@@ -1,5 +1,5 @@
 -- What booting gives, and what it leaves of a device, wherever a stop falls.
-use Rattle.std.specs.Prelude.{◌≡◌, ◌⊎◌, ℕ, ◌+◌, Bool, true, false, List, [], Option, None, Result, Ok, Err, length}
+use Rattle.std.specs.Prelude.{◌≡◌, ◌⊎◌, ℕ, ◌+◌, Bool, true, false, List, [], Option, None, Result, Ok, Err, length, map, replicate}
 use Rattle.petri_atom.specs.Local.{Local}
 use Rattle.disk_model.specs.DiskState.{DiskState, size_of}
 use Rattle.disk_model.specs.Cells.{Cell, MayBe, seen_cells}
@@ -11,6 +11,7 @@ use Rattle.plant_image.specs.Faults.{fault_of}
 use Rattle.plant_image.specs.Reading.{IsTold}
 use Rattle.plant_image.specs.Standing.{StandsFor}
 use Rattle.plant_image.specs.declared.fault.ImageFault.{ImageFault}
+use Rattle.plant_core.specs.Snapshots.{mark_of}
 use Rattle.plant_core.specs.View.{View}
 use Rattle.recovery.specs.declared.fault.BootFault.{BootFault}
 use Rattle.recovery.specs.declared.fault.BootFault.TheVariants.{Image, Disk}
@@ -44,7 +45,7 @@ abbrev pub IsBooting : PlantDefinition → List ℕ → DiskState → List Cell 
 IsBooting plant digest old cells = MayBe (BODY + 1) old cells ⊎ StandAlike plant digest (size_of old) (seen_cells (BODY + 1) old) cells
 
 -- The view of a plant that is booted from a device of so many bytes with these cells: nothing is wrong with them, and the plant is where they lead, with
--- nothing to acknowledge.
+-- nothing to acknowledge. What it knows of saved states is what stands in the slots, and no state was asked for.
 pub record IsBooted (plant : PlantDefinition) (digest : List ℕ) (bytes : ℕ) (cells : List Cell) (v : View) : Type 0 where
   pub sound : fault_of plant digest bytes cells ≡ None
   pub acked : v.acked ≡ states_of plant (contents_of (length plant.atoms) cells)
@@ -55,4 +56,6 @@ pub record IsBooted (plant : PlantDefinition) (digest : List ℕ) (bytes : ℕ) 
   pub counts : v.counts ≡ v.acked_counts
   pub base : v.base ≡ (contents_of (length plant.atoms) cells).base
   pub ring : v.ring ≡ (contents_of (length plant.atoms) cells).ring
+  pub saved : v.saved ≡ map mark_of (contents_of (length plant.atoms) cells).slots
+  pub kept : v.kept ≡ replicate (length plant.atoms) None
   pub broken : v.broken ≡ false

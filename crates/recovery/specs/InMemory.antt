@@ -1,5 +1,5 @@
 -- What is made in memory while a plant is booted.
-use Rattle.std.specs.Prelude.{◌≡◌, ℕ, ◌+◌, ◌≤◌, true, false, List, [], None, length, vec_capacity}
+use Rattle.std.specs.Prelude.{◌≡◌, ℕ, ◌+◌, ◌≤◌, true, false, List, [], None, length, replicate, vec_capacity}
 use Rattle.disk_model.specs.DiskState.{DiskState, size_of}
 use Rattle.disk_model.specs.Cells.{Cell, cell_count, seen_cells}
 use Rattle.disk_model.specs.declared.cells.TheConstants.{BODY}
@@ -14,8 +14,10 @@ use Rattle.plant_image.specs.Faults.{fault_of}
 use Rattle.plant_image.specs.Reading.{IsStanding, contents_in}
 use Rattle.plant_image.specs.declared.standing.Standing.{Standing}
 use Rattle.plant_core.specs.Kept.{IsAtRest}
+use Rattle.plant_core.specs.Snapshots.{nothing_kept}
 use Rattle.plant_core.specs.View.{View, view_by}
 use Rattle.plant_core.specs.declared.limits.TheConstants.{MOST_TAIL}
+use Rattle.trimmer.specs.Covered.{saved_count}
 use Rattle.recovery.specs.Booting.{IsBooted}
 use Rattle.recovery.specs.declared.booting.InMemory.{InMemory}
 
@@ -33,18 +35,20 @@ pub record IsEmptyTail (memory : InMemory) : Type 0 where
   pub room_of_tail : MOST_TAIL ≤ vec_capacity memory.tail
   pub room_of_bodies : MOST_TAIL ≤ vec_capacity memory.bodies
 
--- What is in memory is what stands: the state twice, the counts, and the journal of the live records; and room for a tail.
+-- What is in memory is what stands: the state twice, the counts, the journal of the live records, and what is known of the states in the slots,
+-- of which none was asked for; and room for a tail.
 pub record IsMadeOf (system : System) (standing : Standing) (memory : InMemory) : Type 0 where
   pub of_system : system_in memory.stepper ≡ system
   pub states : states_in memory.stepper ≡ standing.states
   pub acked : memory.acked ≡ standing.states
   pub counts : memory.counts ≡ standing.counts
   pub journal : memory.journal ≡ ring_in (length (plant_of system).atoms) (contents_in standing.held)
+  pub snapshots : memory.snapshots ≡ nothing_kept (contents_in standing.held).slots
   pub room : IsEmptyTail memory
 
 -- the view of the plant that is made of it
 abbrev pub view_in : InMemory → View
-view_in memory = view_by memory.acked memory.counts memory.journal.last [] memory.acked memory.counts memory.journal false
+view_in memory = view_by memory.acked memory.counts memory.journal.last [] memory.acked memory.counts memory.journal memory.snapshots false
 
 -- What is in memory and what is on the device make a plant, as booting has to give it.
 pub record IsPrepared (system : System) (old new : DiskState) (memory : InMemory) : Type 0 where
@@ -54,5 +58,9 @@ pub record IsPrepared (system : System) (old new : DiskState) (memory : InMemory
   pub room : IsEmptyTail memory
   pub atoms : memory.journal.atoms ≡ length (plant_of system).atoms
   pub inside : cells_of_ring memory.journal ≤ cell_count (BODY + 1) new
-  pub rests : new.keeps ≡ true → IsAtRest (plant_of system) (digest_of system) memory.journal memory.acked memory.counts memory.journal.last new
+  pub marks : length memory.snapshots.saved ≡ length (plant_of system).atoms
+  pub marks_within : (atom : ℕ) → saved_count memory.snapshots.saved atom ≤ count_of memory.counts atom
+  pub none_asked : memory.snapshots.kept ≡ replicate (length memory.snapshots.saved) None
+  pub rests : new.keeps ≡ true
+      → IsAtRest (plant_of system) (digest_of system) memory.journal memory.acked memory.counts memory.journal.last memory.snapshots.saved new
   pub booted : old.keeps ≡ true → IsBooted (plant_of system) (digest_of system) (size_of old) (seen_cells (BODY + 1) old) (view_in memory)

@@ -14,7 +14,7 @@ use crate::fault::{BootFault, BootRefused};
 use crate::loading::judge;
 use disk_model::{BODY, Cells, Disk};
 use gated_journal::Journal;
-use plant_core::{MOST_TAIL, Parts, Plant};
+use plant_core::{MOST_TAIL, Parts, Plant, Snapshots};
 use plant_image::Standing;
 use std::alloc::{AllocError, Global};
 use step_core::{Choice, MAX_ATOMS, PlantState, Stepper, System};
@@ -28,6 +28,7 @@ pub(crate) struct InMemory<'s> {
     pub(crate) tail: Vec<Choice>,
     pub(crate) bodies: Vec<[u8; BODY]>,
     pub(crate) journal: Journal,
+    pub(crate) snapshots: Snapshots,
 }
 
 /// The plant of the system that the device stands for, after any stop. It syncs the device, judges all that a read gives, and takes all
@@ -69,6 +70,7 @@ pub fn boot<'s, D: Disk>(
         tail,
         bodies,
         journal,
+        snapshots,
     } = memory;
     Ok(Plant::of(Parts {
         stepper,
@@ -77,6 +79,7 @@ pub fn boot<'s, D: Disk>(
         tail,
         bodies,
         journal,
+        snapshots,
         cells,
     }))
 }
@@ -130,6 +133,7 @@ fn take_memory<'s, D: Disk>(
         held.base,
         last,
     )?;
+    let snapshots = Snapshots::of(alloc, &held.slots)?;
     let acked = copied(alloc, system, &states)?;
     let tail = Vec::with_capacity(alloc, MOST_TAIL)?;
     let bodies = Vec::with_capacity(alloc, MOST_TAIL)?;
@@ -140,6 +144,7 @@ fn take_memory<'s, D: Disk>(
         tail,
         bodies,
         journal,
+        snapshots,
     })
 }
 

@@ -5,6 +5,7 @@ use Rattle.std.specs.List.{position_from}
 use Rattle.std.specs.Option.{option_map_or}
 use Rattle.std.proofs.lemmas.Bool.{le-ltb}
 use Rattle.plant_words.specs.Lines.{lines_of}
+use Rattle.step_core.specs.Plant.{PlantDefinition}
 use Rattle.text_io.specs.declared.reading.TheConstants.{MAX_TEXT}
 use Rattle.plant_core.specs.declared.events.Event.{Event}
 use Rattle.script_lines.specs.Script.{asked_by_line, events_of, is_refused, is_unreadable, line_in, script_meaning}
@@ -12,13 +13,13 @@ use Rattle.script_lines.specs.declared.line.ScriptLine.{ScriptLine}
 use Rattle.script_lines.specs.declared.line.ScriptLine.TheVariants.{Nothing, Asks, Unreadable}
 
 -- what lines mean behind events that were read, where the first of the lines has this number
-abbrev pub meant_behind : ℕ → List Event → List (List ℕ) → Result (List Event) ℕ
-meant_behind number before lines = option_map_or Err (position_from is_refused number lines) (Ok (before ++ flat_map events_of lines))
+abbrev pub meant_behind : PlantDefinition → ℕ → List Event → List (List ℕ) → Result (List Event) ℕ
+meant_behind plant number before lines = option_map_or Err (position_from (is_refused plant) number lines) (Ok (before ++ flat_map (events_of plant) lines))
 
 -- all lines of a script that is not too long are left at first
-pub all_left : (text : List ℕ) → length text ≤ MAX_TEXT → meant_behind 1 [] (lines_of text) ≡ script_meaning text
-all_left text short =
-    sym (ap (λ long. if long then Err 0 else meant_behind 1 [] (lines_of text)) (le-ltb MAX_TEXT (length text) short))
+pub all_left : (plant : PlantDefinition) (text : List ℕ) → length text ≤ MAX_TEXT → meant_behind plant 1 [] (lines_of text) ≡ script_meaning plant text
+all_left plant text short =
+    sym (ap (λ long. if long then Err 0 else meant_behind plant 1 [] (lines_of text)) (le-ltb MAX_TEXT (length text) short))
 
 -- the first line that is left says something, and the others are left
 first_said : (number : ℕ) (before more : List Event) (refused : Option ℕ) (said : ScriptLine)
@@ -28,13 +29,13 @@ first_said number before more refused Nothing = ap (λ events. option_map_or Err
 first_said number before more refused (Asks event) = ap (λ events. option_map_or Err refused (Ok events)) (sym (append_assoc before (event ∷ []) more))
 first_said number before more refused Unreadable = refl
 
-pub line_left : (number : ℕ) (before : List Event) (lines rest : List (List ℕ)) (line : List ℕ) (said : ScriptLine)
-    → lines ≡ line ∷ rest → said ≡ line_in line
-    → meant_behind number before lines ≡ cond (is_unreadable said) (Err number) (meant_behind (number + 1) (before ++ asked_by_line said) rest)
-line_left number before lines rest line said taken is =
-    ap (meant_behind number before) taken ∙
-    first_said number before (flat_map events_of rest) (position_from is_refused (number + 1) rest) (line_in line) ∙
-    ap (λ s. cond (is_unreadable s) (Err number) (meant_behind (number + 1) (before ++ asked_by_line s) rest)) (sym is)
+pub line_left : (plant : PlantDefinition) (number : ℕ) (before : List Event) (lines rest : List (List ℕ)) (line : List ℕ) (said : ScriptLine)
+    → lines ≡ line ∷ rest → said ≡ line_in plant line
+    → meant_behind plant number before lines ≡ cond (is_unreadable said) (Err number) (meant_behind plant (number + 1) (before ++ asked_by_line said) rest)
+line_left plant number before lines rest line said taken is =
+    ap (meant_behind plant number before) taken ∙
+    first_said number before (flat_map (events_of plant) rest) (position_from (is_refused plant) (number + 1) rest) (line_in plant line) ∙
+    ap (λ s. cond (is_unreadable s) (Err number) (meant_behind plant (number + 1) (before ++ asked_by_line s) rest)) (sym is)
 
 -- the events with one more, where there was memory for them
 pub kept_more : {X E : Type 0} (items : X → List Event) (events more : Result X E) (before : List Event) (event : Event)

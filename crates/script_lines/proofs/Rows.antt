@@ -1,9 +1,11 @@
 -- Worked examples of the definitions, as computed facts.
-use Rattle.std.proofs.Common.{◌≡◌, refl, true, false, [], ◌∷◌, ◌++◌, codes, Ok, Err}
+use Rattle.std.proofs.Common.{◌≡◌, refl, ℕ, List, true, false, [], ◌∷◌, ◌++◌, codes, Ok, Err}
 use Rattle.std.specs.Fmt.{digits}
-use Rattle.plant_core.specs.declared.events.Event.TheVariants.{Fire, Flush}
+use Rattle.plant_core.specs.declared.events.Event.TheVariants.{Fire, Flush, Ask, Put}
 use Rattle.plant_core.specs.declared.events.Happened.TheVariants as happened
 use Rattle.plant_core.specs.declared.refused.Refused.TheVariants.{Stuck, Busy, TailFull, RingFull, Spent, Away, Ahead, Stranger, NothingNew, Disk, Broken}
+use Rattle.petri_atom.specs.Definition.{AtomDefinition}
+use Rattle.record_codec.specs.Saved.{SavedFields}
 use Rattle.step_core.specs.Plant.{PlantDefinition}
 use Rattle.script_lines.specs.Script.{script_meaning, is_refused}
 use Rattle.script_lines.specs.Answers.{flushed_line, front_line, happened_line, refused_line}
@@ -11,46 +13,94 @@ use Rattle.script_lines.specs.Message.{message_of}
 use Rattle.plant_core.specs.Events.{has_failed}
 use Rattle.script_lines.specs.declared.fault.ScriptFault.TheVariants.{Line}
 
+-- an atom without parts
+abbrev atom : List ℕ → AtomDefinition
+atom name = record { name = name; places = []; variables = []; ports = []; transitions = [] }
+
+-- a plant of the atoms A and B
+abbrev two : PlantDefinition
+two = record { atoms = atom (codes "A") ∷ atom (codes "B") ∷ []; wires = []; rules = [] }
+
+-- a state of the atom with the number, which had taken part so often when the record with number 9 was the last
+abbrev copied : ℕ → ℕ → SavedFields
+copied number count = record { atom = number; count = count; at = 9; marking = 0; values = [] }
+
 -- ---- scripts
 
-nothing_is_asked : script_meaning [] ≡ Ok []
+nothing_is_asked : script_meaning two [] ≡ Ok []
 nothing_is_asked = refl
 
-all_forms : script_meaning (codes "fire 0\n\nfire\t0012 \n \tflush\n" ++ codes "fire 18446744073709551615" ++ 13 ∷ 10 ∷ codes "flush")
+all_forms : script_meaning two (codes "fire 0\n\nfire\t0012 \n \tflush\n" ++ codes "fire 18446744073709551615" ++ 13 ∷ 10 ∷ codes "flush")
     ≡ Ok (Fire 0 ∷ Fire 12 ∷ Flush ∷ Fire 18446744073709551615 ∷ Flush ∷ [])
 all_forms = refl
 
-the_last_line_may_lack_its_line_feed : script_meaning (codes "flush\nfire 3") ≡ Ok (Flush ∷ Fire 3 ∷ [])
+the_last_line_may_lack_its_line_feed : script_meaning two (codes "flush\nfire 3") ≡ Ok (Flush ∷ Fire 3 ∷ [])
 the_last_line_may_lack_its_line_feed = refl
 
-the_first_refused_line_is_told : script_meaning (codes "flush\n\nfire x\nfire\n") ≡ Err 3
+the_first_refused_line_is_told : script_meaning two (codes "flush\n\nfire x\nfire\n") ≡ Err 3
 the_first_refused_line_is_told = refl
 
-a_comment_is_refused : script_meaning (codes "# one\n") ≡ Err 1
+a_comment_is_refused : script_meaning two (codes "# one\n") ≡ Err 1
 a_comment_is_refused = refl
 
-a_pick_is_within_64_bits : is_refused (codes "fire 18446744073709551616") ≡ true
+atoms_are_asked_for_by_their_names : script_meaning two (codes "ask A\nput A\n ask\tB \nflush\nput B") ≡ Ok (Ask 0 ∷ Put 0 ∷ Ask 1 ∷ Flush ∷ Put 1 ∷ [])
+atoms_are_asked_for_by_their_names = refl
+
+an_unknown_atom_is_refused : script_meaning two (codes "ask A\n\nask C\nput C\n") ≡ Err 3
+an_unknown_atom_is_refused = refl
+
+an_unknown_atom_is_not_put : is_refused two (codes "put C") ≡ true
+an_unknown_atom_is_not_put = refl
+
+a_plant_without_atoms_has_none_to_ask_for : is_refused (record { atoms = []; wires = []; rules = [] }) (codes "ask A") ≡ true
+a_plant_without_atoms_has_none_to_ask_for = refl
+
+the_first_atom_of_a_name_is_meant : script_meaning (record { atoms = atom (codes "B") ∷ atom (codes "A") ∷ atom (codes "A") ∷ []; wires = []; rules = [] }) (codes "put A") ≡ Ok (Put 1 ∷ [])
+the_first_atom_of_a_name_is_meant = refl
+
+an_atom_to_ask_for_is_there : is_refused two (codes "ask") ≡ true
+an_atom_to_ask_for_is_there = refl
+
+an_atom_to_put_is_there : is_refused two (codes "put ") ≡ true
+an_atom_to_put_is_there = refl
+
+one_atom_is_asked_for_alone : is_refused two (codes "ask A B") ≡ true
+one_atom_is_asked_for_alone = refl
+
+one_atom_is_put_alone : is_refused two (codes "put A A") ≡ true
+one_atom_is_put_alone = refl
+
+a_number_is_no_name : is_refused two (codes "ask 0") ≡ true
+a_number_is_no_name = refl
+
+a_name_is_of_the_same_letters : is_refused two (codes "put a") ≡ true
+a_name_is_of_the_same_letters = refl
+
+a_name_is_whole : is_refused (record { atoms = atom (codes "AB") ∷ []; wires = []; rules = [] }) (codes "ask A") ≡ true
+a_name_is_whole = refl
+
+a_pick_is_within_64_bits : is_refused two (codes "fire 18446744073709551616") ≡ true
 a_pick_is_within_64_bits = refl
 
-a_pick_has_no_sign : is_refused (codes "fire +1") ≡ true
+a_pick_has_no_sign : is_refused two (codes "fire +1") ≡ true
 a_pick_has_no_sign = refl
 
-a_pick_is_there : is_refused (codes "fire ") ≡ true
+a_pick_is_there : is_refused two (codes "fire ") ≡ true
 a_pick_is_there = refl
 
-one_pick_alone : is_refused (codes "fire 1 2") ≡ true
+one_pick_alone : is_refused two (codes "fire 1 2") ≡ true
 one_pick_alone = refl
 
-flush_stands_alone : is_refused (codes "flush 1") ≡ true
+flush_stands_alone : is_refused two (codes "flush 1") ≡ true
 flush_stands_alone = refl
 
-words_are_written_small : is_refused (codes "Flush") ≡ true
+words_are_written_small : is_refused two (codes "Flush") ≡ true
 words_are_written_small = refl
 
-a_return_within_a_line_is_refused : script_meaning (codes "flush" ++ 13 ∷ []) ≡ Err 1
+a_return_within_a_line_is_refused : script_meaning two (codes "flush" ++ 13 ∷ []) ≡ Err 1
 a_return_within_a_line_is_refused = refl
 
-an_illegal_byte_is_refused_in_an_empty_line_too : is_refused (32 ∷ 0 ∷ []) ≡ true
+an_illegal_byte_is_refused_in_an_empty_line_too : is_refused two (32 ∷ 0 ∷ []) ≡ true
 an_illegal_byte_is_refused_in_an_empty_line_too = refl
 
 -- ---- answers
@@ -107,6 +157,28 @@ a_refused_fire_is_told_whatever_its_pick : (plant : PlantDefinition) → happene
 unfolding digits
 a_refused_fire_is_told_whatever_its_pick plant = refl
 
+a_copy_is_told : happened_line two (happened.Ask 0 (Ok (copied 0 4))) ≡ codes "asked A 4"
+unfolding digits
+a_copy_is_told = refl
+
+a_stored_state_is_told : happened_line two (happened.Put (copied 1 0) (Ok 0)) ≡ codes "stored B 0"
+unfolding digits
+a_stored_state_is_told = refl
+
+an_empty_hand_is_told : happened_line two (happened.Empty 1) ≡ codes "nothing B"
+an_empty_hand_is_told = refl
+
+an_atom_that_is_not_there_has_no_name : happened_line two (happened.Empty 2) ≡ codes "nothing "
+an_atom_that_is_not_there_has_no_name = refl
+
+a_refused_copy_is_told : happened_line two (happened.Ask 1 (Err NothingNew)) ≡ codes "refused 9 NothingNew"
+unfolding digits
+a_refused_copy_is_told = refl
+
+a_refused_state_is_told : happened_line two (happened.Put (copied 1 4) (Err (Ahead 1))) ≡ codes "refused 7 Ahead(1)"
+unfolding digits
+a_refused_state_is_told = refl
+
 a_front_is_told : front_line (record { fired = 12; acked = 9; base = 1 }) ≡ codes "front 12 9 1"
 unfolding digits
 a_front_is_told = refl
@@ -116,6 +188,12 @@ a_device_that_fails_is_a_failure = refl
 
 a_broken_plant_is_none : has_failed (happened.Flush (Err Broken)) ≡ false
 a_broken_plant_is_none = refl
+
+a_device_that_fails_to_store_is_a_failure : has_failed (happened.Put (copied 0 4) (Err Disk)) ≡ true
+a_device_that_fails_to_store_is_a_failure = refl
+
+a_state_that_is_refused_is_none : has_failed (happened.Put (copied 0 4) (Err (Ahead 0))) ≡ false
+a_state_that_is_refused_is_none = refl
 
 -- ---- what a fault says
 

@@ -6,10 +6,11 @@ use Rattle.run_text.specs.Line.{fired_line, states_text}
 use Rattle.plant_core.specs.Refusals.{number_of}
 use Rattle.plant_core.specs.View.{View, fired_number}
 use Rattle.plant_core.specs.declared.events.Happened.{Happened}
-use Rattle.plant_core.specs.declared.events.Happened.TheVariants.{Fire, Flush}
+use Rattle.plant_core.specs.declared.events.Happened.TheVariants.{Fire, Flush, Ask, Put, Empty}
 use Rattle.plant_core.specs.declared.front.Front.{Front}
 use Rattle.plant_core.specs.declared.refused.Refused.{Refused}
 use Rattle.plant_core.specs.declared.refused.Refused.TheVariants.{Stuck, Busy, TailFull, RingFull, Spent, Away, Ahead, Stranger, NothingNew, Disk, Broken}
+use Rattle.script_lines.specs.Atoms.{atom_name}
 
 -- the name of a refusal
 abbrev pub name_of : Refused → List ℕ
@@ -44,12 +45,30 @@ refused_line refused = codes "refused " ++ decimal (number_of refused) ++ codes 
 abbrev pub flushed_line : ℕ → List ℕ
 flushed_line number = codes "flushed " ++ decimal number
 
--- What happened: a choice that was fired as a trace prints it, up to where all was acknowledged, or why the plant refused.
+-- a state that was copied: the name of its atom, and how often the atom has taken part
+abbrev pub asked_line : List ℕ → ℕ → List ℕ
+asked_line name count = codes "asked " ++ name ++ codes " " ++ decimal count
+
+-- the same of one that was stored
+abbrev pub stored_line : List ℕ → ℕ → List ℕ
+stored_line name count = codes "stored " ++ name ++ codes " " ++ decimal count
+
+-- no state of the atom with the name was at hand to be stored
+abbrev pub nothing_line : List ℕ → List ℕ
+nothing_line name = codes "nothing " ++ name
+
+-- What happened: a choice that was fired as a trace prints it, up to where all was acknowledged, which state was copied or stored, or why the
+-- plant refused.
 abbrev pub happened_line : PlantDefinition → Happened → List ℕ
 happened_line plant (Fire pick (Ok fired)) = fired_line plant fired.number (choice_of fired.choice)
 happened_line plant (Fire pick (Err refused)) = refused_line refused
 happened_line plant (Flush (Ok number)) = flushed_line number
 happened_line plant (Flush (Err refused)) = refused_line refused
+happened_line plant (Ask atom (Ok copy)) = asked_line (atom_name plant atom) copy.count
+happened_line plant (Ask atom (Err refused)) = refused_line refused
+happened_line plant (Put handed (Ok count)) = stored_line (atom_name plant handed.atom) count
+happened_line plant (Put handed (Err refused)) = refused_line refused
+happened_line plant (Empty atom) = nothing_line (atom_name plant atom)
 
 -- how far a plant is: the last that was fired, the last that is acknowledged, and the first record that is kept
 abbrev pub front_line : Front → List ℕ

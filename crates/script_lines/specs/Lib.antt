@@ -1,3 +1,4 @@
+pub mod Atoms
 pub mod Script
 pub mod Answers
 pub mod Runs

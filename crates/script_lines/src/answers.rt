@@ -2,8 +2,9 @@
 ghost use Rattle.std.specs.Prelude.{◌≡◌, OnOk};
 ghost use Rattle.std.specs.Io.KnownBytes.{Appends};
 ghost use Rattle.step_core.specs.System.{plant_of};
-ghost use Rattle.script_lines.specs.Answers.{atom_in, atom_said, flushed_line, front_line, happened_line, name_of, refused_line};
+ghost use Rattle.script_lines.specs.Answers.{asked_line, atom_in, atom_said, flushed_line, front_line, happened_line, name_of, nothing_line, refused_line, stored_line};
 
+use crate::atoms::atom_name;
 use plant_core::{Front, Happened, Refused};
 use run_text::print_choice;
 use std::io::Write;
@@ -11,7 +12,8 @@ use step_core::System;
 use text_io::{WriteFault, print_number, print_text};
 
 /// Prints what happened to a durable plant of the system: a choice that was fired as a trace prints it, `flushed N` where all up to number N
-/// is acknowledged, and `refused NUMBER NAME` where the plant refused. The line is not ended.
+/// is acknowledged, `asked NAME COUNT` where the state of the atom was copied, `stored NAME COUNT` where it was stored, `nothing NAME` where none
+/// was at hand, and `refused NUMBER NAME` where the plant refused. The line is not ended.
 pub fn print_happened<W: Write>(
     system: &System,
     happened: &Happened,
@@ -25,6 +27,15 @@ pub fn print_happened<W: Write>(
         Happened::Fire(_, Err(refused)) => print_refused(*refused, output),
         Happened::Flush(Ok(number)) => print_flushed(*number, output),
         Happened::Flush(Err(refused)) => print_refused(*refused, output),
+        Happened::Ask(atom, Ok(copy)) => {
+            print_asked(atom_name(system, *atom), copy.count(), output)
+        }
+        Happened::Ask(_, Err(refused)) => print_refused(*refused, output),
+        Happened::Put(handed, Ok(count)) => {
+            print_stored(atom_name(system, handed.atom()), *count, output)
+        }
+        Happened::Put(_, Err(refused)) => print_refused(*refused, output),
+        Happened::Empty(atom) => print_nothing(atom_name(system, *atom), output),
     }
 }
 
@@ -34,6 +45,34 @@ fn print_flushed<W: Write>(number: u64, output: &mut W) -> Result<(), WriteFault
 {
     print_text(output, b"flushed ")?;
     print_number(output, number)
+}
+
+/// Prints that the state of the atom with the name was copied, and how often the atom has taken part.
+fn print_asked<W: Write>(name: &[u8], count: u64, output: &mut W) -> Result<(), WriteFault>
+    ensures { OnOk result (Appends (W.contents output.old) (W.contents output.new) (asked_line name.now count)) }
+{
+    print_text(output, b"asked ")?;
+    print_text(output, name)?;
+    print_text(output, b" ")?;
+    print_number(output, count)
+}
+
+/// Prints that the state of the atom with the name was stored, and how often the atom had taken part.
+fn print_stored<W: Write>(name: &[u8], count: u64, output: &mut W) -> Result<(), WriteFault>
+    ensures { OnOk result (Appends (W.contents output.old) (W.contents output.new) (stored_line name.now count)) }
+{
+    print_text(output, b"stored ")?;
+    print_text(output, name)?;
+    print_text(output, b" ")?;
+    print_number(output, count)
+}
+
+/// Prints that no state of the atom with the name was at hand to be stored.
+fn print_nothing<W: Write>(name: &[u8], output: &mut W) -> Result<(), WriteFault>
+    ensures { OnOk result (Appends (W.contents output.old) (W.contents output.new) (nothing_line name.now)) }
+{
+    print_text(output, b"nothing ")?;
+    print_text(output, name)
 }
 
 /// Prints a refusal: its number, its name, and in parentheses the number of the atom that it speaks of.

@@ -1,14 +1,15 @@
 //! The lines of a durable run.
 //!
-//! A script is a text with an event on each line: `fire P` or `flush`. [`read_script`] turns it into events, [`run_script`] asks them of a
-//! [`Plant`](plant_core::Plant), one after another, and prints what happened: a line for each answer, and at the end a line for the state of
-//! each atom and one that says how far the plant is.
+//! A script is a text with an event on each line: `fire P`, `flush`, `ask NAME` or `put NAME`, where NAME is that of an atom. [`read_script`]
+//! turns it into events, [`run_script`] asks them of a [`Plant`](plant_core::Plant), one after another, and prints what happened: a line for
+//! each answer, and at the end a line for the state of each atom and one that says how far the plant is. A state that is asked for is kept in
+//! the hand of its atom until it is put.
 //!
-//! What a script means is one definition, `script_meaning` (`specs/Script.antt`), what is printed is `happened_line` and `standing_text`
-//! (`specs/Answers.antt`), and what a run is stands in `specs/Runs.antt`. Contracts say that exactly these bytes were appended to a writer,
-//! where its type says which bytes it took; they say nothing of when a writer fails, nor of when it is flushed.
+//! What a script means for a plant is one definition, `script_meaning` (`specs/Script.antt`), what is printed is `happened_line` and
+//! `standing_text` (`specs/Answers.antt`), and what a run is stands in `specs/Runs.antt`. Contracts say that exactly these bytes were
+//! appended to a writer, where its type says which bytes it took; they say nothing of when a writer fails, nor of when it is flushed.
 //!
-//! - `script`: a script, line by line. `line`: what one line says. `fault`: why a script is refused.
+//! - `script`: a script, line by line. `line`: what one line says. `fault`: why a script is refused. `atoms`: atoms and their names.
 //! - `answers`: the lines of answers, refusals and fronts. `standing`: where a plant stands.
 //! - `run`: the events of a script, asked and answered.
 //!
@@ -16,6 +17,7 @@
 #![tactic(auto)]
 
 mod answers;
+mod atoms;
 mod fault;
 mod line;
 mod run;

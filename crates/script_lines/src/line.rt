@@ -1,9 +1,12 @@
 //! What one line of a script says.
 ghost use Rattle.std.specs.Prelude.{◌≡◌};
-ghost use Rattle.script_lines.specs.Script.{asked_for, event_in, fire_in, flush_in, line_in};
+ghost use Rattle.step_core.specs.System.{plant_of};
+ghost use Rattle.script_lines.specs.Script.{ask_in, asked_for, event_in, fire_in, flush_in, line_in, only_atom, put_in};
 
+use crate::atoms::atom_named;
 use plant_core::Event;
 use plant_words::{Words, is_legal, read_decimal};
+use step_core::System;
 
 /// What a line of a script says.
 #[derive(Clone, Copy, Debug, PartialEq, Eq)]
@@ -16,16 +19,16 @@ pub(crate) enum ScriptLine {
     Unreadable,
 }
 
-/// What the line says.
-pub(crate) fn read_line(line: &[u8]) -> ScriptLine
-    ensures { result ≡ line_in line.now }
+/// What the line says, in a script for a plant of the system.
+pub(crate) fn read_line(system: &System, line: &[u8]) -> ScriptLine
+    ensures { result ≡ line_in (plant_of system.now) line.now }
 {
     if !is_legal(line) {
         return ScriptLine::Unreadable;
     }
     let mut words = Words::new(line);
     match words.next_word() {
-        Some(first) => asked_for(event_in(first, &mut words)),
+        Some(first) => asked_for(event_in(system, first, &mut words)),
         None => ScriptLine::Nothing,
     }
 }
@@ -41,13 +44,17 @@ fn asked_for(event: Option<Event>) -> ScriptLine
 }
 
 /// The event that a first word and the words behind it ask for.
-fn event_in(first: &[u8], words: &mut Words<'_>) -> Option<Event>
-    ensures { result ≡ event_in first.now words.old }
+fn event_in(system: &System, first: &[u8], words: &mut Words<'_>) -> Option<Event>
+    ensures { result ≡ event_in (plant_of system.now) first.now words.old }
 {
     if first == b"fire".as_slice() {
         fire_in(words)
     } else if first == b"flush".as_slice() {
         flush_in(words)
+    } else if first == b"ask".as_slice() {
+        ask_in(system, words)
+    } else if first == b"put".as_slice() {
+        put_in(system, words)
     } else {
         None
     }
@@ -71,5 +78,30 @@ fn flush_in(words: &mut Words<'_>) -> Option<Event>
     match words.next_word() {
         Some(_) => None,
         None => Some(Event::Flush),
+    }
+}
+
+/// The event that the words behind `ask` ask for.
+fn ask_in(system: &System, words: &mut Words<'_>) -> Option<Event>
+    ensures { result ≡ ask_in (plant_of system.now) words.old }
+{
+    Some(Event::Ask(only_atom(system, words)?))
+}
+
+/// The event that the words behind `put` ask for.
+fn put_in(system: &System, words: &mut Words<'_>) -> Option<Event>
+    ensures { result ≡ put_in (plant_of system.now) words.old }
+{
+    Some(Event::Put(only_atom(system, words)?))
+}
+
+/// The number of the atom whose name is the only one of the words.
+fn only_atom(system: &System, words: &mut Words<'_>) -> Option<u16>
+    ensures { result ≡ only_atom (plant_of system.now) words.old }
+{
+    let word = words.next_word()?;
+    match words.next_word() {
+        Some(_) => None,
+        None => atom_named(system, word),
     }
 }

@@ -1,5 +1,5 @@
 //! The events of a script, asked and answered.
-ghost use Rattle.std.specs.Prelude.{◌≡◌, ◌∷◌, [], IfOk, OnErr, OnOk};
+ghost use Rattle.std.specs.Prelude.{◌≡◌, ◌∷◌, [], length, IfOk, OnErr, OnOk};
 ghost use Rattle.std.specs.Io.KnownBytes.{Keeps};
 ghost use Rattle.plant_core.specs.Events.{has_failed};
 ghost use Rattle.plant_core.specs.Plants.{definition_of, text_digest, view_of};
@@ -8,51 +8,58 @@ ghost use Rattle.script_lines.specs.Runs.{IsAnswered, IsCutRun, IsRunOf};
 use crate::answers::print_happened;
 use crate::standing::print_standing;
 use disk_model::Disk;
-use plant_core::{Event, Happened, Plant, Refused, meet};
+use plant_core::{Event, Hands, Happened, Plant, Refused, meet};
 use std::io::Write;
 use text_io::{WriteFault, end_line};
 
 /// Asks events of a plant, one after another, and prints a line for the answer of each; behind them, where the plant then
-/// stands. It tells whether the device failed in some call; then each later call is refused as broken.
+/// stands. A state that is asked for goes into the hand of its atom, and what is in the hand is stored where that is asked. It tells whether
+/// the device failed in some call; then each later call is refused as broken.
 ///
-/// The output is flushed before each flush of the plant, behind the line of its answer, and at the end: who reads it waits for nothing
-/// that is acknowledged. No memory is taken.
+/// The output is flushed before each flush of the plant and each state that is stored, behind the line of its answer, and at the end: who reads
+/// it waits for nothing that is acknowledged. No memory is taken.
 pub fn run_script<D: Disk, W: Write>(
     plant: &mut Plant<'_, D>,
+    hands: &mut Hands,
     events: &[Event],
     output: &mut W,
 ) -> Result<bool, WriteFault>
-    ensures run { IfOk result (λ failed. IsRunOf (definition_of plant.old) (view_of plant.old) events.now failed (view_of plant.new) (W.contents output.old) (W.contents output.new)) }
-    ensures cut { OnErr result (IsCutRun (definition_of plant.old) (view_of plant.old) events.now (view_of plant.new)) }
+    requires { length hands.old ≡ length (definition_of plant.old).atoms }
+    ensures run { IfOk result (λ failed. IsRunOf (definition_of plant.old) (view_of plant.old) hands.old events.now failed (view_of plant.new) hands.new (W.contents output.old) (W.contents output.new)) }
+    ensures cut { OnErr result (IsCutRun (definition_of plant.old) (view_of plant.old) hands.old events.now (view_of plant.new) hands.new) }
+    ensures as_many { length hands.new ≡ length hands.old }
     ensures plant { definition_of plant.new ≡ definition_of plant.old }
     ensures digest { text_digest plant.new ≡ text_digest plant.old }
 {
     let mut failed = false;
     for event in events {
-        failed |= answer(plant, *event, output)?;
+        failed |= answer(plant, hands, *event, output)?;
     }
     print_standing(plant, output)?;
     hand_on(output)?;
     Ok(failed)
 }
 
-/// Asks an event of the plant, and prints the line of its answer; the output is flushed before and behind a flush of the plant. It tells
-/// whether the device failed in the call.
+/// Asks an event of the plant, and prints the line of its answer; the output is flushed before and behind an event that makes calls of the
+/// device. It tells whether the device failed in the call.
 fn answer<D: Disk, W: Write>(
     plant: &mut Plant<'_, D>,
+    hands: &mut Hands,
     event: Event,
     output: &mut W,
 ) -> Result<bool, WriteFault>
-    ensures answered { IfOk result (λ failed. IsAnswered (definition_of plant.old) (view_of plant.old) event failed (view_of plant.new) (W.contents output.old) (W.contents output.new)) }
-    ensures cut { OnErr result (IsCutRun (definition_of plant.old) (view_of plant.old) (event ∷ []) (view_of plant.new)) }
+    requires { length hands.old ≡ length (definition_of plant.old).atoms }
+    ensures answered { IfOk result (λ failed. IsAnswered (definition_of plant.old) (view_of plant.old) hands.old event failed (view_of plant.new) hands.new (W.contents output.old) (W.contents output.new)) }
+    ensures cut { OnErr result (IsCutRun (definition_of plant.old) (view_of plant.old) hands.old (event ∷ []) (view_of plant.new) hands.new) }
+    ensures as_many { length hands.new ≡ length hands.old }
     ensures plant { definition_of plant.new ≡ definition_of plant.old }
     ensures digest { text_digest plant.new ≡ text_digest plant.old }
 {
     match event {
-        Event::Fire(_) => tell(plant, event, output),
-        Event::Flush => {
+        Event::Fire(_) | Event::Ask(_) => tell(plant, hands, event, output),
+        Event::Flush | Event::Put(_) => {
             hand_on(output)?;
-            let failed = tell(plant, event, output)?;
+            let failed = tell(plant, hands, event, output)?;
             hand_on(output)?;
             Ok(failed)
         }
@@ -62,15 +69,18 @@ fn answer<D: Disk, W: Write>(
 /// Asks an event of the plant, and prints the line of its answer. It tells whether the device failed in the call.
 fn tell<D: Disk, W: Write>(
     plant: &mut Plant<'_, D>,
+    hands: &mut Hands,
     event: Event,
     output: &mut W,
 ) -> Result<bool, WriteFault>
-    ensures answered { IfOk result (λ failed. IsAnswered (definition_of plant.old) (view_of plant.old) event failed (view_of plant.new) (W.contents output.old) (W.contents output.new)) }
-    ensures cut { OnErr result (IsCutRun (definition_of plant.old) (view_of plant.old) (event ∷ []) (view_of plant.new)) }
+    requires { length hands.old ≡ length (definition_of plant.old).atoms }
+    ensures answered { IfOk result (λ failed. IsAnswered (definition_of plant.old) (view_of plant.old) hands.old event failed (view_of plant.new) hands.new (W.contents output.old) (W.contents output.new)) }
+    ensures cut { OnErr result (IsCutRun (definition_of plant.old) (view_of plant.old) hands.old (event ∷ []) (view_of plant.new) hands.new) }
+    ensures as_many { length hands.new ≡ length hands.old }
     ensures plant { definition_of plant.new ≡ definition_of plant.old }
     ensures digest { text_digest plant.new ≡ text_digest plant.old }
 {
-    let happened = meet(plant, event);
+    let happened = meet(plant, hands, event);
     print_happened(plant.system(), &happened, output)?;
     end_line(output)?;
     Ok(has_failed(&happened))
@@ -82,7 +92,10 @@ fn has_failed(happened: &Happened) -> bool
 {
     matches!(
         happened,
-        Happened::Fire(_, Err(Refused::Disk)) | Happened::Flush(Err(Refused::Disk))
+        Happened::Fire(_, Err(Refused::Disk))
+            | Happened::Flush(Err(Refused::Disk))
+            | Happened::Ask(_, Err(Refused::Disk))
+            | Happened::Put(_, Err(Refused::Disk))
     )
 }
 

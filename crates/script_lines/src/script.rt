@@ -1,5 +1,6 @@
 //! A script, line by line.
 ghost use Rattle.std.specs.Prelude.{◌≡◌, ◌≤◌, [], ◌∷◌, ◌++◌, length, Ok, IfErr, IfOk, IsOkAnd};
+ghost use Rattle.step_core.specs.System.{plant_of};
 ghost use Rattle.text_io.specs.declared.reading.TheConstants.{MAX_TEXT};
 ghost use Rattle.script_lines.specs.Script.{IsFaultOf, script_meaning};
 
@@ -8,34 +9,35 @@ use crate::line::{ScriptLine, read_line};
 use plant_core::Event;
 use plant_words::Lines;
 use std::alloc::{AllocError, Global};
+use step_core::System;
 use text_io::MAX_TEXT;
 
-/// The events that a script asks for, or the first line that it is refused for: its number from 1, and 0 where the script has more than
-/// 1,048,576 bytes.
+/// The events that a script asks of a plant of the system, or the first line that it is refused for: its number from 1, and 0 where the
+/// script has more than 1,048,576 bytes.
 ///
-/// Each line asks for one event, as `fire P` or `flush`, or has no words. Lines are read on where memory is wanting, so that it hides no
-/// line that is refused.
-pub fn read_script(alloc: Global, text: &[u8]) -> Result<Vec<Event>, ScriptFault>
-    ensures events { IfOk result (λ events. script_meaning text.now ≡ Ok events.items) }
-    ensures fault { IfErr result (IsFaultOf text.now) }
+/// Each line asks for one event, as `fire P`, `flush`, `ask NAME` or `put NAME`, where NAME is that of an atom, or has no words. Lines are
+/// read on where memory is wanting, so that it hides no line that is refused.
+pub fn read_script(alloc: Global, system: &System, text: &[u8]) -> Result<Vec<Event>, ScriptFault>
+    ensures events { IfOk result (λ events. script_meaning (plant_of system.now) text.now ≡ Ok events.items) }
+    ensures fault { IfErr result (IsFaultOf (plant_of system.now) text.now) }
 {
     if text.len() > MAX_TEXT {
         return Err(ScriptFault::Line(0));
     }
-    read_lines(alloc, text)
+    read_lines(alloc, system, text)
 }
 
 /// The events that the lines of a script ask for.
-fn read_lines(alloc: Global, text: &[u8]) -> Result<Vec<Event>, ScriptFault>
+fn read_lines(alloc: Global, system: &System, text: &[u8]) -> Result<Vec<Event>, ScriptFault>
     requires { length text.now ≤ MAX_TEXT }
-    ensures events { IfOk result (λ events. script_meaning text.now ≡ Ok events.items) }
-    ensures fault { IfErr result (IsFaultOf text.now) }
+    ensures events { IfOk result (λ events. script_meaning (plant_of system.now) text.now ≡ Ok events.items) }
+    ensures fault { IfErr result (IsFaultOf (plant_of system.now) text.now) }
 {
     let mut events = Ok(Vec::new(alloc));
     let mut lines = Lines::new(text);
     let mut number = 1;
     while let Some(line) = lines.next_line() {
-        match read_line(line) {
+        match read_line(system, line) {
             ScriptLine::Nothing => {}
             ScriptLine::Asks(event) => events = with_event(events, event),
             ScriptLine::Unreadable => return Err(ScriptFault::Line(number)),

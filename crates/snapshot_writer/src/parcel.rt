@@ -91,8 +91,8 @@ impl Parcel {
             & self.state.same(&other.state)
     }
 
-    /// The same fields, as they stand in a slot.
-    pub(crate) fn to_saved(&self) -> Saved
+    /// The same fields, as they stand in a slot: a value to look at, which can't be handed in.
+    pub fn to_saved(&self) -> Saved
         ensures { result ≡ self.now }
     {
         Saved::new(

@@ -1,8 +1,12 @@
-// Runs of durable plants on devices in memory, stopped and booted again. States and fronts of the sample are worked out by hand; of the plant with
-// rules they are those of the same choices stepped without a device.
-use super::common::{SAMPLE, TEARS, Untold, formatted};
+// Plants that fire and flush, stopped and booted again. States and fronts of the sample are worked out by hand; of the plant with rules they are
+// those of the same choices stepped without a device.
+use super::common::{SAMPLE, TEARS, Untold};
+use super::runs::{
+    FIRE_0, FIRE_1, FLUSH, NEVER, ROOM, front, new_device, run, settled, shown, stopped_run, sweep,
+    whole_run,
+};
 use disk_model::{BODY, Cells, MemDisk, Tear};
-use plant_core::{Event, Front, Happened, Plant, Refused, drive};
+use plant_core::{Event, Refused};
 use plant_image::ImageFault;
 use plant_text::plant_of_text;
 use record_codec::Base;
@@ -10,125 +14,11 @@ use record_codec::ring::base_cell;
 use recovery::{BootFault, boot};
 use std::alloc::Global;
 use std::test::Fail;
-use step_core::{Stepper, System};
+use step_core::System;
 
 /// A plant with guards, transfers, a broadcast and rules, of which each state has another list of choices.
 const RULED: &[u8] =
     b"atom A\nplace s init\nvar n 0\nport t n\ntrans t from s to s do n := + n 1\natom B\nplace x init\nplace y\nvar m 0\nport u m\ntrans u from x to y\ntrans u from y to x do m := * m 2\natom C\nplace s init\nvar left 9\nport v left\ntrans v from s to s when < 0 left do left := - left 1\nconnector tick A.t\nconnector send A.t B.u\nguard < A.n 4\nmove B.m := + A.n B.m\nconnector all A.t' B.u C.v'\nguard < 1 A.n\nmove C.left := - C.left A.n\nprio tick < send\nmaximal all\n";
-
-/// How many writes and syncs the devices keep.
-const ROOM: usize = 512;
-
-/// A call that no run makes: the device never dies.
-const NEVER: u64 = u64::MAX;
-
-/// A device that is formatted for the plant, with a ring of so many records.
-fn new_device(alloc: Global, system: &System, ring: u32) -> Result<MemDisk, Fail> {
-    formatted(alloc, system, ring, ROOM)
-}
-
-/// What a run on a device left.
-#[derive(Drop)]
-struct Outcome {
-    disk: MemDisk,
-    front: Front,
-    /// How many calls of the device were made, from the boot on.
-    calls: u64,
-    syncs: u64,
-    /// The last answer, where it is a refusal.
-    refused: Option<Refused>,
-}
-
-/// Boots the plant on a device that is dead from its `k`-th call on, and makes these events. Where the boot is stopped nothing is fired.
-fn run(
-    alloc: Global,
-    system: &System,
-    disk: MemDisk,
-    k: u64,
-    events: &[Event],
-) -> Result<Outcome, Fail> {
-    let mut disk = disk;
-    disk.fuse_dead(k);
-    match boot(alloc, Untold::over(disk), system) {
-        Ok(plant) => driven(alloc, plant, events),
-        Err(refused) if refused.fault == BootFault::Disk => Ok(ended(
-            refused.disk,
-            Front {
-                fired: 0,
-                acked: 0,
-                base: 1,
-            },
-            None,
-        )),
-        Err(_) => Err(Fail::new("the image is refused")),
-    }
-}
-
-/// The run that these events make on the plant.
-fn driven(alloc: Global, plant: Plant<'_, Untold>, events: &[Event]) -> Result<Outcome, Fail> {
-    let mut plant = plant;
-    let answers = drive(alloc, &mut plant, events)?;
-    let refused = match answers.last() {
-        Some(last) => refusal_in(last),
-        None => None,
-    };
-    let front = plant.front();
-    Ok(ended(plant.into_disk(), front, refused))
-}
-
-fn ended(disk: Untold, front: Front, refused: Option<Refused>) -> Outcome {
-    let calls = disk.calls();
-    let syncs = disk.syncs();
-    Outcome {
-        disk: disk.into_memory(),
-        front,
-        calls,
-        syncs,
-        refused,
-    }
-}
-
-fn refusal_in(happened: &Happened) -> Option<Refused> {
-    match happened {
-        Happened::Fire(_, Err(refused)) => Some(*refused),
-        Happened::Flush(Err(refused)) => Some(*refused),
-        _ => None,
-    }
-}
-
-/// Boots the plant and says what it shows: the first values of its first two atoms, and its front.
-fn shown(alloc: Global, system: &System, disk: MemDisk) -> Result<(i64, i64, Front), Fail> {
-    match boot(alloc, Untold::over(disk), system) {
-        Ok(plant) => Ok((value_of(&plant, 0), value_of(&plant, 1), plant.front())),
-        Err(_) => Err(Fail::new("the image is refused")),
-    }
-}
-
-/// The first value of the atom; 0 where it has none.
-fn value_of(plant: &Plant<'_, Untold>, atom: u16) -> i64 {
-    match plant.look(atom) {
-        Some(state) => match state.values().first() {
-            Some(value) => *value,
-            None => 0,
-        },
-        None => 0,
-    }
-}
-
-const fn front(fired: u64, acked: u64, base: u64) -> Front {
-    Front { fired, acked, base }
-}
-
-/// Where all that was fired is acknowledged, and nothing was dropped.
-const fn settled(fired: u64) -> Front {
-    front(fired, fired, 1)
-}
-
-const FIRE_0: Event = Event::Fire(0);
-
-const FIRE_1: Event = Event::Fire(1);
-
-const FLUSH: Event = Event::Flush;
 
 /// Tick, send, tick, send, all of it acknowledged: A has counted 4, and B has the 3 from before the last.
 const FOUR: [Event; 5] = [FIRE_0, FIRE_1, FIRE_0, FIRE_1, FLUSH];
@@ -149,17 +39,11 @@ fn a_formatted_device_boots_to_the_first_state(rt: HostRuntime) -> Result<(), Fa
 fn what_was_flushed_is_booted(rt: HostRuntime) -> Result<(), Fail> {
     let alloc = rt.alloc();
     let system = plant_of_text(alloc, SAMPLE)?;
-    let four = run(alloc, &system, new_device(alloc, &system, 8)?, NEVER, &FOUR)?;
+    let four = whole_run(alloc, &system, &FOUR)?;
     assert_eq!(rt; four.front, settled(4));
     assert_eq!(rt; shown(alloc, &system, four.disk)?, (4, 3, settled(4)));
     // What was fired and not flushed is gone.
-    let two = run(
-        alloc,
-        &system,
-        new_device(alloc, &system, 8)?,
-        NEVER,
-        &TWO_AND_TWO[..5],
-    )?;
+    let two = whole_run(alloc, &system, &TWO_AND_TWO[..5])?;
     assert_eq!(rt; two.front, front(4, 2, 1));
     assert_eq!(rt; shown(alloc, &system, two.disk)?, (2, 1, settled(2)));
     Ok(())
@@ -172,24 +56,12 @@ fn a_torn_gate_decides_whether_its_record_lives(rt: HostRuntime) -> Result<(), F
     let system = plant_of_text(alloc, SAMPLE)?;
     let events = [FIRE_0, FIRE_1, FLUSH, FIRE_0, FLUSH];
     // The last call of the run is the last sync of its last flush.
-    let whole = run(
-        alloc,
-        &system,
-        new_device(alloc, &system, 8)?,
-        NEVER,
-        &events,
-    )?;
+    let whole = whole_run(alloc, &system, &events)?;
     for (tear, wanted) in [
         (Tear::Old, (2, 1, settled(2))),
         (Tear::Gates, (3, 1, settled(3))),
     ] {
-        let stopped = run(
-            alloc,
-            &system,
-            new_device(alloc, &system, 8)?,
-            whole.calls,
-            &events,
-        )?;
+        let stopped = stopped_run(alloc, &system, whole.calls, &events)?;
         assert_eq!(rt; stopped.front, front(3, 2, 1));
         assert_eq!(rt; shown(alloc, &system, stopped.disk.stop(tear))?, wanted);
     }
@@ -202,20 +74,8 @@ fn a_torn_gate_decides_whether_its_record_lives(rt: HostRuntime) -> Result<(), F
 fn a_record_past_the_end_is_never_read_again(rt: HostRuntime) -> Result<(), Fail> {
     let alloc = rt.alloc();
     let system = plant_of_text(alloc, SAMPLE)?;
-    let whole = run(
-        alloc,
-        &system,
-        new_device(alloc, &system, 8)?,
-        NEVER,
-        &TWO_AND_TWO,
-    )?;
-    let stopped = run(
-        alloc,
-        &system,
-        new_device(alloc, &system, 8)?,
-        whole.calls,
-        &TWO_AND_TWO,
-    )?;
+    let whole = whole_run(alloc, &system, &TWO_AND_TWO)?;
+    let stopped = stopped_run(alloc, &system, whole.calls, &TWO_AND_TWO)?;
     let torn = stopped.disk.stop(Tear::Mixed);
     let again = run(alloc, &system, torn, NEVER, &[FIRE_0, FLUSH])?;
     assert_eq!(rt; again.front, settled(3));
@@ -229,37 +89,19 @@ fn a_record_past_the_end_is_never_read_again(rt: HostRuntime) -> Result<(), Fail
 fn a_failed_flush_breaks_the_plant(rt: HostRuntime) -> Result<(), Fail> {
     let alloc = rt.alloc();
     let system = plant_of_text(alloc, SAMPLE)?;
-    let whole = run(
-        alloc,
-        &system,
-        new_device(alloc, &system, 8)?,
-        NEVER,
-        &TWO_AND_TWO,
-    )?;
+    let whole = whole_run(alloc, &system, &TWO_AND_TWO)?;
     for (tear, records) in [
         (Tear::Old, 2),
         (Tear::New, 4),
         (Tear::Gates, 4),
         (Tear::Mixed, 2),
     ] {
-        let failed = run(
-            alloc,
-            &system,
-            new_device(alloc, &system, 8)?,
-            whole.calls,
-            &TWO_AND_TWO,
-        )?;
+        let failed = stopped_run(alloc, &system, whole.calls, &TWO_AND_TWO)?;
         assert_eq!(rt; failed.refused, Some(Refused::Disk));
         assert_eq!(rt; failed.front, front(4, 2, 1));
         let (_, _, found) = shown(alloc, &system, failed.disk.stop(tear))?;
         assert_eq!(rt; found, settled(records));
-        let later = run(
-            alloc,
-            &system,
-            new_device(alloc, &system, 8)?,
-            whole.calls,
-            &LATER,
-        )?;
+        let later = stopped_run(alloc, &system, whole.calls, &LATER)?;
         assert_eq!(rt; later.refused, Some(Refused::Broken));
         assert_eq!(rt; later.front, front(4, 2, 1));
     }
@@ -276,13 +118,7 @@ fn a_fire_is_refused_where_there_is_no_room(rt: HostRuntime) -> Result<(), Fail>
     // Eight records fill the ring, flushed or not.
     let mut events = [FIRE_0; 10];
     events[8] = FLUSH;
-    let full = run(
-        alloc,
-        &system,
-        new_device(alloc, &system, 8)?,
-        NEVER,
-        &events,
-    )?;
+    let full = whole_run(alloc, &system, &events)?;
     assert_eq!(rt;
         (full.refused, full.front),
         (Some(Refused::RingFull), settled(8))
@@ -430,91 +266,6 @@ const TWELVE: [Event; 12] = [
     FIRE_1,
     FIRE_1,
 ];
-
-/// The plant behind the first `count` choices that these events fire, stepped without a device.
-fn stepped<'s>(
-    alloc: Global,
-    system: &'s System,
-    events: &[Event],
-    count: u64,
-) -> Result<Stepper<'s>, Fail> {
-    let mut stepper = Stepper::first(alloc, system)?;
-    let mut fired = 0u64;
-    for event in events {
-        if let Event::Fire(pick) = event
-            && fired < count
-        {
-            let choices = stepper.count();
-            if choices == 0 {
-                return Err(Fail::new("no choice"));
-            }
-            let choice = stepper.nth(u128::from(*pick) % choices);
-            stepper.fire(&choice);
-            fired = fired.saturating_add(1);
-        }
-    }
-    Ok(stepper)
-}
-
-/// Whether the plant shows the states of the stepped one.
-fn shows(plant: &Plant<'_, Untold>, wanted: &Stepper<'_>) -> bool {
-    let count = wanted.states().len();
-    for atom in 0..count {
-        match plant.look(atom as u16) {
-            Some(state) if state.same(wanted.states().state(atom as u16)) => {}
-            _ => return false,
-        }
-    }
-    plant.look(count as u16).is_none()
-}
-
-/// Whether the image that a stop of the run left boots to a state behind some front of what was fired, with all that was acknowledged.
-fn boots_right(
-    alloc: Global,
-    system: &System,
-    left: MemDisk,
-    told: Front,
-    events: &[Event],
-) -> Result<bool, Fail> {
-    let Ok(plant) = boot(alloc, Untold::over(left), system) else {
-        return Ok(false);
-    };
-    let found = plant.front();
-    let wanted = stepped(alloc, system, events, found.fired)?;
-    Ok(
-        told.acked <= found.fired
-            && found.fired <= told.fired
-            && found == settled(found.fired)
-            && shows(&plant, &wanted),
-    )
-}
-
-/// Stops the run at its `k`-th device call under each tear, and says how many of the stops boot right.
-fn right_at(alloc: Global, system: &System, events: &[Event], k: u64) -> Result<u64, Fail> {
-    let mut right = 0u64;
-    for tear in TEARS {
-        let stopped = run(alloc, system, new_device(alloc, system, 8)?, k, events)?;
-        let boots = boots_right(
-            alloc,
-            system,
-            stopped.disk.stop(tear),
-            stopped.front,
-            events,
-        )?;
-        right = right.saturating_add(u64::from(boots));
-    }
-    Ok(right)
-}
-
-/// Stops the run at each device call: how many calls there are, and how many stops boot right.
-fn sweep(alloc: Global, system: &System, events: &[Event]) -> Result<(u64, u64), Fail> {
-    let whole = run(alloc, system, new_device(alloc, system, 8)?, NEVER, events)?;
-    let mut right = 0u64;
-    for k in 1..=whole.calls.min(1_000) {
-        right = right.saturating_add(right_at(alloc, system, events, k)?);
-    }
-    Ok((whole.calls, right))
-}
 
 /// The boot of the sample makes a sync, asks the size, reads 15 gates and the bodies of the 4 full cells, then the 8 gates of the ring, and syncs: 30 calls. The
 /// flushes of 2, 3 and 2 records make 6, 8 and 6. The plant with rules has one atom more: 3 reads.

@@ -16,13 +16,15 @@ use Rattle.plant_core.proofs.driving.drive.Goals as goal
 pub loop-event-init : goal.loop-event-init
 loop-event-init g c =
     let p = c.args.plant.now in
+    let hands = c.args.hands.now in
     record {
       room = c.in_ok-answers.ensures.exact;
       many = c.in_ok-answers.ensures.len;
       plant = refl;
       digest = refl;
-      so_far = subst (λ (hs : List Happened). SoFar (definition_of p) (text_digest p) (view_of p) (device_of p) [] hs (view_of p) (device_of p)) (sym c.in_ok-answers.ensures.items)
-          (so-far-none (definition_of p) (text_digest p) (view_of p) (device_of p)
+      hands = c.requires;
+      so_far = subst (λ (hs : List Happened). SoFar (definition_of p) (text_digest p) (view_of p) (device_of p) hands [] hs (view_of p) (device_of p) hands) (sym c.in_ok-answers.ensures.items)
+          (so-far-none (definition_of p) (text_digest p) (view_of p) (device_of p) hands
           (λ keeps cells may. of-front (definition_of p) (text_digest p) (size_of (device_of p)) (view_of p) cells (p.at_a_stop keeps cells may)));
     }
 
@@ -31,22 +33,26 @@ loop-event-preserved g c =
     let p = c.args.plant.now in
     let q = c.loop-event.plant in
     let r = c.meet.new.plant in
+    let hands = c.args.hands.now in
+    let held = c.loop-event.hands in
+    let after = c.meet.new.hands in
     let i : ℕ = c.loop-event.event-index in
     let events : List Event = c.args.events.now in
     let before : List Happened = c.loop-event.answers.items in
     let same = c.loop-event.invariant.plant in
     let told = c.loop-event.invariant.digest in
     let event : IsEvent (definition_of p) (view_of q) c.meet.result (view_of r) = subst (λ d. IsEvent d (view_of q) c.meet.result (view_of r)) same c.meet.ensures.event in
-    let more = so-far-more (definition_of p) (text_digest p) (view_of p) (device_of p) p.fits_together.leads (take i events) before (view_of q) (device_of q) c.loop-event.invariant.so_far
+    let more = so-far-more (definition_of p) (text_digest p) (view_of p) (device_of p) hands p.fits_together.leads (take i events) before (view_of q) (device_of q) held c.loop-event.invariant.so_far
     c.meet.result (view_of r) (device_of r) event (get_or events i (asked.Fire 0)) c.meet.ensures.asked
     (λ keeps. subst (λ (digest : List ℕ). Leaves (BODY + 1) (StandsForFront (definition_of p) digest (size_of (device_of q)) (view_of q)) (device_of q) (device_of r)) told
     (subst (λ d. Leaves (BODY + 1) (StandsForFront d (text_digest q) (size_of (device_of q)) (view_of q)) (device_of q) (device_of r)) same (c.meet.ensures.stops keeps)))
-    c.meet.ensures.cause c.meet.ensures.idle c.meet.ensures.size c.meet.ensures.keeps in
+    c.meet.ensures.cause c.meet.ensures.idle c.meet.ensures.size c.meet.ensures.keeps after c.meet.ensures.handed_in c.meet.ensures.hands in
     record {
       room = c.push_reserved.ensures.capacity ∙ c.loop-event.invariant.room;
       many = c.push_reserved.ensures.len ∙ ap (λ (n : ℕ). n + 1) c.loop-event.invariant.many;
       plant = c.meet.ensures.plant ∙ same;
       digest = c.meet.ensures.digest ∙ told;
-      so_far = subst (λ (hs : List Happened). SoFar (definition_of p) (text_digest p) (view_of p) (device_of p) (take (i + 1) events) hs (view_of r) (device_of r)) (sym c.push_reserved.ensures.items)
-          (subst (λ (es : List Event). SoFar (definition_of p) (text_digest p) (view_of p) (device_of p) es (before ++ c.meet.result ∷ []) (view_of r) (device_of r)) (sym (take_more events i (asked.Fire 0) c.loop-event-test.true)) more);
+      hands = c.meet.ensures.as_many ∙ c.loop-event.invariant.hands;
+      so_far = subst (λ (hs : List Happened). SoFar (definition_of p) (text_digest p) (view_of p) (device_of p) hands (take (i + 1) events) hs (view_of r) (device_of r) after) (sym c.push_reserved.ensures.items)
+          (subst (λ (es : List Event). SoFar (definition_of p) (text_digest p) (view_of p) (device_of p) hands es (before ++ c.meet.result ∷ []) (view_of r) (device_of r) after) (sym (take_more events i (asked.Fire 0) c.loop-event-test.true)) more);
     }

@@ -9,5 +9,6 @@ invariant-loop-event g l = record {
   many : vec_len l.answers ≡ l.event-index;
   plant : definition_of l.plant ≡ definition_of l.initial.plant;
   digest : text_digest l.plant ≡ text_digest l.initial.plant;
-  so_far : SoFar (definition_of l.initial.plant) (text_digest l.initial.plant) (view_of l.initial.plant) (device_of l.initial.plant) (take l.event-index l.events) l.answers.items (view_of l.plant) (device_of l.plant);
+  hands : length l.hands ≡ length (definition_of l.initial.plant).atoms;
+  so_far : SoFar (definition_of l.initial.plant) (text_digest l.initial.plant) (view_of l.initial.plant) (device_of l.initial.plant) l.initial.hands (take l.event-index l.events) l.answers.items (view_of l.plant) (device_of l.plant) l.hands;
 }

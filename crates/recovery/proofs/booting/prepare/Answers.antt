@@ -1,4 +1,4 @@
-use Rattle.std.proofs.Common.{◌≡◌, ◌≤◌, List, ℕ, length, true, false, sym, ◌∙◌, ap, subst, rules}
+use Rattle.std.proofs.Common.{◌≡◌, ◌≤◌, List, ℕ, length, true, false, refl, sym, ◌∙◌, ap, subst, rules}
 use Rattle.std.proofs.lemmas.Result.{err_from_is_err_and}
 use Rattle.disk_model.specs.Cells.{seen_cells}
 use Rattle.disk_model.specs.Counting.{up_to_one}
@@ -13,7 +13,9 @@ use Rattle.step_core.specs.declared.limits.TheConstants.{MAX_ATOMS}
 use Rattle.plant_image.specs.Contents.{ring_in}
 use Rattle.plant_image.specs.Reading.{contents_in}
 use Rattle.plant_image.specs.declared.standing.Standing.{Standing}
-use Rattle.recovery.proofs.Prepared.{counts_one, counts_two, inside_read, last_read, rests_read, shows_read, still_old, stops_read}
+use Rattle.plant_core.specs.Snapshots.{SnapshotFields}
+use Rattle.trimmer.specs.Covered.{saved_count}
+use Rattle.recovery.proofs.Prepared.{counts_one, counts_two, inside_read, last_read, marks_read, none_read, rests_read, shows_read, still_old, stops_read, within_read}
 use Rattle.recovery.proofs.booting.prepare.Goals as goal
 
 pub returns-in_err-memory-clause-stops : goal.returns-in_err-memory-clause-stops
@@ -24,6 +26,11 @@ pub returns-in_err-memory-clause-cause : goal.returns-in_err-memory-clause-cause
 returns-in_err-memory-clause-cause g c =
     let p = err_from_is_err_and c.from_residual-in_err-memory.result c.from_residual-in_err-memory.ensures.1 in
     rw (p.1, p.2) (up_to_one false true c.args.cells.now c.judge.new.cells c.in_ok-standing.ensures.counts)
+
+pub clean-requires-clause-inside : goal.clean-requires-clause-inside
+clean-requires-clause-inside g c =
+    inside_read (plant_of c.args.system.now) (digest_of c.args.system.now) c.judge.new.cells c.in_ok-standing.standing c.in_ok-standing.ensures.read c.in_ok-memory.memory.journal c.in_ok-memory.ensures.journal
+    c.judge.new.cells refl
 
 pub returns-in_err-clean-clause-stops : goal.returns-in_err-clean-clause-stops
 returns-in_err-clean-clause-stops g c keeps =
@@ -61,6 +68,7 @@ returns-clause-prepared g c =
     let j : Ring = c.clean.new.self in
     let kept : j ≡ first = c.clean.ensures.journal in
     let journal : j ≡ ring_in (length plant.atoms) (contents_in standing.held) = kept ∙ made.journal in
+    let known : SnapshotFields = c.in_ok-memory.memory.snapshots in
     let long : length standing.counts ≡ MAX_ATOMS = search rules in
     record {
       of_system = made.of_system;
@@ -69,11 +77,14 @@ returns-clause-prepared g c =
       room = record { tail = made.room.tail; bodies = made.room.bodies; room_of_tail = made.room.room_of_tail; room_of_bodies = made.room.room_of_bodies };
       atoms = ap (λ (r : Ring). r.atoms) journal;
       inside = inside_read plant digest mid standing was j journal new c.clean.ensures.counts.size;
+      marks = marks_read plant digest mid standing was j journal known made.snapshots;
+      marks_within = λ atom. subst (λ (ns : List ℕ). saved_count known.saved atom ≤ count_of ns atom) (sym made.counts) (within_read plant digest mid standing was j journal known made.snapshots atom);
+      none_asked = none_read plant digest mid standing was j journal known made.snapshots;
       rests = λ holds.
           let still : mid.keeps ≡ true = sym c.clean.ensures.counts.keeps ∙ holds in
           let cleaned : HasCleaned first (seen_cells 512 mid) (seen_cells 512 new) = seen_after 512 (HasCleaned first (seen_cells 512 mid)) mid new (c.clean.ensures.leaves still) in
-          rests_read plant digest mid standing was j journal long new _ _ still c.clean.ensures.counts.size made.acked made.counts
+          rests_read plant digest mid standing was j journal long new _ _ known still c.clean.ensures.counts.size made.acked made.counts made.snapshots
           (subst (λ r. IsReady r new) (sym kept) (c.in_ok-clean.ensures.cleaned still))
           (subst (λ r. HasCleaned r (seen_cells 512 mid) (seen_cells 512 new)) (sym kept) cleaned);
-      booted = λ keeps. shows_read plant digest mid standing was j journal old _ _ (c.in_ok-standing.ensures.counts.keeps ∙ keeps) c.in_ok-standing.ensures.counts.size (c.judge.ensures.same keeps) made.acked made.counts;
+      booted = λ keeps. shows_read plant digest mid standing was j journal old _ _ known (c.in_ok-standing.ensures.counts.keeps ∙ keeps) c.in_ok-standing.ensures.counts.size (c.judge.ensures.same keeps) made.acked made.counts made.snapshots;
     }

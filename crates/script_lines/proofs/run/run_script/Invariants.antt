@@ -1,5 +1,5 @@
 -- The events before this place were asked and answered.
-use Rattle.std.proofs.Common.{◌≡◌, take}
+use Rattle.std.proofs.Common.{◌≡◌, length, take}
 use Rattle.plant_core.specs.Plants.{definition_of, text_digest, view_of}
 use Rattle.script_lines.proofs.Running.{IsSoFar}
 use Rattle.script_lines.proofs.run.run_script.Given as goal
@@ -8,5 +8,6 @@ abbrev pub invariant-loop-event : goal.invariant-loop-event
 invariant-loop-event g l = record {
   plant : definition_of l.plant ≡ definition_of l.initial.plant;
   digest : text_digest l.plant ≡ text_digest l.initial.plant;
-  so_far : IsSoFar (definition_of l.initial.plant) (view_of l.initial.plant) (take l.event-index l.events) l.failed (view_of l.plant) (g.W.Write.contents l.initial.output) (g.W.Write.contents l.output);
+  as_many : length l.hands ≡ length l.initial.hands;
+  so_far : IsSoFar (definition_of l.initial.plant) (view_of l.initial.plant) l.initial.hands (take l.event-index l.events) l.failed (view_of l.plant) l.hands (g.W.Write.contents l.initial.output) (g.W.Write.contents l.output);
 }

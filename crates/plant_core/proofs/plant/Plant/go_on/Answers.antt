@@ -8,15 +8,18 @@ use Rattle.step_core.specs.Laws.{IsInRange}
 use Rattle.step_core.specs.Plant.{PlantDefinition}
 use Rattle.step_core.specs.Step.{transfer}
 use Rattle.step_core.specs.Rules.{fault_of}
+use Rattle.disk_model.specs.Cells.{seen_cells}
 use Rattle.disk_model.specs.DiskState.{size_of}
+use Rattle.disk_model.specs.declared.cells.TheConstants.{BODY}
 use Rattle.step_core.specs.Running.{plant_in, states_in, system_in}
 use Rattle.step_core.specs.System.{digest_of, plant_of}
 use Rattle.step_core.specs.declared.limits.TheConstants.{MAX_ATOMS}
 use Rattle.step_core.specs.declared.system.System.{System}
-use Rattle.plant_core.specs.Kept.{FitsTogether, IsAtRest, IsFrontOf, IsJournalOf}
+use Rattle.plant_core.specs.Kept.{AreOnTheWay, FitsTogether, IsAtRest, IsFrontOf, IsJournalOf}
 use Rattle.plant_core.specs.Plants.{view_of}
 use Rattle.plant_core.specs.View.{fired_number, view_by, with_fired}
 use Rattle.plant_core.proofs.AtRest.{front-longer}
+use Rattle.plant_core.proofs.Copies.{ways-fired}
 use Rattle.plant_core.proofs.Firing.{bodies-many, count-so-far, next-in-range, one-more, told-many, view-of-fired}
 use Rattle.plant_core.proofs.plant.Plant.go_on.Goals as goal
 
@@ -66,16 +69,19 @@ invariant_of-self g c =
     let held : fired_in c.body_of-body.result ≡ Some (record_by plant v.present v.counts (fired_number v + 1) choice) =
     c.body_of-body.ensures ∙ ap (λ (n : ℕ). Some (record_told (n + 1) choice rows self.counts)) c.fired-number.ensures ∙ ap (λ (r : FiredFields). Some r) told in
     let more = one-more plant v self.bodies.items self.fits_together choice c.requires.allowed c.body_of-body.result held c.requires.short c.requires.room c.requires.last in
-    let view = view-of-fired plant self.acked v.present (states_in c.fire_telling.new.self) self.acked_counts self.counts c.count_participants.new.counts self.number self.tail.items c.push_reserved.new.self.items c.args.choice self.journal self.broken c.push_reserved.ensures.items c.fire_telling.ensures.next c.count_participants.ensures in
+    let view = view-of-fired plant self.acked v.present (states_in c.fire_telling.new.self) self.acked_counts self.counts c.count_participants.new.counts self.number self.tail.items c.push_reserved.new.self.items c.args.choice self.journal self.snapshots self.broken c.push_reserved.ensures.items c.fire_telling.ensures.next c.count_participants.ensures in
     record {
-      fits_together = subst (λ p. FitsTogether p (view_by self.acked self.acked_counts self.number c.push_reserved.new.self.items (states_in c.fire_telling.new.self) c.count_participants.new.counts self.journal self.broken) c.push_reserved-2.new.self.items) (sym c.fire_telling.ensures.plant)
+      fits_together = subst (λ p. FitsTogether p (view_by self.acked self.acked_counts self.number c.push_reserved.new.self.items (states_in c.fire_telling.new.self) c.count_participants.new.counts self.journal self.snapshots self.broken) c.push_reserved-2.new.self.items) (sym c.fire_telling.ensures.plant)
           (subst (λ w. FitsTogether plant w c.push_reserved-2.new.self.items) (sym view)
           (subst (λ bs. FitsTogether plant (with_fired plant choice v) bs) (sym c.push_reserved-2.ensures.items) more));
       room_of_tail = omega (arith, self.room_of_tail, c.push_reserved.ensures.capacity);
       room_of_bodies = omega (arith, self.room_of_bodies, c.push_reserved-2.ensures.capacity);
       of_journal = subst (λ p. IsJournalOf p self.number self.journal self.cells) (sym c.fire_telling.ensures.plant) self.of_journal;
-      at_rest = λ keeps whole. subst (λ (s : System). IsAtRest (plant_of s) (digest_of s) self.journal self.acked self.acked_counts self.number self.cells) (sym c.fire_telling.ensures.system) (self.at_rest keeps whole);
-      at_a_stop = λ keeps image may. subst (λ (s : System). IsFrontOf (plant_of s) (digest_of s) (size_of self.cells) (view_by self.acked self.acked_counts self.number c.push_reserved.new.self.items (states_in c.fire_telling.new.self) c.count_participants.new.counts self.journal self.broken) image) (sym c.fire_telling.ensures.system)
+      at_rest = λ keeps whole. subst (λ (s : System). IsAtRest (plant_of s) (digest_of s) self.journal self.acked self.acked_counts self.number self.snapshots.saved self.cells) (sym c.fire_telling.ensures.system) (self.at_rest keeps whole);
+      on_the_way = λ keeps whole. subst (λ p. AreOnTheWay p (view_by self.acked self.acked_counts self.number c.push_reserved.new.self.items (states_in c.fire_telling.new.self) c.count_participants.new.counts self.journal self.snapshots self.broken) (seen_cells (BODY + 1) self.cells)) (sym c.fire_telling.ensures.plant)
+          (subst (λ w. AreOnTheWay plant w (seen_cells (BODY + 1) self.cells)) (sym view)
+          (ways-fired plant v self.bodies.items self.fits_together (seen_cells (BODY + 1) self.cells) (self.at_rest keeps whole).leads (self.on_the_way keeps whole) choice));
+      at_a_stop = λ keeps image may. subst (λ (s : System). IsFrontOf (plant_of s) (digest_of s) (size_of self.cells) (view_by self.acked self.acked_counts self.number c.push_reserved.new.self.items (states_in c.fire_telling.new.self) c.count_participants.new.counts self.journal self.snapshots self.broken) image) (sym c.fire_telling.ensures.system)
           (subst (λ w. IsFrontOf plant (digest_of (system_in self.stepper)) (size_of self.cells) w image) (sym view)
           (front-longer plant (digest_of (system_in self.stepper)) (size_of self.cells) v choice image (self.at_a_stop keeps image may)));
     }

@@ -1,0 +1,51 @@
+-- What a durable plant knows of the saved states of its atoms.
+use Rattle.std.specs.Prelude.{◌≡◌, ℕ, List, Option, None, Some, length, map, replicate, slice_index_or, slice_set}
+use Rattle.record_codec.specs.Saved.{SavedFields}
+use Rattle.trimmer.specs.declared.saved.SavedAt.{SavedAt}
+
+-- Of the newest state in the slots of each atom how often the atom had taken part, and which record was the last then; and a copy of each
+-- state that was asked for and is not stored yet.
+pub record SnapshotFields : Type 0 where
+  pub saved : List SavedAt
+  pub kept : List (Option SavedFields)
+
+-- the state that is held for an atom, if one is
+abbrev pub held_at : List (Option SavedFields) → ℕ → Option SavedFields
+held_at held atom = slice_index_or held atom None
+
+-- each state stands at the number of its own atom
+abbrev pub AreOwn : List (Option SavedFields) → Type 0
+AreOwn held = (atom : ℕ) (saved : SavedFields) → held_at held atom ≡ Some saved → saved.atom ≡ atom
+
+-- a state in its atom's place
+abbrev pub with_held : SavedFields → List (Option SavedFields) → List (Option SavedFields)
+with_held saved held = slice_set held saved.atom (Some saved)
+
+-- and none in its place
+abbrev pub without : SavedFields → List (Option SavedFields) → List (Option SavedFields)
+without saved held = slice_set held saved.atom None
+
+-- what is known of a state that stands in a slot
+abbrev pub mark_of : SavedFields → SavedAt
+mark_of saved = record { count = saved.count; at = saved.at }
+
+-- the state is the newest of its atom
+abbrev pub with_mark : SavedFields → List SavedAt → List SavedAt
+with_mark saved marks = slice_set marks saved.atom (mark_of saved)
+
+-- a copy of the state is kept
+abbrev pub with_copy : SavedFields → SnapshotFields → SnapshotFields
+with_copy saved s = record s { kept = with_held saved s.kept }
+
+-- the state is stored, and its copy given up
+abbrev pub with_slot : SavedFields → SnapshotFields → SnapshotFields
+with_slot saved s = record { saved = with_mark saved s.saved; kept = without saved s.kept }
+
+-- these states stand in the slots of the atoms, and none was asked for
+abbrev pub nothing_kept : List SavedFields → SnapshotFields
+nothing_kept slots = record { saved = map mark_of slots; kept = replicate (length slots) None }
+
+-- There is a place for a copy of each atom whose newest state is known, and each copy stands in its own.
+pub record AreSnapshots (s : SnapshotFields) : Type 0 where
+  pub as_many : length s.kept ≡ length s.saved
+  pub own : AreOwn s.kept
