@@ -45,8 +45,9 @@ import stops
 
 TESTS = Path(__file__).resolve().parent
 ROOT = TESTS.parent
-# Where the gate leaves the program that it has proved and built.
-PROGRAM = ROOT / "crates" / "bip_run" / "out" / "bip_run"
+LAUNCHER = ROOT / "bip_run"
+# The words with which the launcher runs bip_image, and not bip_run.
+IMAGE_TASKS = re.search(r"^ +(.+)\) chosen=bip_image ;;$", LAUNCHER.read_text(), re.M)[1].split(" | ")
 SECONDS = 60
 # Where a setting leads the standard output.
 OUTPUTS = {"standard output closed": ">&-", "standard output full": ">/dev/full"}
@@ -59,11 +60,14 @@ PATCH = re.compile(r"(\S+) has ([0-9a-f]+) at (\d+)")
 IN_USE = re.compile(r"(\S+) is in use")
 
 
-def built_program():
-    """The program; the launcher proves and builds it where the gate has not."""
-    if not PROGRAM.exists():
-        subprocess.run([str(ROOT / "bip_run"), "--help"], stdout=subprocess.DEVNULL, check=True)
-    return PROGRAM
+def built_program(words):
+    """The program for the words, where the gate leaves what it has proved and built; the launcher does both where the gate has not."""
+    task = [word for word in words[:1] if word in IMAGE_TASKS]
+    name = "bip_image" if task else "bip_run"
+    program = ROOT / "crates" / name / "out" / name
+    if not program.exists():
+        subprocess.run([str(LAUNCHER), *task, "--help"], stdout=subprocess.DEVNULL, check=True)
+    return program
 
 
 def without_line(text, line):
@@ -143,10 +147,11 @@ class Case:
                 raise ValueError(f"{self.name}: no such setting: {line}")
         return command
 
-    def run_before(self, program, place):
+    def run_before(self, place):
         """Makes the runs of `before`, and then the settings that touch the files that these leave."""
         for line in self.lines_of("before"):
-            subprocess.run([str(program), *line.split()], cwd=place, stdout=subprocess.DEVNULL, timeout=SECONDS, check=True)
+            words = line.split()
+            subprocess.run([str(built_program(words)), *words], cwd=place, stdout=subprocess.DEVNULL, timeout=SECONDS, check=True)
         for line in self.lines_of("setting"):
             if patched := PATCH.fullmatch(line):
                 patch(place / patched[1], int(patched[3]), bytes.fromhex(patched[2]))
@@ -160,11 +165,12 @@ class Case:
                     fcntl.flock(held.enter_context(open(place / used[1], "rb")), fcntl.LOCK_EX)
             yield
 
-    def run(self, program):
+    def run(self):
         """Runs the program, and gives its status, standard output and standard error."""
+        words = self.lines_of("args")
         with tempfile.TemporaryDirectory() as folder:
-            command = ["sh", "-c", self.make_files(Path(folder)), str(program), *self.lines_of("args")]
-            self.run_before(program, Path(folder))
+            command = ["sh", "-c", self.make_files(Path(folder)), str(built_program(words)), *words]
+            self.run_before(Path(folder))
             with self.files_in_use(Path(folder)):
                 return self.run_in(folder, command)
 
@@ -201,7 +207,7 @@ class Answers(unittest.TestCase):
     maxDiff = None
 
     def check_case(self, case):
-        status, printed, told = case.run(built_program())
+        status, printed, told = case.run()
         self.check_stream(case, "stderr", told)
         self.check_stream(case, "stdout", printed)
         self.assertEqual(case.status(), status, f"{case.name}: status")

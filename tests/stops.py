@@ -54,15 +54,15 @@ class Stops(unittest.TestCase):
     program = None
 
     def made(self, *words):
-        ran = subprocess.run([str(self.program()), *map(str, words)], capture_output=True, text=True, timeout=60)
+        ran = subprocess.run([str(self.program(words)), *map(str, words)], capture_output=True, text=True, timeout=60)
         self.assertEqual((ran.returncode, ran.stderr), (0, ""), words[0])
         return ran.stdout.splitlines()
 
     def killed_run(self, image, events, moment):
         """Runs the events, kills the program at the moment, and gives the whole lines that it had printed."""
         started = time.monotonic()
-        command = [str(self.program()), "run", str(PLANT), str(image), str(events)]
-        with subprocess.Popen(command, stdout=subprocess.PIPE) as running:
+        words = ["run", str(PLANT), str(image), str(events)]
+        with subprocess.Popen([str(self.program(words)), *words], stdout=subprocess.PIPE) as running:
             lines, flushes = [], 0
             for line in running.stdout:
                 lines.append(line)

@@ -1,5 +1,1 @@
-pub mod Explanation
-pub mod Paths
-pub mod Printed
-pub mod Script
-pub mod Stop
+pub mod Status

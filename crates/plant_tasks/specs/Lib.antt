@@ -1,0 +1,3 @@
+pub mod Explanation
+pub mod Printed
+pub mod Stop
