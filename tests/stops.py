@@ -1,8 +1,9 @@
 """A plant over real stops: the program is killed in the middle of a long run, and the image then has to give back what it told.
 
-At each moment the run is killed while it prints, flushes and saves atoms. What it had printed by then says what it fired and what it had flushed:
-`recover` must tell the state behind some number of those firings, no fewer than were flushed, and the run must go on from there. The
-states are worked out here, from what examples/sample.plant says, and not by the program.
+At each moment the run is killed while it prints, flushes, saves atoms and drops records. What it had printed by then says what it fired, what it had
+flushed and from where on it kept records: `recover` must tell the state behind some number of those firings, no fewer than were flushed, and a base
+no less than the last that was told, and the run must go on from there. The states are worked out here, from what examples/sample.plant says,
+and not by the program.
 """
 
 import subprocess
@@ -21,7 +22,7 @@ LATEST = 0.4
 
 
 def script():
-    """Some thousand events: ticks and sends by no short pattern, a flush behind some of them, and an atom that is asked for or stored behind others."""
+    """Some thousand events: ticks and sends by no short pattern, a flush behind some of them, and an atom that is asked for or stored, or a trim, behind others."""
     lines = []
     for number in range(FIRINGS):
         lines.append(f"fire {number * number // 3}")
@@ -31,6 +32,8 @@ def script():
             lines.append(f"ask {'AB'[number % 2]}")
         if number % 5 == 3:
             lines.append(f"put {'AB'[number // 2 % 2]}")
+        if number % 7 == 2:
+            lines.append("trim")
     return "".join(f"{line}\n" for line in lines)
 
 
@@ -86,18 +89,20 @@ class Stops(unittest.TestCase):
             self.assertEqual(fired, [line_of(k + 1, line.split()[1]) for k, line in enumerate(fired)], "what was fired")
             flushed = max((int(line.split()[1]) for line in printed if line.startswith("flushed ")), default=0)
             *states, front = self.made("recover", PLANT, image)
-            number = int(front.split()[1])
-            self.assertEqual(front, f"front {number} {number} 1")
+            number, base = int(front.split()[1]), int(front.split()[3])
+            self.assertEqual(front, f"front {number} {number} {base}")
             self.assertTrue(flushed <= number <= len(fired), f"{flushed} flushed, {number} recovered, {len(fired)} fired")
+            kept = max((int(line.split()[1]) for line in printed if line.startswith("base ")), default=1)
+            self.assertTrue(kept <= base <= number + 1, f"base {kept} told, {base} recovered")
             self.assertEqual(states, state_behind(fired[:number]))
-            self.check_on(image, fired[:number], Path(folder) / "more")
+            self.check_on(image, fired[:number], base, Path(folder) / "more")
 
-    def check_on(self, image, fired, events):
+    def check_on(self, image, fired, base, events):
         """The run goes on behind these firings."""
         events.write_text("fire 1\nflush\n")
         more = line_of(len(fired) + 1, "send")
         number = len(fired) + 1
-        told = [more, f"flushed {number}", *state_behind([*fired, more]), f"front {number} {number} 1"]
+        told = [more, f"flushed {number}", *state_behind([*fired, more]), f"front {number} {number} {base}"]
         self.assertEqual(self.made("run", PLANT, image, events), told)
 
 

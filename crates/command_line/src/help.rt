@@ -135,19 +135,23 @@ pub(crate) const RUN_ABOUT: &str = "Runs a plant by a script, from where its ima
 A script has an event on each line. 'fire P' fires the entry of the state's choices at P
 modulo their number; 'flush' has all that was fired saved in the image; 'ask ATOM' copies
 the present state of the atom with that name, and 'put ATOM' has its last copy stored in
-the image. A line without words asks for nothing.
+the image; 'trim' drops the records that no restart needs, so that their room is used
+again. A line without words asks for nothing.
 
 Prints a line for each event. A fired interaction is told as 'trace' tells it, numbered
 from the first that was ever fired on the image; 'flushed N' tells that all of them up to
 number N are saved; 'asked ATOM C' and 'stored ATOM C' tell of a state that was copied and
 of one that was stored, in which the atom has taken part C times; 'nothing ATOM' tells that
-there was no copy to store; 'refused K NAME' tells that nothing was done, and why. At the
-end there is a line for each atom, as 'trace' prints it, and 'front F A B': the number of
-the last interaction that was fired, of the last that is saved, and of the first whose
-record the image still holds.
+there was no copy to store; 'base B' tells that the records before number B were dropped;
+'refused K NAME' tells that nothing was done, and why. At the end there is a line for each
+atom, as 'trace' prints it, and 'front F A B': the number of the last interaction that was
+fired, of the last that is saved, and of the first whose record the image still holds.
 
 What 'flushed N' tells of stays, whatever stops the program or the machine. What was fired
-since may be lost, from the last one back.";
+since may be lost, from the last one back.
+
+An image holds as many records as its ring is long. Where it is full ('refused 4 RingFull'),
+'flush', save the atoms that took part in its oldest records ('ask', 'put'), and 'trim'.";
 
 pub(crate) const RUN_AFTER: &str = "Example:
   printf 'fire 0\nfire 1\nflush\n' | bip_run run examples/sample.plant sample.image -

@@ -12,3 +12,4 @@ mod runs;
 mod saves;
 mod slots;
 mod threads;
+mod trims;

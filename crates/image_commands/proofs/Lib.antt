@@ -1,4 +1,3 @@
 pub mod Told
 pub mod Appending
-pub mod Sound
 pub mod Standing

@@ -13,7 +13,7 @@ use Rattle.plant_core.specs.declared.events.Event.{Event}
 use Rattle.recovery.specs.Booting.{IsBooted}
 use Rattle.script_lines.specs.Runs.{IsRunOf}
 use Rattle.image_commands.specs.Runs.{HasRunOn, IsBootedFrom, StandsAsRead, StandsForAllAcked}
-use Rattle.image_commands.proofs.Sound.{sound_behind}
+use Rattle.plant_core.proofs.EventByEvent.{events-sound}
 
 -- A plant on a device, by names of its own: what it says of the device holds of the same device, plant and text by other names.
 stands_by_name : (p q : PlantDefinition) (d e : List ℕ) (mid new : DiskState) (v : View) → p ≡ q → d ≡ e → new ≡ mid →
@@ -60,5 +60,5 @@ run_stands p r q d e old mid new events failed before after hands hands_after fr
       stands = λ keeps kept.
           stands_by_name p q d e mid new after (first_name ∙ second_name) same_digest same_device
           (stands (subst (λ (s : DiskState). s.keeps ≡ true) same_device kept)
-          (sound_behind q silent.happened before after silent.ran (sym silent.told) ∙ (booted keeps).broken));
+          (events-sound q silent.happened before after silent.ran (sym silent.told) ∙ (booted keeps).broken));
     }

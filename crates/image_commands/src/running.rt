@@ -22,8 +22,8 @@ use std::io::Write;
 use step_core::System;
 
 /// Boots the plant of the system from the device, after any stop, asks the events of it, one after another, and prints the answer of each; behind
-/// them, where the plant then stands. What was printed is handed on before each flush of the plant and each state that is stored, behind the
-/// answer, and at the end. The hands of the atoms are empty at first; they are made before the device is asked for anything.
+/// them, where the plant then stands. What was printed is handed on before each event that makes calls of the device, behind the answer,
+/// and at the end. The hands of the atoms are empty at first; they are made before the device is asked for anything.
 pub fn run_image<D: Disk + Drop, W: Write>(
     alloc: Global,
     system: &System,

@@ -29,9 +29,9 @@ use Rattle.plant_image.proofs.AppendedImages.{appended_none, appended_reads}
 use Rattle.plant_image.proofs.KeptCells.{sound_of}
 use Rattle.plant_image.proofs.OnContents.{run_leads}
 use Rattle.plant_image.proofs.Standings.{leads_stands}
-use Rattle.plant_core.specs.Kept.{IsAtRest, IsFrontOf, number_held}
-use Rattle.plant_core.specs.Snapshots.{mark_of}
-use Rattle.plant_core.specs.Stops.{StandsForAcked, StandsForFront}
+use Rattle.plant_core.specs.Kept.{IsAtRest, IsFrontOf}
+use Rattle.plant_core.specs.Snapshots.{known_of}
+use Rattle.plant_core.specs.Stops.{StandsForAcked, StandsForFront, number_held}
 use Rattle.trimmer.specs.declared.saved.SavedAt.{SavedAt}
 use Rattle.plant_core.specs.View.{View, with_fired}
 use Rattle.plant_core.proofs.Flushing.{records-front}
@@ -200,5 +200,5 @@ module _ (plant : PlantDefinition) (digest : List ℕ) (j : Ring) (acked : List 
           journal = ap (appended (length news)) rest.journal ∙ ap (λ (n : ℕ). record ring { last = n }) last ∙ ap (ring_in (length plant.atoms)) (sym reads);
           leads = subst (λ c. Leads plant c (fold plant acked tail) (counts_behind tail counts) (number + length tail)) (sym reads)
               (run_leads plant before acked counts number rest.leads (fold plant acked tail) tail run);
-          slots = rest.slots ∙ ap (λ (c : Contents). map mark_of c.slots) (sym reads);
+          slots = rest.slots ∙ ap (λ (c : Contents). map known_of c.slots) (sym reads);
         })

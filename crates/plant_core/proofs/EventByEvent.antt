@@ -1,5 +1,6 @@
 -- What is so after some of the events that a plant is asked for, and what one more does to it.
 use Rattle.std.proofs.Common.{◌≡◌, ◌≢◌, ◌+◌, ◌-◌, ◌≤◌, ◌==◌, ℕ, refl, sym, ◌∙◌, ap, subst, List, [], ◌∷◌, ◌++◌, length, map, take, drop, arith, Bool, true, false, ◌||◌, ◌&&◌, Option, Some, Ok, Err, Result}
+use Rattle.std.specs.Prelude.{IfErr}
 use Rattle.std.specs.List.{list_all, list_any}
 use Rattle.std.proofs.Math.Seq.{take-add}
 use Rattle.std.proofs.lemmas.Bool.{and_parts, false≢true}
@@ -16,13 +17,13 @@ use Rattle.record_codec.specs.declared.layout.TheConstants.{LAST_NUMBER}
 use Rattle.step_core.specs.Choice.{ChoiceDefinition}
 use Rattle.step_core.specs.Plant.{PlantDefinition}
 use Rattle.step_core.specs.Runs.{fold}
-use Rattle.plant_core.specs.Events.{IsAckedOf, IsEvent, IsEventRun, AreHandedIn, IsFire, IsHandedIn, all_fired, asked_in, fired_by, first_refusal, hands_behind, has_failed, is_disk, is_in_memory, is_stuck, refused_where}
+use Rattle.plant_core.specs.Events.{IsAckedOf, IsEvent, IsEventRun, AreHandedIn, IsFire, IsFlush, IsHandedIn, all_fired, asked_in, fired_by, first_refusal, hands_behind, has_failed, is_call, is_disk, is_in_memory, is_stuck, may_call, refused_where}
 use Rattle.plant_core.specs.Stops.{StandsForFront, StandsForFrontSince}
 use Rattle.plant_core.specs.View.{View, fired_number}
 use Rattle.plant_core.specs.declared.events.Event.{Event}
 use Rattle.plant_core.specs.declared.events.FiredAs.{FiredAs}
 use Rattle.plant_core.specs.declared.events.Happened.{Happened}
-use Rattle.plant_core.specs.declared.events.Happened.TheVariants.{Fire, Flush, Ask, Put, Empty}
+use Rattle.plant_core.specs.declared.events.Happened.TheVariants.{Fire, Flush, Ask, Put, Empty, Trim}
 use Rattle.plant_core.specs.declared.limits.TheConstants.{MOST_TAIL}
 use Rattle.plant_core.specs.declared.refused.Refused.{Refused}
 use Rattle.plant_core.specs.declared.refused.Refused.TheVariants.{Stuck, TailFull, RingFull, Spent, Ahead, Stranger, NothingNew, Disk, Broken}
@@ -69,6 +70,70 @@ failing-breaks plant v w (Put saved (Err (Ahead atom))) did failed = absurd (fal
 failing-breaks plant v w (Put saved (Err Disk)) did failed = (did.0.whole, ap (λ (x : View). x.broken) did.1)
 failing-breaks plant v w (Put saved (Err other)) did failed = absurd did
 failing-breaks plant v w (Empty atom) did failed = absurd (false≢true failed)
+failing-breaks plant v w (Trim (Ok base)) did failed = absurd (false≢true failed)
+failing-breaks plant v w (Trim (Err Broken)) did failed = absurd (false≢true failed)
+failing-breaks plant v w (Trim (Err NothingNew)) did failed = absurd (false≢true failed)
+failing-breaks plant v w (Trim (Err Disk)) did failed = (did.0, ap (λ (x : View). x.broken) did.2)
+failing-breaks plant v w (Trim (Err other)) did failed = absurd did
+
+-- where it does not fail, nothing breaks
+event-sound : (plant : PlantDefinition) (v w : View) (h : Happened) → IsEvent plant v h w → has_failed h ≡ false → w.broken ≡ v.broken
+event-sound plant v w (Fire pick (Ok fired)) did sound = ap (λ (x : View). x.broken) did.3
+event-sound plant v w (Fire pick (Err refused)) did sound = ap (λ (x : View). x.broken) did.1
+event-sound plant v w (Flush (Ok number)) did sound = ap (λ (x : View). x.broken) did.2
+event-sound plant v w (Flush (Err Broken)) did sound = ap (λ (x : View). x.broken) did.1
+event-sound plant v w (Flush (Err Disk)) did sound = absurd (false≢true (sym sound))
+event-sound plant v w (Flush (Err other)) did sound = absurd did
+event-sound plant v w (Ask atom (Ok saved)) did sound = ap (λ (x : View). x.broken) did.3
+event-sound plant v w (Ask atom (Err Broken)) did sound = ap (λ (x : View). x.broken) did.1
+event-sound plant v w (Ask atom (Err Stranger)) did sound = ap (λ (x : View). x.broken) did.2
+event-sound plant v w (Ask atom (Err NothingNew)) did sound = ap (λ (x : View). x.broken) did.3
+event-sound plant v w (Ask atom (Err other)) did sound = absurd did
+event-sound plant v w (Put saved (Ok count)) did sound = ap (λ (x : View). x.broken) did.2
+event-sound plant v w (Put saved (Err Broken)) did sound = ap (λ (x : View). x.broken) did.1
+event-sound plant v w (Put saved (Err Stranger)) did sound = ap (λ (x : View). x.broken) did.2
+event-sound plant v w (Put saved (Err (Ahead atom))) did sound = ap (λ (x : View). x.broken) did.4
+event-sound plant v w (Put saved (Err Disk)) did sound = absurd (false≢true (sym sound))
+event-sound plant v w (Put saved (Err other)) did sound = absurd did
+event-sound plant v w (Empty atom) did sound = ap (λ (x : View). x.broken) did
+event-sound plant v w (Trim (Ok base)) did sound = ap (λ (x : View). x.broken) did.3
+event-sound plant v w (Trim (Err Broken)) did sound = ap (λ (x : View). x.broken) did.1
+event-sound plant v w (Trim (Err NothingNew)) did sound = ap (λ (x : View). x.broken) did.2
+event-sound plant v w (Trim (Err Disk)) did sound = absurd (false≢true (sym sound))
+event-sound plant v w (Trim (Err other)) did sound = absurd did
+
+-- neither of two is so where one of them is not
+neither : (a b : Bool) → (a || b) ≡ false → (a ≡ false) × (b ≡ false)
+neither false b none = (refl, none)
+neither true b none = absurd (false≢true (sym none))
+
+pub events-sound : (plant : PlantDefinition) (hs : List Happened) (v w : View) → IsEventRun plant v hs w → list_any has_failed hs ≡ false → w.broken ≡ v.broken
+events-sound plant [] v w run sound = ap (λ (x : View). x.broken) run
+events-sound plant (h ∷ hs) v w run sound =
+    let both = neither (has_failed h) (list_any has_failed hs) sound in
+    events-sound plant hs run.0 w run.2 both.1 ∙ event-sound plant v run.0 h run.1 both.0
+
+-- ---- what makes no call of the device
+
+-- a flush that is refused for another cause than a failure is that of a broken plant
+pub flush-refused : (v w : View) (answer : Result ℕ Refused) → IsFlush v answer w → is_call answer ≡ false → v.broken ≡ true
+flush-refused v w (Ok number) did none = absurd (false≢true (sym none))
+flush-refused v w (Err Broken) did none = did.0
+flush-refused v w (Err Disk) did none = absurd (false≢true (sym none))
+flush-refused v w (Err other) did none = absurd did
+
+-- a refusal that is no such failure
+not-failed : (refused : Refused) → is_call {X = ℕ} (Err refused) ≡ false → refused ≢ Disk
+not-failed refused none same = false≢true (sym none ∙ ap (λ (r : Refused). is_call {X = ℕ} (Err r)) same)
+
+pub refused-untouched : (refused : Refused) (old new : DiskState) → (refused ≢ Disk → new ≡ old) → is_call {X = ℕ} (Err refused) ≡ false → new ≡ old
+refused-untouched refused old new same none = same (not-failed refused none)
+
+pub answer-untouched : (answer : Result ℕ Refused) (old new : DiskState) → IfErr answer (λ refused. refused ≢ Disk → new ≡ old) → is_call answer ≡ false → new ≡ old
+answer-untouched (Ok number) old new same none = absurd (false≢true (sym none))
+answer-untouched (Err refused) old new same none = refused-untouched refused old new same none
+
+-- ---- what stays
 
 -- a plant that is broken stays so
 stays-broken : (plant : PlantDefinition) (v w : View) (h : Happened) → IsEvent plant v h w → v.broken ≡ true → w.broken ≡ true
@@ -77,7 +142,7 @@ stays-broken plant v w h event broken = event-cases plant v w h
     broken
     (λ c allowed. broken)
     broken
-    (λ saved kept. broken)
+    (λ base marks saved kept. broken)
     refl
     event
 
@@ -113,7 +178,7 @@ module _ (plant : PlantDefinition) (digest : List ℕ) (bytes : ℕ) (v : View) 
       )
 
   -- a front of the tail is one of what was fired since
-  front-since : (fired : List ChoiceDefinition) (u : View) (cells : List Cell) → IsAckedOf plant v fired u → StandsForFront plant digest bytes u cells → StandsForFrontSince plant digest bytes v fired cells
+  pub front-since : (fired : List ChoiceDefinition) (u : View) (cells : List Cell) → IsAckedOf plant v fired u → StandsForFront plant digest bytes u cells → StandsForFrontSince plant digest bytes v fired cells
   front-since fired u cells acked stands =
       let k : ℕ = stands.0 in
       let a : ℕ = u.number - v.number in
@@ -150,6 +215,7 @@ pub record SoFar (plant : PlantDefinition) (digest : List ℕ) (v : View) (s : D
   pub cause : m.failures ≡ counted (list_any has_failed hs) s.failures
   pub failed : list_any has_failed hs ≡ true → u.broken ≡ true
   pub idle : list_all is_in_memory events ≡ true → m ≡ s
+  pub untouched : list_any may_call hs ≡ false → m ≡ s
   pub size : size_of m ≡ size_of s
   pub keeps : m.keeps ≡ s.keeps
 
@@ -165,6 +231,7 @@ module _ (plant : PlantDefinition) (digest : List ℕ) (v : View) (s : DiskState
     cause = refl;
     failed = λ none. absurd (false≢true none);
     idle = λ all. refl;
+    untouched = λ none. refl;
     size = refl;
     keeps = refl;
   }
@@ -173,9 +240,9 @@ module _ (plant : PlantDefinition) (digest : List ℕ) (v : View) (s : DiskState
     module _ (h : Happened) (w : View) (t : DiskState) (event : IsEvent plant u h w) where
       -- behind one more
       pub so-far-more : (e : Event) → asked_in h ≡ e → (m.keeps ≡ true → Leaves (BODY + 1) (StandsForFront plant digest (size_of m) u) m t) → t.failures ≡ counted (has_failed h) m.failures
-          → (is_in_memory e ≡ true → t ≡ m) → size_of t ≡ size_of m → t.keeps ≡ m.keeps → (after : List (Option SavedFields)) → IsHandedIn held h → after ≡ hands_behind h held
+          → (is_in_memory e ≡ true → t ≡ m) → (may_call h ≡ false → t ≡ m) → size_of t ≡ size_of m → t.keeps ≡ m.keeps → (after : List (Option SavedFields)) → IsHandedIn held h → after ≡ hands_behind h held
           → SoFar plant digest v s hands (events ++ e ∷ []) (hs ++ h ∷ []) w t after
-      so-far-more e asked stops cause idle size keeps after handed behind = record {
+      so-far-more e asked stops cause idle untouched size keeps after handed behind = record {
         asked = map_push asked_in hs h ∙ ap (λ es. es ++ asked_in h ∷ []) so_far.asked ∙ ap (λ x. events ++ x ∷ []) asked;
         run = events-join plant hs (h ∷ []) v u w so_far.run (w, event, refl);
         handed = handed-more hs h hands held after so_far.handed handed behind;
@@ -200,6 +267,9 @@ module _ (plant : PlantDefinition) (digest : List ℕ) (v : View) (s : DiskState
         idle = λ all.
             let both = and_parts (list_all is_in_memory events) (is_in_memory e && true) (sym (list_all-append is_in_memory events (e ∷ [])) ∙ all) in
             idle (and_parts (is_in_memory e) true both.1).0 ∙ so_far.idle both.0;
+        untouched = λ none.
+            let both = neither (list_any may_call hs) (may_call h || false) (sym (list_any-append may_call hs (h ∷ [])) ∙ none) in
+            untouched (neither (may_call h) false both.1).0 ∙ so_far.untouched both.0;
         size = size ∙ so_far.size;
         keeps = keeps ∙ so_far.keeps;
       }

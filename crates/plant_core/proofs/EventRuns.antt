@@ -11,18 +11,19 @@ use Rattle.step_core.specs.Step.{next}
 use Rattle.step_core.proofs.Membership.{entry-in}
 use Rattle.plant_core.specs.Events.{IsAckedOf, IsEvent, IsEventRun, all_fired, fired_by}
 use Rattle.record_codec.specs.Saved.{SavedFields}
+use Rattle.trimmer.specs.Covered.{MarkFields}
 use Rattle.trimmer.specs.declared.saved.SavedAt.{SavedAt}
-use Rattle.plant_core.specs.Snapshots.{with_held, with_mark, without}
-use Rattle.plant_core.specs.View.{View, with_all_acked, with_fired}
+use Rattle.plant_core.specs.Snapshots.{with_held, with_known, without}
+use Rattle.plant_core.specs.View.{View, may_go, with_all_acked, with_fired}
 use Rattle.plant_core.specs.declared.events.Happened.{Happened}
-use Rattle.plant_core.specs.declared.events.Happened.TheVariants.{Fire, Flush, Ask, Put, Empty}
+use Rattle.plant_core.specs.declared.events.Happened.TheVariants.{Fire, Flush, Ask, Put, Empty, Trim}
 use Rattle.plant_core.specs.declared.refused.Refused.TheVariants.{Ahead, Stranger, NothingNew, Broken, Disk}
 use Rattle.plant_core.proofs.Chosen.{fold-more}
 
 module _ (plant : PlantDefinition) where
-  -- An event leaves the view, fires an allowed choice, acknowledges all, changes what is known of saved states, or breaks the plant: what holds at
+  -- An event leaves the view, fires an allowed choice, acknowledges all, changes what is known of records and saved states, or breaks the plant: what holds at
   -- each of these holds at it.
-  pub event-cases : (v w : View) (h : Happened) (P : List ChoiceDefinition → View → Type 0) → P [] v → ((c : ChoiceDefinition) → IsAllowed plant v.present c → P (c ∷ []) (with_fired plant c v)) → P [] (with_all_acked v) → ((saved : List SavedAt) (kept : List (Option SavedFields)) → P [] (record v { saved = saved; kept = kept })) → P [] (record v { broken = true })
+  pub event-cases : (v w : View) (h : Happened) (P : List ChoiceDefinition → View → Type 0) → P [] v → ((c : ChoiceDefinition) → IsAllowed plant v.present c → P (c ∷ []) (with_fired plant c v)) → P [] (with_all_acked v) → ((base : ℕ) (marks : List MarkFields) (saved : List SavedAt) (kept : List (Option SavedFields)) → P [] (record v { base = base; marks = marks; saved = saved; kept = kept })) → P [] (record v { broken = true })
       → IsEvent plant v h w → P (fired_by h) w
   event-cases v w (Fire pick (Err refused)) P stays fires acks notes breaks did = subst (P []) (sym did.1) stays
   event-cases v w (Fire pick (Ok fired)) P stays fires acks notes breaks did =
@@ -31,18 +32,23 @@ module _ (plant : PlantDefinition) where
   event-cases v w (Flush (Err Broken)) P stays fires acks notes breaks did = subst (P []) (sym did.1) stays
   event-cases v w (Flush (Err Disk)) P stays fires acks notes breaks did = subst (P []) (sym did.2) breaks
   event-cases v w (Flush (Err other)) P stays fires acks notes breaks did = absurd did
-  event-cases v w (Ask atom (Ok saved)) P stays fires acks notes breaks did = subst (P []) (sym did.3) (notes v.saved (with_held saved v.kept))
+  event-cases v w (Ask atom (Ok saved)) P stays fires acks notes breaks did = subst (P []) (sym did.3) (notes v.base v.marks v.saved (with_held saved v.kept))
   event-cases v w (Ask atom (Err Broken)) P stays fires acks notes breaks did = subst (P []) (sym did.1) stays
   event-cases v w (Ask atom (Err Stranger)) P stays fires acks notes breaks did = subst (P []) (sym did.2) stays
   event-cases v w (Ask atom (Err NothingNew)) P stays fires acks notes breaks did = subst (P []) (sym did.3) stays
   event-cases v w (Ask atom (Err other)) P stays fires acks notes breaks did = absurd did
-  event-cases v w (Put saved (Ok count)) P stays fires acks notes breaks did = subst (P []) (sym did.2) (notes (with_mark saved v.saved) (without saved v.kept))
+  event-cases v w (Put saved (Ok count)) P stays fires acks notes breaks did = subst (P []) (sym did.2) (notes v.base v.marks (with_known saved v.saved) (without saved v.kept))
   event-cases v w (Put saved (Err Broken)) P stays fires acks notes breaks did = subst (P []) (sym did.1) stays
   event-cases v w (Put saved (Err Stranger)) P stays fires acks notes breaks did = subst (P []) (sym did.2) stays
   event-cases v w (Put saved (Err (Ahead atom))) P stays fires acks notes breaks did = subst (P []) (sym did.4) stays
   event-cases v w (Put saved (Err Disk)) P stays fires acks notes breaks did = subst (P []) (sym did.1) breaks
   event-cases v w (Put saved (Err other)) P stays fires acks notes breaks did = absurd did
   event-cases v w (Empty atom) P stays fires acks notes breaks did = subst (P []) (sym did) stays
+  event-cases v w (Trim (Ok base)) P stays fires acks notes breaks did = subst (P []) (sym did.3) (notes (v.base + may_go v) (drop (may_go v) v.marks) v.saved v.kept)
+  event-cases v w (Trim (Err Broken)) P stays fires acks notes breaks did = subst (P []) (sym did.1) stays
+  event-cases v w (Trim (Err NothingNew)) P stays fires acks notes breaks did = subst (P []) (sym did.2) stays
+  event-cases v w (Trim (Err Disk)) P stays fires acks notes breaks did = subst (P []) (sym did.2) breaks
+  event-cases v w (Trim (Err other)) P stays fires acks notes breaks did = absurd did
 
   -- two runs of events one after the other
   pub events-join : (before behind : List Happened) (v u w : View) → IsEventRun plant v before u → IsEventRun plant u behind w → IsEventRun plant v (before ++ behind) w
@@ -57,7 +63,7 @@ module _ (plant : PlantDefinition) where
       (λ rest. rest)
       (λ c allowed rest. (allowed, rest))
       (λ rest. rest)
-      (λ saved kept rest. rest)
+      (λ base marks saved kept rest. rest)
       (λ rest. rest)
       run.1 (events-run hs run.0 w run.2)
 
@@ -68,7 +74,7 @@ module _ (plant : PlantDefinition) where
       leads
       (λ c allowed. ap (λ states. next plant states c) leads ∙ fold-more plant v.tail v.acked c)
       refl
-      (λ saved kept. leads)
+      (λ base marks saved kept. leads)
       leads
       event
 
@@ -111,7 +117,7 @@ module _ (plant : PlantDefinition) where
       (λ c allowed rest. subst (λ cs. Acked v.acked v.number cs w) (append_assoc v.tail (c ∷ []) (all_fired hs))
       (rest (ap (λ states. next plant states c) leads ∙ fold-more plant v.tail v.acked c)))
       (λ rest. acked-more v.acked v.number v.tail (all_fired hs) w (subst (λ states. Acked states (v.number + length v.tail) (all_fired hs) w) leads (rest refl)))
-      (λ saved kept rest. rest leads)
+      (λ base marks saved kept rest. rest leads)
       (λ rest. rest leads)
       run.1 (λ leads_on. acked-by hs run.0 w leads_on run.2)
 

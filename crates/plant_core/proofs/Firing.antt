@@ -1,5 +1,5 @@
 -- What a durable plant keeps, it keeps when it fires a choice.
-use Rattle.std.proofs.Common.{◌≡◌, ◌+◌, ◌<◌, ◌≤◌, ℕ, suc, refl, sym, ◌∙◌, ap, subst, List, [], ◌∷◌, ◌++◌, length, map, arith, ⊎_elim, All, Bool, true, Option, Some, None}
+use Rattle.std.proofs.Common.{◌≡◌, ◌+◌, ◌-◌, ◌<◌, ◌≤◌, ℕ, suc, refl, sym, ◌∙◌, ap, subst, List, [], ◌∷◌, ◌++◌, length, map, arith, ⊎_elim, All, Bool, true, Option, Some, None}
 use Rattle.std.specs.List.{list_all}
 use Rattle.std.proofs.lemmas.Bool.{cases_lt}
 use Rattle.std.proofs.lemmas.List.{get_or_past, length-append, length-map, map-append}
@@ -15,7 +15,6 @@ use Rattle.step_core.specs.Chosen.{choice_of}
 use Rattle.step_core.specs.Delivery.{IsTold}
 use Rattle.step_core.specs.Plant.{PlantDefinition}
 use Rattle.step_core.specs.Rules.{fault_of}
-use Rattle.step_core.specs.Runs.{fold}
 use Rattle.step_core.specs.Step.{next}
 use Rattle.step_core.specs.declared.choice.Choice.{Choice}
 use Rattle.step_core.specs.declared.choice.Move.{Move}
@@ -24,12 +23,15 @@ use Rattle.record_replay.proofs.Counting.{behind-append, behind-within}
 use Rattle.record_replay.proofs.OfPlants.{record-in-range}
 use Rattle.record_replay.proofs.OnRuns.{length-records, records-append}
 use Rattle.record_codec.specs.Saved.{SavedFields}
+use Rattle.trimmer.specs.Covered.{MarkFields}
 use Rattle.trimmer.specs.declared.saved.SavedAt.{SavedAt}
 use Rattle.plant_core.specs.Kept.{FitsTogether, IsCopy, SnapshotsFit}
+use Rattle.plant_core.specs.Marks.{mark_of}
 use Rattle.plant_core.specs.Snapshots.{SnapshotFields}
 use Rattle.plant_core.specs.View.{View, fired_number, view_by, with_fired}
 use Rattle.plant_core.specs.declared.limits.TheConstants.{MOST_TAIL}
 use Rattle.plant_core.proofs.Chosen.{fold-more, run-more}
+use Rattle.plant_core.proofs.Marking.{tail-marked}
 
 -- a bound on each count is one on all of the list, and the other way round
 pub all-within : (counts : List ℕ) (n : ℕ) → ((atom : ℕ) → count_of counts atom ≤ n) → All (λ count. count ≤ n) counts
@@ -51,15 +53,15 @@ told-many delivered (m ∷ ms) (row ∷ rows) told =
     omega arith
 
 -- what is known of saved states fits where more was acknowledged and fired since
-pub snapshots-later : (plant : PlantDefinition) (marks : List SavedAt) (held : List (Option SavedFields)) (counts later : List ℕ) (fired last : ℕ) → ((atom : ℕ) → count_of counts atom ≤ count_of later atom) → fired ≤ last
-    → SnapshotsFit plant marks held counts fired → SnapshotsFit plant marks held later last
-snapshots-later plant marks held counts later fired last grown more fit = record {
-  marks_many = fit.marks_many;
-  marks_within = λ atom. omega (arith, fit.marks_within atom, grown atom);
+pub snapshots-later : (plant : PlantDefinition) (known : List SavedAt) (held : List (Option SavedFields)) (counts later : List ℕ) (fired last : ℕ) → ((atom : ℕ) → count_of counts atom ≤ count_of later atom) → fired ≤ last
+    → SnapshotsFit plant known held counts fired → SnapshotsFit plant known held later last
+snapshots-later plant known held counts later fired last grown more fit = record {
+  known_many = fit.known_many;
+  known_within = λ atom. omega (arith, fit.known_within atom, grown atom);
   places = fit.places;
   own = fit.own;
   copies = λ atom saved there.
-      let copy : IsCopy plant marks fired saved = fit.copies atom saved there in
+      let copy : IsCopy plant known fired saved = fit.copies atom saved there in
       record { of_atom = copy.of_atom; last = omega (arith, copy.last, more); newer = copy.newer };
 }
 
@@ -105,6 +107,9 @@ module _ (plant : PlantDefinition) (v : View) (bodies : List (List ℕ)) (kept :
           base_to = kept.base_to;
           room = omega (arith, longer);
           last_to = omega (arith, longer);
+          marks_many = omega (arith, longer, kept.marks_many, length-append v.marks (mark_of (record_by plant v.present v.counts (fired_number v + 1) c) ∷ []));
+          marks_of_tail = tail-marked (v.number + 1 - v.base) v.marks records (records_of plant v.acked v.acked_counts v.number (v.tail ++ c ∷ [])) (record_by plant v.present v.counts (fired_number v + 1) c)
+              (omega (arith, kept.marks_many)) all-records kept.marks_of_tail;
           snapshots = snapshots-later plant v.saved v.kept v.acked_counts v.acked_counts (fired_number v) (v.number + length (v.tail ++ c ∷ [])) (λ atom. omega arith) (omega (arith, longer)) kept.snapshots;
         }
       where
@@ -114,22 +119,28 @@ module _ (plant : PlantDefinition) (v : View) (bodies : List (List ℕ)) (kept :
         told : List FiredFields → List (Option FiredFields)
         told rs = map (λ (r : FiredFields). Some r) rs
 
+        all-records : records_of plant v.acked v.acked_counts v.number (v.tail ++ c ∷ []) ≡ records ++ record_by plant v.present v.counts (fired_number v + 1) c ∷ []
+        all-records =
+            records-append plant v.tail (c ∷ []) v.acked v.acked_counts v.number ∙
+            ap (λ states. records ++ record_by plant states (counts_behind v.tail v.acked_counts) (fired_number v + 1) c ∷ []) (sym kept.leads) ∙
+            ap (λ counts. records ++ record_by plant v.present counts (fired_number v + 1) c ∷ []) (sym kept.counted)
+
         all-held : map fired_in (bodies ++ body ∷ []) ≡ told (records_of plant v.acked v.acked_counts v.number (v.tail ++ c ∷ []))
         all-held =
             map-append fired_in bodies (body ∷ []) ∙
             ap (λ os. os ++ fired_in body ∷ []) kept.held ∙
             ap (λ o. told records ++ o ∷ []) held ∙
-            ap (λ states. told records ++ told (record_by plant states v.counts (fired_number v + 1) c ∷ [])) kept.leads ∙
-            ap (λ counts. told records ++ told (record_by plant (fold plant v.acked v.tail) counts (fired_number v + 1) c ∷ [])) kept.counted ∙
-            sym (map-append (λ (r : FiredFields). Some r) records (records_of plant (fold plant v.acked v.tail) (counts_behind v.tail v.acked_counts) (v.number + length v.tail) (c ∷ []))) ∙
-            ap told (sym (records-append plant v.tail (c ∷ []) v.acked v.acked_counts v.number))
+            sym (map-append (λ (r : FiredFields). Some r) records (record_by plant v.present v.counts (fired_number v + 1) c ∷ [])) ∙
+            ap told (sym all-records)
 
 -- the view behind a fired choice, as it is kept
-pub view-of-fired : (plant : PlantDefinition) (acked present after : List Local) (acked_counts counts counts_then : List ℕ) (number : ℕ) (tail longer : List Choice) (choice : Choice) (j : Ring) (s : SnapshotFields) (broken : Bool)
+pub view-of-fired : (plant : PlantDefinition) (acked present after : List Local) (acked_counts counts counts_then : List ℕ) (number : ℕ) (tail longer : List Choice) (choice : Choice) (j : Ring) (marks marked : List MarkFields) (s : SnapshotFields) (broken : Bool)
     → longer ≡ tail ++ choice ∷ [] → after ≡ next plant present (choice_of choice) → counts_then ≡ counts_after (choice_of choice) counts
-    → view_by acked acked_counts number longer after counts_then j s broken ≡ with_fired plant (choice_of choice) (view_by acked acked_counts number tail present counts j s broken)
-view-of-fired plant acked present after acked_counts counts counts_then number tail longer choice j s broken grown stepped counted =
-    ap (λ cs. view_by acked acked_counts number cs after counts_then j s broken) grown ∙
-    ap (λ states. view_by acked acked_counts number (tail ++ choice ∷ []) states counts_then j s broken) stepped ∙
-    ap (λ ks. view_by acked acked_counts number (tail ++ choice ∷ []) (next plant present (choice_of choice)) ks j s broken) counted ∙
-    ap (λ (cs : List ChoiceDefinition). record (with_fired plant (choice_of choice) (view_by acked acked_counts number tail present counts j s broken)) { tail = cs }) (map-append choice_of tail (choice ∷ []))
+    → marked ≡ marks ++ mark_of (record_by plant present counts (number + length (map choice_of tail) + 1) (choice_of choice)) ∷ []
+    → view_by acked acked_counts number longer after counts_then j marked s broken ≡ with_fired plant (choice_of choice) (view_by acked acked_counts number tail present counts j marks s broken)
+view-of-fired plant acked present after acked_counts counts counts_then number tail longer choice j marks marked s broken grown stepped counted more =
+    ap (λ cs. view_by acked acked_counts number cs after counts_then j marked s broken) grown ∙
+    ap (λ states. view_by acked acked_counts number (tail ++ choice ∷ []) states counts_then j marked s broken) stepped ∙
+    ap (λ ks. view_by acked acked_counts number (tail ++ choice ∷ []) (next plant present (choice_of choice)) ks j marked s broken) counted ∙
+    ap (λ ms. view_by acked acked_counts number (tail ++ choice ∷ []) (next plant present (choice_of choice)) (counts_after (choice_of choice) counts) j ms s broken) more ∙
+    ap (λ (cs : List ChoiceDefinition). record (with_fired plant (choice_of choice) (view_by acked acked_counts number tail present counts j marks s broken)) { tail = cs }) (map-append choice_of tail (choice ∷ []))

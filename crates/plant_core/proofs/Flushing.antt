@@ -1,8 +1,8 @@
 -- What a durable plant keeps, it keeps when all that was fired is acknowledged.
-use Rattle.std.proofs.Common.{◌≡◌, ◌+◌, ◌≤◌, ℕ, zero, suc, refl, sym, ◌∙◌, ap, subst, ⊎_elim, List, [], ◌∷◌, length, replicate, take, drop, arith, Bool, false, Option, None}
+use Rattle.std.proofs.Common.{◌≡◌, ◌+◌, ◌-◌, ◌≤◌, ℕ, zero, suc, refl, sym, ◌∙◌, ap, subst, ⊎_elim, List, [], ◌∷◌, length, replicate, take, drop, arith, Bool, false, Option, None}
 use Rattle.std.specs.List.{range_with_len}
 use Rattle.std.proofs.lemmas.Bool.{cases_lt}
-use Rattle.std.proofs.lemmas.List.{get_or_past, length-replicate, take-append-drop}
+use Rattle.std.proofs.lemmas.List.{get_or_past, length-replicate, drop_all, take-append-drop}
 use Rattle.std.proofs.lemmas.Option.{none-some}
 use Rattle.petri_atom.specs.Local.{Local}
 use Rattle.disk_model.specs.DiskState.{DiskState, size_of}
@@ -23,7 +23,7 @@ use Rattle.record_codec.specs.Saved.{SavedFields}
 use Rattle.record_replay.specs.Records.{count_of, counted_by, counts_after, counts_behind, record_by, records_of}
 use Rattle.record_replay.proofs.Counting.{counted-entry, counted-grows, length-behind}
 use Rattle.record_replay.proofs.OnRuns.{length-records, numbers-of}
-use Rattle.trimmer.specs.Covered.{saved_count}
+use Rattle.trimmer.specs.Covered.{MarkFields, saved_count}
 use Rattle.trimmer.specs.declared.saved.SavedAt.{SavedAt}
 use Rattle.plant_core.specs.Kept.{FitsTogether, IsJournalOf, SnapshotsFit}
 use Rattle.plant_core.specs.Snapshots.{SnapshotFields, held_at}
@@ -91,19 +91,21 @@ module _ (plant : PlantDefinition) (v : View) (bodies : List (List ℕ)) (kept :
     base_to = omega (arith, kept.base_to);
     room = omega (arith, kept.room);
     last_to = omega (arith, kept.last_to);
+    marks_many = omega (arith, kept.marks_many);
+    marks_of_tail = drop_all (fired_number v + 1 - v.base) v.marks (omega (arith, kept.marks_many));
     snapshots = snapshots-later plant v.saved v.kept v.acked_counts v.counts (fired_number v) (fired_number v + 0) counts-grown (omega arith) kept.snapshots;
   }
 
 -- the view behind a flush, as it is kept
-pub view-of-flushed : (acked present : List Local) (counts : List ℕ) (number sum : ℕ) (tail : List Choice) (j after : Ring) (count : ℕ) (s : SnapshotFields) (whole broken : Bool)
+pub view-of-flushed : (acked present : List Local) (counts : List ℕ) (number sum : ℕ) (tail : List Choice) (j after : Ring) (count : ℕ) (marks : List MarkFields) (s : SnapshotFields) (whole broken : Bool)
     → acked ≡ present → number ≡ sum → tail ≡ [] → after ≡ appended count j → whole ≡ broken
-    → view_by acked counts number tail present counts after s whole ≡ view_by present counts sum [] present counts j s broken
-view-of-flushed acked present counts number sum tail j after count s whole broken same summed empty more is =
-    ap (λ states. view_by states counts number tail present counts after s whole) same ∙
-    ap (λ (n : ℕ). view_by present counts n tail present counts after s whole) summed ∙
-    ap (λ cs. view_by present counts sum cs present counts after s whole) empty ∙
-    ap (λ (r : Ring). view_by present counts sum [] present counts r s whole) more ∙
-    ap (λ (b : Bool). view_by present counts sum [] present counts j s b) is
+    → view_by acked counts number tail present counts after marks s whole ≡ view_by present counts sum [] present counts j marks s broken
+view-of-flushed acked present counts number sum tail j after count marks s whole broken same summed empty more is =
+    ap (λ states. view_by states counts number tail present counts after marks s whole) same ∙
+    ap (λ (n : ℕ). view_by present counts n tail present counts after marks s whole) summed ∙
+    ap (λ cs. view_by present counts sum cs present counts after marks s whole) empty ∙
+    ap (λ (r : Ring). view_by present counts sum [] present counts r marks s whole) more ∙
+    ap (λ (b : Bool). view_by present counts sum [] present counts j marks s b) is
 
 -- the journal behind a flush is that of the plant
 pub journal-of-flushed : (plant : PlantDefinition) (number count : ℕ) (j after : Ring) (old new : DiskState) → after ≡ appended count j → size_of new ≡ size_of old → IsJournalOf plant number j old → IsJournalOf plant (number + count) after new
@@ -130,6 +132,8 @@ noted-fits plant v bodies saved held broken fit kept = record {
   base_to = kept.base_to;
   room = kept.room;
   last_to = kept.last_to;
+  marks_many = kept.marks_many;
+  marks_of_tail = kept.marks_of_tail;
   snapshots = fit;
 }
 
@@ -143,9 +147,9 @@ journal-of-failed plant number j after old new kept same is = subst (λ r. IsJou
 
 -- where nothing was fired since the last flush, what is kept fits together
 pub nothing-fired : (plant : PlantDefinition) (states : List Local) (counts : List ℕ) (number : ℕ) (j : Ring) → IsOf plant states → AllFit plant states → length counts ≡ MAX_ATOMS
-    → ((atom : ℕ) → count_of counts atom ≤ number) → IsRing j → j.last ≡ number → (s : SnapshotFields) → length s.saved ≡ length plant.atoms
-    → ((atom : ℕ) → saved_count s.saved atom ≤ count_of counts atom) → s.kept ≡ replicate (length s.saved) None → FitsTogether plant (view_by states counts number [] states counts j s false) []
-nothing-fired plant states counts number j of_plant fits long within ring last s marks marks_within none = record {
+    → ((atom : ℕ) → count_of counts atom ≤ number) → IsRing j → j.last ≡ number → (marks : List MarkFields) → j.base + length marks ≡ number + 1 → (s : SnapshotFields) → length s.saved ≡ length plant.atoms
+    → ((atom : ℕ) → saved_count s.saved atom ≤ count_of counts atom) → s.kept ≡ replicate (length s.saved) None → FitsTogether plant (view_by states counts number [] states counts j marks s false) []
+nothing-fired plant states counts number j of_plant fits long within ring last marks many s known known_within none = record {
   of_plant = of_plant;
   fits = fits;
   run = refl;
@@ -159,10 +163,12 @@ nothing-fired plant states counts number j of_plant fits long within ring last s
   base_to = omega (arith, ring.base_to);
   room = omega (arith, ring.room);
   last_to = omega (arith, ring.last_to);
+  marks_many = omega (arith, many);
+  marks_of_tail = drop_all (number + 1 - j.base) marks (omega (arith, many));
   snapshots = record {
-    marks_many = marks;
-    marks_within = marks_within;
-    places = ap (λ (held : List (Option SavedFields)). length held) none ∙ length-replicate (length s.saved) None ∙ marks;
+    known_many = known;
+    known_within = known_within;
+    places = ap (λ (held : List (Option SavedFields)). length held) none ∙ length-replicate (length s.saved) None ∙ known;
     own = λ atom saved there. absurd (none-some saved (sym (held-none atom) ∙ there));
     copies = λ atom saved there. absurd (none-some saved (sym (held-none atom) ∙ there));
   };

@@ -8,5 +8,7 @@ pub mod EventByEvent
 pub mod Copies
 pub mod Saving
 pub mod Stored
+pub mod Marking
+pub mod Trimmed
 pub mod Taken
 pub mod Crossing

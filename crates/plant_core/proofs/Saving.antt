@@ -67,12 +67,12 @@ copy-passes atom count at a s fits =
 -- ---- what is known of saved states
 
 -- the newest state of the atom is another one, and that of every other atom as before
-known-own : (marks : List SavedAt) (atom : ℕ) (mark : SavedAt) → atom < length marks → saved_count (set marks atom mark) atom ≡ mark.count
+known-own : (known : List SavedAt) (atom : ℕ) (mark : SavedAt) → atom < length known → saved_count (set known atom mark) atom ≡ mark.count
 known-own [] atom mark within = absurd (omega (arith, within))
 known-own (m ∷ ms) zero mark within = refl
 known-own (m ∷ ms) (suc atom) mark within = known-own ms atom mark (omega (arith, within))
 
-known-other : (marks : List SavedAt) (atom i : ℕ) (mark : SavedAt) → i ≢ atom → saved_count (set marks atom mark) i ≡ saved_count marks i
+known-other : (known : List SavedAt) (atom i : ℕ) (mark : SavedAt) → i ≢ atom → saved_count (set known atom mark) i ≡ saved_count known i
 known-other [] atom i mark other = refl
 known-other (m ∷ ms) zero zero mark other = absurd (other refl)
 known-other (m ∷ ms) zero (suc i) mark other = refl
@@ -84,7 +84,7 @@ module _ (plant : PlantDefinition) (v : View) (bodies : List (List ℕ)) (kept :
   copied atom s there fits new = record {
     of_atom = λ a at. copy-passes atom (count_of v.counts atom) (fired_number v) a s (fits atom a s at there);
     last = omega arith;
-    newer = omega (arith, kept.snapshots.marks_within atom, counts-grown plant v bodies kept atom, new);
+    newer = omega (arith, kept.snapshots.known_within atom, counts-grown plant v bodies kept atom, new);
   }
 
   -- a copy of the present state of an atom is kept, where the atom has taken part since its newest state was saved
@@ -93,8 +93,8 @@ module _ (plant : PlantDefinition) (v : View) (bodies : List (List ℕ)) (kept :
       let parts = copy-parts v atom saved is in
       let copy : IsCopy plant v.saved (fired_number v) saved = subst (IsCopy plant v.saved (fired_number v)) parts.2 (copied atom parts.0 parts.1 fits new) in
       noted-fits plant v bodies v.saved (set v.kept saved.atom (Some saved)) v.broken (record {
-        marks_many = kept.snapshots.marks_many;
-        marks_within = kept.snapshots.marks_within;
+        known_many = kept.snapshots.known_many;
+        known_within = kept.snapshots.known_within;
         places = length-set v.kept saved.atom (Some saved) ∙ kept.snapshots.places;
         own = λ i other there. elim (cases_eq i saved.atom) [
           | inl same ↦ ap (λ (t : SavedFields). t.atom) (sym (put-there v.kept saved.atom saved other (ap (held_at (set v.kept saved.atom (Some saved))) (sym same) ∙ there))) ∙ sym same
@@ -110,14 +110,14 @@ module _ (plant : PlantDefinition) (v : View) (bodies : List (List ℕ)) (kept :
   pub stored-fits : (saved : SavedFields) → saved.atom < length plant.atoms → saved.count ≤ count_of v.acked_counts saved.atom → FitsTogether plant (with_stored saved v) bodies
   stored-fits saved within behind =
       let mark : SavedAt = record { count = saved.count; at = saved.at } in
-      let marks : List SavedAt = set v.saved saved.atom mark in
+      let known : List SavedAt = set v.saved saved.atom mark in
       let before : (i : ℕ) (other : SavedFields) → i ≢ saved.atom → held_at (set v.kept saved.atom None) i ≡ Some other → held_at v.kept i ≡ Some other = λ i other apart there. sym (held-other v.kept saved.atom i None apart) ∙ there in
       let given_up : (i : ℕ) (other : SavedFields) → i ≡ saved.atom → held_at (set v.kept saved.atom None) i ≡ Some other → ⊥ = λ i other same there. none-some other (sym (held-none v.kept saved.atom) ∙ ap (held_at (set v.kept saved.atom None)) (sym same) ∙ there) in
-      noted-fits plant v bodies marks (set v.kept saved.atom None) v.broken (record {
-        marks_many = length-set v.saved saved.atom mark ∙ kept.snapshots.marks_many;
-        marks_within = λ atom. elim (cases_eq atom saved.atom) [
-          | inl same ↦ subst (λ (i : ℕ). saved_count marks i ≤ count_of v.acked_counts i) (sym same) (omega (arith, known-own v.saved saved.atom mark (omega (arith, within, kept.snapshots.marks_many)), behind))
-          | inr apart ↦ omega (arith, known-other v.saved saved.atom atom mark apart, kept.snapshots.marks_within atom)
+      noted-fits plant v bodies known (set v.kept saved.atom None) v.broken (record {
+        known_many = length-set v.saved saved.atom mark ∙ kept.snapshots.known_many;
+        known_within = λ atom. elim (cases_eq atom saved.atom) [
+          | inl same ↦ subst (λ (i : ℕ). saved_count known i ≤ count_of v.acked_counts i) (sym same) (omega (arith, known-own v.saved saved.atom mark (omega (arith, within, kept.snapshots.known_many)), behind))
+          | inr apart ↦ omega (arith, known-other v.saved saved.atom atom mark apart, kept.snapshots.known_within atom)
         ];
         places = length-set v.kept saved.atom None ∙ kept.snapshots.places;
         own = λ i other there. elim (cases_eq i saved.atom) [

@@ -1,7 +1,7 @@
 -- What a stop leaves where a state is stored, and that the device is at rest behind it.
 use Rattle.std.proofs.Common.{◌≡◌, inl, inr, ⊎_elim, ◌+◌, ◌<◌, ℕ, zero, suc, refl, sym, ◌∙◌, ap, subst, List, [], ◌∷◌, length, map, set, slice_get, arith, Bool, Option, None, Some, true, unwrap_or}
 use Rattle.std.specs.Option.{some_prefix}
-use Rattle.std.proofs.lemmas.Option.{slice_get_within}
+use Rattle.std.proofs.lemmas.Option.{get_or_from_slice_get, slice_get_within}
 use Rattle.std.proofs.lemmas.List.FromFn.{length-map-range_with_len}
 use Rattle.petri_atom.specs.Definition.{AtomDefinition}
 use Rattle.petri_atom.specs.Local.{Local}
@@ -29,21 +29,16 @@ use Rattle.plant_image.proofs.OnContents.{saved_leads}
 use Rattle.plant_image.proofs.Standings.{leads_stands}
 use Rattle.plant_image.proofs.StoredImages.{made_at, stored_image_none, stored_reads}
 use Rattle.plant_core.specs.Kept.{IsAtRest}
-use Rattle.plant_core.specs.Snapshots.{mark_of, with_mark}
-
--- how often the atom had taken part whose newest state is known
-count-known : (marks : List SavedFields) (atom : ℕ) (saved : SavedFields) → slice_get marks atom ≡ Some saved → saved_count (map mark_of marks) atom ≡ saved.count
-count-known [] atom saved there = absurd (let there = there in cc)
-count-known (m ∷ ms) zero saved there = let same : m ≡ saved = cc in ap (λ (s : SavedFields). s.count) same
-count-known (m ∷ ms) (suc atom) saved there = count-known ms atom saved there
+use Rattle.plant_core.specs.Snapshots.{known_of, with_known}
+use Rattle.plant_core.proofs.Marking.{count-known}
 
 -- what is known of the slots, one of which is written
-marks-set : (slots : List SavedFields) (atom : ℕ) (saved : SavedFields) → map mark_of (set slots atom saved) ≡ set (map mark_of slots) atom (mark_of saved)
-marks-set [] atom saved = refl
-marks-set (s ∷ slots) zero saved = refl
-marks-set (s ∷ slots) (suc atom) saved = ap (λ (marks : List SavedAt). mark_of s ∷ marks) (marks-set slots atom saved)
+known-set : (slots : List SavedFields) (atom : ℕ) (saved : SavedFields) → map known_of (set slots atom saved) ≡ set (map known_of slots) atom (known_of saved)
+known-set [] atom saved = refl
+known-set (s ∷ slots) zero saved = refl
+known-set (s ∷ slots) (suc atom) saved = ap (λ (known : List SavedAt). known_of s ∷ known) (known-set slots atom saved)
 
-module _ (plant : PlantDefinition) (digest : List ℕ) (j : Ring) (acked : List Local) (counts : List ℕ) (number : ℕ) (marks : List SavedAt) (old : DiskState) (rest : IsAtRest plant digest j acked counts number marks old)
+module _ (plant : PlantDefinition) (digest : List ℕ) (j : Ring) (acked : List Local) (counts : List ℕ) (number : ℕ) (known : List SavedAt) (old : DiskState) (rest : IsAtRest plant digest j acked counts number known old)
     (a : AtomDefinition) (saved : SavedFields) (at : slice_get plant.atoms saved.atom ≡ Some a) (passes : is_of_atom saved.atom a saved ≡ true) (way : IsOnTheWay (contents_of (length plant.atoms) (seen_cells (BODY + 1) old)) a saved) where
   abbrev before : List Cell
   before = seen_cells (BODY + 1) old
@@ -81,7 +76,7 @@ module _ (plant : PlantDefinition) (digest : List ℕ) (j : Ring) (acked : List 
   pub stored-stops : (new : DiskState) → Leaves (BODY + 1) (HasStored slot saved before) old new → Leaves (BODY + 1) (λ cells. StandsFor plant digest (size_of old) cells acked number) old new
   stored-stops new left = leaves_weaker (BODY + 1) (HasStored slot saved before) (λ cells. StandsFor plant digest (size_of old) cells acked number) old new stop-stands left
 
-  module _ (newer : saved_count marks saved.atom < saved.count) (new : DiskState) (done : IsStored slot saved old new) where
+  module _ (newer : saved_count known saved.atom < saved.count) (new : DiskState) (done : IsStored slot saved old new) where
     abbrev after : List Cell
     after = seen_cells (BODY + 1) new
 
@@ -94,9 +89,10 @@ module _ (plant : PlantDefinition) (digest : List ℕ) (j : Ring) (acked : List 
     -- the state that was the newest had taken part less often
     count_before : (newest_held before saved.atom).count < saved.count
     count_before =
-        let known : saved_count marks saved.atom ≡ (newest_held before saved.atom).count =
+        let known : saved_count known saved.atom ≡ (newest_held before saved.atom).count =
         ap (λ (ms : List SavedAt). saved_count ms saved.atom) rest.slots ∙
-        count-known (contents_of (length plant.atoms) before).slots saved.atom (newest_held before saved.atom) (made_at (newest_held before) (length plant.atoms) saved.atom below) in
+        count-known (contents_of (length plant.atoms) before).slots saved.atom (unsaved saved.atom) refl ∙
+        ap (λ (t : SavedFields). t.count) (get_or_from_slice_get (contents_of (length plant.atoms) before).slots saved.atom (newest_held before saved.atom) (unsaved saved.atom) (made_at (newest_held before) (length plant.atoms) saved.atom below)) in
         omega (arith, known, newer)
 
     above : IsAbove saved (newest saved.atom before)
@@ -129,7 +125,7 @@ module _ (plant : PlantDefinition) (digest : List ℕ) (j : Ring) (acked : List 
     live_same : live j after ≡ live j before
     live_same = ap (λ (l : List (Option FiredFields)). some_prefix l) (map_same (λ n. record_in n (cell after (place j n))) (λ n. record_in n (cell before (place j n))) j.ring j.base (λ n from to. ap (record_in n) (record_same n)))
 
-    pub stored-rest : size_of new ≡ size_of old → IsAtRest plant digest j acked counts number (with_mark saved marks) new
+    pub stored-rest : size_of new ≡ size_of old → IsAtRest plant digest j acked counts number (with_known saved known) new
     stored-rest same = record {
       ready = record {
         settled = done.settled;
@@ -139,9 +135,9 @@ module _ (plant : PlantDefinition) (digest : List ℕ) (j : Ring) (acked : List 
       sound = subst (λ (bytes : ℕ). cells_fault plant digest bytes after ≡ None) (sym same) (sound after has_stored);
       journal = rest.journal ∙ sym (ap (ring_in (length plant.atoms)) stored-contents);
       leads = subst (λ c. Leads plant c acked counts number) (sym stored-contents) led;
-      slots = ap (λ (ms : List SavedAt). set ms saved.atom (mark_of saved)) rest.slots ∙
-          sym (marks-set (contents_of (length plant.atoms) before).slots saved.atom saved) ∙
-          sym (ap (λ (c : Contents). map mark_of c.slots) stored-contents);
+      slots = ap (λ (ms : List SavedAt). set ms saved.atom (known_of saved)) rest.slots ∙
+          sym (known-set (contents_of (length plant.atoms) before).slots saved.atom saved) ∙
+          sym (ap (λ (c : Contents). map known_of c.slots) stored-contents);
     }
 
 -- where nothing was stored yet

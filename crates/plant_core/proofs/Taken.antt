@@ -1,5 +1,5 @@
 -- A plant takes a state to be stored: what a stop leaves then, and what it keeps behind it.
-use Rattle.std.proofs.Common.{◌≡◌, ℕ, ◌+◌, ◌<◌, List, length, slice_get, arith, Some, true}
+use Rattle.std.proofs.Common.{◌≡◌, ◌∙◌, ap, sym, ℕ, ◌+◌, ◌<◌, List, length, slice_get, arith, Some, true}
 use Rattle.petri_atom.specs.Definition.{AtomDefinition}
 use Rattle.disk_model.specs.Cells.{Leaves, seen_cells}
 use Rattle.disk_model.specs.DiskState.{DiskState, size_of}
@@ -9,13 +9,14 @@ use Rattle.record_codec.specs.Saved.{SavedFields}
 use Rattle.snapshot_writer.specs.Slots.{other_slot}
 use Rattle.snapshot_writer.specs.Storing.{HasStored, IsStored}
 use Rattle.step_core.specs.Plant.{PlantDefinition}
-use Rattle.plant_image.specs.Contents.{contents_of}
+use Rattle.plant_image.specs.Contents.{Contents, contents_of}
 use Rattle.plant_image.specs.Faults.{is_of_atom}
 use Rattle.plant_image.specs.Standing.{IsOnTheWay, StandsFor}
 use Rattle.plant_image.proofs.ByAtoms.{element_at}
 use Rattle.plant_core.specs.Events.{IsTaken}
-use Rattle.plant_core.specs.Kept.{AreOnTheWay, FitsTogether, IsAtRest, IsCopy}
-use Rattle.plant_core.specs.Snapshots.{with_mark}
+use Rattle.plant_core.specs.Kept.{AreMarked, AreOnTheWay, FitsTogether, IsAtRest, IsCopy}
+use Rattle.plant_core.specs.Marks.{marks_of}
+use Rattle.plant_core.specs.Snapshots.{with_known}
 use Rattle.plant_core.specs.View.{View, fired_number, with_stored}
 use Rattle.plant_core.proofs.Copies.{held-within, way-acked, ways-stored}
 use Rattle.plant_core.proofs.Saving.{stored-fits}
@@ -50,9 +51,13 @@ module _ (plant : PlantDefinition) (v : View) (bodies : List (List ℕ)) (kept :
     taken-stops new left = stored-stops plant digest j v.acked v.acked_counts v.number v.saved old rest own.0 saved own.1 passes way new left
 
     module _ (new : DiskState) (done : IsStored slot saved old new) where
-      pub taken-rest : size_of new ≡ size_of old → IsAtRest plant digest j v.acked v.acked_counts v.number (with_mark saved v.saved) new
+      pub taken-rest : size_of new ≡ size_of old → IsAtRest plant digest j v.acked v.acked_counts v.number (with_known saved v.saved) new
       taken-rest same = stored-rest plant digest j v.acked v.acked_counts v.number v.saved old rest own.0 saved own.1 passes way copy.newer new done same
 
       pub taken-ways : AreOnTheWay plant (with_stored saved v) (seen_cells (BODY + 1) new)
       taken-ways = ways-stored plant v bodies kept (seen_cells (BODY + 1) old) rest.leads ways saved (seen_cells (BODY + 1) new) kept.snapshots.own
           (stored-contents plant digest j v.acked v.acked_counts v.number v.saved old rest own.0 saved own.1 passes way copy.newer new done)
+
+      pub taken-marked : AreMarked plant v (seen_cells (BODY + 1) old) → AreMarked plant (with_stored saved v) (seen_cells (BODY + 1) new)
+      taken-marked marked = marked ∙ sym (ap (λ (c : Contents). marks_of c.records)
+          (stored-contents plant digest j v.acked v.acked_counts v.number v.saved old rest own.0 saved own.1 passes way copy.newer new done))

@@ -11,12 +11,12 @@ use Rattle.step_core.specs.Plant.{PlantDefinition}
 use Rattle.step_core.specs.Runs.{fold}
 use Rattle.trimmer.specs.Covered.{saved_count}
 use Rattle.plant_core.specs.Snapshots.{held_at, with_held, without}
-use Rattle.plant_core.specs.View.{View, fired_number, with_all_acked, with_asked, with_fired, with_stored}
+use Rattle.plant_core.specs.View.{View, fired_number, may_go, with_all_acked, with_asked, with_cut, with_fired, with_stored}
 use Rattle.plant_core.specs.declared.events.Event.{Event}
 use Rattle.plant_core.specs.declared.events.Event.TheVariants as asked
 use Rattle.plant_core.specs.declared.events.FiredAs.{FiredAs}
 use Rattle.plant_core.specs.declared.events.Happened.{Happened}
-use Rattle.plant_core.specs.declared.events.Happened.TheVariants.{Fire, Flush, Ask, Put, Empty}
+use Rattle.plant_core.specs.declared.events.Happened.TheVariants.{Fire, Flush, Ask, Put, Empty, Trim}
 use Rattle.plant_core.specs.declared.limits.TheConstants.{MOST_TAIL}
 use Rattle.plant_core.specs.declared.refused.Refused.{Refused}
 use Rattle.plant_core.specs.declared.refused.Refused.TheVariants.{Stuck, TailFull, RingFull, Spent, Ahead, Stranger, NothingNew, Disk, Broken}
@@ -95,10 +95,25 @@ IsPut v saved (Err (Ahead atom)) w =
 IsPut v saved (Err Disk) w = IsTaken v saved × (w ≡ record v { broken = true })
 IsPut v saved (Err other) w = ⊥
 
+-- A trim: a plant whose device has failed refuses it, and so does one of whose records none may go. Else the longest front of the acknowledged records
+-- that are covered is dropped, and the number of the first that is kept is answered; or the device fails, and then the plant is broken.
+abbrev pub IsTrim : View → Result ℕ Refused → View → Type 0
+IsTrim v (Ok base) w = (v.broken ≢ true) × (may_go v ≢ 0) × (base ≡ v.base + may_go v) × (w ≡ with_cut (may_go v) v)
+IsTrim v (Err Broken) w = (v.broken ≡ true) × (w ≡ v)
+IsTrim v (Err NothingNew) w = (v.broken ≢ true) × (may_go v ≡ 0) × (w ≡ v)
+IsTrim v (Err Disk) w = (v.broken ≢ true) × (may_go v ≢ 0) × (w ≡ record v { broken = true })
+IsTrim v (Err other) w = ⊥
+
 -- the answer is that the device failed in the call
 abbrev pub is_disk : {X : Type 0} → Result X Refused → Bool
 is_disk (Err Disk) = true
 is_disk other = false
+
+-- the answer tells that it was done, or that the device failed in it
+abbrev pub is_call : {X : Type 0} → Result X Refused → Bool
+is_call (Ok x) = true
+is_call (Err Disk) = true
+is_call (Err other) = false
 
 -- what happened, and how it changes the view: each kind of event has its own rule, and where no state is at hand to be stored nothing changes
 abbrev pub IsEvent : PlantDefinition → View → Happened → View → Type 0
@@ -107,6 +122,7 @@ IsEvent plant v (Flush answer) w = IsFlush v answer w
 IsEvent plant v (Ask atom answer) w = IsAsk v atom answer w
 IsEvent plant v (Put saved answer) w = IsPut v saved answer w
 IsEvent plant v (Empty atom) w = w ≡ v
+IsEvent plant v (Trim answer) w = IsTrim v answer w
 
 -- the choices that it fired: the one that a fire answers
 abbrev pub fired_by : Happened → List ChoiceDefinition
@@ -124,6 +140,7 @@ asked_in (Flush answer) = asked.Flush
 asked_in (Ask atom answer) = asked.Ask atom
 asked_in (Put saved answer) = asked.Put saved.atom
 asked_in (Empty atom) = asked.Put atom
+asked_in (Trim answer) = asked.Trim
 
 -- it makes no call of the device
 abbrev pub is_in_memory : Event → Bool
@@ -131,6 +148,7 @@ is_in_memory (asked.Fire pick) = true
 is_in_memory asked.Flush = false
 is_in_memory (asked.Ask atom) = true
 is_in_memory (asked.Put atom) = false
+is_in_memory asked.Trim = false
 
 -- the device failed in it
 abbrev pub has_failed : Happened → Bool
@@ -139,6 +157,14 @@ has_failed (Flush answer) = is_disk answer
 has_failed (Ask atom answer) = is_disk answer
 has_failed (Put saved answer) = is_disk answer
 has_failed (Empty atom) = false
+has_failed (Trim answer) = is_disk answer
+
+-- calls of the device may have been made in it: it is one that makes such calls, and it was not refused before the first
+abbrev pub may_call : Happened → Bool
+may_call (Flush answer) = is_call answer
+may_call (Put saved answer) = is_call answer
+may_call (Trim answer) = is_call answer
+may_call other = false
 
 -- Events one after another: each changes the view that those before it left.
 abbrev pub IsEventRun : PlantDefinition → View → List Happened → View → Type 0

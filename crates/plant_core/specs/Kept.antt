@@ -1,5 +1,5 @@
 -- What a durable plant keeps whenever no call runs.
-use Rattle.std.specs.Prelude.{◌≡◌, ℕ, ◌+◌, ◌-◌, ◌≤◌, ◌<◌, ◌&&◌, ◌==◌, Bool, true, false, List, [], ◌∷◌, Option, None, Some, length, map, slice_get, take}
+use Rattle.std.specs.Prelude.{◌≡◌, ℕ, ◌+◌, ◌-◌, ◌≤◌, ◌<◌, ◌&&◌, ◌==◌, Bool, true, false, List, [], ◌∷◌, Option, None, Some, drop, length, map, slice_get, take}
 use Rattle.std.specs.List.{list_any}
 use Rattle.petri_atom.specs.Definition.{AtomDefinition}
 use Rattle.petri_atom.specs.Local.{Local}
@@ -20,13 +20,15 @@ use Rattle.gated_journal.specs.Rings.{cells_of_ring}
 use Rattle.gated_journal.specs.Stops.{IsReady}
 use Rattle.gated_journal.specs.declared.ring.Ring.{Ring}
 use Rattle.record_replay.specs.Records.{count_of, counts_behind, records_of}
-use Rattle.plant_image.specs.Contents.{contents_of, last_number, ring_in}
+use Rattle.plant_image.specs.Contents.{contents_of, ring_in}
 use Rattle.plant_image.specs.Faults.{cells_fault, is_of_atom}
 use Rattle.plant_image.specs.Standing.{IsOnTheWay, Leads, StandsFor, with_records}
 use Rattle.trimmer.specs.Covered.{saved_count}
 use Rattle.trimmer.specs.declared.saved.SavedAt.{SavedAt}
-use Rattle.plant_core.specs.Snapshots.{AreOwn, held_at, mark_of}
-use Rattle.plant_core.specs.View.{View, fired_number}
+use Rattle.plant_core.specs.Snapshots.{AreOwn, held_at, known_of}
+use Rattle.plant_core.specs.Marks.{marks_of}
+use Rattle.plant_core.specs.Stops.{number_held}
+use Rattle.plant_core.specs.View.{View, acked_marks, fired_number}
 use Rattle.plant_core.specs.declared.limits.TheConstants.{MOST_TAIL}
 
 -- two moves are the same, and so are lists of moves and choices
@@ -48,22 +50,23 @@ is_run_from plant states [] = true
 is_run_from plant states (c ∷ cs) = list_any (is_same_choice c) (choices plant states) && is_run_from plant (next plant states c) cs
 
 -- A copy that is kept is one of a state of its atom, which was copied when no more than this was fired, behind a firing that no saved state is behind.
-pub record IsCopy (plant : PlantDefinition) (marks : List SavedAt) (fired : ℕ) (saved : SavedFields) : Type 0 where
+pub record IsCopy (plant : PlantDefinition) (known : List SavedAt) (fired : ℕ) (saved : SavedFields) : Type 0 where
   pub of_atom : (a : AtomDefinition) → slice_get plant.atoms saved.atom ≡ Some a → is_of_atom saved.atom a saved ≡ true
   pub last : saved.at ≤ fired
-  pub newer : saved_count marks saved.atom < saved.count
+  pub newer : saved_count known saved.atom < saved.count
 
 -- What is known of saved states fits the plant that has acknowledged these counts and has fired so much: it is known of each atom, no saved state is
 -- behind a firing that is not acknowledged, and there is a place for a copy of each atom, in which nothing but such a copy stands.
-pub record SnapshotsFit (plant : PlantDefinition) (marks : List SavedAt) (kept : List (Option SavedFields)) (counts : List ℕ) (fired : ℕ) : Type 0 where
-  pub marks_many : length marks ≡ length plant.atoms
-  pub marks_within : (atom : ℕ) → saved_count marks atom ≤ count_of counts atom
+pub record SnapshotsFit (plant : PlantDefinition) (known : List SavedAt) (kept : List (Option SavedFields)) (counts : List ℕ) (fired : ℕ) : Type 0 where
+  pub known_many : length known ≡ length plant.atoms
+  pub known_within : (atom : ℕ) → saved_count known atom ≤ count_of counts atom
   pub places : length kept ≡ length plant.atoms
   pub own : AreOwn kept
-  pub copies : (atom : ℕ) (saved : SavedFields) → held_at kept atom ≡ Some saved → IsCopy plant marks fired saved
+  pub copies : (atom : ℕ) (saved : SavedFields) → held_at kept atom ≡ Some saved → IsCopy plant known fired saved
 
 -- What is in memory fits together: the tail is a run from the acknowledged state to the present one, the counts and the bodies are those of
--- its records, all numbers are in their ranges, and what is known of saved states fits.
+-- its records, all numbers are in their ranges, there is a mark for each record that is kept, those of the tail last, and what is known of saved
+-- states fits.
 pub record FitsTogether (plant : PlantDefinition) (v : View) (bodies : List (List ℕ)) : Type 0 where
   pub of_plant : IsOf plant v.acked
   pub fits : AllFit plant v.acked
@@ -78,6 +81,8 @@ pub record FitsTogether (plant : PlantDefinition) (v : View) (bodies : List (Lis
   pub base_to : v.base ≤ v.number + 1
   pub room : fired_number v < v.base + v.ring
   pub last_to : fired_number v ≤ LAST_NUMBER
+  pub marks_many : v.base + length v.marks ≡ fired_number v + 1
+  pub marks_of_tail : drop (v.number + 1 - v.base) v.marks ≡ marks_of (records_of plant v.acked v.acked_counts v.number v.tail)
   pub snapshots : SnapshotsFit plant v.saved v.kept v.acked_counts (fired_number v)
 
 -- The journal is that of the plant: it has the slots of its atoms before its ring, its last record is the last that is acknowledged, and
@@ -94,16 +99,16 @@ pub record IsAtRest (plant : PlantDefinition) (digest : List ℕ) (j : Ring) (ac
   pub sound : cells_fault plant digest (size_of s) (seen_cells (BODY + 1) s) ≡ None
   pub journal : j ≡ ring_in (length plant.atoms) (contents_of (length plant.atoms) (seen_cells (BODY + 1) s))
   pub leads : Leads plant (contents_of (length plant.atoms) (seen_cells (BODY + 1) s)) acked counts number
-  pub slots : saved ≡ map mark_of (contents_of (length plant.atoms) (seen_cells (BODY + 1) s)).slots
+  pub slots : saved ≡ map known_of (contents_of (length plant.atoms) (seen_cells (BODY + 1) s)).slots
+
+-- The marks of the acknowledged records are those of the records that these cells hold.
+abbrev pub AreMarked : PlantDefinition → View → List Cell → Type 0
+AreMarked plant v cells = acked_marks v ≡ marks_of (contents_of (length plant.atoms) cells).records
 
 -- Each copy that is kept is on the way of its atom's replay over the records that these cells hold and those of the tail.
 abbrev pub AreOnTheWay : PlantDefinition → View → List Cell → Type 0
 AreOnTheWay plant v cells = (atom : ℕ) (saved : SavedFields) (a : AtomDefinition) → held_at v.kept atom ≡ Some saved → slice_get plant.atoms saved.atom ≡ Some a
     → IsOnTheWay (with_records (records_of plant v.acked v.acked_counts v.number v.tail) (contents_of (length plant.atoms) cells)) a saved
-
--- the number of the last record that these cells hold
-abbrev pub number_held : PlantDefinition → List Cell → ℕ
-number_held plant cells = last_number (contents_of (length plant.atoms) cells)
 
 -- These cells stand for the state behind a front of the tail: one as long as the number that they hold is above the acknowledged one.
 pub record IsFrontOf (plant : PlantDefinition) (digest : List ℕ) (bytes : ℕ) (v : View) (cells : List Cell) : Type 0 where

@@ -1,4 +1,5 @@
 pub mod Snapshots
+pub mod Marks
 pub mod View
 pub mod Events
 pub mod Kept

@@ -21,4 +21,4 @@ device_of p = p.cells
 
 -- its view
 abbrev pub view_of : {D : Type 0} {disk : Ghosts D} → Plant D disk → View
-view_of p = view_by p.acked p.acked_counts p.number p.tail.items (states_in p.stepper) p.counts p.journal p.snapshots p.broken
+view_of p = view_by p.acked p.acked_counts p.number p.tail.items (states_in p.stepper) p.counts p.journal p.marks.items p.snapshots p.broken

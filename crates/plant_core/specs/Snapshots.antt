@@ -26,12 +26,12 @@ abbrev pub without : SavedFields → List (Option SavedFields) → List (Option 
 without saved held = slice_set held saved.atom None
 
 -- what is known of a state that stands in a slot
-abbrev pub mark_of : SavedFields → SavedAt
-mark_of saved = record { count = saved.count; at = saved.at }
+abbrev pub known_of : SavedFields → SavedAt
+known_of saved = record { count = saved.count; at = saved.at }
 
 -- the state is the newest of its atom
-abbrev pub with_mark : SavedFields → List SavedAt → List SavedAt
-with_mark saved marks = slice_set marks saved.atom (mark_of saved)
+abbrev pub with_known : SavedFields → List SavedAt → List SavedAt
+with_known saved known = slice_set known saved.atom (known_of saved)
 
 -- a copy of the state is kept
 abbrev pub with_copy : SavedFields → SnapshotFields → SnapshotFields
@@ -39,11 +39,11 @@ with_copy saved s = record s { kept = with_held saved s.kept }
 
 -- the state is stored, and its copy given up
 abbrev pub with_slot : SavedFields → SnapshotFields → SnapshotFields
-with_slot saved s = record { saved = with_mark saved s.saved; kept = without saved s.kept }
+with_slot saved s = record { saved = with_known saved s.saved; kept = without saved s.kept }
 
 -- these states stand in the slots of the atoms, and none was asked for
 abbrev pub nothing_kept : List SavedFields → SnapshotFields
-nothing_kept slots = record { saved = map mark_of slots; kept = replicate (length slots) None }
+nothing_kept slots = record { saved = map known_of slots; kept = replicate (length slots) None }
 
 -- There is a place for a copy of each atom whose newest state is known, and each copy stands in its own.
 pub record AreSnapshots (s : SnapshotFields) : Type 0 where

@@ -4,6 +4,7 @@ use Rattle.disk_model.specs.Cells.{Cell}
 use Rattle.step_core.specs.Choice.{ChoiceDefinition}
 use Rattle.step_core.specs.Plant.{PlantDefinition}
 use Rattle.step_core.specs.Runs.{fold}
+use Rattle.plant_image.specs.Contents.{contents_of, last_number}
 use Rattle.plant_image.specs.Standing.{StandsFor}
 use Rattle.plant_core.specs.View.{View}
 
@@ -23,3 +24,7 @@ StandsForFront plant digest bytes v = StandsForFrontOf plant digest bytes v v.ta
 -- they stand for the state behind some front of what was not acknowledged and what was fired since
 abbrev pub StandsForFrontSince : PlantDefinition → List ℕ → ℕ → View → List ChoiceDefinition → List Cell → Type 0
 StandsForFrontSince plant digest bytes v fired = StandsForFrontOf plant digest bytes v (v.tail ++ fired)
+
+-- the number of the last record that these cells hold
+abbrev pub number_held : PlantDefinition → List Cell → ℕ
+number_held plant cells = last_number (contents_of (length plant.atoms) cells)

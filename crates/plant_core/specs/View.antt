@@ -1,5 +1,6 @@
 -- What a durable plant shows of itself.
-use Rattle.std.specs.Prelude.{ℕ, ◌+◌, Bool, List, [], ◌∷◌, ◌++◌, Option, length, map}
+use Rattle.std.specs.Prelude.{ℕ, ◌+◌, ◌-◌, Bool, List, [], ◌∷◌, ◌++◌, Option, length, map, take, drop}
+use Rattle.std.specs.List.{prefix_len}
 use Rattle.petri_atom.specs.Local.{Local}
 use Rattle.gated_journal.specs.declared.ring.Ring.{Ring}
 use Rattle.step_core.specs.Choice.{ChoiceDefinition}
@@ -8,13 +9,16 @@ use Rattle.step_core.specs.Plant.{PlantDefinition}
 use Rattle.step_core.specs.Step.{next}
 use Rattle.step_core.specs.declared.choice.Choice.{Choice}
 use Rattle.record_codec.specs.Saved.{SavedFields}
-use Rattle.record_replay.specs.Records.{counts_after}
+use Rattle.record_replay.specs.Records.{counts_after, record_by}
+use Rattle.trimmer.specs.Covered.{MarkFields, is_covered}
 use Rattle.trimmer.specs.declared.saved.SavedAt.{SavedAt}
-use Rattle.plant_core.specs.Snapshots.{SnapshotFields, with_held, with_mark, without}
+use Rattle.plant_core.specs.Marks.{mark_of}
+use Rattle.plant_core.specs.Snapshots.{SnapshotFields, with_held, with_known, without}
 
 -- The acknowledged state, how often each atom has taken part in it, and the number of its last record; the choices that were fired since,
--- the state and the counts that they lead to; the number of the first record that is kept, and for how many records there is room; what is known
--- of the newest state in the slots of each atom, and the copies of states that were asked for; and whether the device has failed.
+-- the state and the counts that they lead to; the number of the first record that is kept, for how many records there is room, and the marks of
+-- those that are kept, up to that of the last choice that was fired; what is known of the newest state in the slots of each atom, and the copies of
+-- states that were asked for; and whether the device has failed.
 pub record View : Type 0 where
   pub acked : List Local
   pub acked_counts : List ℕ
@@ -24,13 +28,14 @@ pub record View : Type 0 where
   pub counts : List ℕ
   pub base : ℕ
   pub ring : ℕ
+  pub marks : List MarkFields
   pub saved : List SavedAt
   pub kept : List (Option SavedFields)
   pub broken : Bool
 
 -- the view that these make, with the choices as they are kept, where the records stand so
-abbrev pub view_by : List Local → List ℕ → ℕ → List Choice → List Local → List ℕ → Ring → SnapshotFields → Bool → View
-view_by acked acked_counts number tail present counts j snapshots broken = record {
+abbrev pub view_by : List Local → List ℕ → ℕ → List Choice → List Local → List ℕ → Ring → List MarkFields → SnapshotFields → Bool → View
+view_by acked acked_counts number tail present counts j marks snapshots broken = record {
   acked = acked;
   acked_counts = acked_counts;
   number = number;
@@ -39,6 +44,7 @@ view_by acked acked_counts number tail present counts j snapshots broken = recor
   counts = counts;
   base = j.base;
   ring = j.ring;
+  marks = marks;
   saved = snapshots.saved;
   kept = snapshots.kept;
   broken = broken;
@@ -54,6 +60,7 @@ with_fired plant c v = record v {
   tail = v.tail ++ c ∷ [];
   present = next plant v.present c;
   counts = counts_after c v.counts;
+  marks = v.marks ++ mark_of (record_by plant v.present v.counts (fired_number v + 1) c) ∷ [];
 }
 
 -- the view where all that was fired is acknowledged
@@ -72,6 +79,21 @@ with_asked saved v = record v { kept = with_held saved v.kept }
 -- the view where this state is stored, and its copy given up
 abbrev pub with_stored : SavedFields → View → View
 with_stored saved v = record v {
-  saved = with_mark saved v.saved;
+  saved = with_known saved v.saved;
   kept = without saved v.kept;
+}
+
+-- the marks of the records that are acknowledged
+abbrev pub acked_marks : View → List MarkFields
+acked_marks v = take (v.number + 1 - v.base) v.marks
+
+-- how many records may go: the longest front of them that are acknowledged and covered
+abbrev pub may_go : View → ℕ
+may_go v = prefix_len (is_covered v.saved) (acked_marks v)
+
+-- the view without the first records
+abbrev pub with_cut : ℕ → View → View
+with_cut count v = record v {
+  base = v.base + count;
+  marks = drop count v.marks;
 }

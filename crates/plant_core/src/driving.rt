@@ -4,7 +4,7 @@ ghost use Rattle.std.specs.List.{list_all, list_any};
 ghost use Rattle.disk_model.specs.Cells.{Leaves};
 ghost use Rattle.disk_model.specs.DiskState.{CountsUpTo, counted, size_of};
 ghost use Rattle.disk_model.specs.declared.cells.TheConstants.{BODY};
-ghost use Rattle.plant_core.specs.Events.{AreHandedIn, IsEvent, IsEventRun, IsHandedIn, all_fired, asked_in, hands_behind, has_failed, is_in_memory};
+ghost use Rattle.plant_core.specs.Events.{AreHandedIn, IsEvent, IsEventRun, IsHandedIn, all_fired, asked_in, hands_behind, has_failed, is_in_memory, may_call};
 ghost use Rattle.plant_core.specs.Plants.{definition_of, device_of, text_digest, view_of};
 ghost use Rattle.plant_core.specs.Stops.{StandsForFront, StandsForFrontSince};
 
@@ -39,6 +39,8 @@ pub fn drive<D: Disk>(
     ensures cause { IfOk result
         (λ answers. (device_of plant.new).failures ≡ counted (list_any has_failed answers.items) (device_of plant.old).failures) }
     ensures idle { list_all is_in_memory events.now ≡ true → device_of plant.new ≡ device_of plant.old }
+    ensures untouched { IfOk result
+        (λ answers. list_any may_call answers.items ≡ false → device_of plant.new ≡ device_of plant.old) }
 
     // What stays.
     ensures plant { definition_of plant.new ≡ definition_of plant.old }
@@ -65,6 +67,7 @@ pub fn meet<D: Disk>(plant: &mut Plant<'_, D>, hands: &mut Hands, event: Event) 
         → Leaves (BODY + 1) (StandsForFront (definition_of plant.old) (text_digest plant.old) (size_of (device_of plant.old)) (view_of plant.old)) (device_of plant.old) (device_of plant.new) }
     ensures cause { (device_of plant.new).failures ≡ counted (has_failed result) (device_of plant.old).failures }
     ensures idle { is_in_memory event ≡ true → device_of plant.new ≡ device_of plant.old }
+    ensures untouched { may_call result ≡ false → device_of plant.new ≡ device_of plant.old }
     ensures plant { definition_of plant.new ≡ definition_of plant.old }
     ensures digest { text_digest plant.new ≡ text_digest plant.old }
     ensures size { size_of (device_of plant.new) ≡ size_of (device_of plant.old) }
@@ -75,6 +78,7 @@ pub fn meet<D: Disk>(plant: &mut Plant<'_, D>, hands: &mut Hands, event: Event) 
         Event::Flush => Happened::Flush(plant.flush()),
         Event::Ask(atom) => ask(plant, hands, atom),
         Event::Put(atom) => put(plant, hands, atom),
+        Event::Trim => Happened::Trim(plant.trim()),
     }
 }
 
@@ -109,6 +113,7 @@ fn put<D: Disk>(plant: &mut Plant<'_, D>, hands: &mut Hands, atom: u16) -> Happe
     ensures stops { (device_of plant.old).keeps ≡ true
         → Leaves (BODY + 1) (StandsForFront (definition_of plant.old) (text_digest plant.old) (size_of (device_of plant.old)) (view_of plant.old)) (device_of plant.old) (device_of plant.new) }
     ensures counts { CountsUpTo (has_failed result) 3 (device_of plant.old) (device_of plant.new) }
+    ensures untouched { may_call result ≡ false → device_of plant.new ≡ device_of plant.old }
     ensures plant { definition_of plant.new ≡ definition_of plant.old }
     ensures digest { text_digest plant.new ≡ text_digest plant.old }
 {

@@ -14,6 +14,8 @@ pub enum Event {
     Ask(u16),
     /// To store what the hand of the atom with the number holds.
     Put(u16),
+    /// To drop the records that no restart needs.
+    Trim,
 }
 
 /// A choice that was fired, with its number.
@@ -38,4 +40,6 @@ pub enum Happened {
     Put(Saved, Result<u64, Refused>),
     /// What the hand of the atom with the number holds was to be stored, and it holds nothing, or there is no such hand.
     Empty(u16),
+    /// The records that no restart needs were to be dropped: this is the number of the first that is kept, or of the next, or the plant refused it.
+    Trim(Result<u64, Refused>),
 }

@@ -12,10 +12,11 @@ ghost use Rattle.plant_core.specs.View.{fired_number, with_fired};
 
 use crate::events::FiredAs;
 use crate::limits::MOST_TAIL;
+use crate::marks::mark_of;
 use crate::plant::Plant;
 use crate::refused::Refused;
 use connector_tree::MAX_LEAVES;
-use disk_model::{BODY, Disk};
+use disk_model::Disk;
 use petri_atom::Delivered;
 use record_codec::LAST_NUMBER;
 use record_replay::laws::{
@@ -85,22 +86,10 @@ impl<'s, D: Disk> Plant<'s, D> {
         let number = self.fired() + 1;
         let mut told = [Delivered::of([None; petri_atom::MAX_EXPORTS]); MAX_LEAVES];
         self.stepper.fire_telling(&choice, &mut told);
-        let body = body_of(number, &choice, &told, &self.counts);
+        let record = record_of(number, &choice, &told, &self.counts);
         count_participants(&choice, &mut self.counts);
         self.tail.push_reserved(choice);
-        self.bodies.push_reserved(body);
+        self.bodies.push_reserved(record.to_body());
+        self.marks.push_reserved(mark_of(&record));
     }
-}
-
-/// The body of the record with the number of a choice, of which `told` has what each participant got.
-fn body_of(
-    number: u64,
-    choice: &Choice,
-    told: &[Delivered; MAX_LEAVES],
-    counts: &[u64; MAX_ATOMS],
-) -> [u8; BODY]
-    requires { IsFired (record_told number (choice_of choice.now) told.now counts.now) }
-    ensures { fired_in result ≡ Some (record_told number (choice_of choice.now) told.now counts.now) }
-{
-    record_of(number, choice, told, counts).to_body()
 }

@@ -7,13 +7,14 @@
 //!
 //! The state of each atom is saved by itself, while the others step: [`Plant::ask`] copies it, it is encoded away from the plant, and
 //! [`Plant::put`] stores it, once all firings that it is behind are acknowledged. A restart then replays for each atom what lies behind its
-//! newest saved state, however often the other atoms had taken part when theirs were saved.
+//! newest saved state, however often the other atoms had taken part when theirs were saved. The records that no restart needs any more go from the
+//! front by [`Plant::trim`], and the ring is used again.
 //!
 //! Contracts see a plant as its view (`specs/View.antt`: the acknowledged state, the tail, the present state, what is known of saved states)
 //! and its device; what each event answers and changes is `specs/Events.antt`.
 //!
-//! - `plant`: what it holds. `making`: how it is made. `fire`, `flush`, `asking`, `putting`: its calls. `driving`: any of them, and many.
-//! - `snapshots`: what it knows of saved states. `hands`: what is handed in to be stored.
+//! - `plant`: what it holds. `making`: how it is made. `fire`, `flush`, `asking`, `putting`, `trimming`: its calls. `driving`: any of them, and many.
+//! - `snapshots`: what it knows of saved states. `marks`: what it knows of records. `hands`: what is handed in to be stored.
 //! - `front`: how far it is, and what it shows. `resting`: what it keeps whenever no call runs. `laws`: what runs of events do.
 //! - `events`: what is asked of it and what it answers. `refused`: why a call is refused. `limits`: how much is held in memory. `copying`:
 //!   states that become those of another state.
@@ -30,11 +31,13 @@ mod hands;
 pub mod laws;
 mod limits;
 mod making;
+mod marks;
 mod plant;
 mod putting;
 mod refused;
 mod resting;
 mod snapshots;
+mod trimming;
 
 pub use driving::{drive, meet};
 pub use events::{Event, FiredAs, Happened};
@@ -42,6 +45,7 @@ pub use front::Front;
 pub use hands::Hands;
 pub use limits::MOST_TAIL;
 pub use making::Parts;
+pub use marks::marks_of;
 pub use plant::Plant;
 pub use refused::{PutRefused, Refused};
 pub use snapshots::Snapshots;

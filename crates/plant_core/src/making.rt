@@ -1,12 +1,14 @@
 //! Making a durable plant.
 ghost use Rattle.std.specs.Prelude.{◌≡◌, ◌+◌, ◌≤◌, ℕ, [], None, true, false, length, replicate, vec_capacity};
-ghost use Rattle.disk_model.specs.Cells.{cell_count};
+ghost use Rattle.disk_model.specs.Cells.{cell_count, seen_cells};
 ghost use Rattle.disk_model.specs.declared.cells.TheConstants.{BODY};
 ghost use Rattle.gated_journal.specs.Rings.{cells_of_ring};
 ghost use Rattle.record_replay.specs.Records.{count_of};
 ghost use Rattle.step_core.specs.Running.{plant_in, states_in, system_in};
 ghost use Rattle.step_core.specs.System.{digest_of};
+ghost use Rattle.plant_image.specs.Contents.{contents_of};
 ghost use Rattle.plant_core.specs.Kept.{IsAtRest};
+ghost use Rattle.plant_core.specs.Marks.{marks_of};
 ghost use Rattle.plant_core.specs.Plants.{definition_of, device_of, text_digest, view_of};
 ghost use Rattle.plant_core.specs.View.{view_by};
 ghost use Rattle.trimmer.specs.Covered.{saved_count};
@@ -17,6 +19,7 @@ use crate::snapshots::Snapshots;
 use disk_model::{BODY, Cells, Disk};
 use gated_journal::Journal;
 use step_core::{Choice, MAX_ATOMS, PlantState, Stepper};
+use trimmer::Mark;
 
 /// What a plant is made of.
 #[derive(Drop)]
@@ -33,6 +36,8 @@ pub struct Parts<'s, D: Disk> {
     pub bodies: Vec<[u8; BODY]>,
     /// The journal, whose last record is that of the last choice that was fired.
     pub journal: Journal,
+    /// The marks of its live records, with room for those of a full ring.
+    pub marks: Vec<Mark>,
     /// What is known of the newest saved states of the atoms, of which none was asked for.
     pub snapshots: Snapshots,
     /// The device.
@@ -50,12 +55,16 @@ impl<'s, D: Disk> Plant<'s, D> {
         requires room_of_bodies { MOST_TAIL ≤ vec_capacity parts.bodies }
         requires atoms { parts.journal.atoms ≡ length (plant_in parts.stepper).atoms }
         requires inside { cells_of_ring parts.journal ≤ cell_count (BODY + 1) parts.cells }
-        requires marks { length parts.snapshots.saved ≡ length (plant_in parts.stepper).atoms }
-        requires marks_within { (atom : ℕ) → saved_count parts.snapshots.saved atom ≤ count_of parts.counts atom }
+        requires marks { parts.journal.base + length parts.marks.items ≡ parts.journal.last + 1 }
+        requires room_of_marks { parts.journal.ring ≤ vec_capacity parts.marks }
+        requires known { length parts.snapshots.saved ≡ length (plant_in parts.stepper).atoms }
+        requires known_within { (atom : ℕ) → saved_count parts.snapshots.saved atom ≤ count_of parts.counts atom }
         requires nothing_kept { parts.snapshots.kept ≡ replicate (length parts.snapshots.saved) None }
         requires rests { parts.cells.keeps ≡ true
             → IsAtRest (plant_in parts.stepper) (digest_of (system_in parts.stepper)) parts.journal parts.acked parts.counts parts.journal.last parts.snapshots.saved parts.cells }
-        ensures view { view_of result ≡ view_by parts.entry.acked parts.entry.counts parts.entry.journal.last [] parts.entry.acked parts.entry.counts parts.entry.journal parts.entry.snapshots false }
+        requires marked { parts.cells.keeps ≡ true
+            → parts.marks.items ≡ marks_of (contents_of (length (plant_in parts.stepper).atoms) (seen_cells (BODY + 1) parts.cells)).records }
+        ensures view { view_of result ≡ view_by parts.entry.acked parts.entry.counts parts.entry.journal.last [] parts.entry.acked parts.entry.counts parts.entry.journal parts.entry.marks.items parts.entry.snapshots false }
         ensures device { device_of result ≡ parts.entry.cells }
         ensures plant { definition_of result ≡ plant_in parts.entry.stepper }
         ensures digest { text_digest result ≡ digest_of (system_in parts.entry.stepper) }
@@ -67,6 +76,7 @@ impl<'s, D: Disk> Plant<'s, D> {
             tail,
             bodies,
             journal,
+            marks,
             snapshots,
             cells,
         } = parts;
@@ -80,6 +90,7 @@ impl<'s, D: Disk> Plant<'s, D> {
             tail,
             bodies,
             journal,
+            marks,
             snapshots,
             cells,
             broken: false,

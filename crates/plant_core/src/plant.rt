@@ -3,7 +3,7 @@ ghost use Rattle.std.specs.Prelude.{◌≡◌, ◌+◌, ◌≤◌, List, true, f
 ghost use Rattle.disk_model.specs.Cells.{Cell, MayBe, seen_cells};
 ghost use Rattle.disk_model.specs.DiskState.{size_of};
 ghost use Rattle.disk_model.specs.declared.cells.TheConstants.{BODY};
-ghost use Rattle.plant_core.specs.Kept.{AreOnTheWay, FitsTogether, IsAtRest, IsFrontOf, IsJournalOf};
+ghost use Rattle.plant_core.specs.Kept.{AreMarked, AreOnTheWay, FitsTogether, IsAtRest, IsFrontOf, IsJournalOf};
 ghost use Rattle.plant_core.specs.View.{view_by};
 ghost use Rattle.plant_core.specs.declared.limits.TheConstants.{MOST_TAIL};
 ghost use Rattle.step_core.specs.Running.{plant_in, states_in, system_in};
@@ -13,6 +13,7 @@ use crate::snapshots::Snapshots;
 use disk_model::{BODY, Cells, Disk};
 use gated_journal::Journal;
 use step_core::{Choice, MAX_ATOMS, PlantState, Stepper};
+use trimmer::Mark;
 
 /// A plant on a device. It fires choices in memory, and writes their records when it is flushed: what was flushed is there after any
 /// stop, and of what was not a front may be. The state of each atom is saved by itself, while the others step.
@@ -28,15 +29,18 @@ pub struct Plant<'s, D: Disk> {
     pub(crate) tail: Vec<Choice>,
     pub(crate) bodies: Vec<[u8; BODY]>,
     pub(crate) journal: Journal,
+    pub(crate) marks: Vec<Mark>,
     pub(crate) snapshots: Snapshots,
     pub(crate) cells: Cells<D>,
     pub(crate) broken: bool,
-    ghost fits_together: { FitsTogether (plant_in stepper) (view_by acked acked_counts number tail.items (states_in stepper) counts journal snapshots broken) bodies.items },
+    ghost fits_together: { FitsTogether (plant_in stepper) (view_by acked acked_counts number tail.items (states_in stepper) counts journal marks.items snapshots broken) bodies.items },
     ghost room_of_tail: { MOST_TAIL ≤ vec_capacity tail },
     ghost room_of_bodies: { MOST_TAIL ≤ vec_capacity bodies },
+    ghost room_of_marks: { journal.ring ≤ vec_capacity marks },
     ghost of_journal: { IsJournalOf (plant_in stepper) number journal cells },
     ghost at_rest: { cells.keeps ≡ true → broken ≡ false → IsAtRest (plant_in stepper) (digest_of (system_in stepper)) journal acked acked_counts number snapshots.saved cells },
-    ghost on_the_way: { cells.keeps ≡ true → broken ≡ false → AreOnTheWay (plant_in stepper) (view_by acked acked_counts number tail.items (states_in stepper) counts journal snapshots broken) (seen_cells (BODY + 1) cells) },
+    ghost marked: { cells.keeps ≡ true → broken ≡ false → AreMarked (plant_in stepper) (view_by acked acked_counts number tail.items (states_in stepper) counts journal marks.items snapshots broken) (seen_cells (BODY + 1) cells) },
+    ghost on_the_way: { cells.keeps ≡ true → broken ≡ false → AreOnTheWay (plant_in stepper) (view_by acked acked_counts number tail.items (states_in stepper) counts journal marks.items snapshots broken) (seen_cells (BODY + 1) cells) },
     ghost at_a_stop: { cells.keeps ≡ true → (image : List Cell) → MayBe (BODY + 1) cells image
-        → IsFrontOf (plant_in stepper) (digest_of (system_in stepper)) (size_of cells) (view_by acked acked_counts number tail.items (states_in stepper) counts journal snapshots broken) image },
+        → IsFrontOf (plant_in stepper) (digest_of (system_in stepper)) (size_of cells) (view_by acked acked_counts number tail.items (states_in stepper) counts journal marks.items snapshots broken) image },
 }

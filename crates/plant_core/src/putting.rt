@@ -29,6 +29,8 @@ impl<'s, D: Disk> Plant<'s, D> {
         ensures counts { CountsUpTo (is_disk (refusal_in result)) 3 (device_of self.old) (device_of self.new) }
         ensures stops { (device_of self.old).keeps ≡ true → (view_of self.old).broken ≡ false
             → Leaves (BODY + 1) (StandsForAcked (definition_of self.old) (text_digest self.old) (size_of (device_of self.old)) (view_of self.old)) (device_of self.old) (device_of self.new) }
+        ensures stored { (device_of self.old).keeps ≡ true → OnOk result
+            (IsStored (other_slot encoded.atom (seen_cells (BODY + 1) (device_of self.old))) encoded (device_of self.old) (device_of self.new)) }
         ensures plant { definition_of self.new ≡ definition_of self.old }
         ensures digest { text_digest self.new ≡ text_digest self.old }
     {

@@ -5,8 +5,10 @@ ghost use Rattle.disk_model.specs.DiskState.{size_of};
 ghost use Rattle.disk_model.specs.declared.cells.TheConstants.{BODY};
 ghost use Rattle.plant_image.specs.Contents.{contents_of};
 ghost use Rattle.plant_core.specs.Plants.{definition_of, device_of, text_digest, view_of};
-ghost use Rattle.plant_core.specs.Snapshots.{mark_of};
+ghost use Rattle.plant_core.specs.Marks.{marks_of};
+ghost use Rattle.plant_core.specs.Snapshots.{known_of};
 ghost use Rattle.plant_core.specs.Stops.{StandsForAcked, StandsForFront};
+ghost use Rattle.plant_core.specs.View.{acked_marks};
 ghost use Rattle.step_core.specs.Runs.{IsRun};
 
 use crate::plant::Plant;
@@ -30,7 +32,18 @@ impl<'s, D: Disk> Plant<'s, D> {
     /// Where the device has not failed, what is known of saved states is what the slots of the atoms hold.
     pub fn knows_its_slots(&self)
         ensures { (device_of self.now).keeps ≡ true → (view_of self.now).broken ≡ false
-            → (view_of self.now).saved ≡ map mark_of (contents_of (length (definition_of self.now).atoms) (seen_cells (BODY + 1) (device_of self.now))).slots }
+            → (view_of self.now).saved ≡ map known_of (contents_of (length (definition_of self.now).atoms) (seen_cells (BODY + 1) (device_of self.now))).slots }
+    {}
+
+    /// Where the device has not failed, the marks of the acknowledged records are those of the live ones on the device, and the base and the ring are
+    /// its own.
+    pub fn knows_its_records(&self)
+        ensures marks { (device_of self.now).keeps ≡ true → (view_of self.now).broken ≡ false
+            → acked_marks (view_of self.now) ≡ marks_of (contents_of (length (definition_of self.now).atoms) (seen_cells (BODY + 1) (device_of self.now))).records }
+        ensures base { (device_of self.now).keeps ≡ true → (view_of self.now).broken ≡ false
+            → (view_of self.now).base ≡ (contents_of (length (definition_of self.now).atoms) (seen_cells (BODY + 1) (device_of self.now))).base }
+        ensures ring { (device_of self.now).keeps ≡ true → (view_of self.now).broken ≡ false
+            → (view_of self.now).ring ≡ (contents_of (length (definition_of self.now).atoms) (seen_cells (BODY + 1) (device_of self.now))).ring }
     {}
 
     /// The tail is a run from the acknowledged state to the present one.

@@ -55,6 +55,13 @@ impl Snapshots {
         }
     }
 
+    /// What is known of the newest state in the slots of each atom, by the atoms' numbers.
+    pub(crate) fn saved(&self) -> &[SavedAt]
+        ensures { result.now ≡ self.now.saved }
+    {
+        &self.saved
+    }
+
     /// Whether a copy of this very state is kept.
     pub(crate) fn is_kept(&self, parcel: &Parcel) -> bool
         ensures { IsTrue result ↔ (held_at self.now.kept parcel.now.atom ≡ Some parcel.now) }

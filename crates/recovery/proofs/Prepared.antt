@@ -1,5 +1,5 @@
 -- The plant that what was read makes, and what a stop in the cleaning leaves.
-use Rattle.std.proofs.Common.{◌≡◌, inl, inr, ℕ, zero, suc, ◌+◌, ◌≤◌, nat_lt, Bool, true, false, List, [], ◌∷◌, length, map, replicate, slice_index_or, None, Ok, refl, sym, ◌∙◌, ap, subst, arith}
+use Rattle.std.proofs.Common.{◌≡◌, inl, inr, ℕ, ◌+◌, ◌≤◌, nat_lt, Bool, true, false, List, [], length, map, replicate, None, Ok, refl, sym, ◌∙◌, ap, subst, arith}
 use Rattle.std.proofs.lemmas.Bool.{ltb-true, ltb-false}
 use Rattle.std.proofs.lemmas.List.{get_or_past, length-map}
 use Rattle.std.proofs.lemmas.List.FromFn.{length-map-range_with_len}
@@ -11,6 +11,7 @@ use Rattle.disk_model.specs.declared.cells.TheConstants.{BODY}
 use Rattle.gated_journal.specs.Rings.{IsWhole, cells_of_ring}
 use Rattle.gated_journal.specs.Stops.{HasCleaned, IsReady}
 use Rattle.gated_journal.specs.declared.ring.Ring.{Ring}
+use Rattle.record_codec.specs.Fired.{FiredFields}
 use Rattle.record_codec.specs.Saved.{SavedFields}
 use Rattle.record_replay.specs.Records.{count_of}
 use Rattle.record_replay.proofs.OverRecords.{replay-grows}
@@ -25,11 +26,13 @@ use Rattle.plant_image.proofs.AtomSlots.{no_first}
 use Rattle.plant_image.proofs.ByAtoms.{counts_past, element_at}
 use Rattle.plant_image.proofs.CleanedImages.{cleaned_none, cleaned_same}
 use Rattle.plant_image.proofs.KeptCells.{sound_of}
-use Rattle.plant_image.proofs.Standings.{stands_leads, leads_stands}
+use Rattle.plant_image.proofs.Standings.{base_some, stands_leads, leads_stands}
 use Rattle.plant_core.specs.Kept.{IsAtRest}
-use Rattle.plant_core.specs.Snapshots.{SnapshotFields, mark_of, nothing_kept}
+use Rattle.plant_core.specs.Marks.{mark_of, marks_of}
+use Rattle.plant_core.specs.Snapshots.{SnapshotFields, known_of, nothing_kept}
 use Rattle.plant_core.specs.View.{view_by}
-use Rattle.trimmer.specs.Covered.{saved_count}
+use Rattle.plant_core.proofs.Marking.{count-known}
+use Rattle.trimmer.specs.Covered.{MarkFields, saved_count}
 use Rattle.recovery.specs.Booting.{IsBooted, IsBooting, StandAlike}
 use Rattle.recovery.specs.InMemory.{WasRead}
 use Rattle.recovery.proofs.PartlyLoaded.{cells_told}
@@ -44,12 +47,6 @@ leads_counted plant c states counts others number same long leads = record {
   each = λ atom a s at its. leads.each atom a s at its ∙ ap (λ (n : ℕ). Ok (record { state = s; count = n })) (sym (same atom));
   within = λ atom below. omega (arith, leads.within atom below, same atom);
 }
-
--- how often an atom had taken part when its newest state was saved
-count_known : (slots : List SavedFields) (atom : ℕ) (none : SavedFields) → none.count ≡ 0 → saved_count (map mark_of slots) atom ≡ (slice_index_or slots atom none).count
-count_known [] atom none never = sym never
-count_known (s ∷ slots) zero none never = refl
-count_known (s ∷ slots) (suc atom) none never = count_known slots atom none never
 
 module _ (plant : PlantDefinition) (digest : List ℕ) (bytes : ℕ) (cells : List Cell) (standing : Standing) (sound : fault_of plant digest bytes cells ≡ None) (is : IsStanding plant cells standing) where
   abbrev pub held : Contents
@@ -75,13 +72,13 @@ module _ (plant : PlantDefinition) (digest : List ℕ) (bytes : ℕ) (cells : Li
   slots_many = length-map-range_with_len (newest_held cells) 0 (length plant.atoms)
 
   -- no atom had taken part more often when its newest state was saved: a replay never counts back
-  pub marks_within : (atom : ℕ) → saved_count (map mark_of held.slots) atom ≤ count_of standing.counts atom
-  marks_within atom = by_test (nat_lt atom (length plant.atoms)) refl
+  pub known_within : (atom : ℕ) → saved_count (map known_of held.slots) atom ≤ count_of standing.counts atom
+  known_within atom = by_test (nat_lt atom (length plant.atoms)) refl
     where
-      known : saved_count (map mark_of held.slots) atom ≡ (saved_position held atom).count
-      known = count_known held.slots atom (unsaved atom) refl
+      known : saved_count (map known_of held.slots) atom ≡ (saved_position held atom).count
+      known = count-known held.slots atom (unsaved atom) refl
 
-      by_test : (t : Bool) → nat_lt atom (length plant.atoms) ≡ t → saved_count (map mark_of held.slots) atom ≤ count_of standing.counts atom
+      by_test : (t : Bool) → nat_lt atom (length plant.atoms) ≡ t → saved_count (map known_of held.slots) atom ≤ count_of standing.counts atom
       by_test true below =
           let led = stands_leads plant digest bytes cells standing.states (last_number held) stood in
           let a = element_at plant.atoms atom (ltb-true atom (length plant.atoms) below) in
@@ -101,9 +98,9 @@ module _ (plant : PlantDefinition) (digest : List ℕ) (bytes : ℕ) (cells : Li
       omega arith
 
   -- what is made in memory shows what stands
-  pub shows : (acked : List Local) (counts : List ℕ) (j : Ring) (known : SnapshotFields) → acked ≡ standing.states → counts ≡ standing.counts → j ≡ ring_in (length plant.atoms) held → known ≡ nothing_kept held.slots
-      → IsBooted plant digest bytes cells (view_by acked counts j.last [] acked counts j known false)
-  shows acked counts j known states same journal snapshots = record {
+  pub shows : (acked : List Local) (counts : List ℕ) (j : Ring) (marks : List MarkFields) (known : SnapshotFields) → acked ≡ standing.states → counts ≡ standing.counts → j ≡ ring_in (length plant.atoms) held → marks ≡ marks_of held.records → known ≡ nothing_kept held.slots
+      → IsBooted plant digest bytes cells (view_by acked counts j.last [] acked counts j marks known false)
+  shows acked counts j marks known states same journal marked snapshots = record {
     sound = sound;
     acked = states ∙ is.led.states;
     number = ap (λ (r : Ring). r.last) journal;
@@ -113,6 +110,7 @@ module _ (plant : PlantDefinition) (digest : List ℕ) (bytes : ℕ) (cells : Li
     counts = refl;
     base = ap (λ (r : Ring). r.base) journal;
     ring = ap (λ (r : Ring). r.ring) journal;
+    marks = marked;
     saved = ap (λ (k : SnapshotFields). k.saved) snapshots;
     kept = ap (λ (k : SnapshotFields). k.kept) snapshots ∙ ap (λ (n : ℕ). replicate n None) slots_many;
     broken = refl;
@@ -145,13 +143,13 @@ module _ (plant : PlantDefinition) (digest : List ℕ) (bytes : ℕ) (cells : Li
 
     -- and a device that is cleaned is at rest
     pub rests_cleaned : (new : DiskState) → size_of new ≡ bytes → IsReady (ring_in (length plant.atoms) held) new → HasCleaned (ring_in (length plant.atoms) held) cells (seen_cells (BODY + 1) new)
-        → IsAtRest plant digest (ring_in (length plant.atoms) held) standing.states standing.counts (last_number held) (map mark_of held.slots) new
+        → IsAtRest plant digest (ring_in (length plant.atoms) held) standing.states standing.counts (last_number held) (map known_of held.slots) new
     rests_cleaned new same ready cleaned = record {
       ready = ready;
       sound = subst (λ (n : ℕ). cells_fault plant digest n (seen_cells (BODY + 1) new) ≡ None) (sym same) (after_none (seen_cells (BODY + 1) new) cleaned);
       journal = ap (ring_in (length plant.atoms)) (sym (after_same (seen_cells (BODY + 1) new) cleaned));
       leads = after_leads (seen_cells (BODY + 1) new) cleaned;
-      slots = ap (λ (c : Contents). map mark_of c.slots) (sym (after_same (seen_cells (BODY + 1) new) cleaned));
+      slots = ap (λ (c : Contents). map known_of c.slots) (sym (after_same (seen_cells (BODY + 1) new) cleaned));
     }
 
 -- before the cleaning a stop leaves what it left at the start
@@ -186,21 +184,28 @@ module _ (plant : PlantDefinition) (digest : List ℕ) (mid : DiskState) (standi
   known_read known made = made ∙ ap (λ (c : Contents). nothing_kept c.slots) was.is.led.contents
 
   -- so it is known of each atom
-  pub marks_read : (known : SnapshotFields) → known ≡ nothing_kept (contents_in standing.held).slots → length known.saved ≡ length plant.atoms
-  marks_read known made =
+  pub known_many : (known : SnapshotFields) → known ≡ nothing_kept (contents_in standing.held).slots → length known.saved ≡ length plant.atoms
+  known_many known made =
       ap (λ (k : SnapshotFields). length k.saved) (known_read known made) ∙
-      length-map (contents_of (length plant.atoms) was.cells).slots mark_of ∙
+      length-map (contents_of (length plant.atoms) was.cells).slots known_of ∙
       slots_many plant digest (size_of mid) was.cells standing was.sound was.is
+
+  -- there is a mark for each live record
+  pub marks_read : (marks : List MarkFields) → marks ≡ marks_of (contents_in standing.held).records → j.base + length marks ≡ j.last + 1
+  marks_read marks made =
+      let records : List FiredFields = (contents_of (length plant.atoms) was.cells).records in
+      let many : length marks ≡ length records = ap length (made ∙ ap (λ (c : Contents). marks_of c.records) was.is.led.contents) ∙ length-map records mark_of in
+      omega (arith, many, ap (λ (r : Ring). r.base) ring_read, ap (λ (r : Ring). r.last) ring_read, base_some was.cells)
 
   -- no saved state is behind more of its atom's firings than there were
   pub within_read : (known : SnapshotFields) → known ≡ nothing_kept (contents_in standing.held).slots → (atom : ℕ) → saved_count known.saved atom ≤ count_of standing.counts atom
-  within_read known made atom = subst (λ (k : SnapshotFields). saved_count k.saved atom ≤ count_of standing.counts atom) (sym (known_read known made)) (marks_within plant digest (size_of mid) was.cells standing was.sound was.is atom)
+  within_read known made atom = subst (λ (k : SnapshotFields). saved_count k.saved atom ≤ count_of standing.counts atom) (sym (known_read known made)) (known_within plant digest (size_of mid) was.cells standing was.sound was.is atom)
 
   -- and none was asked for
   pub none_read : (known : SnapshotFields) → known ≡ nothing_kept (contents_in standing.held).slots → known.kept ≡ replicate (length known.saved) None
   none_read known made =
       ap (λ (k : SnapshotFields). k.kept) made ∙
-      ap (λ (n : ℕ). replicate n None) (sym (length-map (contents_in standing.held).slots mark_of) ∙ ap (λ (k : SnapshotFields). length k.saved) (sym made))
+      ap (λ (n : ℕ). replicate n None) (sym (length-map (contents_in standing.held).slots known_of) ∙ ap (λ (k : SnapshotFields). length k.saved) (sym made))
 
   module _ (long : length standing.counts ≡ MAX_ATOMS) where
     enough : length plant.atoms ≤ length standing.counts
@@ -221,6 +226,14 @@ module _ (plant : PlantDefinition) (digest : List ℕ) (mid : DiskState) (standi
         leaves_then (BODY + 1) (IsBooting plant digest old) old mid new (still_old plant digest old mid first)
         (leaves_weaker (BODY + 1) (HasCleaned j (seen_cells (BODY + 1) mid)) (IsBooting plant digest old) mid new (λ cells cleaned. inr (alike_read old keeps size same cells cleaned)) second)
 
+    -- the marks are those of the records that it holds behind the cleaning
+    pub marked_read : (new : DiskState) (marks : List MarkFields) → mid.keeps ≡ true → marks ≡ marks_of (contents_in standing.held).records → HasCleaned j (seen_cells (BODY + 1) mid) (seen_cells (BODY + 1) new)
+        → marks ≡ marks_of (contents_of (length plant.atoms) (seen_cells (BODY + 1) new)).records
+    marked_read new marks keeps made cleaned =
+        made ∙
+        ap (λ (c : Contents). marks_of c.records) was.is.led.contents ∙
+        sym (ap (λ (c : Contents). marks_of c.records) (after_same plant digest (size_of mid) was.cells standing was.sound was.is enough (seen_cells (BODY + 1) new) (cleaned_read keeps (seen_cells (BODY + 1) new) cleaned)))
+
     -- and behind it the device is at rest
     pub rests_read : (new : DiskState) (acked : List Local) (counts : List ℕ) (known : SnapshotFields) → mid.keeps ≡ true → size_of new ≡ size_of mid → acked ≡ standing.states → counts ≡ standing.counts
         → known ≡ nothing_kept (contents_in standing.held).slots → IsReady j new → HasCleaned j (seen_cells (BODY + 1) mid) (seen_cells (BODY + 1) new) → IsAtRest plant digest j acked counts j.last known.saved new
@@ -238,13 +251,13 @@ module _ (plant : PlantDefinition) (digest : List ℕ) (mid : DiskState) (standi
         ring = ring_in (length plant.atoms) read
 
   -- it shows what a read gave
-  pub shows_read : (old : DiskState) (acked : List Local) (counts : List ℕ) (known : SnapshotFields) → mid.keeps ≡ true → size_of mid ≡ size_of old → seen_cells (BODY + 1) mid ≡ seen_cells (BODY + 1) old
-      → acked ≡ standing.states → counts ≡ standing.counts → known ≡ nothing_kept (contents_in standing.held).slots
-      → IsBooted plant digest (size_of old) (seen_cells (BODY + 1) old) (view_by acked counts j.last [] acked counts j known false)
-  shows_read old acked counts known keeps size seen states same made =
-      subst (λ (n : ℕ). IsBooted plant digest n (seen_cells (BODY + 1) old) (view_by acked counts j.last [] acked counts j known false)) size
-      (subst (λ (cells : List Cell). IsBooted plant digest (size_of mid) cells (view_by acked counts j.last [] acked counts j known false)) (was.seen keeps ∙ seen)
-      (shows plant digest (size_of mid) was.cells standing was.sound was.is acked counts j known states same ring_read (known_read known made)))
+  pub shows_read : (old : DiskState) (acked : List Local) (counts : List ℕ) (marks : List MarkFields) (known : SnapshotFields) → mid.keeps ≡ true → size_of mid ≡ size_of old → seen_cells (BODY + 1) mid ≡ seen_cells (BODY + 1) old
+      → acked ≡ standing.states → counts ≡ standing.counts → marks ≡ marks_of (contents_in standing.held).records → known ≡ nothing_kept (contents_in standing.held).slots
+      → IsBooted plant digest (size_of old) (seen_cells (BODY + 1) old) (view_by acked counts j.last [] acked counts j marks known false)
+  shows_read old acked counts marks known keeps size seen states same marked made =
+      subst (λ (n : ℕ). IsBooted plant digest n (seen_cells (BODY + 1) old) (view_by acked counts j.last [] acked counts j marks known false)) size
+      (subst (λ (cells : List Cell). IsBooted plant digest (size_of mid) cells (view_by acked counts j.last [] acked counts j marks known false)) (was.seen keeps ∙ seen)
+      (shows plant digest (size_of mid) was.cells standing was.sound was.is acked counts j marks known states same ring_read (marked ∙ ap (λ (c : Contents). marks_of c.records) was.is.led.contents) (known_read known made)))
 
 -- two calls of one sync each
 pub counts_two : (old mid new : DiskState) → Counts false true old mid → Counts false true mid new → CountsTwo true old new

@@ -11,7 +11,8 @@ use Rattle.plant_image.specs.Faults.{fault_of}
 use Rattle.plant_image.specs.Reading.{IsTold}
 use Rattle.plant_image.specs.Standing.{StandsFor}
 use Rattle.plant_image.specs.declared.fault.ImageFault.{ImageFault}
-use Rattle.plant_core.specs.Snapshots.{mark_of}
+use Rattle.plant_core.specs.Marks.{marks_of}
+use Rattle.plant_core.specs.Snapshots.{known_of}
 use Rattle.plant_core.specs.View.{View}
 use Rattle.recovery.specs.declared.fault.BootFault.{BootFault}
 use Rattle.recovery.specs.declared.fault.BootFault.TheVariants.{Image, Disk}
@@ -45,7 +46,7 @@ abbrev pub IsBooting : PlantDefinition → List ℕ → DiskState → List Cell 
 IsBooting plant digest old cells = MayBe (BODY + 1) old cells ⊎ StandAlike plant digest (size_of old) (seen_cells (BODY + 1) old) cells
 
 -- The view of a plant that is booted from a device of so many bytes with these cells: nothing is wrong with them, and the plant is where they lead, with
--- nothing to acknowledge. What it knows of saved states is what stands in the slots, and no state was asked for.
+-- nothing to acknowledge. Its marks are those of the live records, what it knows of saved states is what stands in the slots, and no state was asked for.
 pub record IsBooted (plant : PlantDefinition) (digest : List ℕ) (bytes : ℕ) (cells : List Cell) (v : View) : Type 0 where
   pub sound : fault_of plant digest bytes cells ≡ None
   pub acked : v.acked ≡ states_of plant (contents_of (length plant.atoms) cells)
@@ -56,6 +57,7 @@ pub record IsBooted (plant : PlantDefinition) (digest : List ℕ) (bytes : ℕ) 
   pub counts : v.counts ≡ v.acked_counts
   pub base : v.base ≡ (contents_of (length plant.atoms) cells).base
   pub ring : v.ring ≡ (contents_of (length plant.atoms) cells).ring
-  pub saved : v.saved ≡ map mark_of (contents_of (length plant.atoms) cells).slots
+  pub marks : v.marks ≡ marks_of (contents_of (length plant.atoms) cells).records
+  pub saved : v.saved ≡ map known_of (contents_of (length plant.atoms) cells).slots
   pub kept : v.kept ≡ replicate (length plant.atoms) None
   pub broken : v.broken ≡ false

@@ -9,11 +9,12 @@ use Rattle.step_core.specs.Plant.{PlantDefinition}
 use Rattle.step_core.specs.Running.{states_in, system_in}
 use Rattle.step_core.specs.System.{plant_of, digest_of}
 use Rattle.step_core.specs.declared.system.System.{System}
-use Rattle.plant_image.specs.Contents.{ring_in}
+use Rattle.plant_image.specs.Contents.{contents_of, ring_in}
 use Rattle.plant_image.specs.Faults.{fault_of}
 use Rattle.plant_image.specs.Reading.{IsStanding, contents_in}
 use Rattle.plant_image.specs.declared.standing.Standing.{Standing}
 use Rattle.plant_core.specs.Kept.{IsAtRest}
+use Rattle.plant_core.specs.Marks.{marks_of}
 use Rattle.plant_core.specs.Snapshots.{nothing_kept}
 use Rattle.plant_core.specs.View.{View, view_by}
 use Rattle.plant_core.specs.declared.limits.TheConstants.{MOST_TAIL}
@@ -35,20 +36,22 @@ pub record IsEmptyTail (memory : InMemory) : Type 0 where
   pub room_of_tail : MOST_TAIL ≤ vec_capacity memory.tail
   pub room_of_bodies : MOST_TAIL ≤ vec_capacity memory.bodies
 
--- What is in memory is what stands: the state twice, the counts, the journal of the live records, and what is known of the states in the slots,
--- of which none was asked for; and room for a tail.
+-- What is in memory is what stands: the state twice, the counts, the journal of the live records with their marks, and what is known of the states in
+-- the slots, of which none was asked for; and room for a tail and for the marks of a full ring.
 pub record IsMadeOf (system : System) (standing : Standing) (memory : InMemory) : Type 0 where
   pub of_system : system_in memory.stepper ≡ system
   pub states : states_in memory.stepper ≡ standing.states
   pub acked : memory.acked ≡ standing.states
   pub counts : memory.counts ≡ standing.counts
   pub journal : memory.journal ≡ ring_in (length (plant_of system).atoms) (contents_in standing.held)
+  pub marks : memory.marks.items ≡ marks_of (contents_in standing.held).records
+  pub room_of_marks : memory.journal.ring ≤ vec_capacity memory.marks
   pub snapshots : memory.snapshots ≡ nothing_kept (contents_in standing.held).slots
   pub room : IsEmptyTail memory
 
 -- the view of the plant that is made of it
 abbrev pub view_in : InMemory → View
-view_in memory = view_by memory.acked memory.counts memory.journal.last [] memory.acked memory.counts memory.journal memory.snapshots false
+view_in memory = view_by memory.acked memory.counts memory.journal.last [] memory.acked memory.counts memory.journal memory.marks.items memory.snapshots false
 
 -- What is in memory and what is on the device make a plant, as booting has to give it.
 pub record IsPrepared (system : System) (old new : DiskState) (memory : InMemory) : Type 0 where
@@ -58,9 +61,12 @@ pub record IsPrepared (system : System) (old new : DiskState) (memory : InMemory
   pub room : IsEmptyTail memory
   pub atoms : memory.journal.atoms ≡ length (plant_of system).atoms
   pub inside : cells_of_ring memory.journal ≤ cell_count (BODY + 1) new
-  pub marks : length memory.snapshots.saved ≡ length (plant_of system).atoms
-  pub marks_within : (atom : ℕ) → saved_count memory.snapshots.saved atom ≤ count_of memory.counts atom
+  pub marks : memory.journal.base + length memory.marks.items ≡ memory.journal.last + 1
+  pub room_of_marks : memory.journal.ring ≤ vec_capacity memory.marks
+  pub known : length memory.snapshots.saved ≡ length (plant_of system).atoms
+  pub known_within : (atom : ℕ) → saved_count memory.snapshots.saved atom ≤ count_of memory.counts atom
   pub none_asked : memory.snapshots.kept ≡ replicate (length memory.snapshots.saved) None
   pub rests : new.keeps ≡ true
       → IsAtRest (plant_of system) (digest_of system) memory.journal memory.acked memory.counts memory.journal.last memory.snapshots.saved new
+  pub marked : new.keeps ≡ true → memory.marks.items ≡ marks_of (contents_of (length (plant_of system).atoms) (seen_cells (BODY + 1) new)).records
   pub booted : old.keeps ≡ true → IsBooted (plant_of system) (digest_of system) (size_of old) (seen_cells (BODY + 1) old) (view_in memory)

@@ -1,3 +1,4 @@
 pub mod Formatting
 pub mod Booting
 pub mod InMemory
+pub mod Lifetimes

@@ -14,10 +14,11 @@ use crate::fault::{BootFault, BootRefused};
 use crate::loading::judge;
 use disk_model::{BODY, Cells, Disk};
 use gated_journal::Journal;
-use plant_core::{MOST_TAIL, Parts, Plant, Snapshots};
+use plant_core::{MOST_TAIL, Parts, Plant, Snapshots, marks_of};
 use plant_image::Standing;
 use std::alloc::{AllocError, Global};
 use step_core::{Choice, MAX_ATOMS, PlantState, Stepper, System};
+use trimmer::Mark;
 
 /// What a plant is made of, but for its device.
 #[derive(Drop)]
@@ -28,6 +29,7 @@ pub(crate) struct InMemory<'s> {
     pub(crate) tail: Vec<Choice>,
     pub(crate) bodies: Vec<[u8; BODY]>,
     pub(crate) journal: Journal,
+    pub(crate) marks: Vec<Mark>,
     pub(crate) snapshots: Snapshots,
 }
 
@@ -70,6 +72,7 @@ pub fn boot<'s, D: Disk>(
         tail,
         bodies,
         journal,
+        marks,
         snapshots,
     } = memory;
     Ok(Plant::of(Parts {
@@ -79,6 +82,7 @@ pub fn boot<'s, D: Disk>(
         tail,
         bodies,
         journal,
+        marks,
         snapshots,
         cells,
     }))
@@ -133,6 +137,7 @@ fn take_memory<'s, D: Disk>(
         held.base,
         last,
     )?;
+    let marks = marks_of(alloc, &held.records, held.ring)?;
     let snapshots = Snapshots::of(alloc, &held.slots)?;
     let acked = copied(alloc, system, &states)?;
     let tail = Vec::with_capacity(alloc, MOST_TAIL)?;
@@ -144,6 +149,7 @@ fn take_memory<'s, D: Disk>(
         tail,
         bodies,
         journal,
+        marks,
         snapshots,
     })
 }

@@ -1,7 +1,7 @@
 -- Worked examples of the definitions, as computed facts.
 use Rattle.std.proofs.Common.{◌≡◌, refl, ℕ, List, true, false, [], ◌∷◌, ◌++◌, codes, Ok, Err}
 use Rattle.std.specs.Fmt.{digits}
-use Rattle.plant_core.specs.declared.events.Event.TheVariants.{Fire, Flush, Ask, Put}
+use Rattle.plant_core.specs.declared.events.Event.TheVariants.{Fire, Flush, Ask, Put, Trim}
 use Rattle.plant_core.specs.declared.events.Happened.TheVariants as happened
 use Rattle.plant_core.specs.declared.refused.Refused.TheVariants.{Stuck, Busy, TailFull, RingFull, Spent, Away, Ahead, Stranger, NothingNew, Disk, Broken}
 use Rattle.petri_atom.specs.Definition.{AtomDefinition}
@@ -45,6 +45,12 @@ a_comment_is_refused = refl
 
 atoms_are_asked_for_by_their_names : script_meaning two (codes "ask A\nput A\n ask\tB \nflush\nput B") ≡ Ok (Ask 0 ∷ Put 0 ∷ Ask 1 ∷ Flush ∷ Put 1 ∷ [])
 atoms_are_asked_for_by_their_names = refl
+
+records_are_trimmed_by_a_word_alone : script_meaning two (codes " trim \n\ntrim\ntrim 4") ≡ Err 4
+records_are_trimmed_by_a_word_alone = refl
+
+a_trim_is_asked_for : script_meaning two (codes "trim\nflush\n\ttrim") ≡ Ok (Trim ∷ Flush ∷ Trim ∷ [])
+a_trim_is_asked_for = refl
 
 an_unknown_atom_is_refused : script_meaning two (codes "ask A\n\nask C\nput C\n") ≡ Err 3
 an_unknown_atom_is_refused = refl
@@ -171,6 +177,14 @@ an_empty_hand_is_told = refl
 an_atom_that_is_not_there_has_no_name : happened_line two (happened.Empty 2) ≡ codes "nothing "
 an_atom_that_is_not_there_has_no_name = refl
 
+a_trim_is_told : happened_line two (happened.Trim (Ok 12)) ≡ codes "base 12"
+unfolding digits
+a_trim_is_told = refl
+
+a_refused_trim_is_told : happened_line two (happened.Trim (Err NothingNew)) ≡ codes "refused 9 NothingNew"
+unfolding digits
+a_refused_trim_is_told = refl
+
 a_refused_copy_is_told : happened_line two (happened.Ask 1 (Err NothingNew)) ≡ codes "refused 9 NothingNew"
 unfolding digits
 a_refused_copy_is_told = refl
@@ -191,6 +205,9 @@ a_broken_plant_is_none = refl
 
 a_device_that_fails_to_store_is_a_failure : has_failed (happened.Put (copied 0 4) (Err Disk)) ≡ true
 a_device_that_fails_to_store_is_a_failure = refl
+
+a_device_that_fails_to_trim_is_a_failure : has_failed (happened.Trim (Err Disk)) ≡ true
+a_device_that_fails_to_trim_is_a_failure = refl
 
 a_state_that_is_refused_is_none : has_failed (happened.Put (copied 0 4) (Err (Ahead 0))) ≡ false
 a_state_that_is_refused_is_none = refl

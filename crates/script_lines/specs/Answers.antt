@@ -6,7 +6,7 @@ use Rattle.run_text.specs.Line.{fired_line, states_text}
 use Rattle.plant_core.specs.Refusals.{number_of}
 use Rattle.plant_core.specs.View.{View, fired_number}
 use Rattle.plant_core.specs.declared.events.Happened.{Happened}
-use Rattle.plant_core.specs.declared.events.Happened.TheVariants.{Fire, Flush, Ask, Put, Empty}
+use Rattle.plant_core.specs.declared.events.Happened.TheVariants.{Fire, Flush, Ask, Put, Empty, Trim}
 use Rattle.plant_core.specs.declared.front.Front.{Front}
 use Rattle.plant_core.specs.declared.refused.Refused.{Refused}
 use Rattle.plant_core.specs.declared.refused.Refused.TheVariants.{Stuck, Busy, TailFull, RingFull, Spent, Away, Ahead, Stranger, NothingNew, Disk, Broken}
@@ -57,8 +57,12 @@ stored_line name count = codes "stored " ++ name ++ codes " " ++ decimal count
 abbrev pub nothing_line : List ℕ → List ℕ
 nothing_line name = codes "nothing " ++ name
 
--- What happened: a choice that was fired as a trace prints it, up to where all was acknowledged, which state was copied or stored, or why the
--- plant refused.
+-- a trim: the first record that is kept
+abbrev pub base_line : ℕ → List ℕ
+base_line number = codes "base " ++ decimal number
+
+-- What happened: a choice that was fired as a trace prints it, up to where all was acknowledged, which state was copied or stored, from where on
+-- records are kept, or why the plant refused.
 abbrev pub happened_line : PlantDefinition → Happened → List ℕ
 happened_line plant (Fire pick (Ok fired)) = fired_line plant fired.number (choice_of fired.choice)
 happened_line plant (Fire pick (Err refused)) = refused_line refused
@@ -69,6 +73,8 @@ happened_line plant (Ask atom (Err refused)) = refused_line refused
 happened_line plant (Put handed (Ok count)) = stored_line (atom_name plant handed.atom) count
 happened_line plant (Put handed (Err refused)) = refused_line refused
 happened_line plant (Empty atom) = nothing_line (atom_name plant atom)
+happened_line plant (Trim (Ok base)) = base_line base
+happened_line plant (Trim (Err refused)) = refused_line refused
 
 -- how far a plant is: the last that was fired, the last that is acknowledged, and the first record that is kept
 abbrev pub front_line : Front → List ℕ

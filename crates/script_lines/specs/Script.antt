@@ -9,7 +9,7 @@ use Rattle.plant_words.specs.Numbers.{pick_in}
 use Rattle.plant_words.specs.Words.{words_of}
 use Rattle.text_io.specs.declared.reading.TheConstants.{MAX_TEXT}
 use Rattle.plant_core.specs.declared.events.Event.{Event}
-use Rattle.plant_core.specs.declared.events.Event.TheVariants.{Fire, Flush, Ask, Put}
+use Rattle.plant_core.specs.declared.events.Event.TheVariants.{Fire, Flush, Ask, Put, Trim}
 use Rattle.script_lines.specs.Atoms.{atom_named}
 use Rattle.script_lines.specs.declared.fault.ScriptFault.{ScriptFault}
 use Rattle.script_lines.specs.declared.fault.ScriptFault.TheVariants.{Line, Memory}
@@ -41,6 +41,11 @@ ask_in plant words = option_map Ask (only_atom plant words)
 abbrev pub put_in : PlantDefinition → List (List ℕ) → Option Event
 put_in plant words = option_map Put (only_atom plant words)
 
+-- behind `trim` stands no word
+abbrev pub trim_in : List (List ℕ) → Option Event
+trim_in [] = Some Trim
+trim_in (word ∷ more) = None
+
 -- the event that a first word and the words behind it ask for
 abbrev pub event_in : PlantDefinition → List ℕ → List (List ℕ) → Option Event
 event_in plant first words =
@@ -48,6 +53,7 @@ event_in plant first words =
     else if is_same_text first (codes "flush") then flush_in words
     else if is_same_text first (codes "ask") then ask_in plant words
     else if is_same_text first (codes "put") then put_in plant words
+    else if is_same_text first (codes "trim") then trim_in words
     else None
 
 -- words that ask for no event make a line unreadable

@@ -2,7 +2,7 @@
 ghost use Rattle.std.specs.Prelude.{◌≡◌, OnOk};
 ghost use Rattle.std.specs.Io.KnownBytes.{Appends};
 ghost use Rattle.step_core.specs.System.{plant_of};
-ghost use Rattle.script_lines.specs.Answers.{asked_line, atom_in, atom_said, flushed_line, front_line, happened_line, name_of, nothing_line, refused_line, stored_line};
+ghost use Rattle.script_lines.specs.Answers.{asked_line, atom_in, atom_said, base_line, flushed_line, front_line, happened_line, name_of, nothing_line, refused_line, stored_line};
 
 use crate::atoms::atom_name;
 use plant_core::{Front, Happened, Refused};
@@ -13,7 +13,8 @@ use text_io::{WriteFault, print_number, print_text};
 
 /// Prints what happened to a durable plant of the system: a choice that was fired as a trace prints it, `flushed N` where all up to number N
 /// is acknowledged, `asked NAME COUNT` where the state of the atom was copied, `stored NAME COUNT` where it was stored, `nothing NAME` where none
-/// was at hand, and `refused NUMBER NAME` where the plant refused. The line is not ended.
+/// was at hand, `base N` where records were dropped and N is the first that is kept, and `refused NUMBER NAME` where the plant refused. The line
+/// is not ended.
 pub fn print_happened<W: Write>(
     system: &System,
     happened: &Happened,
@@ -36,6 +37,8 @@ pub fn print_happened<W: Write>(
         }
         Happened::Put(_, Err(refused)) => print_refused(*refused, output),
         Happened::Empty(atom) => print_nothing(atom_name(system, *atom), output),
+        Happened::Trim(Ok(base)) => print_base(*base, output),
+        Happened::Trim(Err(refused)) => print_refused(*refused, output),
     }
 }
 
@@ -73,6 +76,14 @@ fn print_nothing<W: Write>(name: &[u8], output: &mut W) -> Result<(), WriteFault
 {
     print_text(output, b"nothing ")?;
     print_text(output, name)
+}
+
+/// Prints the number of the first record that is kept.
+fn print_base<W: Write>(number: u64, output: &mut W) -> Result<(), WriteFault>
+    ensures { OnOk result (Appends (W.contents output.old) (W.contents output.new) (base_line number)) }
+{
+    print_text(output, b"base ")?;
+    print_number(output, number)
 }
 
 /// Prints a refusal: its number, its name, and in parentheses the number of the atom that it speaks of.

@@ -1,7 +1,7 @@
 //! What one line of a script says.
 ghost use Rattle.std.specs.Prelude.{◌≡◌};
 ghost use Rattle.step_core.specs.System.{plant_of};
-ghost use Rattle.script_lines.specs.Script.{ask_in, asked_for, event_in, fire_in, flush_in, line_in, only_atom, put_in};
+ghost use Rattle.script_lines.specs.Script.{ask_in, asked_for, event_in, fire_in, flush_in, line_in, only_atom, put_in, trim_in};
 
 use crate::atoms::atom_named;
 use plant_core::Event;
@@ -55,6 +55,8 @@ fn event_in(system: &System, first: &[u8], words: &mut Words<'_>) -> Option<Even
         ask_in(system, words)
     } else if first == b"put".as_slice() {
         put_in(system, words)
+    } else if first == b"trim".as_slice() {
+        trim_in(words)
     } else {
         None
     }
@@ -93,6 +95,16 @@ fn put_in(system: &System, words: &mut Words<'_>) -> Option<Event>
     ensures { result ≡ put_in (plant_of system.now) words.old }
 {
     Some(Event::Put(only_atom(system, words)?))
+}
+
+/// The event that the words behind `trim` ask for.
+fn trim_in(words: &mut Words<'_>) -> Option<Event>
+    ensures { result ≡ trim_in words.old }
+{
+    match words.next_word() {
+        Some(_) => None,
+        None => Some(Event::Trim),
+    }
 }
 
 /// The number of the atom whose name is the only one of the words.

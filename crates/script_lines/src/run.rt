@@ -16,8 +16,8 @@ use text_io::{WriteFault, end_line};
 /// stands. A state that is asked for goes into the hand of its atom, and what is in the hand is stored where that is asked. It tells whether
 /// the device failed in some call; then each later call is refused as broken.
 ///
-/// The output is flushed before each flush of the plant and each state that is stored, behind the line of its answer, and at the end: who reads
-/// it waits for nothing that is acknowledged. No memory is taken.
+/// The output is flushed before each event that makes calls of the device, behind the line of its answer, and at the end: who reads it waits for
+/// nothing that is acknowledged. No memory is taken.
 pub fn run_script<D: Disk, W: Write>(
     plant: &mut Plant<'_, D>,
     hands: &mut Hands,
@@ -57,7 +57,7 @@ fn answer<D: Disk, W: Write>(
 {
     match event {
         Event::Fire(_) | Event::Ask(_) => tell(plant, hands, event, output),
-        Event::Flush | Event::Put(_) => {
+        Event::Flush | Event::Put(_) | Event::Trim => {
             hand_on(output)?;
             let failed = tell(plant, hands, event, output)?;
             hand_on(output)?;
@@ -96,6 +96,7 @@ fn has_failed(happened: &Happened) -> bool
             | Happened::Flush(Err(Refused::Disk))
             | Happened::Ask(_, Err(Refused::Disk))
             | Happened::Put(_, Err(Refused::Disk))
+            | Happened::Trim(Err(Refused::Disk))
     )
 }
 

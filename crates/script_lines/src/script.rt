@@ -15,8 +15,8 @@ use text_io::MAX_TEXT;
 /// The events that a script asks of a plant of the system, or the first line that it is refused for: its number from 1, and 0 where the
 /// script has more than 1,048,576 bytes.
 ///
-/// Each line asks for one event, as `fire P`, `flush`, `ask NAME` or `put NAME`, where NAME is that of an atom, or has no words. Lines are
-/// read on where memory is wanting, so that it hides no line that is refused.
+/// Each line asks for one event, as `fire P`, `flush`, `ask NAME`, `put NAME` or `trim`, where NAME is that of an atom, or has no words. Lines
+/// are read on where memory is wanting, so that it hides no line that is refused.
 pub fn read_script(alloc: Global, system: &System, text: &[u8]) -> Result<Vec<Event>, ScriptFault>
     ensures events { IfOk result (λ events. script_meaning (plant_of system.now) text.now ≡ Ok events.items) }
     ensures fault { IfErr result (IsFaultOf (plant_of system.now) text.now) }

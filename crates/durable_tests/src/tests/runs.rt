@@ -94,16 +94,18 @@ fn ended(disk: Untold, front: Front, last: Result<u64, Refused>) -> Outcome {
     }
 }
 
-/// The number that was answered: that of a choice, the acknowledged one, or the count of a state; 0 where no state was at hand.
+/// The number that was answered: that of a choice, the acknowledged one, the count of a state, or the base; 0 where no state was at hand.
 fn answer_in(happened: &Happened) -> Result<u64, Refused> {
     match happened {
         Happened::Fire(_, Ok(fired)) => Ok(fired.number),
         Happened::Ask(_, Ok(copy)) => Ok(copy.count()),
-        Happened::Flush(Ok(number)) | Happened::Put(_, Ok(number)) => Ok(*number),
+        Happened::Flush(Ok(number)) | Happened::Put(_, Ok(number)) | Happened::Trim(Ok(number)) =>
+            Ok(*number),
         Happened::Fire(_, Err(refused))
         | Happened::Flush(Err(refused))
         | Happened::Ask(_, Err(refused))
-        | Happened::Put(_, Err(refused)) => Err(*refused),
+        | Happened::Put(_, Err(refused))
+        | Happened::Trim(Err(refused)) => Err(*refused),
         Happened::Empty(_) => Ok(0),
     }
 }
@@ -121,7 +123,7 @@ pub(super) fn shown(
 }
 
 /// The first value of the atom; 0 where it has none.
-fn value_of(plant: &Plant<'_, Untold>, atom: u16) -> i64 {
+pub(super) fn value_of(plant: &Plant<'_, Untold>, atom: u16) -> i64 {
     match plant.look(atom) {
         Some(state) => match state.values().first() {
             Some(value) => *value,
@@ -183,12 +185,14 @@ fn shows(plant: &Plant<'_, Untold>, wanted: &Stepper<'_>) -> bool {
     plant.look(count as u16).is_none()
 }
 
-/// Whether the image that a stop of the run left boots to a state behind some front of what was fired, with all that was acknowledged.
+/// Whether the image that a stop of the run left boots to a state behind some front of what was fired, with all that was acknowledged; the base is the
+/// one that was told or one behind it, up to this.
 fn boots_right(
     alloc: Global,
     system: &System,
     left: MemDisk,
     told: Front,
+    last_base: u64,
     events: &[Event],
 ) -> Result<bool, Fail> {
     let Ok(plant) = boot(alloc, Untold::over(left), system) else {
@@ -199,13 +203,20 @@ fn boots_right(
     Ok(
         told.acked <= found.fired
             && found.fired <= told.fired
-            && found == settled(found.fired)
+            && found.acked == found.fired
+            && (told.base..=last_base).contains(&found.base)
             && shows(&plant, &wanted),
     )
 }
 
 /// Stops the run at its `k`-th device call under each tear, and says how many of the stops boot right.
-fn right_at(alloc: Global, system: &System, events: &[Event], k: u64) -> Result<u64, Fail> {
+fn right_at(
+    alloc: Global,
+    system: &System,
+    events: &[Event],
+    last_base: u64,
+    k: u64,
+) -> Result<u64, Fail> {
     let mut right = 0u64;
     for tear in TEARS {
         let stopped = stopped_run(alloc, system, k, events)?;
@@ -214,6 +225,7 @@ fn right_at(alloc: Global, system: &System, events: &[Event], k: u64) -> Result<
             system,
             stopped.disk.stop(tear),
             stopped.front,
+            last_base,
             events,
         )?;
         right = right.saturating_add(u64::from(boots));
@@ -226,7 +238,7 @@ pub(super) fn sweep(alloc: Global, system: &System, events: &[Event]) -> Result<
     let whole = whole_run(alloc, system, events)?;
     let mut right = 0u64;
     for k in 1..=whole.calls.min(1_000) {
-        right = right.saturating_add(right_at(alloc, system, events, k)?);
+        right = right.saturating_add(right_at(alloc, system, events, whole.front.base, k)?);
     }
     Ok((whole.calls, right))
 }

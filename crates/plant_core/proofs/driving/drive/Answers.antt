@@ -46,7 +46,7 @@ loop-event-preserved g c =
     c.meet.result (view_of r) (device_of r) event (get_or events i (asked.Fire 0)) c.meet.ensures.asked
     (λ keeps. subst (λ (digest : List ℕ). Leaves (BODY + 1) (StandsForFront (definition_of p) digest (size_of (device_of q)) (view_of q)) (device_of q) (device_of r)) told
     (subst (λ d. Leaves (BODY + 1) (StandsForFront d (text_digest q) (size_of (device_of q)) (view_of q)) (device_of q) (device_of r)) same (c.meet.ensures.stops keeps)))
-    c.meet.ensures.cause c.meet.ensures.idle c.meet.ensures.size c.meet.ensures.keeps after c.meet.ensures.handed_in c.meet.ensures.hands in
+    c.meet.ensures.cause c.meet.ensures.idle c.meet.ensures.untouched c.meet.ensures.size c.meet.ensures.keeps after c.meet.ensures.handed_in c.meet.ensures.hands in
     record {
       room = c.push_reserved.ensures.capacity ∙ c.loop-event.invariant.room;
       many = c.push_reserved.ensures.len ∙ ap (λ (n : ℕ). n + 1) c.loop-event.invariant.many;

@@ -4,7 +4,8 @@ use Rattle.disk_model.specs.DiskState.{size_of}
 use Rattle.disk_model.specs.declared.cells.TheConstants.{BODY}
 use Rattle.plant_core.specs.Plants.{definition_of, device_of, text_digest, view_of}
 use Rattle.plant_core.specs.Stops.{StandsForFront}
-use Rattle.plant_core.proofs.AtRest.{front-now}
+use Rattle.plant_core.proofs.AtRest.{front-now, put-front}
+use Rattle.plant_core.proofs.EventByEvent.{answer-untouched, flush-refused}
 use Rattle.plant_core.proofs.driving.meet.Goals as goal
 
 pub returns-in-Fire-clause-stops : goal.returns-in-Fire-clause-stops
@@ -18,3 +19,16 @@ returns-in-Ask-clause-stops g c = λ keeps.
     let p = c.args.plant.now in
     subst (λ t. Leaves (BODY + 1) (StandsForFront (definition_of p) (text_digest p) (size_of (device_of p)) (view_of p)) (device_of p) t) (sym c.ask.ensures.device)
     (front-now (definition_of p) (text_digest p) (view_of p) (device_of p) (p.at_a_stop keeps))
+
+pub returns-in-Trim-clause-stops : goal.returns-in-Trim-clause-stops
+returns-in-Trim-clause-stops g c = λ keeps.
+    let p = c.args.plant.now in
+    put-front (definition_of p) (text_digest p) (view_of p) (device_of p) (device_of c.trim.new.self) (p.at_a_stop keeps) c.trim.ensures.refused (c.trim.ensures.stops keeps)
+
+pub returns-in-Flush-clause-untouched : goal.returns-in-Flush-clause-untouched
+returns-in-Flush-clause-untouched g c = λ none.
+    let p = c.args.plant.now in
+    c.flush.ensures.refused (flush-refused (view_of p) (view_of c.flush.new.self) c.flush.result c.flush.ensures.event none)
+
+pub returns-in-Trim-clause-untouched : goal.returns-in-Trim-clause-untouched
+returns-in-Trim-clause-untouched g c = λ none. answer-untouched c.trim.result (device_of c.args.plant.now) (device_of c.trim.new.self) c.trim.ensures.untouched none

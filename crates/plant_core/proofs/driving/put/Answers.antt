@@ -4,6 +4,7 @@ use Rattle.plant_core.specs.Plants.{definition_of, device_of, text_digest, view_
 use Rattle.plant_core.specs.Snapshots.{with_held}
 use Rattle.plant_core.proofs.AtRest.{front-now, put-front}
 use Rattle.plant_core.proofs.Copies.{held-again}
+use Rattle.plant_core.proofs.EventByEvent.{refused-untouched}
 use Rattle.plant_core.proofs.driving.put.Goals as goal
 
 pub returns-in_default-clause-stops : goal.returns-in_default-clause-stops
@@ -32,3 +33,6 @@ returns-in-Err-clause-hands g c =
     ap (λ (n : ℕ). set c.take.new.self n (Some saved)) c.in-Some.ensures.own ∙
     ap (λ (held : List (Option SavedFields)). set held atom (Some saved)) c.in-Some.ensures.left ∙
     held-again hands atom saved (sym c.in-Some.ensures.found)
+
+pub returns-in-Err-clause-untouched : goal.returns-in-Err-clause-untouched
+returns-in-Err-clause-untouched g c = λ none. refused-untouched c.in-Err.field-0.refused (device_of c.args.plant.now) (device_of c.put.new.self) c.in-Err.ensures.untouched none

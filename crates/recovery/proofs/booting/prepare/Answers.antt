@@ -1,4 +1,4 @@
-use Rattle.std.proofs.Common.{◌≡◌, ◌≤◌, List, ℕ, length, true, false, refl, sym, ◌∙◌, ap, subst, rules}
+use Rattle.std.proofs.Common.{◌≡◌, ◌≤◌, vec_capacity, List, ℕ, length, true, false, refl, sym, ◌∙◌, ap, subst, rules}
 use Rattle.std.proofs.lemmas.Result.{err_from_is_err_and}
 use Rattle.disk_model.specs.Cells.{seen_cells}
 use Rattle.disk_model.specs.Counting.{up_to_one}
@@ -14,8 +14,8 @@ use Rattle.plant_image.specs.Contents.{ring_in}
 use Rattle.plant_image.specs.Reading.{contents_in}
 use Rattle.plant_image.specs.declared.standing.Standing.{Standing}
 use Rattle.plant_core.specs.Snapshots.{SnapshotFields}
-use Rattle.trimmer.specs.Covered.{saved_count}
-use Rattle.recovery.proofs.Prepared.{counts_one, counts_two, inside_read, last_read, marks_read, none_read, rests_read, shows_read, still_old, stops_read, within_read}
+use Rattle.trimmer.specs.Covered.{MarkFields, saved_count}
+use Rattle.recovery.proofs.Prepared.{counts_one, counts_two, inside_read, known_many, last_read, marked_read, marks_read, none_read, rests_read, shows_read, still_old, stops_read, within_read}
 use Rattle.recovery.proofs.booting.prepare.Goals as goal
 
 pub returns-in_err-memory-clause-stops : goal.returns-in_err-memory-clause-stops
@@ -68,6 +68,7 @@ returns-clause-prepared g c =
     let j : Ring = c.clean.new.self in
     let kept : j ≡ first = c.clean.ensures.journal in
     let journal : j ≡ ring_in (length plant.atoms) (contents_in standing.held) = kept ∙ made.journal in
+    let marks : List MarkFields = c.in_ok-memory.memory.marks.items in
     let known : SnapshotFields = c.in_ok-memory.memory.snapshots in
     let long : length standing.counts ≡ MAX_ATOMS = search rules in
     record {
@@ -77,8 +78,10 @@ returns-clause-prepared g c =
       room = record { tail = made.room.tail; bodies = made.room.bodies; room_of_tail = made.room.room_of_tail; room_of_bodies = made.room.room_of_bodies };
       atoms = ap (λ (r : Ring). r.atoms) journal;
       inside = inside_read plant digest mid standing was j journal new c.clean.ensures.counts.size;
-      marks = marks_read plant digest mid standing was j journal known made.snapshots;
-      marks_within = λ atom. subst (λ (ns : List ℕ). saved_count known.saved atom ≤ count_of ns atom) (sym made.counts) (within_read plant digest mid standing was j journal known made.snapshots atom);
+      marks = marks_read plant digest mid standing was j journal marks made.marks;
+      room_of_marks = subst (λ (r : Ring). r.ring ≤ vec_capacity c.in_ok-memory.memory.marks) (sym kept) made.room_of_marks;
+      known = known_many plant digest mid standing was j journal known made.snapshots;
+      known_within = λ atom. subst (λ (ns : List ℕ). saved_count known.saved atom ≤ count_of ns atom) (sym made.counts) (within_read plant digest mid standing was j journal known made.snapshots atom);
       none_asked = none_read plant digest mid standing was j journal known made.snapshots;
       rests = λ holds.
           let still : mid.keeps ≡ true = sym c.clean.ensures.counts.keeps ∙ holds in
@@ -86,5 +89,9 @@ returns-clause-prepared g c =
           rests_read plant digest mid standing was j journal long new _ _ known still c.clean.ensures.counts.size made.acked made.counts made.snapshots
           (subst (λ r. IsReady r new) (sym kept) (c.in_ok-clean.ensures.cleaned still))
           (subst (λ r. HasCleaned r (seen_cells 512 mid) (seen_cells 512 new)) (sym kept) cleaned);
-      booted = λ keeps. shows_read plant digest mid standing was j journal old _ _ known (c.in_ok-standing.ensures.counts.keeps ∙ keeps) c.in_ok-standing.ensures.counts.size (c.judge.ensures.same keeps) made.acked made.counts made.snapshots;
+      marked = λ holds.
+          let still : mid.keeps ≡ true = sym c.clean.ensures.counts.keeps ∙ holds in
+          let cleaned : HasCleaned first (seen_cells 512 mid) (seen_cells 512 new) = seen_after 512 (HasCleaned first (seen_cells 512 mid)) mid new (c.clean.ensures.leaves still) in
+          marked_read plant digest mid standing was j journal long new marks still made.marks (subst (λ r. HasCleaned r (seen_cells 512 mid) (seen_cells 512 new)) (sym kept) cleaned);
+      booted = λ keeps. shows_read plant digest mid standing was j journal old _ _ marks known (c.in_ok-standing.ensures.counts.keeps ∙ keeps) c.in_ok-standing.ensures.counts.size (c.judge.ensures.same keeps) made.acked made.counts made.marks made.snapshots;
     }

@@ -1,5 +1,5 @@
-use Rattle.std.proofs.Common.{◌≡◌, Bool, if◌then◌else◌, ◌+◌, ℕ, sym, ◌∙◌, ap, subst, length, arith, true, false, None, refl}
-use Rattle.std.proofs.lemmas.List.{length-map}
+use Rattle.std.proofs.Common.{◌≡◌, Bool, if◌then◌else◌, ◌+◌, ◌-◌, ◌≤◌, vec_capacity, ℕ, sym, ◌∙◌, ap, subst, length, arith, true, false, None, refl}
+use Rattle.std.proofs.lemmas.List.{length-map, take_all}
 use Rattle.disk_model.specs.Cells.{seen_cells}
 use Rattle.disk_model.specs.DiskState.{size_of}
 use Rattle.disk_model.specs.Moments.{leaves_now}
@@ -7,6 +7,8 @@ use Rattle.disk_model.specs.declared.cells.TheConstants.{BODY}
 use Rattle.gated_journal.specs.Live.{AreRecords}
 use Rattle.gated_journal.specs.Rings.{appended}
 use Rattle.gated_journal.specs.Stops.{HasAppendedAll}
+use Rattle.gated_journal.specs.declared.ring.Ring.{Ring}
+use Rattle.plant_image.specs.Contents.{Contents, contents_of}
 use Rattle.record_replay.specs.Records.{records_of}
 use Rattle.record_replay.proofs.OnRuns.{length-records}
 use Rattle.step_core.specs.Chosen.{choice_of}
@@ -15,7 +17,8 @@ use Rattle.step_core.specs.Runs.{fold}
 use Rattle.std.specs.Result.{is_ok}
 use Rattle.step_core.specs.Running.{plant_in, states_in, system_in}
 use Rattle.step_core.specs.System.{digest_of}
-use Rattle.plant_core.specs.Kept.{AreOnTheWay, FitsTogether, IsAtRest, IsJournalOf}
+use Rattle.plant_core.specs.Kept.{AreMarked, AreOnTheWay, FitsTogether, IsAtRest, IsJournalOf}
+use Rattle.plant_core.specs.Marks.{marks_of}
 use Rattle.plant_core.specs.Plants.{view_of}
 use Rattle.plant_core.specs.Stops.{StandsForFront}
 use Rattle.plant_core.specs.View.{fired_number, view_by, with_all_acked}
@@ -23,6 +26,7 @@ use Rattle.plant_core.proofs.Answered.{err-where, ok-has, ok-where}
 use Rattle.plant_core.proofs.Firing.{bodies-many}
 use Rattle.plant_core.proofs.Flushing.{all-acked, are-records, front-runs, journal-of-failed, journal-of-flushed, noted-fits, view-of-flushed}
 use Rattle.plant_core.proofs.Copies.{ways-flushed}
+use Rattle.plant_core.proofs.Marking.{all-marked}
 use Rattle.plant_core.proofs.AtRest.{again-reads, front-now, front-of, rest-again, rest-front, stops-stand}
 use Rattle.plant_core.proofs.plant.Plant.flush.Goals as goal
 
@@ -54,7 +58,7 @@ invariant_of-self-2 g c =
     let states = c.copy_states.ensures ∙ c.states.ensures.states in
     let tail_long : length v.tail ≡ length self.tail.items = length-map self.tail.items choice_of in
     let summed : self.number + c.len.result ≡ fired_number v = omega (arith, c.len.ensures, tail_long) in
-    let view = view-of-flushed c.copy_states.new.states (states_in self.stepper) self.counts (self.number + c.len.result) (fired_number v) c.clear.new.self.items self.journal c.append_run.new.self (length v.tail) self.snapshots false self.broken states summed c.clear.ensures.items journal (sym c.if-self.false) in
+    let view = view-of-flushed c.copy_states.new.states (states_in self.stepper) self.counts (self.number + c.len.result) (fired_number v) c.clear.new.self.items self.journal c.append_run.new.self (length v.tail) self.marks.items self.snapshots false self.broken states summed c.clear.ensures.items journal (sym c.if-self.false) in
     let are : AreRecords (self.journal.last + 1) c.deref.result.now news = subst (λ bs. AreRecords (self.journal.last + 1) bs news) (sym c.deref.ensures.value) (are-records plant v self.bodies.items self.fits_together (self.journal.last + 1) (ap (λ (n : ℕ). n + 1) self.of_journal.last)) in
     let after : ℕ = self.number + c.len.result in
     let rests : c.append_run.new.cells.keeps ≡ true → IsAtRest plant digest c.append_run.new.self c.copy_states.new.states self.counts after self.snapshots.saved c.append_run.new.cells =
@@ -72,8 +76,19 @@ invariant_of-self-2 g c =
           (subst (λ bs. FitsTogether plant (with_all_acked v) bs) (sym c.clear-2.ensures.items) (all-acked plant v self.bodies.items self.fits_together self.stepper.of_plant self.stepper.fits));
       room_of_tail = omega (arith, self.room_of_tail, c.clear.ensures.capacity);
       room_of_bodies = omega (arith, self.room_of_bodies, c.clear-2.ensures.capacity);
+      room_of_marks = subst (λ (r : Ring). r.ring ≤ vec_capacity self.marks) (sym journal) self.room_of_marks;
       of_journal = subst (λ (n : ℕ). IsJournalOf plant n c.append_run.new.self c.append_run.new.cells) (sym summed) (journal-of-flushed plant self.number (length v.tail) self.journal c.append_run.new.self self.cells c.append_run.new.cells journal c.append_run.ensures.counts.size self.of_journal);
       at_rest = λ keeps whole. rests keeps;
+      marked = λ keeps whole.
+          let kept : self.cells.keeps ≡ true = sym c.append_run.ensures.counts.keeps ∙ keeps in
+          let rest = self.at_rest kept c.if-self.false in
+          let all : HasAppendedAll self.journal news self.cells c.append_run.new.cells = ok-has c.append_run.result ok (c.append_run.ensures.appended kept news are) in
+          let held : Contents = contents_of (length plant.atoms) (seen_cells (BODY + 1) self.cells) in
+          subst (λ w. AreMarked plant w (seen_cells (BODY + 1) c.append_run.new.cells)) (sym view)
+          (take_all (fired_number v + 1 - v.base) v.marks (omega (arith, self.fits_together.marks_many)) ∙
+          all-marked (v.number + 1 - v.base) v.marks held.records news (self.marked kept c.if-self.false) self.fits_together.marks_of_tail ∙
+          sym (ap (λ (d : Contents). marks_of d.records)
+          (again-reads plant digest self.journal v.acked v.acked_counts v.number v.saved self.cells rest valid v.tail (front-runs plant v self.bodies.items self.fits_together) c.append_run.new.cells all c.append_run.ensures.counts.size)));
       on_the_way = λ keeps whole.
           let kept : self.cells.keeps ≡ true = sym c.append_run.ensures.counts.keeps ∙ keeps in
           let rest = self.at_rest kept c.if-self.false in
@@ -82,7 +97,7 @@ invariant_of-self-2 g c =
           (ways-flushed plant v self.bodies.items self.fits_together (seen_cells (BODY + 1) self.cells) rest.leads (self.on_the_way kept c.if-self.false) (seen_cells (BODY + 1) c.append_run.new.cells)
           (again-reads plant digest self.journal v.acked v.acked_counts v.number v.saved self.cells rest valid v.tail (front-runs plant v self.bodies.items self.fits_together) c.append_run.new.cells all c.append_run.ensures.counts.size));
       at_a_stop = λ keeps image may. rest-front plant digest c.append_run.new.self c.copy_states.new.states self.counts after self.snapshots.saved c.append_run.new.cells (rests keeps)
-          (view_by c.copy_states.new.states self.counts after c.clear.new.self.items (states_in self.stepper) self.counts c.append_run.new.self self.snapshots false) refl refl image may;
+          (view_by c.copy_states.new.states self.counts after c.clear.new.self.items (states_in self.stepper) self.counts c.append_run.new.self self.marks.items self.snapshots false) refl refl image may;
     }
 
 pub invariant_of-self-then-is_err-clause-of_journal : goal.invariant_of-self-then-is_err-clause-of_journal
@@ -98,7 +113,7 @@ invariant_of-self-then-is_err-clause-fits_together g c =
     let plant = plant_in self.stepper in
     let failed : is_ok c.append_run.result ≡ false = err-where c.append_run.result (sym c.is_err.ensures.value ∙ c.if-is_err.true) in
     let journal = c.append_run.ensures.journal ∙ ap (λ (b : Bool). if b then appended (length c.deref.result.now) self.journal else self.journal) failed in
-    subst (λ r. FitsTogether plant (view_by self.acked self.acked_counts self.number self.tail.items (states_in self.stepper) self.counts r self.snapshots true) self.bodies.items) (sym journal)
+    subst (λ r. FitsTogether plant (view_by self.acked self.acked_counts self.number self.tail.items (states_in self.stepper) self.counts r self.marks.items self.snapshots true) self.bodies.items) (sym journal)
     (noted-fits plant (view_of self) self.bodies.items self.snapshots.saved self.snapshots.kept true self.fits_together.snapshots self.fits_together)
 
 -- whatever a stop leaves where the device failed stands for a front of the tail
@@ -114,7 +129,7 @@ invariant_of-self-then-is_err-clause-at_a_stop g c = λ keeps image may.
     let news = records_of plant v.acked v.acked_counts v.number v.tail in
     let are : AreRecords (self.journal.last + 1) c.deref.result.now news = subst (λ bs. AreRecords (self.journal.last + 1) bs news) (sym c.deref.ensures.value) (are-records plant v self.bodies.items self.fits_together (self.journal.last + 1) (ap (λ (n : ℕ). n + 1) self.of_journal.last)) in
     let stops = stops-stand plant digest self.journal v.acked v.acked_counts v.number v.saved self.cells (self.at_rest kept c.if-self.false) valid v.tail (front-runs plant v self.bodies.items self.fits_together) new (c.append_run.ensures.leaves kept news are) in
-    front-of plant digest (size_of new) (view_by self.acked self.acked_counts self.number self.tail.items (states_in self.stepper) self.counts c.append_run.new.self self.snapshots true) image
+    front-of plant digest (size_of new) (view_by self.acked self.acked_counts self.number self.tail.items (states_in self.stepper) self.counts c.append_run.new.self self.marks.items self.snapshots true) image
     (subst (λ (bytes : ℕ). StandsForFront plant digest bytes v image) (sym c.append_run.ensures.counts.size)
     (leaves_now (BODY + 1) (StandsForFront plant digest (size_of self.cells) v) self.cells new stops image may))
 

@@ -1,5 +1,6 @@
-use Rattle.std.proofs.Common.{◌≡◌, ◌+◌, ◌≤◌, ℕ, sym, ◌∙◌, ap, subst, length, arith, true, None, Some}
+use Rattle.std.proofs.Common.{◌≡◌, ◌+◌, ◌-◌, ◌≤◌, ℕ, sym, ◌∙◌, ap, subst, [], ◌∷◌, ◌++◌, length, take, arith, true, None, Some}
 use Rattle.std.specs.List.{list_all}
+use Rattle.std.proofs.lemmas.List.{take-append-le}
 use Rattle.petri_atom.specs.Definition.{is_well_formed}
 use Rattle.record_codec.specs.Fired.{FiredFields, IsFired, fired_in}
 use Rattle.record_replay.specs.Records.{record_by, record_told}
@@ -15,7 +16,8 @@ use Rattle.step_core.specs.Running.{plant_in, states_in, system_in}
 use Rattle.step_core.specs.System.{digest_of, plant_of}
 use Rattle.step_core.specs.declared.limits.TheConstants.{MAX_ATOMS}
 use Rattle.step_core.specs.declared.system.System.{System}
-use Rattle.plant_core.specs.Kept.{AreOnTheWay, FitsTogether, IsAtRest, IsFrontOf, IsJournalOf}
+use Rattle.plant_core.specs.Kept.{AreMarked, AreOnTheWay, FitsTogether, IsAtRest, IsFrontOf, IsJournalOf}
+use Rattle.plant_core.specs.Marks.{mark_of}
 use Rattle.plant_core.specs.Plants.{view_of}
 use Rattle.plant_core.specs.View.{fired_number, view_by, with_fired}
 use Rattle.plant_core.proofs.AtRest.{front-longer}
@@ -23,8 +25,8 @@ use Rattle.plant_core.proofs.Copies.{ways-fired}
 use Rattle.plant_core.proofs.Firing.{bodies-many, count-so-far, next-in-range, one-more, told-many, view-of-fired}
 use Rattle.plant_core.proofs.plant.Plant.go_on.Goals as goal
 
-pub body_of-body-requires : goal.body_of-body-requires
-body_of-body-requires g c =
+pub record_of-record-requires : goal.record_of-record-requires
+record_of-record-requires g c =
     let self = c.args.self.now in
     let plant = plant_in self.stepper in
     let v = view_of self in
@@ -34,8 +36,10 @@ body_of-body-requires g c =
     let formed : list_all is_well_formed plant.atoms ≡ true = subst (λ (p : PlantDefinition). list_all is_well_formed p.atoms ≡ true) c.system.ensures.plant c.keeps_its_rules.ensures.atoms in
     let range : IsInRange plant choice = c.an_allowed_choice_is_in_range.ensures plant v.present choice valid c.requires.allowed in
     let told = c.a_told_record_is_the_record_of_its_choice.ensures plant v.present v.counts (fired_number v + 1) choice rows (told-many (transfer plant v.present choice) choice.moves rows c.fire_telling.ensures.told) c.fire_telling.ensures.told in
-    subst (λ (n : ℕ). IsFired (record_told (n + 1) choice rows self.counts)) (sym c.fired-number.ensures)
-    (subst IsFired (sym told) (next-in-range plant v self.bodies.items self.fits_together choice c.requires.allowed valid formed c.requires.last))
+    record {
+      in_range = subst (λ (n : ℕ). IsFired (record_told (n + 1) choice rows self.counts)) (sym c.fired-number.ensures)
+          (subst IsFired (sym told) (next-in-range plant v self.bodies.items self.fits_together choice c.requires.allowed valid formed c.requires.last));
+    }
 
 pub count_participants-requires : goal.count_participants-requires
 count_participants-requires g c =
@@ -57,6 +61,12 @@ push_reserved-requires-2 g c =
     let self = c.args.self.now in
     omega (arith, bodies-many (plant_in self.stepper) (view_of self) self.bodies.items self.fits_together, self.room_of_bodies, c.requires.short)
 
+-- there is room for one mark more
+pub push_reserved-requires-3 : goal.push_reserved-requires-3
+push_reserved-requires-3 g c =
+    let self = c.args.self.now in
+    omega (arith, self.fits_together.marks_many, self.room_of_marks, c.requires.room)
+
 pub invariant_of-self : goal.invariant_of-self
 invariant_of-self g c =
     let self = c.args.self.now in
@@ -66,22 +76,45 @@ invariant_of-self g c =
     let rows = c.fire_telling.new.told in
     let valid : fault_of plant ≡ None = subst (λ p. fault_of p ≡ None) c.system.ensures.plant c.keeps_its_rules.ensures.plant in
     let told = c.a_told_record_is_the_record_of_its_choice.ensures plant v.present v.counts (fired_number v + 1) choice rows (told-many (transfer plant v.present choice) choice.moves rows c.fire_telling.ensures.told) c.fire_telling.ensures.told in
-    let held : fired_in c.body_of-body.result ≡ Some (record_by plant v.present v.counts (fired_number v + 1) choice) =
-    c.body_of-body.ensures ∙ ap (λ (n : ℕ). Some (record_told (n + 1) choice rows self.counts)) c.fired-number.ensures ∙ ap (λ (r : FiredFields). Some r) told in
-    let more = one-more plant v self.bodies.items self.fits_together choice c.requires.allowed c.body_of-body.result held c.requires.short c.requires.room c.requires.last in
-    let view = view-of-fired plant self.acked v.present (states_in c.fire_telling.new.self) self.acked_counts self.counts c.count_participants.new.counts self.number self.tail.items c.push_reserved.new.self.items c.args.choice self.journal self.snapshots self.broken c.push_reserved.ensures.items c.fire_telling.ensures.next c.count_participants.ensures in
+    let made : c.record_of-record.result ≡ record_by plant v.present v.counts (fired_number v + 1) choice =
+    c.record_of-record.ensures ∙ ap (λ (n : ℕ). record_told (n + 1) choice rows self.counts) c.fired-number.ensures ∙ told in
+    let held : fired_in c.to_body.result ≡ Some (record_by plant v.present v.counts (fired_number v + 1) choice) = c.to_body.ensures.reads_back ∙ ap (λ (r : FiredFields). Some r) made in
+    let marked : c.push_reserved-3.new.self.items ≡ self.marks.items ++ mark_of (record_by plant v.present v.counts (fired_number v + 1) choice) ∷ [] =
+    c.push_reserved-3.ensures.items ∙ ap (λ m. self.marks.items ++ m ∷ []) (c.mark_of.ensures ∙ ap mark_of made) in
+    let more = one-more plant v self.bodies.items self.fits_together choice c.requires.allowed c.to_body.result held c.requires.short c.requires.room c.requires.last in
+    let view = view-of-fired plant self.acked v.present (states_in c.fire_telling.new.self) self.acked_counts self.counts c.count_participants.new.counts self.number self.tail.items c.push_reserved.new.self.items c.args.choice self.journal self.marks.items c.push_reserved-3.new.self.items self.snapshots self.broken c.push_reserved.ensures.items c.fire_telling.ensures.next c.count_participants.ensures marked in
     record {
-      fits_together = subst (λ p. FitsTogether p (view_by self.acked self.acked_counts self.number c.push_reserved.new.self.items (states_in c.fire_telling.new.self) c.count_participants.new.counts self.journal self.snapshots self.broken) c.push_reserved-2.new.self.items) (sym c.fire_telling.ensures.plant)
+      fits_together = subst (λ p. FitsTogether p (view_by self.acked self.acked_counts self.number c.push_reserved.new.self.items (states_in c.fire_telling.new.self) c.count_participants.new.counts self.journal c.push_reserved-3.new.self.items self.snapshots self.broken) c.push_reserved-2.new.self.items) (sym c.fire_telling.ensures.plant)
           (subst (λ w. FitsTogether plant w c.push_reserved-2.new.self.items) (sym view)
           (subst (λ bs. FitsTogether plant (with_fired plant choice v) bs) (sym c.push_reserved-2.ensures.items) more));
       room_of_tail = omega (arith, self.room_of_tail, c.push_reserved.ensures.capacity);
       room_of_bodies = omega (arith, self.room_of_bodies, c.push_reserved-2.ensures.capacity);
+      room_of_marks = omega (arith, self.room_of_marks, c.push_reserved-3.ensures.capacity);
       of_journal = subst (λ p. IsJournalOf p self.number self.journal self.cells) (sym c.fire_telling.ensures.plant) self.of_journal;
       at_rest = λ keeps whole. subst (λ (s : System). IsAtRest (plant_of s) (digest_of s) self.journal self.acked self.acked_counts self.number self.snapshots.saved self.cells) (sym c.fire_telling.ensures.system) (self.at_rest keeps whole);
-      on_the_way = λ keeps whole. subst (λ p. AreOnTheWay p (view_by self.acked self.acked_counts self.number c.push_reserved.new.self.items (states_in c.fire_telling.new.self) c.count_participants.new.counts self.journal self.snapshots self.broken) (seen_cells (BODY + 1) self.cells)) (sym c.fire_telling.ensures.plant)
+      marked = λ keeps whole. subst (λ p. AreMarked p (view_by self.acked self.acked_counts self.number c.push_reserved.new.self.items (states_in c.fire_telling.new.self) c.count_participants.new.counts self.journal c.push_reserved-3.new.self.items self.snapshots self.broken) (seen_cells (BODY + 1) self.cells)) (sym c.fire_telling.ensures.plant)
+          (ap (take (self.number + 1 - self.journal.base)) marked ∙
+          take-append-le (self.number + 1 - self.journal.base) self.marks.items (mark_of (record_by plant v.present v.counts (fired_number v + 1) choice) ∷ []) (omega (arith, self.fits_together.marks_many)) ∙
+          self.marked keeps whole);
+      on_the_way = λ keeps whole. subst (λ p. AreOnTheWay p (view_by self.acked self.acked_counts self.number c.push_reserved.new.self.items (states_in c.fire_telling.new.self) c.count_participants.new.counts self.journal c.push_reserved-3.new.self.items self.snapshots self.broken) (seen_cells (BODY + 1) self.cells)) (sym c.fire_telling.ensures.plant)
           (subst (λ w. AreOnTheWay plant w (seen_cells (BODY + 1) self.cells)) (sym view)
           (ways-fired plant v self.bodies.items self.fits_together (seen_cells (BODY + 1) self.cells) (self.at_rest keeps whole).leads (self.on_the_way keeps whole) choice));
-      at_a_stop = λ keeps image may. subst (λ (s : System). IsFrontOf (plant_of s) (digest_of s) (size_of self.cells) (view_by self.acked self.acked_counts self.number c.push_reserved.new.self.items (states_in c.fire_telling.new.self) c.count_participants.new.counts self.journal self.snapshots self.broken) image) (sym c.fire_telling.ensures.system)
+      at_a_stop = λ keeps image may. subst (λ (s : System). IsFrontOf (plant_of s) (digest_of s) (size_of self.cells) (view_by self.acked self.acked_counts self.number c.push_reserved.new.self.items (states_in c.fire_telling.new.self) c.count_participants.new.counts self.journal c.push_reserved-3.new.self.items self.snapshots self.broken) image) (sym c.fire_telling.ensures.system)
           (subst (λ w. IsFrontOf plant (digest_of (system_in self.stepper)) (size_of self.cells) w image) (sym view)
           (front-longer plant (digest_of (system_in self.stepper)) (size_of self.cells) v choice image (self.at_a_stop keeps image may)));
     }
+
+pub returns-clause-view : goal.returns-clause-view
+returns-clause-view g c =
+    let self = c.args.self.now in
+    let plant = plant_in self.stepper in
+    let v = view_of self in
+    let choice = choice_of c.args.choice in
+    let rows = c.fire_telling.new.told in
+    let valid : fault_of plant ≡ None = subst (λ p. fault_of p ≡ None) c.system.ensures.plant c.keeps_its_rules.ensures.plant in
+    let told = c.a_told_record_is_the_record_of_its_choice.ensures plant v.present v.counts (fired_number v + 1) choice rows (told-many (transfer plant v.present choice) choice.moves rows c.fire_telling.ensures.told) c.fire_telling.ensures.told in
+    let made : c.record_of-record.result ≡ record_by plant v.present v.counts (fired_number v + 1) choice =
+    c.record_of-record.ensures ∙ ap (λ (n : ℕ). record_told (n + 1) choice rows self.counts) c.fired-number.ensures ∙ told in
+    let marked : c.push_reserved-3.new.self.items ≡ self.marks.items ++ mark_of (record_by plant v.present v.counts (fired_number v + 1) choice) ∷ [] =
+    c.push_reserved-3.ensures.items ∙ ap (λ m. self.marks.items ++ m ∷ []) (c.mark_of.ensures ∙ ap mark_of made) in
+    view-of-fired plant self.acked v.present (states_in c.fire_telling.new.self) self.acked_counts self.counts c.count_participants.new.counts self.number self.tail.items c.push_reserved.new.self.items c.args.choice self.journal self.marks.items c.push_reserved-3.new.self.items self.snapshots self.broken c.push_reserved.ensures.items c.fire_telling.ensures.next c.count_participants.ensures marked

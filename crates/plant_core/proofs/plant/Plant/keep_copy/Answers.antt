@@ -23,13 +23,15 @@ invariant_of-self g c =
     let is : copy_in v c.args.atom ≡ Some saved = c.copy_of-copy.ensures in
     let kept : c.keep.new.self ≡ with_copy saved self.snapshots = c.keep.ensures in
     record {
-      fits_together = subst (λ (s : SnapshotFields). FitsTogether plant (view_by self.acked self.acked_counts self.number self.tail.items (states_in self.stepper) self.counts self.journal s self.broken) self.bodies.items) (sym kept)
+      fits_together = subst (λ (s : SnapshotFields). FitsTogether plant (view_by self.acked self.acked_counts self.number self.tail.items (states_in self.stepper) self.counts self.journal self.marks.items s self.broken) self.bodies.items) (sym kept)
           (asked-fits plant v self.bodies.items self.fits_together c.args.atom saved is self.stepper.fits c.requires.new);
       room_of_tail = self.room_of_tail;
       room_of_bodies = self.room_of_bodies;
+      room_of_marks = self.room_of_marks;
       of_journal = self.of_journal;
       at_rest = λ keeps whole. subst (λ (s : SnapshotFields). IsAtRest plant digest self.journal self.acked self.acked_counts self.number s.saved self.cells) (sym kept) (self.at_rest keeps whole);
-      on_the_way = λ keeps whole. subst (λ (s : SnapshotFields). AreOnTheWay plant (view_by self.acked self.acked_counts self.number self.tail.items (states_in self.stepper) self.counts self.journal s self.broken) (seen_cells (BODY + 1) self.cells)) (sym kept)
+      marked = self.marked;
+      on_the_way = λ keeps whole. subst (λ (s : SnapshotFields). AreOnTheWay plant (view_by self.acked self.acked_counts self.number self.tail.items (states_in self.stepper) self.counts self.journal self.marks.items s self.broken) (seen_cells (BODY + 1) self.cells)) (sym kept)
           (ways-asked plant v self.bodies.items self.fits_together (seen_cells (BODY + 1) self.cells) (self.at_rest keeps whole).leads (self.on_the_way keeps whole) c.args.atom saved is);
       at_a_stop = λ keeps image may.
           let front : IsFrontOf plant digest (size_of self.cells) v image = self.at_a_stop keeps image may in

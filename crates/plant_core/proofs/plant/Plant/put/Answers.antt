@@ -11,7 +11,7 @@ use Rattle.snapshot_writer.specs.Storing.{IsStored}
 use Rattle.step_core.specs.Running.{plant_in, states_in, system_in}
 use Rattle.step_core.specs.System.{digest_of}
 use Rattle.plant_core.specs.Events.{IsTaken}
-use Rattle.plant_core.specs.Kept.{AreOnTheWay, FitsTogether, IsAtRest}
+use Rattle.plant_core.specs.Kept.{AreMarked, AreOnTheWay, FitsTogether, IsAtRest}
 use Rattle.plant_core.specs.Plants.{view_of}
 use Rattle.plant_core.specs.Snapshots.{SnapshotFields, with_slot}
 use Rattle.plant_core.specs.Stops.{StandsForAcked}
@@ -20,7 +20,7 @@ use Rattle.plant_core.proofs.Answered.{ok-has, ok-where}
 use Rattle.plant_core.proofs.AtRest.{acked-front, front-of, rest-front, stands-now}
 use Rattle.plant_core.proofs.EventByEvent.{not-true}
 use Rattle.plant_core.proofs.Flushing.{journal-of-failed, noted-fits}
-use Rattle.plant_core.proofs.Taken.{taken-fits, taken-rest, taken-stops, taken-ways}
+use Rattle.plant_core.proofs.Taken.{taken-fits, taken-marked, taken-rest, taken-stops, taken-ways}
 use Rattle.plant_core.proofs.plant.Plant.put.Goals as goal
 
 -- refused, it makes no call of the device
@@ -45,14 +45,16 @@ invariant_of-self g c =
       fits_together = noted-fits plant v self.bodies.items self.snapshots.saved self.snapshots.kept true self.fits_together.snapshots self.fits_together;
       room_of_tail = self.room_of_tail;
       room_of_bodies = self.room_of_bodies;
+      room_of_marks = self.room_of_marks;
       of_journal = journal-of-failed plant self.number self.journal self.journal self.cells new refl c.save.ensures.counts.size self.of_journal;
       at_rest = λ keeps whole. absurd (false≢true (sym whole));
+      marked = λ keeps whole. absurd (false≢true (sym whole));
       on_the_way = λ keeps whole. absurd (false≢true (sym whole));
       at_a_stop = λ keeps image may.
           let kept : self.cells.keeps ≡ true = sym c.save.ensures.counts.keeps ∙ keeps in
           let whole : self.broken ≡ false = not-true self.broken taken.whole in
           let stops = taken-stops plant v self.bodies.items self.fits_together c.args.encoded taken digest self.journal self.cells (self.at_rest kept whole) (self.on_the_way kept whole) new (c.save.ensures.leaves kept) in
-          front-of plant digest (size_of new) (view_by self.acked self.acked_counts self.number self.tail.items (states_in self.stepper) self.counts self.journal self.snapshots true) image
+          front-of plant digest (size_of new) (view_by self.acked self.acked_counts self.number self.tail.items (states_in self.stepper) self.counts self.journal self.marks.items self.snapshots true) image
           (acked-front plant digest (size_of new) v image
           (subst (λ (bytes : ℕ). StandsForAcked plant digest bytes v image) (sym c.save.ensures.counts.size)
           (leaves_now (BODY + 1) (StandsForAcked plant digest (size_of self.cells) v) self.cells new stops image may)));
@@ -84,9 +86,9 @@ invariant_of-self-2 g c =
     let taken : IsTaken v saved = subst (IsTaken v) c.parcel.ensures c.in_default.ensures in
     let whole : self.broken ≡ false = not-true self.broken taken.whole in
     let noted : c.stored.new.self ≡ with_slot saved self.snapshots = c.stored.ensures ∙ ap (λ (s : SavedFields). with_slot s self.snapshots) c.into_parcel-parcel.ensures in
-    let view : view_by self.acked self.acked_counts self.number self.tail.items (states_in self.stepper) self.counts self.journal c.stored.new.self false ≡ with_stored saved v =
-    ap (λ (s : SnapshotFields). view_by self.acked self.acked_counts self.number self.tail.items (states_in self.stepper) self.counts self.journal s false) noted ∙
-    ap (λ (b : Bool). view_by self.acked self.acked_counts self.number self.tail.items (states_in self.stepper) self.counts self.journal (with_slot saved self.snapshots) b) (sym whole) in
+    let view : view_by self.acked self.acked_counts self.number self.tail.items (states_in self.stepper) self.counts self.journal self.marks.items c.stored.new.self false ≡ with_stored saved v =
+    ap (λ (s : SnapshotFields). view_by self.acked self.acked_counts self.number self.tail.items (states_in self.stepper) self.counts self.journal self.marks.items s false) noted ∙
+    ap (λ (b : Bool). view_by self.acked self.acked_counts self.number self.tail.items (states_in self.stepper) self.counts self.journal self.marks.items (with_slot saved self.snapshots) b) (sym whole) in
     let ok : is_ok c.save.result ≡ true = ok-where c.save.result (sym c.is_err.ensures.value ∙ c.if-is_err.false) in
     let done : self.cells.keeps ≡ true → IsStored (other_slot saved.atom (seen_cells (BODY + 1) self.cells)) saved self.cells new = λ kept. ok-has c.save.result ok (c.save.ensures.stored kept) in
     let rests : new.keeps ≡ true → IsAtRest plant digest self.journal self.acked self.acked_counts self.number c.stored.new.self.saved new = λ keeps.
@@ -97,12 +99,22 @@ invariant_of-self-2 g c =
       fits_together = subst (λ w. FitsTogether plant w self.bodies.items) (sym view) (taken-fits plant v self.bodies.items self.fits_together saved taken);
       room_of_tail = self.room_of_tail;
       room_of_bodies = self.room_of_bodies;
+      room_of_marks = self.room_of_marks;
       of_journal = journal-of-failed plant self.number self.journal self.journal self.cells new refl c.save.ensures.counts.size self.of_journal;
       at_rest = λ keeps unbroken. rests keeps;
+      marked = λ keeps unbroken.
+          let kept : self.cells.keeps ≡ true = sym c.save.ensures.counts.keeps ∙ keeps in
+          subst (λ w. AreMarked plant w (seen_cells (BODY + 1) new)) (sym view)
+          (taken-marked plant v self.bodies.items self.fits_together saved taken digest self.journal self.cells (self.at_rest kept whole) (self.on_the_way kept whole) new (done kept) (self.marked kept whole));
       on_the_way = λ keeps unbroken.
           let kept : self.cells.keeps ≡ true = sym c.save.ensures.counts.keeps ∙ keeps in
           subst (λ w. AreOnTheWay plant w (seen_cells (BODY + 1) new)) (sym view)
           (taken-ways plant v self.bodies.items self.fits_together saved taken digest self.journal self.cells (self.at_rest kept whole) (self.on_the_way kept whole) new (done kept));
       at_a_stop = λ keeps image may. rest-front plant digest self.journal self.acked self.acked_counts self.number c.stored.new.self.saved new (rests keeps)
-          (view_by self.acked self.acked_counts self.number self.tail.items (states_in self.stepper) self.counts self.journal c.stored.new.self false) refl refl image may;
+          (view_by self.acked self.acked_counts self.number self.tail.items (states_in self.stepper) self.counts self.journal self.marks.items c.stored.new.self false) refl refl image may;
     }
+
+pub returns-clause-stored : goal.returns-clause-stored
+returns-clause-stored g c = λ keeps.
+    let ok : is_ok c.save.result ≡ true = ok-where c.save.result (sym c.is_err.ensures.value ∙ c.if-is_err.false) in
+    ok-has c.save.result ok (c.save.ensures.stored keeps)
