@@ -1,3 +1,4 @@
 pub mod Opened
 pub mod FileDisk
 pub mod Messages
+pub mod Faults

@@ -1,7 +1,8 @@
 //! How a file becomes a device.
-ghost use Rattle.std.specs.Prelude.{◌≡◌, ◌<◌, IfOk, Err};
+ghost use Rattle.std.specs.Prelude.{◌≡◌, ◌<◌, IfOk, IfErr, Err};
 ghost use Rattle.file_disk.specs.FileDisk.{state_of};
 ghost use Rattle.file_disk.specs.Opened.{opened};
+ghost use Rattle.file_disk.specs.Faults.{IsOfSystem, IsOfLock, IsOfMaking, StopsCreating, StopsOpening};
 ghost use Rattle.disk_model.specs.DiskState.{size_of};
 ghost use Rattle.file_disk.specs.declared.fault.FileFault.TheVariants.{TooLarge};
 
@@ -28,6 +29,7 @@ impl FileDisk {
     ) -> Result<FileDisk, FileFault>
         ensures device { IfOk result (λ disk. state_of disk ≡ opened bytes) }
         ensures too_large { LARGEST_IMAGE < bytes → result ≡ Err TooLarge }
+        ensures cause { IfErr result (StopsCreating bytes) }
     {
         if bytes > LARGEST_IMAGE {
             return Err(FileFault::TooLarge);
@@ -46,6 +48,7 @@ impl FileDisk {
     /// Opens the file at the path.
     pub fn open<R: Files<File = File>>(files: &R, path: &str) -> Result<FileDisk, FileFault>
         ensures device { IfOk result (λ disk. state_of disk ≡ opened (size_of (state_of disk))) }
+        ensures cause { IfErr result StopsOpening }
     {
         let file = open_file(files, path, false)?;
         lock(&file)?;
@@ -64,24 +67,32 @@ impl FileDisk {
 }
 
 /// Opens the file at the path to read and to write, or makes it.
-fn open_file<R: Files<File = File>>(
-    files: &R,
-    path: &str,
-    is_new: bool,
-) -> Result<File, FileFault> {
-    OpenOptions::new()
+fn open_file<R: Files<File = File>>(files: &R, path: &str, is_new: bool) -> Result<File, FileFault>
+    ensures { IfErr result (IsOfSystem is_new) }
+{
+    let opened = OpenOptions::new()
         .read(true)
         .write(true)
         .create_new(is_new)
         .open(files, path)
-        .and_then(apart)
-        .map_err(|error| match error.kind() {
-            ErrorKind::AlreadyExists => FileFault::AlreadyThere,
-            ErrorKind::NotFound | ErrorKind::NotADirectory => FileFault::NotThere,
-            ErrorKind::PermissionDenied | ErrorKind::ReadOnlyFilesystem => FileFault::NotAllowed,
-            ErrorKind::IsADirectory => FileFault::NotAFile,
-            _ => FileFault::Unopened,
-        })
+        .and_then(apart);
+    match opened {
+        Ok(file) => Ok(file),
+        Err(error) => Err(fault_of(error.kind(), is_new)),
+    }
+}
+
+/// What is told where the system does not open a file.
+fn fault_of(kind: ErrorKind, is_new: bool) -> FileFault
+    ensures { IsOfSystem is_new result }
+{
+    match kind {
+        ErrorKind::AlreadyExists if is_new => FileFault::AlreadyThere,
+        ErrorKind::NotFound | ErrorKind::NotADirectory => FileFault::NotThere,
+        ErrorKind::PermissionDenied | ErrorKind::ReadOnlyFilesystem => FileFault::NotAllowed,
+        ErrorKind::IsADirectory => FileFault::NotAFile,
+        _ => FileFault::Unopened,
+    }
 }
 
 /// The same file, with a number that no standard stream has: in a program that was started with one closed, what is
@@ -94,11 +105,14 @@ fn apart(file: File) -> io::Result<File> {
 }
 
 /// Locks the file until it is dropped.
-fn lock(file: &File) -> Result<(), FileFault> {
-    file.try_lock().map_err(|error| match error {
-        TryLockError::WouldBlock => FileFault::InUse,
-        TryLockError::Error(_) => FileFault::Unlocked,
-    })
+fn lock(file: &File) -> Result<(), FileFault>
+    ensures { IfErr result IsOfLock }
+{
+    match file.try_lock() {
+        Ok(()) => Ok(()),
+        Err(TryLockError::WouldBlock) => Err(FileFault::InUse),
+        Err(TryLockError::Error(_)) => Err(FileFault::Unlocked),
+    }
 }
 
 /// Locks a new file and fills it.
@@ -107,9 +121,14 @@ fn make<R: Files<File = File>>(
     path: &str,
     file: &File,
     bytes: u64,
-) -> Result<(), FileFault> {
+) -> Result<(), FileFault>
+    ensures { IfErr result IsOfMaking }
+{
     lock(file)?;
-    fill(files, path, file, bytes).map_err(|_| FileFault::Unmade)
+    match fill(files, path, file, bytes) {
+        Ok(()) => Ok(()),
+        Err(_) => Err(FileFault::Unmade),
+    }
 }
 
 /// Fills a new file with zeros, and makes it and its name last.
