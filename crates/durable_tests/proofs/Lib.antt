@@ -1,4 +1,1 @@
-pub mod FiveCells
-pub mod AppendThenMove
-pub mod NewDevice
 pub mod Captured

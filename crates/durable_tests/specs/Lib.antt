@@ -1,2 +1,1 @@
-pub mod AppendThenMove
 pub mod Opened

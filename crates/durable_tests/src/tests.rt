@@ -1,15 +1,9 @@
 //! What no clause says: that the clauses mean what they should, on devices and bodies worked out by hand.
-mod bodies;
-mod callers;
-mod cells;
 mod common;
-mod devices;
-mod files;
 mod images;
 mod journal;
 mod restarts;
 mod runs;
 mod saves;
-mod slots;
 mod threads;
 mod trims;

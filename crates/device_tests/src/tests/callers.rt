@@ -8,7 +8,7 @@ ghost use Rattle.gated_journal.specs.Live.{AreRecords};
 ghost use Rattle.gated_journal.specs.Bases.{IsBased};
 ghost use Rattle.gated_journal.specs.Rings.{IsReadFor, cells_of_ring, appended};
 ghost use Rattle.gated_journal.specs.Stops.{IsReady, moved};
-ghost use Rattle.durable_tests.specs.AppendThenMove.{IsFollowedOrCut, empty_journal, record_of};
+ghost use Rattle.device_tests.specs.AppendThenMove.{IsFollowedOrCut, empty_journal, record_of};
 
 use disk_model::{BODY, Cells, Disk, DiskFault, MemDisk};
 use gated_journal::Journal;

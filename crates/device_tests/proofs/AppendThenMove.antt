@@ -11,7 +11,7 @@ use Rattle.gated_journal.specs.Live.{live}
 use Rattle.gated_journal.specs.Bases.{IsBased}
 use Rattle.gated_journal.specs.Rings.{IsReadFor, appended}
 use Rattle.gated_journal.specs.Stops.{HasAppended, HasAppendedAll, IsMovedOrNot}
-use Rattle.durable_tests.specs.AppendThenMove.{IsFollowedOrCut}
+use Rattle.device_tests.specs.AppendThenMove.{IsFollowedOrCut}
 
 -- These records are appended to the journal j, whose base counts.
 module _ (j : Ring) (base : ℕ) (news : List FiredFields) (old : DiskState) (based : IsBased j (seen_cells (BODY + 1) old)) where

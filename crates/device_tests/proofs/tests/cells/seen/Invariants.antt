@@ -1,6 +1,6 @@
 use Rattle.std.proofs.Common.{◌≡◌}
 use Rattle.disk_model.specs.DiskState.{size_of}
-use Rattle.durable_tests.proofs.tests.cells.seen.Given as goal
+use Rattle.device_tests.proofs.tests.cells.seen.Given as goal
 
 abbrev pub invariant-loop-k : goal.invariant-loop-k
 invariant-loop-k g l = size_of l.cells ≡ 2560

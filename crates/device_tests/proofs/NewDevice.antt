@@ -16,7 +16,7 @@ use Rattle.gated_journal.specs.Live.{record_in, place, AreRecords}
 use Rattle.gated_journal.specs.Bases.{base_held, counts_before, IsBased}
 use Rattle.gated_journal.specs.Rings.{IsWhole, IsReadFor}
 use Rattle.gated_journal.specs.Stops.{IsReady}
-use Rattle.durable_tests.specs.AppendThenMove.{empty_journal, record_of}
+use Rattle.device_tests.specs.AppendThenMove.{empty_journal, record_of}
 
 zero_at : (n i : ℕ) → ◌≡◌ {A = ℕ} (get_or (replicate n 0) i 0) 0
 zero_at zero i = refl

@@ -2,8 +2,8 @@ use Rattle.std.proofs.Common.{◌≡◌, true, ◌∷◌, [], ap, ◌∙◌, rul
 use Rattle.disk_model.specs.DiskState.{DiskState, size_of}
 use Rattle.disk_model.specs.Cells.{IsClosed}
 use Rattle.disk_model.specs.Steps.{AreClosed}
-use Rattle.durable_tests.proofs.FiveCells.{one_of_five, closed_after_erase, three_differ, three_inside}
-use Rattle.durable_tests.proofs.tests.cells.stopped.Goals as goal
+use Rattle.device_tests.proofs.FiveCells.{one_of_five, closed_after_erase, three_differ, three_inside}
+use Rattle.device_tests.proofs.tests.cells.stopped.Goals as goal
 
 pub set-requires-clause-inside : goal.set-requires-clause-inside
 set-requires-clause-inside c =

@@ -1,6 +1,6 @@
 use Rattle.std.proofs.Common.{◌∷◌, [], ◌∙◌}
 use Rattle.disk_model.proofs.Replacing.{read_then_erased}
-use Rattle.durable_tests.proofs.tests.cells.emptied.Goals as goal
+use Rattle.device_tests.proofs.tests.cells.emptied.Goals as goal
 
 pub returns-in_err-erase-clause-leaves : goal.returns-in_err-erase-clause-leaves
 returns-in_err-erase-clause-leaves g c keeps =

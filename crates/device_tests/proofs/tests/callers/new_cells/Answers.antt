@@ -1,8 +1,8 @@
 use Rattle.std.proofs.Common.{◌≡◌, ℕ, true, replicate, Some, ◌∙◌, ap}
 use Rattle.disk_model.specs.DiskState.{DiskState}
 use Rattle.disk_model.specs.MemDisk.{fresh}
-use Rattle.durable_tests.proofs.NewDevice.{none_is_full, ready, read}
-use Rattle.durable_tests.proofs.tests.callers.new_cells.Goals as goal
+use Rattle.device_tests.proofs.NewDevice.{none_is_full, ready, read}
+use Rattle.device_tests.proofs.tests.callers.new_cells.Goals as goal
 
 pub returns-clause-ready : goal.returns-clause-ready
 returns-clause-ready c =

@@ -5,9 +5,9 @@ use Rattle.gated_journal.specs.declared.ring.Ring.{Ring}
 use Rattle.gated_journal.specs.Live.{AreRecords}
 use Rattle.gated_journal.specs.Bases.{IsBased}
 use Rattle.gated_journal.specs.Stops.{IsReady}
-use Rattle.durable_tests.specs.AppendThenMove.{record_of}
-use Rattle.durable_tests.proofs.NewDevice.{three_records}
-use Rattle.durable_tests.proofs.tests.callers.keep_the_last_of_three.Goals as goal
+use Rattle.device_tests.specs.AppendThenMove.{record_of}
+use Rattle.device_tests.proofs.NewDevice.{three_records}
+use Rattle.device_tests.proofs.tests.callers.keep_the_last_of_three.Goals as goal
 
 pub append_then_move-requires-clause-ready : goal.append_then_move-requires-clause-ready
 append_then_move-requires-clause-ready g c keeps = subst (λ (j : Ring). IsReady j c.args.cells.now) (sym c.requires.journal) (c.requires.ready keeps)

@@ -8,8 +8,8 @@ use Rattle.gated_journal.specs.declared.ring.Ring.{Ring}
 use Rattle.gated_journal.specs.Live.{AreRecords, records_length}
 use Rattle.gated_journal.specs.Rings.{IsReadFor, appended}
 use Rattle.gated_journal.specs.Stops.{IsReady, HasMoved, IsMovedOrNot, moved}
-use Rattle.durable_tests.proofs.AppendThenMove.{append_leaves, read_for_all, move_leaves}
-use Rattle.durable_tests.proofs.tests.callers.append_then_move.Goals as goal
+use Rattle.device_tests.proofs.AppendThenMove.{append_leaves, read_for_all, move_leaves}
+use Rattle.device_tests.proofs.tests.callers.append_then_move.Goals as goal
 
 -- the journal behind the batch
 journal_is : (g : _) (c : goal.After-move_base g) (news : List FiredFields) → AreRecords (c.args.journal.now.last + 1) c.args.bodies.now news → appended (length news) c.args.journal.now ≡ c.append_run.new.self

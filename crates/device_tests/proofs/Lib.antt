@@ -1,0 +1,3 @@
+pub mod FiveCells
+pub mod AppendThenMove
+pub mod NewDevice
