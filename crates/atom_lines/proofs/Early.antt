@@ -1,53 +1,20 @@
--- Steps of a reading that take no memory, so that none of them tells of want of it.
-use Rattle.std.proofs.Common.{◌≡◌, ◌≢◌, ◌∙◌, refl, sym, ap, subst, if◌then◌else◌, Bool, true, false, not, ℕ, zero, suc, List, [], ◌∷◌, ◌++◌, length, drop, Option, Some, None, Result, Ok, Err, codes}
-use Rattle.std.specs.Prelude.{IfErr, IsOk, nat_lt, nat_eq}
+-- Steps of reading the line of an atom that take no memory, so that none of them tells of want of it.
+use Rattle.std.proofs.Common.{if◌then◌else◌, Bool, true, false, not, ℕ, zero, suc, List, [], ◌∷◌, ◌++◌, length, drop, Ok, Err, codes}
+use Rattle.std.specs.Prelude.{nat_lt, nat_eq}
 use Rattle.std.specs.List.{list_any}
-use Rattle.std.specs.Option.{ok_or}
-use Rattle.std.specs.Result.{IsErrAnd}
 use Rattle.petri_atom.specs.Name.{is_same_text}
 use Rattle.petri_atom.specs.Definition.{AtomDefinition, UpdateDefinition}
 use Rattle.petri_atom.specs.declared.parts.TheConstants.{MAX_UPDATES}
 use Rattle.petri_atom.specs.declared.state.TheConstants.{MAX_EXPORTS}
-use Rattle.plant_expressions.specs.Expressions.{expression_in}
-use Rattle.plant_expressions.specs.declared.fault.ExpressionFault.{ExpressionFault}
-use Rattle.plant_expressions.specs.declared.fault.ExpressionFault.TheVariants as expression
-use Rattle.plant_words.specs.Names.{name_in}
+use Rattle.plant_words.specs.Expressions.{expression_in}
 use Rattle.plant_words.specs.Numbers.{int_in}
-use Rattle.atom_lines.specs.Fault.{IsLast, line_fault}
-use Rattle.atom_lines.specs.Reading.{◌>>=◌, check, first_word, first_name, first_number, at_end, mark_in, value_in}
-use Rattle.atom_lines.specs.Lookup.{place_number, variable_number, port_number}
+use Rattle.plant_words.specs.Reading.{◌>>=◌, first_word, at_end, leads}
+use Rattle.atom_lines.specs.Reading.{first_number, mark_in, value_in}
+use Rattle.atom_lines.specs.Lookup.{place_number, variable_number}
 use Rattle.atom_lines.specs.Rows.{export_in, exports_in}
-use Rattle.atom_lines.specs.Transitions.{leads, ends_places, place_in, places_in, places_behind, on_line, expression_on, update_in, goes_on, updates_from, updates_in}
-use Rattle.atom_lines.specs.declared.fault.LineFault.{LineFault}
-use Rattle.atom_lines.specs.declared.fault.LineFault.TheVariants.{BadName, BadNumber, UnknownName, Shape, Limit, Twice, Memory}
-
--- a step that tells of no want of memory
-abbrev pub TakesNone : {A : Type 0} → Result A LineFault → Type 0
-TakesNone {A} step = step ≢ Err Memory
-
-pub check_takes_none : (passes : Bool) (fault : LineFault) → fault ≢ Memory → TakesNone (check passes fault)
-check_takes_none true fault other is = absurd (cc)
-check_takes_none false fault other is = let e : fault ≡ Memory = cc in other e
-
-pub or_takes_none : {A : Type 0} (found : Option A) (fault : LineFault) → fault ≢ Memory → TakesNone (ok_or found fault)
-or_takes_none (Some x) fault other is = absurd (cc)
-or_takes_none None fault other is = let e : fault ≡ Memory = cc in other e
-
--- one step behind the other
-then_takes_none : {A B : Type 0} (first : Result A LineFault) (next : A → Result B LineFault) → TakesNone first → ((x : A) → TakesNone (next x)) → TakesNone (first >>= next)
-then_takes_none (Ok x) next before behind = behind x
-then_takes_none (Err fault) next before behind = λ is. let e : fault ≡ Memory = cc in before (ap Err e)
-
-word_takes_none : (words : List (List ℕ)) → TakesNone (first_word words)
-word_takes_none [] is = absurd (cc)
-word_takes_none (word ∷ words) is = absurd (cc)
-
-pub name_takes_none : (words : List (List ℕ)) → TakesNone (first_name words)
-name_takes_none words = then_takes_none (first_word words) _ (word_takes_none words) (λ word. or_takes_none (name_in word) BadName (λ is. absurd (cc)))
-
-end_takes_none : (words : List (List ℕ)) → TakesNone (at_end words)
-end_takes_none [] is = absurd (cc)
-end_takes_none (word ∷ words) is = absurd (cc)
+use Rattle.atom_lines.specs.Transitions.{ends_places, place_in, places_in, places_behind, expression_on, update_in, goes_on, updates_from, updates_in}
+use Rattle.plant_words.specs.declared.line_fault.LineFault.TheVariants.{BadNumber, UnknownName, Shape, Limit, Twice}
+use Rattle.plant_words.proofs.Early.{TakesNone, check_takes_none, or_takes_none, then_takes_none, word_takes_none, end_takes_none, line_takes_none, either_takes_none}
 
 marked_or_not : (marks : Bool) → TakesNone (if marks then Ok true else Err Shape)
 marked_or_not true is = absurd (cc)
@@ -63,21 +30,6 @@ value_takes_none words =
     then_takes_none (first_number words) _ (then_takes_none (first_word words) _ (word_takes_none words) (λ word. or_takes_none (int_in word) BadNumber (λ is. absurd (cc))))
     (λ first. then_takes_none (at_end (drop 1 words)) _ (end_takes_none (drop 1 words)) (λ u is. absurd (cc)))
 
--- so the fault of such a step is no want of memory
-pub told_before : {A B C : Type 0} (read : Result A LineFault) (step : Result C LineFault) (result : Result B LineFault) (fault : LineFault) → IsErrAnd result (λ told. told ≡ fault) → step ≡ Err fault → TakesNone step → IfErr result (IsLast read)
-told_before read step (Ok x) fault left is none = tt
-told_before read step (Err told) fault left is none = λ memory. absurd (none (is ∙ ap Err (sym left ∙ memory)))
-
--- the fault of a step is no want of memory unless nothing else is at fault
-pub told_behind : {A B : Type 0} (read : Result A LineFault) (result : Result B LineFault) (fault : LineFault) → IsErrAnd result (λ told. told ≡ fault) → (fault ≡ Memory → IsOk read) → IfErr result (IsLast read)
-told_behind read (Ok x) fault left well = tt
-told_behind read (Err told) fault left well = λ memory. well (sym left ∙ memory)
-
--- and where what was read has no fault, memory may be wanting
-pub told_last : {A B : Type 0} (read : Result A LineFault) (x : A) (result : Result B LineFault) → read ≡ Ok x → IfErr result (IsLast read)
-told_last read x (Ok y) is = tt
-told_last read x (Err told) is = λ memory. subst IsOk (sym is) refl
-
 -- the numbers of exports
 export_takes_none : (a : AtomDefinition) (before word : List ℕ) → TakesNone (export_in a before word)
 export_takes_none a before word =
@@ -89,23 +41,8 @@ pub exports_take_none : (a : AtomDefinition) (before : List ℕ) (words : List (
 exports_take_none a before [] is = absurd (cc)
 exports_take_none a before (word ∷ words) is = then_takes_none _ _ (export_takes_none a before word) (λ number. exports_take_none a (before ++ number ∷ []) words) is
 
--- an expression
-fault_is_no_want : (fault : ExpressionFault) → line_fault fault ≢ Memory
-fault_is_no_want expression.UnknownName is = absurd (cc)
-fault_is_no_want expression.BadExpression is = absurd (cc)
-fault_is_no_want expression.BadNumber is = absurd (cc)
-fault_is_no_want expression.Limit is = absurd (cc)
-
-line_takes_none : {A : Type 0} (read : Result A ExpressionFault) → TakesNone (on_line read)
-line_takes_none (Ok x) is = absurd (cc)
-line_takes_none (Err fault) is = let e : line_fault fault ≡ Memory = cc in fault_is_no_want fault e
-
 expression_takes_none : (a : AtomDefinition) (words : List (List ℕ)) → TakesNone (expression_on a words)
 expression_takes_none a words = line_takes_none (expression_in (variable_number a) words)
-
-either_takes_none : {A : Type 0} (test : Bool) (one other : Result A LineFault) → TakesNone one → TakesNone other → TakesNone (if test then one else other)
-either_takes_none true one other first second = first
-either_takes_none false one other first second = second
 
 -- the places of a list
 place_takes_none : (a : AtomDefinition) (before word : List ℕ) → TakesNone (place_in a before word)

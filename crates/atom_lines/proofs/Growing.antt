@@ -6,13 +6,14 @@ use Rattle.petri_atom.specs.declared.parts.Place.{Place}
 use Rattle.petri_atom.specs.declared.parts.Variable.{Variable}
 use Rattle.petri_atom.specs.declared.state.TheConstants.{MAX_PLACES, MAX_VARIABLES}
 use Rattle.petri_atom.specs.declared.parts.TheConstants.{MAX_PORTS, MAX_TRANSITIONS}
-use Rattle.atom_lines.specs.declared.fault.LineFault.{LineFault}
-use Rattle.atom_lines.specs.declared.fault.LineFault.TheVariants.{Twice, Limit}
+use Rattle.plant_words.specs.declared.line_fault.LineFault.{LineFault}
+use Rattle.plant_words.specs.declared.line_fault.LineFault.TheVariants.{Twice, Limit}
 use Rattle.atom_lines.specs.Lookup.{place_number, variable_number, port_number}
-use Rattle.atom_lines.specs.Reading.{◌>>=◌, check, first_name, mark_in, value_in}
+use Rattle.plant_words.specs.Reading.{◌>>=◌, check, first_name}
+use Rattle.atom_lines.specs.Reading.{mark_in, value_in}
 use Rattle.atom_lines.specs.Rows.{place_row, variable_row, port_row, exports_in, with_place, with_variable, with_port}
 use Rattle.atom_lines.specs.Transitions.{transition_row, transition_in, with_transition}
-use Rattle.atom_lines.proofs.Steps.{led_on, same_end}
+use Rattle.plant_words.proofs.Steps.{led_on, same_end}
 
 -- an atom that has the name and the ports of another, and may have more ports behind them
 pub record Grows (a grown : AtomDefinition) : Type 0 where

@@ -1,14 +1,11 @@
 mod Rows
 pub mod Updates
-pub mod Steps
-pub mod Exits
 pub mod Early
 pub mod Few
 pub mod Making
 pub mod Taken
 pub mod Growing
 pub mod Named
-pub mod Once
 pub mod Bounds
 pub mod SoundParts
 pub mod Rules

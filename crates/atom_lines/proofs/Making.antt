@@ -11,15 +11,14 @@ use Rattle.petri_atom.specs.Update.{update_of}
 use Rattle.petri_atom.specs.declared.expression.Expression.{Expression}
 use Rattle.petri_atom.specs.declared.transition.Update.{Update}
 use Rattle.petri_atom.specs.declared.parts.TheConstants.{MAX_PORTS}
-use Rattle.plant_expressions.specs.declared.fault.ExpressionFault.{ExpressionFault}
-use Rattle.plant_expressions.specs.Expressions.{words_left}
-use Rattle.atom_lines.specs.declared.fault.LineFault.TheVariants.{Limit, Twice}
+use Rattle.plant_words.specs.declared.expression_fault.ExpressionFault.{ExpressionFault}
+use Rattle.plant_words.specs.Expressions.{words_left}
+use Rattle.plant_words.specs.declared.line_fault.LineFault.TheVariants.{Limit, Twice}
 use Rattle.atom_lines.specs.Making.{IsRead}
-use Rattle.atom_lines.specs.Reading.{check, first_name}
+use Rattle.plant_words.specs.Reading.{check, first_name, on_line}
 use Rattle.atom_lines.specs.Lookup.{port_number}
 use Rattle.atom_lines.specs.Rows.{port_row, exports_in, with_port}
-use Rattle.atom_lines.specs.Transitions.{on_line}
-use Rattle.atom_lines.proofs.Exits.{passes}
+use Rattle.plant_words.proofs.Exits.{passes}
 
 tree_is_made : {V : Type 0} (tree : Tree V) (words rest : List (List ℕ)) (made : Result (Expression V) AllocError) →
     IfOk made (λ e. ◌≡◌ {A = Result (Tree V × List (List ℕ)) ExpressionFault} (Ok (tree, words)) (Ok (tree_of e, rest))) → IfOk made (λ e. tree_of e ≡ tree)

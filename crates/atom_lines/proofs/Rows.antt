@@ -4,7 +4,7 @@ use Rattle.petri_atom.specs.Definition.{AtomDefinition}
 use Rattle.petri_atom.specs.Expression.{number, variable, operation}
 use Rattle.petri_atom.specs.declared.expression.Operator.TheVariants.{Add, Less}
 use Rattle.plant_words.specs.Words.{words_of}
-use Rattle.atom_lines.specs.declared.fault.LineFault.TheVariants.{BadName, Twice, UnknownName, BadExpression, BadNumber, Shape, Limit}
+use Rattle.plant_words.specs.declared.line_fault.LineFault.TheVariants.{BadName, Twice, UnknownName, BadExpression, BadNumber, Shape, Limit}
 use Rattle.atom_lines.specs.Lookup.{place_number, variable_number, export_number}
 use Rattle.atom_lines.specs.Rows.{place_row, variable_row, port_row, with_place, with_variable, with_port}
 use Rattle.atom_lines.specs.Transitions.{transition_row, with_transition, updates_from}

@@ -1,9 +1,8 @@
 -- An atom of few parts, each sound and of a name of its own, breaks no rule.
-use Rattle.std.proofs.Common.{◌≡◌, refl, ℕ, ◌≤◌, Bool, true, false, not, ◌&&◌, if◌then◌else◌, List, [], ◌∷◌, ◌++◌, length, map, Option, Some, None, ◌∙◌, sym, subst}
+use Rattle.std.proofs.Common.{◌≡◌, refl, ℕ, ◌≤◌, Bool, true, false, not, ◌&&◌, if◌then◌else◌, List, length, map, Option, Some, None, sym, subst}
 use Rattle.std.specs.List.{list_all}
 use Rattle.std.proofs.Math.ListN.{length-map}
 use Rattle.std.proofs.lemmas.Bool.{and_parts, and_from, le-leb}
-use Rattle.std.proofs.lemmas.List.Folds.{list_all-append}
 use Rattle.petri_atom.specs.Name.{is_same_text}
 use Rattle.petri_atom.specs.Definition.{AtomDefinition, is_each_once, exports_few, exports_once, exports_known, is_small_transition, has_each_place_once, has_known_numbers_in, has_source_and_target, is_within_limits, has_each_once, has_known_numbers, has_sources_and_targets, fault_of, IsFaultOf}
 use Rattle.petri_atom.specs.Parts.{port_of, definition_by}
@@ -19,7 +18,7 @@ use Rattle.petri_atom.specs.declared.parts.TheConstants.{MAX_PORTS, MAX_TRANSITI
 use Rattle.atom_lines.specs.declared.draft.AtomDraft.{AtomDraft}
 use Rattle.atom_lines.specs.Draft.{drafted}
 use Rattle.atom_lines.specs.Sound.{is_sound_port, is_sound_transition}
-use Rattle.atom_lines.proofs.Once.{all_weaker}
+use Rattle.plant_words.proofs.Once.{all_weaker}
 
 -- where each kind of rule is kept, there is no first that isn't
 no_first : (limits once known ends : Bool) → (limits && once && known && ends) ≡ true →
@@ -83,7 +82,3 @@ draft_breaks_no_rule d =
 pub memory_alone : (broken : Option AtomFault) (fault : AtomFault) → broken ≡ None → IsFaultOf fault broken → fault ≡ Memory
 memory_alone None fault none told = told
 memory_alone (Some rule) fault none told = absurd (cc)
-
--- one more that passes
-pub one_more : {X : Type 0} (f : X → Bool) (xs : List X) (x : X) → list_all f xs ≡ true → f x ≡ true → list_all f (xs ++ x ∷ []) ≡ true
-one_more f xs x all passes = list_all-append f xs (x ∷ []) ∙ and_from _ _ all (and_from (f x) true passes refl)

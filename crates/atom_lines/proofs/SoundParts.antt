@@ -11,19 +11,19 @@ use Rattle.petri_atom.specs.Expression.{Tree, number, word_count, has_variables_
 use Rattle.petri_atom.specs.Definition.{AtomDefinition, TransitionDefinition, UpdateDefinition, are_below, is_each_once, is_small_value, has_known_variables}
 use Rattle.petri_atom.specs.declared.state.TheConstants.{MAX_EXPORTS}
 use Rattle.petri_atom.specs.declared.parts.TheConstants.{MAX_UPDATES, MAX_WORDS}
-use Rattle.plant_expressions.specs.Expressions.{expression_in}
-use Rattle.plant_expressions.specs.declared.fault.ExpressionFault.{ExpressionFault}
-use Rattle.plant_expressions.proofs.Parts.{words_of_expression, variables_of_expression}
-use Rattle.atom_lines.specs.declared.fault.LineFault.{LineFault}
-use Rattle.atom_lines.specs.declared.fault.LineFault.TheVariants.{Twice, UnknownName, Shape, Limit}
-use Rattle.atom_lines.specs.Reading.{◌>>=◌, check, first_word}
+use Rattle.plant_words.specs.Expressions.{expression_in}
+use Rattle.plant_words.specs.declared.expression_fault.ExpressionFault.{ExpressionFault}
+use Rattle.plant_words.proofs.ExpressionParts.{words_of_expression, variables_of_expression}
+use Rattle.plant_words.specs.declared.line_fault.LineFault.{LineFault}
+use Rattle.plant_words.specs.declared.line_fault.LineFault.TheVariants.{Twice, UnknownName, Shape, Limit}
+use Rattle.plant_words.specs.Reading.{◌>>=◌, check, first_word, leads, on_line}
 use Rattle.atom_lines.specs.Lookup.{place_number, variable_number, port_number}
 use Rattle.atom_lines.specs.Rows.{export_in, exports_in}
-use Rattle.atom_lines.specs.Transitions.{leads, ends_places, port_in, place_in, places_in, places_behind, on_line, expression_on, guard_in, update_in, goes_on, updates_from, updates_in, transition_in}
+use Rattle.atom_lines.specs.Transitions.{ends_places, port_in, place_in, places_in, places_behind, expression_on, guard_in, update_in, goes_on, updates_from, updates_in, transition_in}
 use Rattle.atom_lines.specs.Sound.{is_sound_port, is_sound_transition}
-use Rattle.atom_lines.proofs.Steps.{led_on, passed, was_there, same_end, either_way}
+use Rattle.plant_words.proofs.Steps.{led_on, passed, was_there, same_end, either_way}
 use Rattle.plant_words.proofs.Positions.{position-within}
-use Rattle.atom_lines.proofs.Once.{listed_once}
+use Rattle.plant_words.proofs.Once.{listed_once}
 use Rattle.atom_lines.proofs.Bounds.{variables_below-all}
 
 -- numbers below a bound, each once

@@ -1,7 +1,7 @@
 use Rattle.std.proofs.Common.{◌≡◌, ℕ, zero, suc, ◌-◌, ◌<◌, List, [], ◌∷◌, ◌++◌, Bool, true, false, drop, Ok, Err, codes, refl, arith}
 use Rattle.petri_atom.specs.Definition.{AtomDefinition, UpdateDefinition}
-use Rattle.atom_lines.specs.declared.fault.LineFault.{LineFault}
-use Rattle.atom_lines.specs.declared.fault.LineFault.TheVariants.{Limit}
+use Rattle.plant_words.specs.declared.line_fault.LineFault.{LineFault}
+use Rattle.plant_words.specs.declared.line_fault.LineFault.TheVariants.{Limit}
 use Rattle.atom_lines.specs.Transitions.{update_in, goes_on, updates_from}
 
 -- where the line ends, the updates are those before

@@ -1,4 +1,3 @@
-pub mod Fault
 pub mod Making
 pub mod Reading
 pub mod Lookup

@@ -6,7 +6,7 @@ use Rattle.std.specs.declared.vec.Vec.{Vec}
 use Rattle.petri_atom.specs.Definition.{UpdateDefinition}
 use Rattle.petri_atom.specs.Update.{update_of}
 use Rattle.petri_atom.specs.declared.transition.Update.{Update}
-use Rattle.atom_lines.specs.declared.fault.LineFault.{LineFault}
+use Rattle.plant_words.specs.declared.line_fault.LineFault.{LineFault}
 
 -- a reading has no fault, and these words are left; what was made means what was read
 pub record IsRead {A B : Type 0} (meaning : B → A) (reading : Result (A × List (List ℕ)) LineFault) (rest : List (List ℕ)) (made : Result B AllocError) : Type 0 where

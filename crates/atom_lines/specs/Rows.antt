@@ -9,9 +9,10 @@ use Rattle.petri_atom.specs.declared.parts.Place.{Place}
 use Rattle.petri_atom.specs.declared.parts.Variable.{Variable}
 use Rattle.petri_atom.specs.declared.state.TheConstants.{MAX_PLACES, MAX_VARIABLES, MAX_EXPORTS}
 use Rattle.petri_atom.specs.declared.parts.TheConstants.{MAX_PORTS}
-use Rattle.atom_lines.specs.declared.fault.LineFault.{LineFault}
-use Rattle.atom_lines.specs.declared.fault.LineFault.TheVariants.{Twice, UnknownName, Limit}
-use Rattle.atom_lines.specs.Reading.{◌>>=◌, check, first_name, mark_in, value_in}
+use Rattle.plant_words.specs.declared.line_fault.LineFault.{LineFault}
+use Rattle.plant_words.specs.declared.line_fault.LineFault.TheVariants.{Twice, UnknownName, Limit}
+use Rattle.plant_words.specs.Reading.{◌>>=◌, check, first_name}
+use Rattle.atom_lines.specs.Reading.{mark_in, value_in}
 use Rattle.atom_lines.specs.Lookup.{place_number, variable_number, port_number}
 
 -- the atom with one more place behind its others

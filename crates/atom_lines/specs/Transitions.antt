@@ -7,18 +7,11 @@ use Rattle.petri_atom.specs.Name.{is_same_text}
 use Rattle.petri_atom.specs.Expression.{Tree, number}
 use Rattle.petri_atom.specs.Definition.{AtomDefinition, TransitionDefinition, UpdateDefinition}
 use Rattle.petri_atom.specs.declared.parts.TheConstants.{MAX_TRANSITIONS, MAX_UPDATES}
-use Rattle.plant_expressions.specs.Expressions.{expression_in}
-use Rattle.plant_expressions.specs.declared.fault.ExpressionFault.{ExpressionFault}
-use Rattle.atom_lines.specs.declared.fault.LineFault.{LineFault}
-use Rattle.atom_lines.specs.declared.fault.LineFault.TheVariants.{Twice, UnknownName, Shape, Limit}
-use Rattle.atom_lines.specs.Fault.{line_fault}
-use Rattle.atom_lines.specs.Reading.{◌>>=◌, check, first_word}
+use Rattle.plant_words.specs.Expressions.{expression_in}
+use Rattle.plant_words.specs.declared.line_fault.LineFault.{LineFault}
+use Rattle.plant_words.specs.declared.line_fault.LineFault.TheVariants.{Twice, UnknownName, Shape, Limit}
+use Rattle.plant_words.specs.Reading.{◌>>=◌, check, first_word, leads, on_line}
 use Rattle.atom_lines.specs.Lookup.{place_number, variable_number, port_number}
-
--- the first word is this one
-abbrev pub leads : List ℕ → List (List ℕ) → Bool
-leads keyword [] = false
-leads keyword (word ∷ words) = is_same_text word keyword
 
 -- a list of places ends at the words that may stand behind one, and at the line's end
 abbrev pub ends_places : List (List ℕ) → Bool
@@ -52,11 +45,6 @@ places_behind keyword a words = do
   listed ← places_in a [] (drop 1 words)
   _ ← check (nat_lt 0 (length listed.0)) Shape
   Ok listed
-
--- what an expression's words say, with its fault as one of the line
-abbrev pub on_line : {A : Type 0} → Result A ExpressionFault → Result A LineFault
-on_line (Ok x) = Ok x
-on_line (Err fault) = Err (line_fault fault)
 
 -- an expression over the variables of the atom, and the words behind it
 abbrev pub expression_on : AtomDefinition → List (List ℕ) → Result (Tree ℕ × List (List ℕ)) LineFault

@@ -1,7 +1,7 @@
 //! The atom as its lines have told it so far.
 ghost use Rattle.std.specs.Prelude.{◌<◌, ◌-◌, true, drop, length, map, IfSome, IsTrue, ◌≡◌, ◌≤◌, ◌∷◌, ◌++◌, IfOk, IfErr, OnOk, OnErr, IsOkAnd, Ok, Err, None, []};
 ghost use Rattle.std.specs.List.{list_all};
-ghost use Rattle.atom_lines.specs.Fault.{IsFaultOf, IsLast};
+ghost use Rattle.plant_words.specs.LineFaults.{IsFaultOf, IsLast};
 ghost use Rattle.atom_lines.specs.Making.{IsRead, AreRead};
 ghost use Rattle.atom_lines.specs.Rows.{place_row, variable_row, port_row, export_in, exports_in, with_place, with_variable, with_port};
 ghost use Rattle.atom_lines.specs.Lookup.{place_number, variable_number, port_number, export_number};
@@ -17,18 +17,15 @@ ghost use Rattle.petri_atom.specs.Update.{update_of};
 ghost use Rattle.petri_atom.specs.declared.state.TheConstants.{MAX_PLACES, MAX_VARIABLES, MAX_EXPORTS};
 ghost use Rattle.petri_atom.specs.declared.parts.TheConstants.{MAX_PORTS, MAX_TRANSITIONS, MAX_UPDATES};
 
-use crate::fault::LineFault;
 use crate::lookup;
-use crate::reading::{
-    check, goes_on, next_in_places, next_name, next_word, read_mark, read_value, skip_word,
-};
+use crate::reading::{goes_on, next_in_places, read_mark, read_value};
 use arrayvec::ArrayVec;
 use petri_atom::{
     Atom, AtomFault, Expression, MAX_EXPORTS, MAX_PLACES, MAX_PORTS, MAX_TRANSITIONS, MAX_UPDATES,
     MAX_VARIABLES, Name, Place, Port, Transition, Update, Variable,
 };
-use plant_expressions::{Variables, read_expression};
-use plant_words::{NameIndex, Words};
+use plant_words::reading::{check, next_name, next_word, skip_word};
+use plant_words::{LineFault, NameIndex, Variables, Words, read_expression};
 use std::alloc::{AllocError, Global};
 
 /// An atom to which lines add parts.

@@ -14,7 +14,7 @@
 //! | .. followed by `do VAR := EXPR ; VAR := EXPR ..` | its updates, behind the guard where both stand | |
 //!
 //! What a line makes of the atom, or which fault it has, is one definition for each kind (`specs/Rows.antt`,
-//! `specs/Transitions.antt`), on the words and the atom that `drafted` shows. A fault is told by the first word from
+//! `specs/Transitions.antt`), on the words and the atom that `drafted` shows. A fault ([`plant_words::LineFault`]) is told by the first word from
 //! the left that is at fault. Where a part would be one too many for the atom, that is the line's first word; where
 //! a port would export one variable too many, it is that variable's word; where a transition would have one update
 //! too many, it is the `;` before it. A refused line leaves the draft as it was. Want of memory is told only of a line
@@ -29,14 +29,12 @@
 //! Parts are found by their names: a place, a variable and a port by its number, and [`AtomDraft::find_export`] finds
 //! a variable among those that a port exports.
 //!
-//! - `draft`: the atom so far, and its lines. `fault`: why a line is refused.
-//! - `reading`: steps that take words. `lookup`: what a port exports, by the names of variables.
+//! - `draft`: the atom so far, and its lines. `lookup`: what a port exports, by the names of variables.
+//! - `reading`: the steps of reading a line that other kinds of lines do not have; [`plant_words::reading`] has the others.
 #![tactic(auto)]
 
 mod draft;
-mod fault;
 mod lookup;
 mod reading;
 
 pub use draft::AtomDraft;
-pub use fault::LineFault;

@@ -9,10 +9,10 @@ use Rattle.std.proofs.lemmas.Grind.{flat_map-append}
 use Rattle.std.proofs.lemmas.List.{drop_more}
 use Rattle.connector_tree.specs.declared.tree.Child.{Child}
 use Rattle.connector_tree.specs.declared.tree.Node.TheVariants as node
-use Rattle.plant_trees.specs.declared.token.Token.{Token}
-use Rattle.plant_trees.specs.declared.token.Token.TheVariants.{Leaf, Open, Close}
-use Rattle.plant_trees.specs.Connectors.{node_tokens, children_tokens}
-use Rattle.plant_trees.proofs.Written.{tokens-leaf, tokens-fusion}
+use Rattle.connector_lines.specs.declared.token.Token.{Token}
+use Rattle.connector_lines.specs.declared.token.Token.TheVariants.{Leaf, Open, Close}
+use Rattle.connector_lines.specs.Connectors.{node_tokens, children_tokens}
+use Rattle.connector_lines.proofs.Written.{tokens-leaf, tokens-fusion}
 use Rattle.run_text.proofs.Leading.{Leads, leads-more, leads-same}
 
 -- a port is told once

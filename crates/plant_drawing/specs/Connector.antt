@@ -5,9 +5,9 @@ use Rattle.petri_atom.specs.Definition.{AtomDefinition}
 use Rattle.petri_atom.specs.Expression.{Tree}
 use Rattle.connector_tree.specs.Tree.{leaves}
 use Rattle.connector_tree.specs.declared.tree.Port.{Port}
-use Rattle.plant_trees.specs.declared.token.Token.{Token}
-use Rattle.plant_trees.specs.declared.token.Token.TheVariants.{Leaf, Open, Close}
-use Rattle.plant_trees.specs.Connectors.{tokens_of}
+use Rattle.connector_lines.specs.declared.token.Token.{Token}
+use Rattle.connector_lines.specs.declared.token.Token.TheVariants.{Leaf, Open, Close}
+use Rattle.connector_lines.specs.Connectors.{tokens_of}
 use Rattle.step_core.specs.Plant.{TransferDefinition, WireDefinition}
 use Rattle.step_core.specs.declared.wire.Export.{Export}
 use Rattle.plant_drawing.specs.Node.{part_node, connector_node}

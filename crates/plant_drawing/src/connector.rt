@@ -2,8 +2,8 @@
 ghost use Rattle.std.specs.Prelude.{◌++◌, codes, OnOk, flat_map, map};
 ghost use Rattle.std.specs.Io.KnownBytes.{Appends};
 ghost use Rattle.petri_atom.specs.Atom.{definition_of};
-ghost use Rattle.plant_trees.specs.declared.token.Token.TheVariants.{Leaf};
-ghost use Rattle.plant_trees.specs.Connectors.{children_tokens, node_tokens};
+ghost use Rattle.connector_lines.specs.declared.token.Token.TheVariants.{Leaf};
+ghost use Rattle.connector_lines.specs.Connectors.{children_tokens, node_tokens};
 ghost use Rattle.connector_tree.specs.Tree.{leaves};
 ghost use Rattle.step_core.specs.Wire.{wire_of};
 ghost use Rattle.plant_drawing.specs.Atom.{port_name};

@@ -8,15 +8,15 @@ use Rattle.connector_tree.specs.Tree.{leaves}
 use Rattle.connector_tree.specs.declared.tree.Port.{Port}
 use Rattle.step_core.specs.Plant.{TransferDefinition, WireDefinition}
 use Rattle.step_core.specs.declared.wire.Export.{Export}
-use Rattle.atom_lines.specs.declared.fault.LineFault.{LineFault}
-use Rattle.atom_lines.specs.Reading as line
-use Rattle.plant_trees.specs.Connectors.{tokens_of}
-use Rattle.plant_trees.proofs.Leaves.{ports-tree}
-use Rattle.wire_lines.specs.Names.{variable_in}
-use Rattle.wire_lines.specs.Rows.{guards_with, transfers_with, guard_row, transfer_row}
+use Rattle.plant_words.specs.declared.line_fault.LineFault.{LineFault}
+use Rattle.connector_lines.specs.Connectors.{tokens_of}
+use Rattle.connector_lines.proofs.Leaves.{ports-tree}
+use Rattle.connector_lines.specs.Exports.{variable_in}
+use Rattle.connector_lines.specs.Rows.{guards_with, transfers_with, guard_row, transfer_row}
 use Rattle.plant_text.specs.Text.{WireText, wire_text_of}
 use Rattle.plant_text.specs.Names.{atom_number, export_named}
-use Rattle.plant_text.specs.Rows.{◌>>=◌, wire_part_row}
+use Rattle.plant_words.specs.Reading.{◌>>=◌}
+use Rattle.plant_text.specs.Rows.{wire_part_row}
 use Rattle.plant_text.specs.declared.kinds.WirePart.TheVariants.{Guard, Transfer}
 
 -- how a connector is written, where there is one
@@ -26,13 +26,13 @@ written (Err fault) = Err fault
 
 -- guard clauses are those of the connector and of how it is written
 guards_written : (w : WireDefinition) (read : Result (List (Tree Export)) LineFault) →
-    (read >>= λ guards. Ok (record (wire_text_of w) { guards = guards })) ≡ written (line.◌>>=◌ read (λ guards. Ok (record w { guards = guards })))
+    (read >>= λ guards. Ok (record (wire_text_of w) { guards = guards })) ≡ written (read >>= λ guards. Ok (record w { guards = guards }))
 guards_written w (Ok guards) = refl
 guards_written w (Err fault) = refl
 
 -- the same of transfers
 transfers_written : (w : WireDefinition) (read : Result (List TransferDefinition) LineFault) →
-    (read >>= λ transfers. Ok (record (wire_text_of w) { transfers = transfers })) ≡ written (line.◌>>=◌ read (λ transfers. Ok (record w { transfers = transfers })))
+    (read >>= λ transfers. Ok (record (wire_text_of w) { transfers = transfers })) ≡ written (read >>= λ transfers. Ok (record w { transfers = transfers }))
 transfers_written w (Ok transfers) = refl
 transfers_written w (Err fault) = refl
 
@@ -72,12 +72,12 @@ tree_behind before (Ok w) = w.connector
 tree_behind before (Err fault) = before
 
 -- a connector with guard clauses that were read has the tree that it had
-guards_keep_the_tree : (w made : WireDefinition) (read : Result (List (Tree Export)) LineFault) → (line.◌>>=◌ read (λ guards. Ok (record w { guards = guards }))) ≡ Ok made → made.connector ≡ w.connector
+guards_keep_the_tree : (w made : WireDefinition) (read : Result (List (Tree Export)) LineFault) → (read >>= λ guards. Ok (record w { guards = guards })) ≡ Ok made → made.connector ≡ w.connector
 guards_keep_the_tree w made (Ok guards) says = sym (ap (tree_behind w.connector) says)
 guards_keep_the_tree w made (Err fault) says = sym (ap (tree_behind w.connector) says)
 
 -- the same of transfers
-transfers_keep_the_tree : (w made : WireDefinition) (read : Result (List TransferDefinition) LineFault) → (line.◌>>=◌ read (λ transfers. Ok (record w { transfers = transfers }))) ≡ Ok made → made.connector ≡ w.connector
+transfers_keep_the_tree : (w made : WireDefinition) (read : Result (List TransferDefinition) LineFault) → (read >>= λ transfers. Ok (record w { transfers = transfers })) ≡ Ok made → made.connector ≡ w.connector
 transfers_keep_the_tree w made (Ok transfers) says = sym (ap (tree_behind w.connector) says)
 transfers_keep_the_tree w made (Err fault) says = sym (ap (tree_behind w.connector) says)
 
@@ -87,12 +87,12 @@ name_behind before (Ok w) = w.name
 name_behind before (Err fault) = before
 
 -- a connector with guard clauses that were read has the name that it had
-guards_keep_the_name : (w made : WireDefinition) (read : Result (List (Tree Export)) LineFault) → (line.◌>>=◌ read (λ guards. Ok (record w { guards = guards }))) ≡ Ok made → made.name ≡ w.name
+guards_keep_the_name : (w made : WireDefinition) (read : Result (List (Tree Export)) LineFault) → (read >>= λ guards. Ok (record w { guards = guards })) ≡ Ok made → made.name ≡ w.name
 guards_keep_the_name w made (Ok guards) says = sym (ap (name_behind w.name) says)
 guards_keep_the_name w made (Err fault) says = sym (ap (name_behind w.name) says)
 
 -- the same of transfers
-transfers_keep_the_name : (w made : WireDefinition) (read : Result (List TransferDefinition) LineFault) → (line.◌>>=◌ read (λ transfers. Ok (record w { transfers = transfers }))) ≡ Ok made → made.name ≡ w.name
+transfers_keep_the_name : (w made : WireDefinition) (read : Result (List TransferDefinition) LineFault) → (read >>= λ transfers. Ok (record w { transfers = transfers })) ≡ Ok made → made.name ≡ w.name
 transfers_keep_the_name w made (Ok transfers) says = sym (ap (name_behind w.name) says)
 transfers_keep_the_name w made (Err fault) says = sym (ap (name_behind w.name) says)
 

@@ -6,7 +6,7 @@ use Rattle.petri_atom.specs.Definition.{AtomDefinition}
 use Rattle.petri_atom.specs.Name.{is_same_text}
 use Rattle.atom_lines.specs.Draft.{drafted}
 use Rattle.atom_lines.specs.declared.draft.AtomDraft.{AtomDraft}
-use Rattle.atom_lines.specs.declared.fault.LineFault.{LineFault}
+use Rattle.plant_words.specs.declared.line_fault.LineFault.{LineFault}
 use Rattle.atom_lines.proofs.Growing.{Grows}
 use Rattle.plant_words.proofs.Positions.{position_of_mapped}
 use Rattle.plant_text.specs.Index.{names_of_atoms, names_of_wires}

@@ -4,9 +4,10 @@ use Rattle.std.specs.Prelude.{slice_get, slice_set}
 use Rattle.std.specs.Option.{option_map, option_map_or}
 use Rattle.std.proofs.lemmas.List.{length-map, map-set}
 use Rattle.std.proofs.lemmas.Option.{slice_get_read, slice_get-map}
-use Rattle.atom_lines.specs.declared.fault.LineFault.{LineFault}
+use Rattle.plant_words.specs.declared.line_fault.LineFault.{LineFault}
 use Rattle.plant_text.specs.Fault.{of_line}
-use Rattle.plant_text.specs.Rows.{◌>>=◌, told, with_last, last_changed}
+use Rattle.plant_words.specs.Reading.{◌>>=◌}
+use Rattle.plant_text.specs.Rows.{told, with_last, last_changed}
 use Rattle.plant_text.specs.declared.fault.Fault.TheVariants.{Misplaced}
 
 -- what is shown of the last one of a list

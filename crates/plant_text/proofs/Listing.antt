@@ -4,7 +4,8 @@ use Rattle.std.proofs.lemmas.List.{map-append}
 use Rattle.plant_text.specs.Fault.{of_no_line, placed}
 use Rattle.plant_text.specs.Marks.{if_refused, faulty_line}
 use Rattle.plant_text.specs.Meaning.{on_line, lines_row}
-use Rattle.plant_text.specs.Rows.{◌>>=◌, line_row}
+use Rattle.plant_words.specs.Reading.{◌>>=◌}
+use Rattle.plant_text.specs.Rows.{line_row}
 use Rattle.plant_text.specs.Text.{PlantText}
 use Rattle.plant_text.specs.declared.fault.Fault.{Fault}
 use Rattle.plant_text.specs.declared.fault.Fault.TheVariants.{NotAscii, TooLong, UnknownWord, Misplaced, BadName, Twice, UnknownName, BadExpression, BadNumber, Shape, Tree, Order, Limit, NoAtom, Memory, Read}

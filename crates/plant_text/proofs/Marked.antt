@@ -10,7 +10,8 @@ use Rattle.plant_text.specs.Text.{PlantText}
 use Rattle.plant_text.specs.Interactions.{interactions_of}
 use Rattle.plant_text.specs.Fault.{of_no_line}
 use Rattle.plant_text.specs.Marks.{if_refused, faulty_line}
-use Rattle.plant_text.specs.Rows.{◌>>=◌, line_row}
+use Rattle.plant_words.specs.Reading.{◌>>=◌}
+use Rattle.plant_text.specs.Rows.{line_row}
 use Rattle.plant_text.specs.Meaning.{on_line, lines_row, nothing, with_an_atom, with_an_order, meaning}
 use Rattle.plant_text.specs.declared.fault.Fault.{Fault}
 use Rattle.plant_text.specs.declared.fault.Fault.TheVariants as fault

@@ -6,7 +6,7 @@ use Rattle.step_core.specs.System.{plant_of}
 use Rattle.step_core.specs.declared.system.System.{System}
 use Rattle.plant_text.specs.Fault.{of_no_line}
 use Rattle.plant_text.specs.Meaning.{meaning, written_in, with_an_order}
-use Rattle.plant_text.specs.Rows.{◌>>=◌}
+use Rattle.plant_words.specs.Reading.{◌>>=◌}
 use Rattle.plant_text.specs.Text.{PlantText, text_of}
 use Rattle.plant_text.specs.declared.fault.Fault.TheVariants.{Memory}
 use Rattle.plant_text.specs.declared.fault.PlantFault.{PlantFault}

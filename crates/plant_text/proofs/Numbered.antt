@@ -19,8 +19,8 @@ use Rattle.step_core.specs.Rules.{first_of, first_told, atom_fault, tree_fault, 
 use Rattle.step_core.specs.declared.fault.SystemFault.{SystemFault}
 use Rattle.step_core.specs.declared.fault.SystemFault.TheVariants.{Limit, BadAtom, BadConnector, BadWire, Order}
 use Rattle.step_core.specs.declared.limits.TheConstants.{MAX_INTERACTIONS}
-use Rattle.plant_trees.specs.Connectors.{tokens_of}
-use Rattle.plant_trees.proofs.Meaning as connector
+use Rattle.connector_lines.specs.Connectors.{tokens_of}
+use Rattle.connector_lines.proofs.Meaning as connector
 use Rattle.plant_text.specs.Interactions.{interactions_at, interactions_from, interactions_of, trees_of}
 use Rattle.plant_text.specs.Text.{wire_text_of, text_of}
 

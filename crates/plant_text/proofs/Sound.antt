@@ -18,16 +18,17 @@ use Rattle.step_core.specs.declared.fault.SystemFault.TheVariants.{Limit, BadAto
 use Rattle.step_core.specs.declared.limits.TheConstants.{MAX_ATOMS, MAX_WIRES, MAX_RULES, MAX_INTERACTIONS}
 use Rattle.text_io.specs.declared.reading.TheConstants.{MAX_TEXT}
 use Rattle.plant_words.specs.Lines.{lines_of}
-use Rattle.plant_trees.proofs.Agreement.{fault-tree}
-use Rattle.plant_trees.proofs.Leaves.{ports-tree}
+use Rattle.connector_lines.proofs.Agreement.{fault-tree}
+use Rattle.connector_lines.proofs.Leaves.{ports-tree}
 use Rattle.plant_text.specs.Text.{PlantText, wire_text_of, text_of}
 use Rattle.plant_text.specs.Interactions.{interactions_of}
 use Rattle.plant_text.specs.Fault.{of_no_line}
-use Rattle.plant_text.specs.Rows.{◌>>=◌}
+use Rattle.plant_words.specs.Reading.{◌>>=◌}
 use Rattle.plant_text.specs.Meaning.{lines_row, nothing, with_an_atom, with_an_order, written_in, meaning}
 use Rattle.plant_text.specs.declared.fault.Fault.TheVariants as fault
 use Rattle.plant_text.proofs.Numbered.{interactions_written}
-use Rattle.plant_text.proofs.SoundLists.{led_on, same_end, EachBehind, each_passes, each_mapped, none_told}
+use Rattle.plant_words.proofs.Steps.{led_on, same_end}
+use Rattle.plant_text.proofs.SoundLists.{EachBehind, each_passes, each_mapped, none_told}
 use Rattle.plant_text.proofs.SoundWires.{SoundBehind}
 use Rattle.plant_text.proofs.SoundLines.{HasNewName, SoundText, text_sound}
 

@@ -13,9 +13,9 @@ use Rattle.step_core.specs.declared.wire.Export.{Export}
 use Rattle.atom_lines.specs.Lookup.{port_number, export_number, is_named}
 use Rattle.atom_lines.proofs.Growing.{Grows}
 use Rattle.plant_words.proofs.Positions.{position-within}
-use Rattle.wire_lines.specs.Names.{variable_in}
-use Rattle.wire_lines.specs.Parts.{Passes}
-use Rattle.wire_lines.proofs.Naming.{variables_pass}
+use Rattle.connector_lines.specs.Exports.{variable_in}
+use Rattle.connector_lines.specs.Parts.{Passes}
+use Rattle.connector_lines.proofs.NamedExports.{variables_pass}
 use Rattle.plant_text.specs.Names.{atom_number, port_at, port_named, export_named}
 
 -- ---- what is named is there

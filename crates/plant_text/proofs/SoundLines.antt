@@ -12,14 +12,14 @@ use Rattle.priority_filter.specs.declared.rule.Rule.{Rule}
 use Rattle.step_core.specs.declared.limits.TheConstants.{MAX_ATOMS, MAX_WIRES, MAX_RULES, MAX_INTERACTIONS}
 use Rattle.plant_words.specs.Lines.{is_legal_line}
 use Rattle.plant_words.specs.Words.{words_of, is_passed_over}
-use Rattle.atom_lines.specs.Reading.{first_name, at_end}
+use Rattle.plant_words.specs.Reading.{first_name, at_end, ◌>>=◌, check}
 use Rattle.atom_lines.proofs.Growing.{Grows, place_grows, variable_grows, port_grows, transition_grows}
 use Rattle.plant_words.proofs.Positions.{none-passes}
-use Rattle.plant_trees.specs.Meaning.{interactions_in}
+use Rattle.connector_lines.specs.Meaning.{interactions_in}
 use Rattle.plant_text.specs.Text.{WireText, PlantText}
 use Rattle.plant_text.specs.Interactions.{interactions_of}
 use Rattle.plant_text.specs.Names.{kind_in, atom_number}
-use Rattle.plant_text.specs.Rows.{◌>>=◌, check, told, last_changed, atom_part_row, wire_part_row, atom_row, rule_in, rule_row, row_of, words_row, line_row}
+use Rattle.plant_text.specs.Rows.{told, last_changed, atom_part_row, wire_part_row, atom_row, rule_in, rule_row, row_of, words_row, line_row}
 use Rattle.plant_text.specs.Meaning.{on_line, lines_row, nothing}
 use Rattle.plant_text.specs.declared.kinds.AtomPart.{AtomPart}
 use Rattle.plant_text.specs.declared.kinds.AtomPart.TheVariants.{Place, Variable, Port, Transition}
@@ -29,7 +29,9 @@ use Rattle.plant_text.specs.declared.kinds.LineKind.{LineKind}
 use Rattle.plant_text.specs.declared.kinds.LineKind.TheVariants.{Atom, Connector, OfAtom, OfConnector, Rule as OfRule}
 use Rattle.plant_text.specs.declared.fault.Fault.{Fault}
 use Rattle.plant_text.specs.declared.fault.Fault.TheVariants.{NotAscii, UnknownWord, Twice, Limit}
-use Rattle.plant_text.proofs.SoundLists.{led_on, passed, was_none, same_end, changed_last, EachBehind, each_of_none, each_and_one, each_before_last, each_weaker}
+use Rattle.plant_words.proofs.Exits.{room_for_one}
+use Rattle.plant_words.proofs.Steps.{led_on, passed, same_end}
+use Rattle.plant_text.proofs.SoundLists.{was_none, changed_last, EachBehind, each_of_none, each_and_one, each_before_last, each_weaker}
 use Rattle.plant_text.proofs.SoundAtoms.{Extends, extended, extended_last}
 use Rattle.plant_text.proofs.SoundWires.{SoundBehind, stays_behind, part_kept, connector_added, interactions_and_more, same_interactions}
 
@@ -55,10 +57,6 @@ nothing_sound = record {
   names = each_of_none HasNewName [];
   wires = each_of_none (SoundBehind []) [];
 }
-
--- no more than a bound, where there was room for one
-room_for_one : {X : Type 0} (bound : ℕ) (xs : List X) (x : X) → length xs < bound → length (xs ++ x ∷ []) ≤ bound
-room_for_one bound xs x room = let more : length (xs ++ x ∷ []) ≡ length xs + 1 = length-append xs (x ∷ []) in omega (arith, more, room)
 
 -- as many, with another last one
 as_many : {X : Type 0} (bound : ℕ) (front : List X) (last changed : X) → length (front ++ last ∷ []) ≤ bound → length (front ++ changed ∷ []) ≤ bound

@@ -1,33 +1,20 @@
 -- Lists to which lines add one at the end, or whose last they change, and the steps of a line without a fault.
-use Rattle.std.proofs.Common.{◌≡◌, ◌∙◌, refl, sym, ap, subst, ℕ, suc, ◌+◌, ◌-◌, arith, Bool, true, false, List, [], ◌∷◌, ◌++◌, append-nil, append_assoc, length, map, take, Option, Some, None, Result, Ok, Err}
+use Rattle.std.proofs.Common.{◌≡◌, ◌∙◌, refl, sym, ap, subst, ℕ, suc, ◌+◌, ◌-◌, arith, Bool, true, List, [], ◌∷◌, ◌++◌, append-nil, append_assoc, length, map, take, Option, Some, None, Result, Ok, Err}
 use Rattle.std.specs.Prelude.{slice_get, slice_set, is_none}
 use Rattle.std.specs.List.{list_all}
-use Rattle.std.specs.Option.{ok_or, option_map_or}
+use Rattle.std.specs.Option.{option_map_or}
 use Rattle.std.proofs.lemmas.Bool.{and_from}
 use Rattle.std.proofs.lemmas.List.{length-append, map-append}
 use Rattle.std.proofs.Math.Seq.{set-append_seam, take-append_seam}
 use Rattle.step_core.specs.Rules.{first_of, first_told}
-use Rattle.atom_lines.specs.declared.fault.LineFault.{LineFault}
-use Rattle.plant_text.specs.Rows.{◌>>=◌, check, told, with_last, last_changed}
+use Rattle.plant_words.specs.declared.line_fault.LineFault.{LineFault}
+use Rattle.plant_words.specs.Reading.{◌>>=◌}
+use Rattle.plant_words.proofs.Steps.{led_on, same_end}
+use Rattle.plant_text.specs.Rows.{told, with_last, last_changed}
 use Rattle.plant_text.specs.declared.fault.Fault.{Fault}
 use Rattle.plant_text.specs.declared.fault.Fault.TheVariants.{Misplaced}
 
 -- ---- steps
-
--- a step before others had no fault
-pub led_on : {A B F : Type 0} (r : Result A F) (next : A → Result B F) (y : B) → (r >>= next) ≡ Ok y → (x : A) × (r ≡ Ok x) × (next x ≡ Ok y)
-led_on (Ok x) next y told = (x, refl, told)
-led_on (Err fault) next y told = absurd (cc)
-
--- a test that was passed
-pub passed : (passes : Bool) (fault : Fault) (u : Unit {0}) → check passes fault ≡ Ok u → passes ≡ true
-passed true fault u told = refl
-passed false fault u told = absurd (cc)
-
--- a value that was there
-pub was_there : {A : Type 0} (o : Option A) (fault : Fault) (x : A) → ok_or o fault ≡ Ok x → o ≡ Some x
-was_there (Some y) fault x told = cc
-was_there None fault x told = absurd (cc)
 
 -- a value that was not there
 pub was_none : {A : Type 0} (o : Option A) → is_none o ≡ true → o ≡ None
@@ -38,10 +25,6 @@ was_none (Some x) told = absurd (cc)
 pub was_told : {A : Type 0} (r : Result A LineFault) (x : A) → told r ≡ Ok x → r ≡ Ok x
 was_told (Ok y) x is = cc
 was_told (Err fault) x is = absurd (cc)
-
--- two ends without a fault are the same where what they came to is
-pub same_end : {A F : Type 0} (x y : A) → ◌≡◌ {A = Result A F} (Ok x) (Ok y) → x ≡ y
-same_end x y same = cc
 
 -- ---- the last of a list
 

@@ -12,27 +12,28 @@ use Rattle.step_core.specs.Plant.{TransferDefinition}
 use Rattle.step_core.specs.Rules.{is_known_port, is_known_export}
 use Rattle.step_core.specs.declared.limits.TheConstants.{MAX_WIRES}
 use Rattle.step_core.specs.declared.wire.Export.{Export}
-use Rattle.atom_lines.specs.Reading.{first_name}
-use Rattle.atom_lines.specs.declared.fault.LineFault.{LineFault}
+use Rattle.plant_words.specs.Reading.{first_name, ◌>>=◌, check}
+use Rattle.plant_words.specs.declared.line_fault.LineFault.{LineFault}
 use Rattle.plant_words.proofs.Positions.{none-passes}
-use Rattle.atom_lines.proofs.Once.{all_weaker}
-use Rattle.plant_trees.specs.Meaning.{interactions_in}
-use Rattle.plant_trees.specs.Shape.{ports_in, fault_in}
-use Rattle.plant_trees.specs.Tokens.{Reading}
-use Rattle.plant_trees.specs.Trees.{tree_in}
-use Rattle.plant_trees.specs.declared.token.Token.{Token}
-use Rattle.plant_trees.proofs.Named.{tree-sound, ports-pass}
-use Rattle.wire_lines.specs.Rows.{guards_with, transfers_with}
-use Rattle.wire_lines.proofs.Added.{SoundGuards, SoundTransfers, guards_sound, transfers_sound}
+use Rattle.plant_words.proofs.Once.{all_weaker}
+use Rattle.connector_lines.specs.Meaning.{interactions_in}
+use Rattle.connector_lines.specs.Shape.{ports_in, fault_in}
+use Rattle.connector_lines.specs.Tokens.{Reading}
+use Rattle.connector_lines.specs.Trees.{tree_in}
+use Rattle.connector_lines.specs.declared.token.Token.{Token}
+use Rattle.connector_lines.proofs.NamedPorts.{tree-sound, ports-pass}
+use Rattle.connector_lines.specs.Rows.{guards_with, transfers_with}
+use Rattle.connector_lines.proofs.Added.{SoundGuards, SoundTransfers, guards_sound, transfers_sound}
 use Rattle.plant_text.specs.Text.{WireText, PlantText}
 use Rattle.plant_text.specs.Interactions.{interactions_at, interactions_from, interactions_of, trees_of}
 use Rattle.plant_text.specs.Names.{wire_number, port_named}
-use Rattle.plant_text.specs.Rows.{◌>>=◌, check, told, told_tree, named_on, wire_part_row, has_room, connector_row}
+use Rattle.plant_text.specs.Rows.{told, told_tree, named_in, wire_part_row, has_room, connector_row}
 use Rattle.plant_text.specs.declared.kinds.WirePart.{WirePart}
 use Rattle.plant_text.specs.declared.kinds.WirePart.TheVariants.{Guard, Transfer}
 use Rattle.plant_text.specs.declared.fault.Fault.{Fault}
 use Rattle.plant_text.specs.declared.fault.Fault.TheVariants.{Twice, Limit}
-use Rattle.plant_text.proofs.SoundLists.{led_on, passed, was_none, same_end}
+use Rattle.plant_words.proofs.Steps.{led_on, passed, same_end}
+use Rattle.plant_text.proofs.SoundLists.{was_none}
 use Rattle.plant_text.proofs.SoundAtoms.{Extends, port_known, variables_known, exports_stay, variables_weaker}
 
 -- ---- one connector
@@ -90,7 +91,7 @@ pub part_kept : (part : WirePart) (atoms : List AtomDefinition) (words : List (L
     SoundWire atoms w → wire_part_row part atoms words w ≡ Ok changed → KeepsWire atoms w changed
 part_kept Guard atoms words w changed sound is =
     let made : List (Tree Export) → Result WireText LineFault = λ guards. Ok (record w { guards = guards }) in
-    let guards = led_on (guards_with (named_on atoms w) words w.guards) made changed is in
+    let guards = led_on (guards_with (named_in atoms w) words w.guards) made changed is in
     let same : record w { guards = guards.0 } ≡ changed = same_end (record w { guards = guards.0 }) changed guards.2 in
     subst (KeepsWire atoms w) same (record {
       name = refl;
@@ -98,13 +99,13 @@ part_kept Guard atoms words w changed sound is =
       sound = record {
         tree = sound.tree;
         ports = sound.ports;
-        guards = guards_sound (is_known_export atoms (ports_in w.tree)) (named_on atoms w) (variables_known atoms (ports_in w.tree)) words w.guards guards.0 sound.guards guards.1;
+        guards = guards_sound (is_known_export atoms (ports_in w.tree)) (named_in atoms w) (variables_known atoms (ports_in w.tree)) words w.guards guards.0 sound.guards guards.1;
         transfers = sound.transfers;
       };
     })
 part_kept Transfer atoms words w changed sound is =
     let made : List TransferDefinition → Result WireText LineFault = λ transfers. Ok (record w { transfers = transfers }) in
-    let transfers = led_on (transfers_with (named_on atoms w) words w.transfers) made changed is in
+    let transfers = led_on (transfers_with (named_in atoms w) words w.transfers) made changed is in
     let same : record w { transfers = transfers.0 } ≡ changed = same_end (record w { transfers = transfers.0 }) changed transfers.2 in
     subst (KeepsWire atoms w) same (record {
       name = refl;
@@ -113,7 +114,7 @@ part_kept Transfer atoms words w changed sound is =
         tree = sound.tree;
         ports = sound.ports;
         guards = sound.guards;
-        transfers = transfers_sound (is_known_export atoms (ports_in w.tree)) (named_on atoms w) (variables_known atoms (ports_in w.tree)) words w.transfers transfers.0 sound.transfers transfers.1;
+        transfers = transfers_sound (is_known_export atoms (ports_in w.tree)) (named_in atoms w) (variables_known atoms (ports_in w.tree)) words w.transfers transfers.0 sound.transfers transfers.1;
       };
     })
 

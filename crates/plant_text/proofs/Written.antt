@@ -6,7 +6,7 @@ use Rattle.plant_words.specs.Lines.{lines_of}
 use Rattle.text_io.specs.declared.reading.TheConstants.{MAX_TEXT}
 use Rattle.plant_text.specs.Fault.{of_no_line}
 use Rattle.plant_text.specs.Meaning.{lines_row, nothing, with_an_atom, written_in}
-use Rattle.plant_text.specs.Rows.{◌>>=◌}
+use Rattle.plant_words.specs.Reading.{◌>>=◌}
 use Rattle.plant_text.specs.Text.{PlantText}
 use Rattle.plant_text.specs.declared.fault.Fault.TheVariants.{NoAtom, TooLong}
 

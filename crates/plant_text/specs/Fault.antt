@@ -9,10 +9,10 @@ use Rattle.priority_filter.specs.declared.fault.OrderFault.{OrderFault}
 use Rattle.priority_filter.specs.declared.fault.OrderFault.TheVariants as order
 use Rattle.step_core.specs.declared.fault.SystemFault.{SystemFault}
 use Rattle.step_core.specs.declared.fault.SystemFault.TheVariants as system
-use Rattle.atom_lines.specs.declared.fault.LineFault.{LineFault}
-use Rattle.atom_lines.specs.declared.fault.LineFault.TheVariants as line
-use Rattle.plant_trees.specs.declared.fault.TreeWordsFault.{TreeWordsFault}
-use Rattle.plant_trees.specs.declared.fault.TreeWordsFault.TheVariants as words
+use Rattle.plant_words.specs.declared.line_fault.LineFault.{LineFault}
+use Rattle.plant_words.specs.declared.line_fault.LineFault.TheVariants as line
+use Rattle.connector_lines.specs.declared.tree_words_fault.TreeWordsFault.{TreeWordsFault}
+use Rattle.connector_lines.specs.declared.tree_words_fault.TreeWordsFault.TheVariants as words
 use Rattle.text_io.specs.declared.reading.TheConstants.{MAX_TEXT}
 use Rattle.text_io.specs.declared.reading.TextFault.{TextFault}
 use Rattle.text_io.specs.declared.reading.TextFault.TheVariants as reading

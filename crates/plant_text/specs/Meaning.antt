@@ -7,7 +7,8 @@ use Rattle.plant_words.specs.Lines.{lines_of}
 use Rattle.plant_text.specs.Text.{PlantText}
 use Rattle.plant_text.specs.Interactions.{interactions_of}
 use Rattle.plant_text.specs.Fault.{of_no_line}
-use Rattle.plant_text.specs.Rows.{◌>>=◌, line_row}
+use Rattle.plant_words.specs.Reading.{◌>>=◌}
+use Rattle.plant_text.specs.Rows.{line_row}
 use Rattle.plant_text.specs.declared.fault.Fault.{Fault}
 use Rattle.plant_text.specs.declared.fault.Fault.TheVariants.{TooLong, NoAtom, Order}
 use Rattle.plant_text.specs.declared.fault.PlantFault.{PlantFault}

@@ -7,18 +7,18 @@ use Rattle.priority_filter.specs.declared.rule.Rule.{Rule}
 use Rattle.step_core.specs.declared.limits.TheConstants.{MAX_ATOMS, MAX_WIRES, MAX_RULES, MAX_INTERACTIONS}
 use Rattle.plant_words.specs.Lines.{is_legal_line}
 use Rattle.plant_words.specs.Words.{words_of, is_passed_over}
-use Rattle.atom_lines.specs.declared.fault.LineFault.{LineFault}
-use Rattle.atom_lines.specs.Reading.{first_name, at_end}
+use Rattle.plant_words.specs.declared.line_fault.LineFault.{LineFault}
+use Rattle.plant_words.specs.Reading.{◌>>=◌, check, first_name, at_end}
 use Rattle.atom_lines.specs.Rows.{place_row, variable_row, port_row}
 use Rattle.atom_lines.specs.Transitions.{transition_row}
-use Rattle.plant_trees.specs.declared.token.Token.{Token}
-use Rattle.plant_trees.specs.Meaning.{interactions_in}
-use Rattle.plant_trees.specs.Shape.{ports_in}
-use Rattle.plant_trees.specs.Tokens.{Reading}
-use Rattle.plant_trees.specs.Trees.{tree_in}
-use Rattle.rule_lines.specs.Rules.{priority_in, maximal_in}
-use Rattle.wire_lines.specs.Names.{variable_in}
-use Rattle.wire_lines.specs.Rows.{Named, guards_with, transfers_with}
+use Rattle.connector_lines.specs.declared.token.Token.{Token}
+use Rattle.connector_lines.specs.Meaning.{interactions_in}
+use Rattle.connector_lines.specs.Shape.{ports_in}
+use Rattle.connector_lines.specs.Tokens.{Reading}
+use Rattle.connector_lines.specs.Trees.{tree_in}
+use Rattle.connector_lines.specs.Rules.{priority_in, maximal_in}
+use Rattle.connector_lines.specs.Exports.{variable_in}
+use Rattle.connector_lines.specs.Rows.{Named, guards_with, transfers_with}
 use Rattle.plant_text.specs.Text.{WireText, PlantText}
 use Rattle.plant_text.specs.Interactions.{interactions_of, has_interaction}
 use Rattle.plant_text.specs.Names.{kind_in, atom_number, wire_number, port_named, export_named}
@@ -33,16 +33,6 @@ use Rattle.plant_text.specs.declared.kinds.LineKind.{LineKind}
 use Rattle.plant_text.specs.declared.kinds.LineKind.TheVariants.{Atom, Connector, OfAtom, OfConnector, Rule as OfRule}
 use Rattle.plant_text.specs.declared.fault.Fault.{Fault}
 use Rattle.plant_text.specs.declared.fault.Fault.TheVariants.{NotAscii, UnknownWord, Misplaced, Twice, Limit}
-
-infixl 10 ◌>>=◌
--- what comes next is judged only where nothing before it is at fault
-abbrev pub ◌>>=◌ : {A B F : Type 0} → Result A F → (A → Result B F) → Result B F
-Ok x >>= next = next x
-Err fault >>= next = Err fault
-
--- the fault, unless the test passes
-abbrev pub check : Bool → Fault → Result (Unit {0}) Fault
-check passes fault = if passes then Ok tt else Err fault
 
 -- what the words of a line say of an atom or a connector, with their fault as one of the text
 abbrev pub told : {A : Type 0} → Result A LineFault → Result A Fault
@@ -70,14 +60,14 @@ atom_part_row Variable = variable_row
 atom_part_row Port = port_row
 atom_part_row Transition = transition_row
 
--- which exported variable of the connector's leaves a word names
-abbrev pub named_on : List AtomDefinition → WireText → Named
-named_on atoms w = variable_in (atom_number atoms) (export_named atoms) (ports_in w.tree)
+-- which exported variable of the connector's ports a word names
+abbrev pub named_in : List AtomDefinition → WireText → Named
+named_in atoms w = variable_in (atom_number atoms) (export_named atoms) (ports_in w.tree)
 
 -- a line `guard` or `move`, by the words behind its first
 abbrev pub wire_part_row : WirePart → List AtomDefinition → List (List ℕ) → WireText → Result WireText LineFault
-wire_part_row Guard atoms words w = guards_with (named_on atoms w) words w.guards >>= λ guards. Ok (record w { guards = guards })
-wire_part_row Transfer atoms words w = transfers_with (named_on atoms w) words w.transfers >>= λ transfers. Ok (record w { transfers = transfers })
+wire_part_row Guard atoms words w = guards_with (named_in atoms w) words w.guards >>= λ guards. Ok (record w { guards = guards })
+wire_part_row Transfer atoms words w = transfers_with (named_in atoms w) words w.transfers >>= λ transfers. Ok (record w { transfers = transfers })
 
 -- `atom NAME`: an atom with a new name and no parts
 abbrev pub atom_row : List (List ℕ) → PlantText → Result PlantText Fault

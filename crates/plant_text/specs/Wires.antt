@@ -1,6 +1,6 @@
 -- What is made so far of a connector.
-use Rattle.wire_lines.specs.declared.draft.WireDraft.{WireDraft}
-use Rattle.wire_lines.specs.Draft as wire
+use Rattle.connector_lines.specs.declared.draft.WireDraft.{WireDraft}
+use Rattle.connector_lines.specs.Draft as wire
 use Rattle.plant_text.specs.Text.{WireText, wire_text_of}
 
 -- a connector as it was written

@@ -3,9 +3,9 @@ ghost use Rattle.std.specs.Prelude.{◌≡◌};
 ghost use Rattle.plant_text.specs.Fault.{number_of, name_of, subject_of, tree_name_of, order_name_of, order_subject_of};
 ghost use Rattle.plant_text.specs.declared.fault.Fault.TheVariants as fault;
 
-use atom_lines::LineFault;
+use connector_lines::TreeWordsFault;
 use connector_tree::TreeFault;
-use plant_trees::TreeWordsFault;
+use plant_words::LineFault;
 use priority_filter::OrderFault;
 use std::alloc::{AllocError, AllocFailed};
 use std::error::Error;

@@ -6,9 +6,9 @@
 //! |---|---|
 //! | `atom NAME` | an atom, the 64th at most |
 //! | `place ..`, `var ..`, `port ..`, `trans ..` | a part of the latest atom, as `atom_lines` reads it |
-//! | `connector NAME TREE` | a connector, the 64th at most, whose tree `plant_trees` reads over ports of the atoms so far |
-//! | `guard ..`, `move ..` | a part of the latest connector, as `wire_lines` reads it |
-//! | `prio ..`, `maximal ..` | a priority rule over the connectors so far, the 1,024th at most, as `rule_lines` reads it |
+//! | `connector NAME TREE` | a connector, the 64th at most, whose tree `connector_lines` reads over ports of the atoms so far |
+//! | `guard ..`, `move ..` | a part of the latest connector, as `connector_lines` reads it |
+//! | `prio ..`, `maximal ..` | a priority rule over the connectors so far, the 1,024th at most, as `connector_lines` reads it |
 //!
 //! Parts of the latest atom may stand behind lines of connectors. Empty lines and comments say nothing, and count as
 //! lines. Each byte must be printed ASCII, a space or a tab, also in a comment.
@@ -27,8 +27,7 @@
 //! - `read`: the text, its lines and its system. `draft`: the plant so far, and its lines. `making`: the system of a draft.
 //! - `kinds`: the kinds of lines. `parts`: an atom, changed by a line. `listed`: a connector with its interactions.
 //! - `names`: the atoms by the names that connectors use. `wires`: the connectors by the names that rules use.
-//! - `reading`: steps that take words. `fault`: what is wrong with a text. `marks`: where in its line.
-//! - `laws`: what follows of the meaning.
+//! - `fault`: what is wrong with a text. `marks`: where in its line. `laws`: what follows of the meaning.
 #![tactic(auto)]
 
 mod draft;
@@ -41,7 +40,6 @@ mod marks;
 mod names;
 mod parts;
 mod read;
-mod reading;
 mod wires;
 
 pub use fault::{Fault, PlantFault};

@@ -3,9 +3,9 @@ ghost use Rattle.std.specs.Prelude.{◌≡◌, map, IfOk, IfErr, OnOk, Ok, None,
 ghost use Rattle.connector_tree.specs.Tree.{tree_of};
 ghost use Rattle.connector_tree.specs.Faults.{fault_of};
 ghost use Rattle.atom_lines.specs.Draft.{drafted};
-ghost use Rattle.atom_lines.specs.Fault.{IsFaultOf};
-ghost use Rattle.plant_trees.specs.Connectors.{tokens_of};
-ghost use Rattle.plant_trees.specs.Meaning.{interactions_in};
+ghost use Rattle.plant_words.specs.LineFaults.{IsFaultOf};
+ghost use Rattle.connector_lines.specs.Connectors.{tokens_of};
+ghost use Rattle.connector_lines.specs.Meaning.{interactions_in};
 ghost use Rattle.plant_text.specs.Wires.{wire_drafted};
 ghost use Rattle.plant_text.specs.Rows.{wire_part_row};
 ghost use Rattle.plant_text.specs.declared.fault.Fault.TheVariants as fault;
@@ -13,12 +13,11 @@ ghost use Rattle.plant_text.specs.declared.fault.Fault.TheVariants as fault;
 use crate::fault::Fault;
 use crate::kinds::WirePart;
 use crate::names::AtomTable;
-use atom_lines::LineFault;
+use connector_lines::WireDraft;
 use connector_tree::{Connector, Mask, interactions};
 use petri_atom::Name;
-use plant_words::Words;
+use plant_words::{LineFault, Words};
 use std::alloc::Global;
-use wire_lines::WireDraft;
 
 /// A connector so far, with its interactions.
 #[derive(Drop)]

@@ -6,11 +6,10 @@ ghost use Rattle.plant_text.specs.Index.{names_of_atoms};
 ghost use Rattle.plant_text.specs.Names.{atom_number};
 
 use atom_lines::AtomDraft;
+use connector_lines::{Exports, Ports};
 use connector_tree::Port;
-use plant_trees::Ports;
 use plant_words::NameIndex;
 use step_core::MAX_ATOMS;
-use wire_lines::Exports;
 
 /// The atoms so far, numbered from 0.
 #[derive(Drop)]

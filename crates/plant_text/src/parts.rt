@@ -1,12 +1,12 @@
 //! The parts of an atom, each added by its line.
 ghost use Rattle.std.specs.Prelude.{◌≡◌, IfErr, OnOk, Ok};
 ghost use Rattle.atom_lines.specs.Draft.{drafted};
-ghost use Rattle.atom_lines.specs.Fault.{IsFaultOf};
+ghost use Rattle.plant_words.specs.LineFaults.{IsFaultOf};
 ghost use Rattle.plant_text.specs.Rows.{atom_part_row};
 
 use crate::kinds::AtomPart;
-use atom_lines::{AtomDraft, LineFault};
-use plant_words::Words;
+use atom_lines::AtomDraft;
+use plant_words::{LineFault, Words};
 
 /// Adds a part to the atom, by the words behind the line's first.
 pub(crate) fn change_atom(

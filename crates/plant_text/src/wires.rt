@@ -9,10 +9,9 @@ ghost use Rattle.plant_text.specs.Rows.{rule_in};
 
 use crate::kinds::RuleKind;
 use crate::listed::ListedWire;
-use atom_lines::LineFault;
-use plant_words::{NameIndex, Words};
+use connector_lines::{Connectors, read_maximal, read_priority};
+use plant_words::{LineFault, NameIndex, Words};
 use priority_filter::Rule;
-use rule_lines::{Connectors, read_maximal, read_priority};
 use step_core::{MAX_INTERACTIONS, MAX_WIRES};
 
 /// Whether a plant with these connectors may have so many interactions more.

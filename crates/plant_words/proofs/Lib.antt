@@ -1,6 +1,15 @@
 pub mod Positions
 pub mod Indexed
+pub mod Once
 pub mod Cuts
 pub mod Decimals
 pub mod Sides
-pub mod Rows
+mod Rows
+pub mod ExpressionReading
+pub mod ExpressionPassing
+pub mod ExpressionParts
+mod ExpressionRows
+pub mod Steps
+pub mod Exits
+pub mod Early
+pub mod Taken

@@ -4,3 +4,7 @@ pub mod Numbers
 pub mod Names
 pub mod Splits
 pub mod Lent
+pub mod ExpressionWords
+pub mod Expressions
+pub mod LineFaults
+pub mod Reading

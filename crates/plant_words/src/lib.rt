@@ -1,4 +1,5 @@
-//! How a plant text is cut into lines and words, and how single words are read.
+//! How a plant text is cut into lines and words, how words and expressions are read, and the steps that lines of every kind
+//! share.
 //!
 //! A plant text is a list of bytes. [`Lines`] cuts it at each line feed, [`Words`] cuts a line at spaces and
 //! tabs, and the readers say what one word is. A layer above reads each line by a table of forms; nothing here
@@ -25,22 +26,65 @@
 //!
 //! [`is_numeric`] tells a word of an optional `-` and digits that is no number of the plant from other words.
 //!
-//! A [`NameIndex`] finds a name among those that lines declared, by one look-up of its hash. It alone takes memory: lines,
-//! words and parts are lent from the text.
+//! A [`NameIndex`] finds a name among those that lines declared, by one look-up of its hash. It takes memory, and so does an
+//! expression: lines, words and parts are lent from the text.
+//!
+//! # Expressions
+//!
+//! An expression is written in prefix form, one word for each of its parts: a number, a variable, or an operator
+//! with its operands behind it. [`read_expression`] takes it from the front of a line's words, and leaves the words
+//! behind it: `&& < n 10 ! == n 3` says that n is below 10 and not 3.
+//!
+//! | Word | Is |
+//! |---|---|
+//! | `+ - * min max < <= == != && \|\|` | an operator with two operands |
+//! | `!` | the operator with one operand |
+//! | `-12`, `007` | a number, as above |
+//! | another word | the variable that [`Variables`] names by it |
+//!
+//! In contracts an expression is a tree, and what words say is a function on their list, `expression_in`
+//! (`specs/Expressions.antt`): it reads rows of expressions, where each word takes the ones directly behind it as
+//! its operands. It gives the tree and the words that are left, or the first fault from the left. Two laws say what
+//! such a tree is made of (`proofs/ExpressionParts.antt`): it has at most `MAX_WORDS` words, and a test that each variable
+//! passes that can be named is passed by each of its variables.
+//!
+//! - An expression has at most [`MAX_WORDS`](petri_atom::MAX_WORDS) words. So no text can make the calls nest deeper.
+//! - Memory is taken for an operator when its operands have been read. Where it runs out the words are read on all the
+//!   same: then too it is known whether they are an expression, and the words behind it are left.
+//!
+//! # Steps
+//!
+//! Lines of atoms, of connectors and of rules are read by the same steps, and a [`LineFault`] says why one is refused. Each step
+//! of [`reading`] takes words, or tells the fault of one; in `specs/Reading.antt` it is a function on the list of the words, and
+//! what comes behind a fault is not judged.
+//!
+//! # Modules
 //!
 //! - `lines`, `words`: the text as lines, a line as words.
 //! - `numbers`, `names`: words of one part. `splits`: words of several parts, whose parts may be any bytes.
 //! - `index`: names in written order, each found by its bytes.
+//! - `expression_word`: what one word of an expression says, and which variables there are. `expression`: rows of words as an
+//!   expression. `expression_fault`: why words are none.
+//! - `line_fault`: why a line is refused. `reading`: the steps of reading one.
 #![tactic(auto)]
 
+mod expression;
+mod expression_fault;
+mod expression_word;
 mod index;
+mod line_fault;
 mod lines;
 mod names;
 mod numbers;
+pub mod reading;
 mod splits;
 mod words;
 
+pub use expression::read_expression;
+pub use expression_fault::ExpressionFault;
+pub use expression_word::Variables;
 pub use index::NameIndex;
+pub use line_fault::LineFault;
 pub use lines::{Lines, is_legal};
 pub use names::read_name;
 pub use numbers::{MAX_DIGITS, is_numeric, read_decimal, read_int};

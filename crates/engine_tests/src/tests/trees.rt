@@ -1,6 +1,6 @@
 //! Lines of as many words as a text has room for, and what the faults of a tree say.
+use connector_lines::{Ports, TreeWordsFault, read_tree};
 use connector_tree::{Port, TreeFault};
-use plant_trees::{Ports, TreeWordsFault, read_tree};
 use plant_words::Words;
 use std::alloc::{AllocError, Global};
 use std::test::Fail;

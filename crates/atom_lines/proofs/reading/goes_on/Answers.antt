@@ -1,6 +1,7 @@
 use Rattle.std.proofs.Common.{◌∙◌, sym, ap}
 use Rattle.atom_lines.specs.Transitions.{goes_on}
-use Rattle.atom_lines.proofs.Taken.{same_fault, rest_behind, none_behind, goes_on_well, goes_on_ill}
+use Rattle.plant_words.proofs.Taken.{same_fault, rest_behind, none_behind}
+use Rattle.atom_lines.proofs.Taken.{goes_on_well, goes_on_ill}
 use Rattle.atom_lines.proofs.reading.goes_on.Goals as goal
 
 pub returns-in_default-clause-goes_on : goal.returns-in_default-clause-goes_on

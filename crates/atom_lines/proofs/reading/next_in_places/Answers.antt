@@ -1,6 +1,7 @@
 use Rattle.std.proofs.Common.{ap, codes, true, false}
 use Rattle.atom_lines.specs.Transitions.{ends_places}
-use Rattle.atom_lines.proofs.Taken.{at_none, tested, ends_at_to, ends_at_when, ends_at_do, ends_at_none, taken_behind, goes_behind}
+use Rattle.atom_lines.proofs.Taken.{at_none, ends_at_to, ends_at_when, ends_at_do, ends_at_none, taken_behind, goes_behind}
+use Rattle.plant_words.proofs.Taken.{tested}
 use Rattle.atom_lines.proofs.reading.next_in_places.Goals as goal
 use Rattle.atom_lines.proofs.reading.next_in_places.Goals.{then-eq-via-then-eq, then-eq-via-else-eq+then-eq-2, then-eq-via-else-eq+else-eq-2+then-eq-3}
 

@@ -1,6 +1,6 @@
 use Rattle.plant_words.specs.Numbers.{int_in}
-use Rattle.atom_lines.specs.declared.fault.LineFault.TheVariants.{BadNumber}
-use Rattle.atom_lines.proofs.Taken.{none_said, word_said}
+use Rattle.plant_words.specs.declared.line_fault.LineFault.TheVariants.{BadNumber}
+use Rattle.plant_words.proofs.Taken.{none_said, word_said}
 use Rattle.atom_lines.proofs.reading.next_number.Goals as goal
 
 pub returns-in_err-word-clause-number : goal.returns-in_err-word-clause-number

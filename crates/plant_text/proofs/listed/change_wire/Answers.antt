@@ -1,7 +1,7 @@
 use Rattle.std.proofs.Common.{map}
 use Rattle.std.proofs.lemmas.Result.{on_ok_weaker, IfErr-weaker}
 use Rattle.atom_lines.specs.Draft.{drafted}
-use Rattle.wire_lines.specs.Draft.{drafted as wire_defined}
+use Rattle.connector_lines.specs.Draft.{drafted as wire_defined}
 use Rattle.plant_text.proofs.Connectors.{guard_made, guard_refused, guard_same_tree, guard_same_name, transfer_made, transfer_refused, transfer_same_tree, transfer_same_name}
 use Rattle.plant_text.proofs.listed.change_wire.Goals as goal
 

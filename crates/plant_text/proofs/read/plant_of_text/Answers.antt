@@ -1,6 +1,5 @@
-use Rattle.std.proofs.Common.{◌≡◌, ℕ, List, subst}
+use Rattle.std.proofs.Common.{◌≡◌, ℕ, List, subst, Ok}
 use Rattle.std.specs.Prelude.{IfOk}
-use Rattle.std.proofs.Common.{Ok}
 use Rattle.std.proofs.lemmas.Result.{IfOk-weaker}
 use Rattle.step_core.specs.System.{plant_of}
 use Rattle.plant_text.specs.Meaning.{meaning}

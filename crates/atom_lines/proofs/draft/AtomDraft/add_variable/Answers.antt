@@ -3,11 +3,13 @@ use Rattle.std.specs.Prelude.{nat_lt}
 use Rattle.petri_atom.specs.declared.state.TheConstants.{MAX_VARIABLES}
 use Rattle.atom_lines.specs.Draft.{drafted}
 use Rattle.atom_lines.specs.Lookup.{variable_number}
-use Rattle.atom_lines.specs.Reading.{check, first_name, value_in}
+use Rattle.plant_words.specs.Reading.{check, first_name}
+use Rattle.atom_lines.specs.Reading.{value_in}
 use Rattle.atom_lines.specs.Rows.{variable_row}
-use Rattle.atom_lines.specs.declared.fault.LineFault.TheVariants.{Limit, Twice}
-use Rattle.atom_lines.proofs.Early.{check_takes_none, name_takes_none, value_takes_none, told_before, told_last}
-use Rattle.atom_lines.proofs.Exits.{passes, new_name}
+use Rattle.plant_words.specs.declared.line_fault.LineFault.TheVariants.{Limit, Twice}
+use Rattle.plant_words.proofs.Early.{check_takes_none, name_takes_none, told_before, told_last}
+use Rattle.atom_lines.proofs.Early.{value_takes_none}
+use Rattle.plant_words.proofs.Exits.{passes, new_name}
 use Rattle.atom_lines.proofs.draft.AtomDraft.add_variable.Goals as goal
 
 pub returns-in_err-check-clause-memory : goal.returns-in_err-check-clause-memory
@@ -30,5 +32,5 @@ pub returns-in_err-push_variable-clause-memory : goal.returns-in_err-push_variab
 returns-in_err-push_variable-clause-memory c =
     told_last (variable_row c.args.words.now (drafted c.args.self.now)) _ c.from_residual-in_err-push_variable.result
     (passes _ (ap (λ n. check (nat_lt n MAX_VARIABLES) Limit) (sym (c.len.ensures ∙ c.args.self.now.variables.ok.0)) ∙ sym c.in_ok-check.ensures) (passes _ (sym c.in_ok-name.ensures.name)
-    (passes _ (new_name (variable_number (drafted c.args.self.now)) c.in_ok-name.name c.as_bytes.result.now c.find_variable.result c.is_none.result (Ok c.in_ok-check-2.field-0) c.as_bytes.ensures c.find_variable.ensures c.is_none.ensures c.in_ok-check-2.ensures)
+    (passes _ (new_name (variable_number (drafted c.args.self.now)) c.in_ok-name.name c.as_bytes.result.now c.find_variable.result c.is_none.result Twice (Ok c.in_ok-check-2.field-0) c.as_bytes.ensures c.find_variable.ensures c.is_none.ensures c.in_ok-check-2.ensures)
     (passes _ (ap value_in (sym c.next_name.ensures.taken) ∙ sym c.in_ok-first.ensures) refl))))

@@ -7,7 +7,7 @@ use Rattle.petri_atom.specs.declared.parts.Place.{Place}
 use Rattle.plant_words.proofs.Indexed.{not_full, was_pushed, one_name_more}
 use Rattle.atom_lines.proofs.Bounds.{sound_transitions-more}
 use Rattle.atom_lines.proofs.Named.{number_of_place}
-use Rattle.atom_lines.proofs.Once.{named_once}
+use Rattle.plant_words.proofs.Once.{named_once}
 use Rattle.atom_lines.proofs.draft.AtomDraft.push_place.Goals as goal
 
 pub add-requires : goal.add-requires

@@ -10,8 +10,7 @@ use Rattle.plant_words.proofs.Indexed.{not_full, was_pushed, one_name_more}
 use Rattle.atom_lines.specs.Sound.{is_sound_port}
 use Rattle.atom_lines.proofs.Bounds.{sound_transitions-more}
 use Rattle.atom_lines.proofs.Named.{number_of_port}
-use Rattle.atom_lines.proofs.Once.{named_once}
-use Rattle.atom_lines.proofs.Rules.{one_more}
+use Rattle.plant_words.proofs.Once.{named_once, all_and_one}
 use Rattle.atom_lines.proofs.draft.AtomDraft.push_port.Goals as goal
 
 pub add-requires : goal.add-requires
@@ -47,7 +46,7 @@ invariant_of-self-2 c =
       places_once = d.places_once;
       variables_once = d.variables_once;
       ports_once = subst (λ list. is_each_once (λ (x : PortDefinition). λ (y : PortDefinition). is_same_text x.name y.name) list ≡ true) written (named_once (λ (x : PortDefinition). x.name) (map port_of before) (port_of port) d.ports_once c.requires.new);
-      sound_ports = subst (λ list. list_all (is_sound_port (length d.variables.items)) list ≡ true) written (one_more (is_sound_port (length d.variables.items)) (map port_of before) (port_of port) d.sound_ports c.requires.sound);
+      sound_ports = subst (λ list. list_all (is_sound_port (length d.variables.items)) list ≡ true) written (all_and_one (is_sound_port (length d.variables.items)) (map port_of before) (port_of port) d.sound_ports c.requires.sound);
       sound_transitions =
           sound_transitions-more (length d.ports.items) (length d.places.items) (length d.variables.items) (length c.push.new.self.items) (length d.places.items) (length d.variables.items)
           (map transition_of d.transitions.items) ports places variables d.sound_transitions;

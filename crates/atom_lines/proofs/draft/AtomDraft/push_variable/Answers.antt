@@ -8,7 +8,7 @@ use Rattle.petri_atom.specs.declared.parts.Variable.{Variable}
 use Rattle.plant_words.proofs.Indexed.{not_full, was_pushed, one_name_more}
 use Rattle.atom_lines.proofs.Bounds.{sound_ports-more, sound_transitions-more}
 use Rattle.atom_lines.proofs.Named.{number_of_variable}
-use Rattle.atom_lines.proofs.Once.{named_once}
+use Rattle.plant_words.proofs.Once.{named_once}
 use Rattle.atom_lines.proofs.draft.AtomDraft.push_variable.Goals as goal
 
 pub add-requires : goal.add-requires

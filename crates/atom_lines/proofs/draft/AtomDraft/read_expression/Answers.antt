@@ -1,4 +1,4 @@
-use Rattle.plant_expressions.specs.Expressions.{expression_in}
+use Rattle.plant_words.specs.Expressions.{expression_in}
 use Rattle.atom_lines.specs.Draft.{drafted}
 use Rattle.atom_lines.specs.Lookup.{variable_number}
 use Rattle.atom_lines.proofs.Making.{expression_is_read}

@@ -1,7 +1,7 @@
-use Rattle.atom_lines.specs.declared.fault.LineFault.TheVariants.{UnknownName}
+use Rattle.plant_words.specs.declared.line_fault.LineFault.TheVariants.{UnknownName}
 use Rattle.atom_lines.specs.Draft.{drafted}
 use Rattle.atom_lines.specs.Lookup.{port_number}
-use Rattle.atom_lines.proofs.Taken.{none_said, word_said}
+use Rattle.plant_words.proofs.Taken.{none_said, word_said}
 use Rattle.atom_lines.proofs.draft.AtomDraft.read_port.Goals as goal
 
 pub returns-in_err-word-clause-port : goal.returns-in_err-word-clause-port

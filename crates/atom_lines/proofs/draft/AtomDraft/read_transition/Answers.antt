@@ -1,6 +1,7 @@
 use Rattle.atom_lines.specs.Draft.{drafted}
 use Rattle.atom_lines.specs.Transitions.{transition_in}
-use Rattle.atom_lines.proofs.Early.{places_behind_take_none, update_list_takes_none, told_before}
+use Rattle.atom_lines.proofs.Early.{places_behind_take_none, update_list_takes_none}
+use Rattle.plant_words.proofs.Early.{told_before}
 use Rattle.atom_lines.proofs.draft.AtomDraft.read_transition.Goals as goal
 
 pub returns-in_err-sources-clause-memory : goal.returns-in_err-sources-clause-memory

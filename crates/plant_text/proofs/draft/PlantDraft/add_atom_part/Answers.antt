@@ -4,7 +4,8 @@ use Rattle.atom_lines.specs.Draft.{drafted}
 use Rattle.atom_lines.specs.declared.draft.AtomDraft.{AtomDraft}
 use Rattle.plant_text.specs.Fault.{of_line}
 use Rattle.plant_text.specs.Parts.{wire_listed}
-use Rattle.plant_text.specs.Rows.{◌>>=◌, atom_part_row}
+use Rattle.plant_words.specs.Reading.{◌>>=◌}
+use Rattle.plant_text.specs.Rows.{atom_part_row}
 use Rattle.plant_text.proofs.Indexed.{names_stay}
 use Rattle.plant_text.proofs.Lasts.{last_changed_of, last_refused_of}
 use Rattle.plant_text.proofs.draft.PlantDraft.add_atom_part.Goals as goal

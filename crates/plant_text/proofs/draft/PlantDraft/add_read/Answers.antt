@@ -1,7 +1,7 @@
 use Rattle.std.proofs.Common.{◌∙◌, ap, sym}
-use Rattle.plant_text.specs.Rows.{check}
+use Rattle.plant_words.specs.Reading.{check}
 use Rattle.plant_text.specs.declared.fault.Fault.TheVariants.{NotAscii}
-use Rattle.plant_text.proofs.Exits.{passes}
+use Rattle.plant_words.proofs.Exits.{passes}
 use Rattle.plant_text.proofs.Deciding.{decides}
 use Rattle.plant_text.proofs.draft.PlantDraft.add_read.Goals as goal
 

@@ -6,7 +6,8 @@ use Rattle.atom_lines.specs.Draft.{drafted}
 use Rattle.atom_lines.specs.declared.draft.AtomDraft.{AtomDraft}
 use Rattle.plant_text.specs.Fault.{of_line}
 use Rattle.plant_text.specs.Parts.{wire_listed}
-use Rattle.plant_text.specs.Rows.{◌>>=◌, wire_part_row}
+use Rattle.plant_words.specs.Reading.{◌>>=◌}
+use Rattle.plant_text.specs.Rows.{wire_part_row}
 use Rattle.plant_text.specs.declared.listed.ListedWire.{ListedWire}
 use Rattle.plant_text.proofs.Indexed.{names_stay}
 use Rattle.plant_text.proofs.Lasts.{last_changed_of, last_refused_of}

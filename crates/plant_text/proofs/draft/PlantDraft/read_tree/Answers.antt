@@ -1,7 +1,7 @@
 use Rattle.std.proofs.Common.{◌∙◌, ap, sym, List}
 use Rattle.std.proofs.lemmas.Result.{err_from_is_err_and}
 use Rattle.petri_atom.specs.Definition.{AtomDefinition}
-use Rattle.plant_trees.specs.Trees.{tree_in}
+use Rattle.connector_lines.specs.Trees.{tree_in}
 use Rattle.plant_text.specs.Fault.{of_tree}
 use Rattle.plant_text.specs.Names.{port_named}
 use Rattle.plant_text.specs.Rows.{told_tree}

@@ -1,5 +1,5 @@
 use Rattle.std.proofs.Common.{refl, sym, codes, true, false}
-use Rattle.atom_lines.proofs.Taken.{tested}
+use Rattle.plant_words.proofs.Taken.{tested}
 use Rattle.plant_text.proofs.Deciding.{decides, leaves_it}
 use Rattle.plant_text.proofs.kinds.LineKind.of.Goals as goal
 

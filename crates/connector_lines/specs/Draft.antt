@@ -1,0 +1,15 @@
+use Rattle.std.specs.Prelude.{map}
+use Rattle.petri_atom.specs.Expression.{tree_of}
+use Rattle.connector_tree.specs.Tree as connectors
+use Rattle.step_core.specs.Plant.{WireDefinition}
+use Rattle.step_core.specs.Wire.{transfer_of}
+use Rattle.connector_lines.specs.declared.draft.WireDraft.{WireDraft}
+
+-- the connector as its lines have told it so far
+abbrev pub drafted : WireDraft → WireDefinition
+drafted d = record {
+  name = d.name;
+  connector = connectors.tree_of d.connector;
+  guards = map tree_of d.guards.items;
+  transfers = map transfer_of d.transfers.items;
+}

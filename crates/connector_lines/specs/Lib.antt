@@ -1,0 +1,13 @@
+pub mod Tokens
+pub mod Shape
+pub mod Trees
+pub mod Connectors
+pub mod Meaning
+pub mod TreeDrafts
+pub mod Judging
+pub mod Exports
+pub mod Rows
+pub mod Parts
+pub mod Draft
+pub mod Sides
+pub mod Rules

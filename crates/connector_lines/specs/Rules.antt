@@ -1,0 +1,27 @@
+-- The rule that a line writes, or the fault of its first word that is at fault. The words are those behind the line's
+-- first one.
+use Rattle.std.specs.Prelude.{ℕ, Bool, List, drop, Option, Result, Ok, codes}
+use Rattle.std.specs.Option.{ok_or}
+use Rattle.priority_filter.specs.declared.rule.Rule.{Rule}
+use Rattle.priority_filter.specs.declared.rule.Rule.TheVariants.{Under, Maximal}
+use Rattle.plant_words.specs.declared.line_fault.LineFault.{LineFault}
+use Rattle.plant_words.specs.declared.line_fault.LineFault.TheVariants.{UnknownName, Shape}
+use Rattle.plant_words.specs.Reading.{◌>>=◌, check, first_word, at_end, leads}
+use Rattle.connector_lines.specs.Sides.{side_in}
+
+-- `prio SIDE < SIDE`: the left side is below the right one
+abbrev pub priority_in : (List ℕ → Option ℕ) → (ℕ → ℕ → Bool) → List (List ℕ) → Result Rule LineFault
+priority_in connector_named has_interaction words = do
+  left ← side_in connector_named has_interaction words
+  _ ← check (leads (codes "<") (drop 1 words)) Shape
+  right ← side_in connector_named has_interaction (drop 2 words)
+  _ ← at_end (drop 3 words)
+  Ok (Under left right)
+
+-- `maximal NAME`: the connector with the name is maximal
+abbrev pub maximal_in : (List ℕ → Option ℕ) → List (List ℕ) → Result Rule LineFault
+maximal_in connector_named words = do
+  word ← first_word words
+  connector ← ok_or (connector_named word) UnknownName
+  _ ← at_end (drop 1 words)
+  Ok (Maximal connector)

@@ -1,4 +1,0 @@
-pub mod Reading
-pub mod Passing
-pub mod Parts
-pub mod Rows

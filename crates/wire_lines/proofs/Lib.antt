@@ -1,8 +1,0 @@
-pub mod Expressions
-pub mod Kept
-pub mod Added
-pub mod Adding
-pub mod Wanting
-pub mod Naming
-mod Rows
-pub mod Targets

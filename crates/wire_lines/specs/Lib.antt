@@ -1,4 +1,0 @@
-pub mod Names
-pub mod Rows
-pub mod Parts
-pub mod Draft
