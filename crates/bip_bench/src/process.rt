@@ -16,7 +16,7 @@ const STANDARD_INPUT: &str = "-";
 
 /// Why nothing was measured.
 #[derive(Clone, Copy, Debug, PartialEq, Eq)]
-enum Stop {
+enum Ending {
     /// The words of the command line ask for nothing that the program does.
     Usage,
     /// The text is no plant, or can't be read.
@@ -29,26 +29,26 @@ enum Stop {
 pub(crate) fn run<R: Clock + Env + Files + Input + Print + Eprint + AllocGlobal>(rt: &R) -> u8 {
     match answer(rt) {
         Ok(()) => 0,
-        Err(Stop::Plant) => 1,
-        Err(Stop::Usage) => {
+        Err(Ending::Plant) => 1,
+        Err(Ending::Usage) => {
             let _ = eprint!(rt; "{USAGE}");
             2
         }
-        Err(Stop::System) => 3,
+        Err(Ending::System) => 3,
     }
 }
 
 /// Answers the words of the command line.
 fn answer<R: Clock + Env + Files + Input + Print + Eprint + AllocGlobal>(
     rt: &R,
-) -> Result<(), Stop> {
-    let words = env::args(rt).map_err(|_| Stop::Usage)?;
-    let words: Vec<String> = words.collect(rt.alloc()).map_err(|_| Stop::System)?;
-    let command = read_command(words.as_slice()).ok_or(Stop::Usage)?;
+) -> Result<(), Ending> {
+    let words = env::args(rt).map_err(|_| Ending::Usage)?;
+    let words: Vec<String> = words.collect(rt.alloc()).map_err(|_| Ending::System)?;
+    let command = read_command(words.as_slice()).ok_or(Ending::Usage)?;
     if command.plant == STANDARD_INPUT {
         return measure(rt, &command, &mut rt.reader());
     }
-    let mut file = fs::open(rt, command.plant).map_err(|_| Stop::System)?;
+    let mut file = fs::open(rt, command.plant).map_err(|_| Ending::System)?;
     measure(rt, &command, &mut file)
 }
 
@@ -57,8 +57,8 @@ fn measure<R: Clock + Print + Eprint + AllocGlobal, T: Read>(
     rt: &R,
     command: &Command<'_>,
     text: &mut T,
-) -> Result<(), Stop> {
-    let start = Instant::now(rt).map_err(|_| Stop::System)?;
+) -> Result<(), Ending> {
+    let start = Instant::now(rt).map_err(|_| Ending::System)?;
     let system = match read_plant(rt.alloc(), text) {
         Ok(system) => system,
         Err(told) => {
@@ -68,7 +68,7 @@ fn measure<R: Clock + Print + Eprint + AllocGlobal, T: Read>(
                 told.fault.number(),
                 told.fault.name()
             );
-            return Err(Stop::Plant);
+            return Err(Ending::Plant);
         }
     };
     match command.task {
@@ -78,15 +78,15 @@ fn measure<R: Clock + Print + Eprint + AllocGlobal, T: Read>(
 }
 
 /// Prints how long reading the plant took.
-fn print_reading<R: Clock + Print>(rt: &R, system: &System, start: Instant) -> Result<(), Stop> {
-    let time = start.elapsed(rt).map_err(|_| Stop::System)?;
+fn print_reading<R: Clock + Print>(rt: &R, system: &System, start: Instant) -> Result<(), Ending> {
+    let time = start.elapsed(rt).map_err(|_| Ending::System)?;
     println!(rt;
         "seconds {} atoms {} interactions {}",
         Seconds(time),
         system.atoms().len(),
         system.interaction_count()
     )
-    .map_err(|_| Stop::System)
+    .map_err(|_| Ending::System)
 }
 
 /// Runs the plant from its first state, and prints what came of it.
@@ -96,12 +96,12 @@ fn print_run<R: Clock + Print + AllocGlobal>(
     steps: u64,
     seed: u64,
     timed: bool,
-) -> Result<(), Stop> {
-    let mut run = Stepper::first(rt.alloc(), system).map_err(|_| Stop::System)?;
+) -> Result<(), Ending> {
+    let mut run = Stepper::first(rt.alloc(), system).map_err(|_| Ending::System)?;
     let mut picks = Picks::new(seed);
-    let start = Instant::now(rt).map_err(|_| Stop::System)?;
+    let start = Instant::now(rt).map_err(|_| Ending::System)?;
     let fired = fire_steps(&mut run, steps, &mut picks);
-    let time = start.elapsed(rt).map_err(|_| Stop::System)?;
+    let time = start.elapsed(rt).map_err(|_| Ending::System)?;
     let hash = hash_of_states(&run);
     let printed = if timed {
         println!(rt;
@@ -112,5 +112,5 @@ fn print_run<R: Clock + Print + AllocGlobal>(
     } else {
         println!(rt; "steps {fired} hash {hash:016x}")
     };
-    printed.map_err(|_| Stop::System)
+    printed.map_err(|_| Ending::System)
 }

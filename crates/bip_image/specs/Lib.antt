@@ -1,3 +1,3 @@
 pub mod Paths
 pub mod Script
-pub mod Stop
+pub mod Ending

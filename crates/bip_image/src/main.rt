@@ -7,14 +7,14 @@
 //! - `process`: the words, the files, the standard input, output and error. What the words ask for is read by the crate
 //!   `command_line`, the plant by the crate `plant_tasks`, and what is done on an image by the crate `image_commands`.
 //! - `script`: the script of a run.
-//! - `stop`: why the program ends early, what it tells then, and its exit status.
+//! - `ending`: why the program ends early, what it tells then, and its exit status.
 //!
 //! A task of a plant alone is done by the program `bip_run`; the launcher at the top of the repository runs whichever the words ask for.
 #![tactic(auto)]
 
 mod process;
 mod script;
-mod stop;
+mod ending;
 
 use std::io::IsTerminal;
 use std::process::ExitCode;

@@ -1,14 +1,14 @@
 //! The program in its process: words, files, the standard output and error.
 ghost use Rattle.std.specs.Prelude.{◌≡◌};
-ghost use Rattle.bip_image.specs.Stop.{status_of};
+ghost use Rattle.bip_image.specs.Ending.{status_of};
 
 use crate::script::read_events;
-use crate::stop::{More, Paths, Stop, Told, exit_status};
+use crate::ending::{More, Paths, Ending, Told, exit_status};
 use command_line::{ImageTask, Request, Work, is_standard_input, read_request};
 use file_disk::{FileDisk, FileFault};
 use image_commands::{format_image, image_bytes, recover_image, run_image};
 use plant_core::Event;
-use plant_tasks::{PlantStop, ended, read_plant, show_fault, words_of_process};
+use plant_tasks::{PlantEnding, ended, read_plant, show_fault, words_of_process};
 use std::fs::File;
 use std::io::{BufWriter, Write};
 use std::rt::{Env, Files};
@@ -23,7 +23,7 @@ pub(crate) fn run<R: Env + Files<File = File> + Input + Print + Eprint + AllocGl
 ) -> u8 {
     match words_of_process(rt) {
         Ok(words) => answer(rt, words.as_slice(), explain),
-        Err(stop) => end(rt, Paths::none(), Err(Stop::OfPlant(stop))),
+        Err(ending) => end(rt, Paths::none(), Err(Ending::OfPlant(ending))),
     }
 }
 
@@ -35,11 +35,11 @@ fn answer<R: Files<File = File> + Input + Print + Eprint + AllocGlobal>(
 ) -> u8 {
     match read_request(rt, words) {
         Ok(request) => serve(rt, &request, explain),
-        Err(answered) => end(rt, Paths::none(), ended(answered).map_err(Stop::OfPlant)),
+        Err(answered) => end(rt, Paths::none(), ended(answered).map_err(Ending::OfPlant)),
     }
 }
 
-/// Does what was asked for, tells why not where it stops, and gives the exit status.
+/// Does what was asked for, tells why not where it ends early, and gives the exit status.
 fn serve<R: Files<File = File> + Input + Print + Eprint + AllocGlobal>(
     rt: &R,
     request: &Request<'_>,
@@ -48,10 +48,10 @@ fn serve<R: Files<File = File> + Input + Print + Eprint + AllocGlobal>(
     let mut text = Vec::new(rt.alloc());
     let ended = work(rt, request, &mut text);
     let status = end(rt, Paths::of(request), ended);
-    if let Err(stop) = ended
+    if let Err(ending) = ended
         && (explain || request.explain)
     {
-        tell_more(rt, &text, stop);
+        tell_more(rt, &text, ending);
     }
     status
 }
@@ -61,15 +61,15 @@ fn work<R: Files<File = File> + Input + Print + Eprint + AllocGlobal>(
     rt: &R,
     request: &Request<'_>,
     text: &mut Vec<u8>,
-) -> Result<(), Stop> {
+) -> Result<(), Ending> {
     match &request.work {
         Work::OfPlant(_) => {
             let _ = eprintln!(rt; "error: a task of a plant alone is done by the program bip_run");
-            Err(Stop::OfPlant(PlantStop::Usage))
+            Err(Ending::OfPlant(PlantEnding::Usage))
         }
         Work::OnImage(image, task) => {
             let mut output = BufWriter::new(rt.alloc(), io::writer(rt)).map_err(
-                |_| PlantStop::Memory,
+                |_| PlantEnding::Memory,
             )?;
             let system = plant_at(rt, request.plant, text)?;
             work_on_image(rt, *task, &system, image, &mut output)
@@ -84,7 +84,7 @@ fn work_on_image<R: Files<File = File> + Input + AllocGlobal, W: Write>(
     system: &System,
     image: &str,
     output: &mut W,
-) -> Result<(), Stop> {
+) -> Result<(), Ending> {
     let alloc = rt.alloc();
     match task {
         ImageTask::Format(ring) => {
@@ -109,11 +109,11 @@ fn plant_at<R: Files<File = File> + Input + AllocGlobal>(
     rt: &R,
     path: &str,
     text: &mut Vec<u8>,
-) -> Result<System, PlantStop> {
+) -> Result<System, PlantEnding> {
     if is_standard_input(path) {
         return read_plant(rt.alloc(), &mut rt.reader(), text);
     }
-    let mut file = fs::open(rt, path).map_err(|_| PlantStop::Unopened)?;
+    let mut file = fs::open(rt, path).map_err(|_| PlantEnding::Unopened)?;
     read_plant(rt.alloc(), &mut file, text)
 }
 
@@ -122,17 +122,17 @@ fn script_at<R: Files<File = File> + Input + AllocGlobal>(
     rt: &R,
     system: &System,
     path: &str,
-) -> Result<Vec<Event>, Stop> {
+) -> Result<Vec<Event>, Ending> {
     if is_standard_input(path) {
         return read_events(rt.alloc(), system, &mut rt.reader());
     }
-    let mut file = fs::open(rt, path).map_err(|_| Stop::ScriptUnread)?;
+    let mut file = fs::open(rt, path).map_err(|_| Ending::ScriptUnread)?;
     read_events(rt.alloc(), system, &mut file)
 }
 
 /// The image that is at the path.
-fn device_at<R: Files<File = File>>(rt: &R, path: &str) -> Result<FileDisk, Stop> {
-    FileDisk::open(rt, path).map_err(Stop::ImageUnopened)
+fn device_at<R: Files<File = File>>(rt: &R, path: &str) -> Result<FileDisk, Ending> {
+    FileDisk::open(rt, path).map_err(Ending::ImageUnopened)
 }
 
 /// The file at the path, which is to be an image of so many bytes: it is made, full of zeros, where nothing is there.
@@ -140,29 +140,29 @@ fn device_to_format<R: Files<File = File>>(
     rt: &R,
     path: &str,
     bytes: u64,
-) -> Result<FileDisk, Stop> {
+) -> Result<FileDisk, Ending> {
     match FileDisk::create(rt, path, bytes) {
         Ok(disk) => Ok(disk),
         Err(FileFault::AlreadyThere) => device_at(rt, path),
-        Err(fault) => Err(Stop::ImageUnopened(fault)),
+        Err(fault) => Err(Ending::ImageUnopened(fault)),
     }
 }
 
-/// Tells more of a stop than its line: of a plant's fault the line of the text, and of any other what it means.
-fn tell_more<R: Eprint + AllocGlobal>(rt: &R, text: &[u8], stop: Stop) {
-    if let Stop::OfPlant(PlantStop::Plant(told)) = stop {
+/// Tells more of an ending than its line: of a plant's fault the line of the text, and of any other what it means.
+fn tell_more<R: Eprint + AllocGlobal>(rt: &R, text: &[u8], ending: Ending) {
+    if let Ending::OfPlant(PlantEnding::Plant(told)) = ending {
         show_fault(rt, text, &told);
     } else {
-        let _ = rt.eprint(More { stop });
+        let _ = rt.eprint(More { ending });
     }
 }
 
-/// Tells why the program stops, where it does, and gives the exit status.
-fn end<R: Eprint>(rt: &R, paths: Paths<'_>, ended: Result<(), Stop>) -> u8
+/// Tells why the program ends early, where it does, and gives the exit status.
+fn end<R: Eprint>(rt: &R, paths: Paths<'_>, ended: Result<(), Ending>) -> u8
     ensures { result ≡ status_of ended }
 {
-    if let Err(stop) = ended {
-        let _ = rt.eprint(Told { stop, paths });
+    if let Err(ending) = ended {
+        let _ = rt.eprint(Told { ending, paths });
     }
     exit_status(&ended)
 }

@@ -1,15 +1,15 @@
 //! The script of a run, from a reader.
 ghost use Rattle.std.specs.Prelude.{◌≡◌, IfErr, IfOk, IfSome, Ok, Err};
 ghost use Rattle.bip_image.specs.Script.{TellsOfScript};
-ghost use Rattle.bip_image.specs.declared.stop.Stop.TheVariants.{ScriptUnread};
+ghost use Rattle.bip_image.specs.declared.ending.Ending.TheVariants.{ScriptUnread};
 ghost use Rattle.script_lines.specs.Script.{script_meaning};
 ghost use Rattle.step_core.specs.Plant.{PlantDefinition};
 ghost use Rattle.step_core.specs.System.{plant_of};
 ghost use Rattle.text_io.specs.Reading.{GivesUp};
 
-use crate::stop::Stop;
+use crate::ending::Ending;
 use plant_core::Event;
-use plant_tasks::PlantStop;
+use plant_tasks::PlantEnding;
 use script_lines::read_script;
 use std::alloc::Global;
 use std::io::Read;
@@ -21,9 +21,9 @@ pub(crate) fn read_events<R: Read>(
     alloc: Global,
     system: &System,
     reader: &mut R,
-) -> Result<Vec<Event>, Stop>
+) -> Result<Vec<Event>, Ending>
     ensures events { IfOk result (λ events. IfSome (R.remaining reader.old) (λ bytes. script_meaning (plant_of system.now) bytes ≡ Ok events.items)) }
-    ensures refused { IfErr result (λ stop. IfSome (R.remaining reader.old) (λ bytes. TellsOfScript (plant_of system.now) stop bytes)) }
+    ensures refused { IfErr result (λ ending. IfSome (R.remaining reader.old) (λ bytes. TellsOfScript (plant_of system.now) ending bytes)) }
     ensures unread { result ≡ Err ScriptUnread → GivesUp TextFault.Read (R.remaining reader.old) (R.remaining reader.new) }
 {
     let text = script_text(alloc, reader)?;
@@ -32,15 +32,15 @@ pub(crate) fn read_events<R: Read>(
 
 /// The bytes of a script.
 #[tactic(auto, using(crate::proofs::Scripts::long_text_refused))]
-fn script_text<R: Read>(alloc: Global, reader: &mut R) -> Result<Vec<u8>, Stop>
+fn script_text<R: Read>(alloc: Global, reader: &mut R) -> Result<Vec<u8>, Ending>
     ensures all { IfOk result (λ text. IfSome (R.remaining reader.old) (λ bytes. text.items ≡ bytes)) }
-    ensures refused { (plant : PlantDefinition) → IfErr result (λ stop. IfSome (R.remaining reader.old) (λ bytes. TellsOfScript plant stop bytes)) }
+    ensures refused { (plant : PlantDefinition) → IfErr result (λ ending. IfSome (R.remaining reader.old) (λ bytes. TellsOfScript plant ending bytes)) }
     ensures unread { result ≡ Err ScriptUnread → GivesUp TextFault.Read (R.remaining reader.old) (R.remaining reader.new) }
 {
     match read_text(alloc, reader) {
         Ok(text) => Ok(text),
-        Err(TextFault::TooLong) => Err(Stop::Script(0)),
-        Err(TextFault::Memory) => Err(Stop::OfPlant(PlantStop::Memory)),
-        Err(TextFault::Read) => Err(Stop::ScriptUnread),
+        Err(TextFault::TooLong) => Err(Ending::Script(0)),
+        Err(TextFault::Memory) => Err(Ending::OfPlant(PlantEnding::Memory)),
+        Err(TextFault::Read) => Err(Ending::ScriptUnread),
     }
 }

@@ -3,7 +3,7 @@ ghost use Rattle.std.specs.Prelude.{◌≡◌};
 ghost use Rattle.bip_run.specs.Status.{status_of};
 
 use command_line::{Request, Task, Work, is_standard_input, read_request};
-use plant_tasks::{PlantStop, PlantTold, ended, perform, show_fault, words_of_process};
+use plant_tasks::{PlantEnding, PlantTold, ended, perform, show_fault, words_of_process};
 use std::fs::File;
 use std::io::BufWriter;
 use std::rt::{Env, Files};
@@ -17,7 +17,7 @@ pub(crate) fn run<R: Env + Files<File = File> + Input + Print + Eprint + AllocGl
 ) -> u8 {
     match words_of_process(rt) {
         Ok(words) => answer(rt, words.as_slice(), explain),
-        Err(stop) => end(rt, "", Err(stop)),
+        Err(ending) => end(rt, "", Err(ending)),
     }
 }
 
@@ -33,7 +33,7 @@ fn answer<R: Files<File = File> + Input + Print + Eprint + AllocGlobal>(
     }
 }
 
-/// Does what was asked for, tells why not where it stops, and gives the exit status.
+/// Does what was asked for, tells why not where it ends early, and gives the exit status.
 fn serve<R: Files<File = File> + Input + Print + Eprint + AllocGlobal>(
     rt: &R,
     request: &Request<'_>,
@@ -42,7 +42,7 @@ fn serve<R: Files<File = File> + Input + Print + Eprint + AllocGlobal>(
     let mut text = Vec::new(rt.alloc());
     let ended = work(rt, request, &mut text);
     let status = end(rt, request.plant, ended);
-    if let Err(PlantStop::Plant(told)) = ended
+    if let Err(PlantEnding::Plant(told)) = ended
         && (explain || request.explain)
     {
         show_fault(rt, &text, &told);
@@ -55,12 +55,12 @@ fn work<R: Files<File = File> + Input + Print + Eprint + AllocGlobal>(
     rt: &R,
     request: &Request<'_>,
     text: &mut Vec<u8>,
-) -> Result<(), PlantStop> {
+) -> Result<(), PlantEnding> {
     match &request.work {
         Work::OfPlant(task) => work_of_plant(rt, task, request.plant, text),
         Work::OnImage(_, _) => {
             let _ = eprintln!(rt; "error: a task on an image is done by the program bip_image");
-            Err(PlantStop::Usage)
+            Err(PlantEnding::Usage)
         }
     }
 }
@@ -71,24 +71,24 @@ fn work_of_plant<R: Files<File = File> + Input + Print + AllocGlobal>(
     task: &Task,
     plant: &str,
     text: &mut Vec<u8>,
-) -> Result<(), PlantStop> {
-    let mut output = BufWriter::new(rt.alloc(), io::writer(rt)).map_err(|_| PlantStop::Memory)?;
+) -> Result<(), PlantEnding> {
+    let mut output = BufWriter::new(rt.alloc(), io::writer(rt)).map_err(|_| PlantEnding::Memory)?;
     if is_standard_input(plant) {
         return perform(rt.alloc(), task, &mut rt.reader(), text, &mut output);
     }
-    let mut file = fs::open(rt, plant).map_err(|_| PlantStop::Unopened)?;
+    let mut file = fs::open(rt, plant).map_err(|_| PlantEnding::Unopened)?;
     perform(rt.alloc(), task, &mut file, text, &mut output)
 }
 
-/// Tells why the program stops, where it does, and gives the exit status.
-fn end<R: Eprint>(rt: &R, plant: &str, ended: Result<(), PlantStop>) -> u8
+/// Tells why the program ends early, where it does, and gives the exit status.
+fn end<R: Eprint>(rt: &R, plant: &str, ended: Result<(), PlantEnding>) -> u8
     ensures { result ≡ status_of ended }
 {
     match ended {
         Ok(()) => 0,
-        Err(stop) => {
-            let _ = rt.eprint(PlantTold { stop, path: plant });
-            stop.exit_status()
+        Err(ending) => {
+            let _ = rt.eprint(PlantTold { ending, path: plant });
+            ending.exit_status()
         }
     }
 }

@@ -2,7 +2,7 @@
 use Rattle.std.proofs.Common.{◌≡◌, refl, ℕ, Bool, true, List, Option, Some, None, IfSome}
 use Rattle.std.specs.Prelude.{slice_get, option_map}
 use Rattle.std.specs.Option.{option_and_then}
-use Rattle.plant_words.specs.Splits.{export_in}
+use Rattle.plant_words.specs.Splits.{export_parts}
 use Rattle.connector_tree.specs.declared.tree.Port.{Port}
 use Rattle.step_core.specs.declared.wire.Export.{Export}
 use Rattle.connector_lines.specs.Exports.{leaf_of, export_at, export_of, variable_in}
@@ -34,4 +34,4 @@ module _ (test : Export → Bool) (atom_named : List ℕ → Option ℕ) (export
   at_names (Some names) = at_leaf names.1 (option_and_then (leaf_of ports) (atom_named names.0))
 
   pub variables_pass : Passes test (variable_in atom_named export_named ports)
-  variables_pass word = at_names (export_in word)
+  variables_pass word = at_names (export_parts word)

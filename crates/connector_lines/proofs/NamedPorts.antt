@@ -4,14 +4,14 @@ use Rattle.std.specs.List.{list_all}
 use Rattle.std.specs.Option.{option_map_or}
 use Rattle.std.proofs.lemmas.Bool.{and_from}
 use Rattle.petri_atom.specs.Name.{is_same_text}
-use Rattle.plant_words.specs.Splits.{PortParts, port_in}
+use Rattle.plant_words.specs.Splits.{PortParts, port_parts}
 use Rattle.connector_tree.specs.declared.tree.Port.{Port}
 use Rattle.connector_tree.specs.declared.faults.TreeFault.{TreeFault}
 use Rattle.connector_lines.specs.declared.token.Token.{Token}
 use Rattle.connector_lines.specs.declared.token.Token.TheVariants.{Leaf, Open, Close}
 use Rattle.connector_lines.specs.declared.tree_words_fault.TreeWordsFault.{TreeWordsFault}
 use Rattle.connector_lines.specs.declared.tree_words_fault.TreeWordsFault.TheVariants.{Shape}
-use Rattle.connector_lines.specs.Tokens.{Names, Reading, leaf_of, leaf_in, word_in, level_behind, led_by, behind, tokens_in}
+use Rattle.connector_lines.specs.Tokens.{Names, Reading, leaf_of, leaf_in, token_in, level_behind, led_by, behind, tokens_in}
 use Rattle.connector_lines.specs.Trees.{unless, judged, tree_in}
 use Rattle.connector_lines.specs.Shape.{ports_in, fault_in}
 
@@ -88,8 +88,8 @@ module _ (test : Port → Bool) (named : Names) (passes : (atom port : List ℕ)
   at_words : (level : ℕ) (words : List (List ℕ)) → PortsPass test (tokens_in named level words)
   at_words level [] = at_end (level == 0)
   at_words level (word ∷ words) =
-      at_word (word_in named word) level (λ next. tokens_in named next words)
-      (at_bracket (is_same_text word (codes "[")) (is_same_text word (codes "]")) (is_same_text word (codes "]'")) (port_in word))
+      at_word (token_in named word) level (λ next. tokens_in named next words)
+      (at_bracket (is_same_text word (codes "[")) (is_same_text word (codes "]")) (is_same_text word (codes "]'")) (port_parts word))
       (λ next. at_words next words)
 
   -- the ports of a tree that words are pass a test that each port passes which is named

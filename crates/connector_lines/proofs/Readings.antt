@@ -11,7 +11,7 @@ use Rattle.connector_lines.specs.declared.token.Token.{Token}
 use Rattle.connector_lines.specs.declared.token.Token.TheVariants.{Leaf, Open, Close}
 use Rattle.connector_lines.specs.declared.tree_words_fault.TreeWordsFault.{TreeWordsFault}
 use Rattle.connector_lines.specs.declared.tree_words_fault.TreeWordsFault.TheVariants.{Shape}
-use Rattle.connector_lines.specs.Tokens.{Names, Reading, word_in, level_behind, is_balanced, led_by, behind, tokens_in}
+use Rattle.connector_lines.specs.Tokens.{Names, Reading, token_in, level_behind, is_balanced, led_by, behind, tokens_in}
 use Rattle.connector_lines.specs.Shape.{fault_in}
 use Rattle.connector_lines.specs.Trees.{unless, judged, tree_in}
 
@@ -46,7 +46,7 @@ at_word (Ok token) level read each = at_level token level (level_behind token le
 
 at_words : (named : Names) (words : List (List ℕ)) (level : ℕ) → IsBalanced level (tokens_in named level words)
 at_words named [] level = at_end (level == 0) level refl
-at_words named (word ∷ words) level = at_word (word_in named word) level (λ next. tokens_in named next words) (λ next. at_words named words next)
+at_words named (word ∷ words) level = at_word (token_in named word) level (λ next. tokens_in named next words) (λ next. at_words named words next)
 
 -- the tokens of words are balanced
 pub balanced : (named : Names) (words : List (List ℕ)) (level : ℕ) (tokens : List Token) → tokens_in named level words ≡ Ok tokens → is_balanced level tokens ≡ true
@@ -93,7 +93,7 @@ no_tokens (Ok token) level read is = none_led token (level_behind token level) r
 -- words that are there have tokens
 pub some_tokens : (named : Names) (words : List (List ℕ)) (tokens : List Token) → words ≢ [] → tokens_in named 0 words ≡ Ok tokens → 0 < length tokens
 some_tokens named [] tokens some read = absurd (some refl)
-some_tokens named (word ∷ words) [] some read = absurd (no_tokens (word_in named word) 0 (λ next. tokens_in named next words) read)
+some_tokens named (word ∷ words) [] some read = absurd (no_tokens (token_in named word) 0 (λ next. tokens_in named next words) read)
 some_tokens named (word ∷ words) (token ∷ tokens) some read = omega arith
 
 -- what is read is a tree where its tokens are read and have no fault
@@ -113,7 +113,7 @@ tree_read named (word ∷ words) tokens is = judged_read (tokens_in named 0 (wor
 
 -- ---- one word after the other
 
-what_word_says : (named : Names) (level : ℕ) (words rest : List (List ℕ)) (word : List ℕ) (token : Token) (next : Option ℕ) → words ≡ word ∷ rest → word_in named word ≡ Ok token → level_behind token level ≡ next →
+what_word_says : (named : Names) (level : ℕ) (words rest : List (List ℕ)) (word : List ℕ) (token : Token) (next : Option ℕ) → words ≡ word ∷ rest → token_in named word ≡ Ok token → level_behind token level ≡ next →
     tokens_in named level words ≡ option_map_or (λ n. led_by token (tokens_in named n rest)) next (Err Shape)
 what_word_says named level words rest word token next is said goes =
     ap (tokens_in named level) is ∙ ap (λ r. behind r level (λ n. tokens_in named n rest)) said ∙ ap (λ o. option_map_or (λ n. led_by token (tokens_in named n rest)) o (Err Shape)) goes
@@ -123,7 +123,7 @@ led_behind before token (Ok tokens) = ap Ok (append_assoc before (token ∷ []) 
 led_behind before token (Err fault) = refl
 
 -- the token of the next word stands behind those before
-pub word_is_behind : (named : Names) (before : List Token) (level next : ℕ) (words rest : List (List ℕ)) (word : List ℕ) (token : Token) → words ≡ word ∷ rest → word_in named word ≡ Ok token → level_behind token level ≡ Some next →
+pub word_is_behind : (named : Names) (before : List Token) (level next : ℕ) (words rest : List (List ℕ)) (word : List ℕ) (token : Token) → words ≡ word ∷ rest → token_in named word ≡ Ok token → level_behind token level ≡ Some next →
     behind_all (before ++ token ∷ []) (tokens_in named next rest) ≡ behind_all before (tokens_in named level words)
 word_is_behind named before level next words rest word token is said goes =
     led_behind before token (tokens_in named next rest) ∙ sym (ap (behind_all before) (what_word_says named level words rest word token (Some next) is said goes))

@@ -1,13 +1,13 @@
 -- No words say that memory is wanting.
 use Rattle.std.proofs.Common.{◌≡◌, ◌≢◌, ap, ℕ, ◌==◌, Bool, true, false, if◌then◌else◌, List, [], ◌∷◌, Option, Some, None, Result, Ok, Err}
 use Rattle.std.specs.Option.{option_map_or}
-use Rattle.plant_words.specs.Splits.{PortParts, port_in}
+use Rattle.plant_words.specs.Splits.{PortParts, port_parts}
 use Rattle.connector_tree.specs.declared.tree.Port.{Port}
 use Rattle.connector_tree.specs.declared.faults.TreeFault.{TreeFault}
 use Rattle.connector_lines.specs.declared.token.Token.{Token}
 use Rattle.connector_lines.specs.declared.tree_words_fault.TreeWordsFault.{TreeWordsFault}
 use Rattle.connector_lines.specs.declared.tree_words_fault.TreeWordsFault.TheVariants.{Memory, Shape}
-use Rattle.connector_lines.specs.Tokens.{Names, Reading, bracket_in, leaf_of, leaf_in, word_in, level_behind, led_by, behind, tokens_in}
+use Rattle.connector_lines.specs.Tokens.{Names, Reading, bracket_in, leaf_of, leaf_in, token_in, level_behind, led_by, behind, tokens_in}
 use Rattle.connector_lines.specs.Shape.{fault_in}
 use Rattle.connector_lines.specs.Trees.{unless, judged, tree_in}
 
@@ -23,8 +23,8 @@ said_wants_none : (bracket : Option Token) (leaf : Result Token TreeWordsFault) 
 said_wants_none None leaf none wants = none wants
 said_wants_none (Some bracket) leaf none wants = absurd (cc)
 
-word_wants_none : (named : Names) (word : List ℕ) → word_in named word ≢ Err Memory
-word_wants_none named word = said_wants_none (bracket_in word) (leaf_in named (port_in word)) (leaf_wants_none named (port_in word))
+word_wants_none : (named : Names) (word : List ℕ) → token_in named word ≢ Err Memory
+word_wants_none named word = said_wants_none (bracket_in word) (leaf_in named (port_parts word)) (leaf_wants_none named (port_parts word))
 
 led_wants_none : (token : Token) (read : Reading) → read ≢ Err Memory → led_by token read ≢ Err Memory
 led_wants_none token (Ok tokens) none wants = absurd (cc)
@@ -47,7 +47,7 @@ end_wants_none false wants = absurd (cc)
 tokens_want_none : (named : Names) (level : ℕ) (words : List (List ℕ)) → tokens_in named level words ≢ Err Memory
 tokens_want_none named level [] = end_wants_none (level == 0)
 tokens_want_none named level (word ∷ words) =
-    behind_wants_none (word_in named word) level (λ next. tokens_in named next words) (word_wants_none named word) (λ next. tokens_want_none named next words)
+    behind_wants_none (token_in named word) level (λ next. tokens_in named next words) (word_wants_none named word) (λ next. tokens_want_none named next words)
 
 unless_wants_none : (tokens : List Token) (fault : Option TreeFault) → unless tokens fault ≢ Err Memory
 unless_wants_none tokens None wants = absurd (cc)

@@ -1,7 +1,7 @@
 -- Which exported variable a word of a connector's line names.
 use Rattle.std.specs.Prelude.{ℕ, ◌==◌, List, slice_get, position, Option, option_map}
 use Rattle.std.specs.Option.{option_and_then}
-use Rattle.plant_words.specs.Splits.{export_in}
+use Rattle.plant_words.specs.Splits.{export_parts}
 use Rattle.connector_tree.specs.declared.tree.Port.{Port}
 use Rattle.step_core.specs.declared.wire.Export.{Export}
 
@@ -22,4 +22,4 @@ export_of atom_named export_named ports names =
 -- The exported variable that a word `ATOM.VAR` names, among these leaves: the atom has a leaf, and the leaf's port
 -- exports the variable.
 abbrev pub variable_in : (List ℕ → Option ℕ) → (Port → List ℕ → Option ℕ) → List Port → List ℕ → Option Export
-variable_in atom_named export_named ports word = option_and_then (export_of atom_named export_named ports) (export_in word)
+variable_in atom_named export_named ports word = option_and_then (export_of atom_named export_named ports) (export_parts word)

@@ -2,7 +2,7 @@
 use Rattle.std.specs.Prelude.{ℕ, ◌+◌, ◌-◌, ◌==◌, Bool, true, false, if◌then◌else◌, List, [], ◌∷◌, codes, Option, Some, None, Result, Ok, Err}
 use Rattle.std.specs.Option.{option_map_or}
 use Rattle.petri_atom.specs.Name.{is_same_text}
-use Rattle.plant_words.specs.Splits.{PortParts, port_in}
+use Rattle.plant_words.specs.Splits.{PortParts, port_parts}
 use Rattle.connector_tree.specs.declared.tree.Port.{Port}
 use Rattle.connector_lines.specs.declared.token.Token.{Token}
 use Rattle.connector_lines.specs.declared.token.Token.TheVariants.{Leaf, Open, Close}
@@ -32,8 +32,8 @@ leaf_in named None = Err Shape
 leaf_in named (Some parts) = leaf_of parts.quoted (named parts.atom parts.port)
 
 -- what a word says: a bracket, or else a port that is named
-abbrev pub word_in : Names → List ℕ → Result Token TreeWordsFault
-word_in named word = option_map_or (λ bracket. Ok bracket) (bracket_in word) (leaf_in named (port_in word))
+abbrev pub token_in : Names → List ℕ → Result Token TreeWordsFault
+token_in named word = option_map_or (λ bracket. Ok bracket) (bracket_in word) (leaf_in named (port_parts word))
 
 -- how many brackets are open behind a token, where so many are open before it; none where it closes one and none is open
 abbrev pub level_behind : Token → ℕ → Option ℕ
@@ -64,4 +64,4 @@ behind (Ok token) level read = option_map_or (λ next. led_by token (read next))
 -- bracket that stays open is told behind all words.
 abbrev pub tokens_in : Names → ℕ → List (List ℕ) → Reading
 tokens_in named level [] = if level == 0 then Ok [] else Err Shape
-tokens_in named level (word ∷ words) = behind (word_in named word) level (λ next. tokens_in named next words)
+tokens_in named level (word ∷ words) = behind (token_in named word) level (λ next. tokens_in named next words)

@@ -1,6 +1,6 @@
 //! What one word of a tree says.
 ghost use Rattle.std.specs.Prelude.{◌≡◌, ◌<◌};
-ghost use Rattle.connector_lines.specs.Tokens.{bracket_in, word_in, level_behind};
+ghost use Rattle.connector_lines.specs.Tokens.{bracket_in, token_in, level_behind};
 
 use crate::tree_words_fault::TreeWordsFault;
 use connector_tree::Port;
@@ -31,7 +31,7 @@ pub enum Token {
 
 /// What the word says, where a tree may stand.
 pub(crate) fn read_word<N: Ports>(word: &[u8], names: &N) -> Result<Token, TreeWordsFault>
-    ensures { result ≡ word_in (N.port_named names.now) word.now }
+    ensures { result ≡ token_in (N.port_named names.now) word.now }
 {
     if let Some(bracket) = bracket(word) {
         return Ok(bracket);

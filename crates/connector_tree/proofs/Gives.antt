@@ -2,7 +2,7 @@
 use Rattle.std.proofs.Common.{◌≡◌, ◌+◌, ℕ, Bool, true, false, ◌||◌, ◌&&◌, not, List, [], ◌∷◌, ◌++◌, length, refl, ap, sym, ◌∙◌, subst, inl, inr}
 use Rattle.std.proofs.lemmas.Bool.{or_cases, or_parts, or_left, or_right, or_from, and_parts, and_from, both_ways, not-true, not_from_false}
 use Rattle.connector_tree.specs.declared.tree.Port.{Port}
-use Rattle.connector_tree.specs.PortSets.{Sets, has, one, unions}
+use Rattle.connector_tree.specs.PortSets.{Sets, holds_port, one, unions}
 use Rattle.connector_tree.proofs.Sets.{Among, among_left, among_right, among_cases, among_unions, among_unions_back, same_port-refl, has-append, Inside, Apart, Agrees, agrees_left, agrees_right, agrees_both, agrees_by}
 
 -- a test of a choice of leaves, whose first leaf has this number
@@ -17,15 +17,15 @@ pub record TellsSome (ps : List Port) (some : Test) : Type 0 where
 -- the test tells whether the chosen ones of these leaves are one of the sets
 pub record Tells (sets : Sets) (ps : List Port) (takes : Test) : Type 0 where
   pub inside : (t : List Port) → Among t sets → Inside t ps
-  pub sound : (f : ℕ → Bool) (at : ℕ) (t : List Port) → Among t sets → Agrees f at ps (has t) → takes f at ≡ true
-  pub complete : (f : ℕ → Bool) (at : ℕ) → takes f at ≡ true → (t : List Port) × Among t sets × Agrees f at ps (has t)
+  pub sound : (f : ℕ → Bool) (at : ℕ) (t : List Port) → Among t sets → Agrees f at ps (holds_port t) → takes f at ≡ true
+  pub complete : (f : ℕ → Bool) (at : ℕ) → takes f at ≡ true → (t : List Port) × Among t sets × Agrees f at ps (holds_port t)
 
 -- a port alone
 pub tells_port : (p : Port) → Tells ((p ∷ []) ∷ []) (p ∷ []) (λ f at. f at)
 tells_port p = record {
-  inside = λ t m q h. elim m [ inl e ↦ subst (λ z. has z q ≡ true) e h | inr k ↦ absurd k ];
+  inside = λ t m q h. elim m [ inl e ↦ subst (λ z. holds_port z q ≡ true) e h | inr k ↦ absurd k ];
   sound = λ f at t m h. elim m [
-    | inl e ↦ h.0 ∙ ap (λ z. has z p) e ∙ or_left _ _ (same_port-refl p)
+    | inl e ↦ h.0 ∙ ap (λ z. holds_port z p) e ∙ or_left _ _ (same_port-refl p)
     | inr k ↦ absurd k
   ];
   complete = λ f at h. (p ∷ [], inl refl, (h ∙ sym (or_left _ _ (same_port-refl p)), tt));
@@ -35,11 +35,11 @@ tells_port p = record {
 pub tells_optional : (sets : Sets) (ps : List Port) (some takes : Test) → TellsSome ps some → Tells sets ps takes → Tells (one ++ sets) ps (λ f at. takes f at || not (some f at))
 tells_optional sets ps some takes s t = record {
   inside = λ u m. elim m [
-    | inl e ↦ λ q h. absurd (both_ways false refl (subst (λ z. has z q ≡ true) e h))
+    | inl e ↦ λ q h. absurd (both_ways false refl (subst (λ z. holds_port z q ≡ true) e h))
     | inr k ↦ t.inside u k
   ];
   sound = λ f at u m h. elim m [
-    | inl e ↦ or_right (takes f at) _ (not_from_false _ (s.none f at (subst (λ z. Agrees f at ps (has z)) e h)))
+    | inl e ↦ or_right (takes f at) _ (not_from_false _ (s.none f at (subst (λ z. Agrees f at ps (holds_port z)) e h)))
     | inr k ↦ or_left _ _ (t.sound f at u k h)
   ];
   complete = λ f at h. elim (or_cases (takes f at) _ h) [
@@ -51,7 +51,7 @@ tells_optional sets ps some takes s t = record {
 -- the product of nothing
 pub tells_one : Tells one [] (λ f at. true)
 tells_one = record {
-  inside = λ t m q h. elim m [ inl e ↦ subst (λ z. has z q ≡ true) e h | inr k ↦ absurd k ];
+  inside = λ t m q h. elim m [ inl e ↦ subst (λ z. holds_port z q ≡ true) e h | inr k ↦ absurd k ];
   sound = λ f at t m h. refl;
   complete = λ f at h. ([], inl refl, tt);
 }
@@ -69,25 +69,25 @@ pub tells_unions : (xs ys : Sets) (ps qs : List Port) (takes more : Test) → Ap
 tells_unions xs ys ps qs takes more apart s t = record {
   inside = λ u m q h.
       let r = among_unions_back u xs ys m in
-      let part = sym (has-append r.0 r.1 q) ∙ sym (ap (λ z. has z q) r.4) ∙ h in
-      let whole = elim (or_cases (has r.0 q) (has r.1 q) part) as (λ _. (has ps q || has qs q) ≡ true) [
-        | inl e ↦ or_left (has ps q) (has qs q) (s.inside r.0 r.2 q e)
-        | inr e ↦ or_right (has ps q) (has qs q) (t.inside r.1 r.3 q e)
+      let part = sym (has-append r.0 r.1 q) ∙ sym (ap (λ z. holds_port z q) r.4) ∙ h in
+      let whole = elim (or_cases (holds_port r.0 q) (holds_port r.1 q) part) as (λ _. (holds_port ps q || holds_port qs q) ≡ true) [
+        | inl e ↦ or_left (holds_port ps q) (holds_port qs q) (s.inside r.0 r.2 q e)
+        | inr e ↦ or_right (holds_port ps q) (holds_port qs q) (t.inside r.1 r.3 q e)
       ] in
       has-append ps qs q ∙ whole;
   sound = λ f at u m h.
       let r = among_unions_back u xs ys m in
-      let k = subst (λ z. Agrees f at (ps ++ qs) (has z)) r.4 h in
-      let left = agrees_by f at ps _ (has r.0) (λ p e. has-append r.0 r.1 p ∙ only_left (has r.0 p) (has r.1 p) (λ w. apart p e (t.inside r.1 r.3 p w))) (agrees_left f at ps qs _ k) in
-      let right = agrees_by f (at + length ps) qs _ (has r.1) (λ p e. has-append r.0 r.1 p ∙ only_right (has r.0 p) (has r.1 p) (λ w. apart p (s.inside r.0 r.2 p w) e)) (agrees_right f at ps qs _ k) in
+      let k = subst (λ z. Agrees f at (ps ++ qs) (holds_port z)) r.4 h in
+      let left = agrees_by f at ps _ (holds_port r.0) (λ p e. has-append r.0 r.1 p ∙ only_left (holds_port r.0 p) (holds_port r.1 p) (λ w. apart p e (t.inside r.1 r.3 p w))) (agrees_left f at ps qs _ k) in
+      let right = agrees_by f (at + length ps) qs _ (holds_port r.1) (λ p e. has-append r.0 r.1 p ∙ only_right (holds_port r.0 p) (holds_port r.1 p) (λ w. apart p (s.inside r.0 r.2 p w) e)) (agrees_right f at ps qs _ k) in
       and_from _ _ (s.sound f at r.0 r.2 left) (t.sound f (at + length ps) r.1 r.3 right);
   complete = λ f at h.
       let parts = and_parts (takes f at) (more f (at + length ps)) h in
       let a = s.complete f at parts.0 in
       let b = t.complete f (at + length ps) parts.1 in
-      let left = agrees_by f at ps (has a.0) (has (a.0 ++ b.0)) (λ p e. sym (has-append a.0 b.0 p ∙ only_left (has a.0 p) (has b.0 p) (λ w. apart p e (t.inside b.0 b.1 p w)))) a.2 in
-      let right = agrees_by f (at + length ps) qs (has b.0) (has (a.0 ++ b.0)) (λ p e. sym (has-append a.0 b.0 p ∙ only_right (has a.0 p) (has b.0 p) (λ w. apart p (s.inside a.0 a.1 p w) e))) b.2 in
-      (a.0 ++ b.0, among_unions a.0 b.0 xs ys a.1 b.1, agrees_both f at ps qs (has (a.0 ++ b.0)) left right);
+      let left = agrees_by f at ps (holds_port a.0) (holds_port (a.0 ++ b.0)) (λ p e. sym (has-append a.0 b.0 p ∙ only_left (holds_port a.0 p) (holds_port b.0 p) (λ w. apart p e (t.inside b.0 b.1 p w)))) a.2 in
+      let right = agrees_by f (at + length ps) qs (holds_port b.0) (holds_port (a.0 ++ b.0)) (λ p e. sym (has-append a.0 b.0 p ∙ only_right (holds_port a.0 p) (holds_port b.0 p) (λ w. apart p (s.inside a.0 a.1 p w) e))) b.2 in
+      (a.0 ++ b.0, among_unions a.0 b.0 xs ys a.1 b.1, agrees_both f at ps qs (holds_port (a.0 ++ b.0)) left right);
 }
   where
     only_left : (x y : Bool) → (y ≡ true → ⊥) → (x || y) ≡ x

@@ -5,7 +5,7 @@ use Rattle.std.proofs.lemmas.Bool.{or_cases, or_parts, or_left, or_right, or_fro
 use Rattle.std.proofs.lemmas.List.Folds.{list_any-append}
 use Rattle.std.proofs.lemmas.List.{map-append}
 use Rattle.connector_tree.specs.declared.tree.Port.{Port}
-use Rattle.connector_tree.specs.PortSets.{Sets, same_port, has, unions}
+use Rattle.connector_tree.specs.PortSets.{Sets, same_port, holds_port, unions}
 use Rattle.connector_tree.specs.Faults.{has_repeat, atoms}
 
 -- the set stands in the list
@@ -63,16 +63,16 @@ same_port-true p q h =
     let parts = and_parts _ _ h in
     λ i. record { atom = eqb-true p.atom q.atom parts.0 i; port = eqb-true p.port q.port parts.1 i }
 
-pub has-append : (xs ys : List Port) (p : Port) → has (xs ++ ys) p ≡ (has xs p || has ys p)
+pub has-append : (xs ys : List Port) (p : Port) → holds_port (xs ++ ys) p ≡ (holds_port xs p || holds_port ys p)
 has-append xs ys p = list_any-append (same_port p) xs ys
 
 -- each port of the first is one of the second
 abbrev pub Inside : List Port → List Port → Type 0
-Inside s t = (p : Port) → has s p ≡ true → has t p ≡ true
+Inside s t = (p : Port) → holds_port s p ≡ true → holds_port t p ≡ true
 
 -- no port is in both
 abbrev pub Apart : List Port → List Port → Type 0
-Apart s t = (p : Port) → has s p ≡ true → has t p ≡ true → ⊥
+Apart s t = (p : Port) → holds_port s p ≡ true → holds_port t p ≡ true → ⊥
 
 -- the choice of leaf numbers from `at` on is that of the test on their ports
 abbrev pub Agrees : (ℕ → Bool) → ℕ → List Port → (Port → Bool) → Type 0
@@ -96,13 +96,13 @@ agrees_both f at (p ∷ ps) qs test h k =
     (h.0, agrees_both f (at + 1) ps qs test h.1 (subst (λ n. Agrees f n qs test) e k))
 
 -- tests that give one answer on the leaves are alike
-pub agrees_by : (f : ℕ → Bool) (at : ℕ) (ps : List Port) (test other : Port → Bool) → ((p : Port) → has ps p ≡ true → test p ≡ other p) → Agrees f at ps test → Agrees f at ps other
+pub agrees_by : (f : ℕ → Bool) (at : ℕ) (ps : List Port) (test other : Port → Bool) → ((p : Port) → holds_port ps p ≡ true → test p ≡ other p) → Agrees f at ps test → Agrees f at ps other
 agrees_by f at [] test other same h = tt
 agrees_by f at (p ∷ ps) test other same h =
     (h.0 ∙ same p (or_left _ _ (same_port-refl p)), agrees_by f (at + 1) ps test other (λ q k. same q (or_right _ _ k)) h.1)
 
 -- two tests that one choice agrees with give one answer on the leaves
-pub agrees_same : (f : ℕ → Bool) (at : ℕ) (ps : List Port) (test other : Port → Bool) → Agrees f at ps test → Agrees f at ps other → (p : Port) → has ps p ≡ true → test p ≡ other p
+pub agrees_same : (f : ℕ → Bool) (at : ℕ) (ps : List Port) (test other : Port → Bool) → Agrees f at ps test → Agrees f at ps other → (p : Port) → holds_port ps p ≡ true → test p ≡ other p
 agrees_same f at [] test other h k p m = absurd (both_ways false refl m)
 agrees_same f at (q ∷ ps) test other h k p m = elim (or_cases _ _ m) [
   | inl e ↦ let is = same_port-true p q e in ap test is ∙ sym h.0 ∙ k.0 ∙ ap other (sym is)
@@ -110,7 +110,7 @@ agrees_same f at (q ∷ ps) test other h k p m = elim (or_cases _ _ m) [
 ]
 
 -- the atom of a port among them is among their atoms
-has_atom : (ps : List Port) (p : Port) → has ps p ≡ true → list_any (λ n. p.atom == n) (atoms ps) ≡ true
+has_atom : (ps : List Port) (p : Port) → holds_port ps p ≡ true → list_any (λ n. p.atom == n) (atoms ps) ≡ true
 has_atom [] p m = m
 has_atom (q ∷ ps) p m = elim (or_cases _ _ m) [
   | inl e ↦ or_left (p.atom == q.atom) (list_any (λ n. p.atom == n) (atoms ps)) (and_parts (p.atom == q.atom) (p.port == q.port) e).0

@@ -15,12 +15,12 @@ abbrev pub same_port : Port → Port → Bool
 same_port p q = (p.atom == q.atom) && (p.port == q.port)
 
 -- whether the port is among these
-abbrev pub has : List Port → Port → Bool
-has set p = list_any (same_port p) set
+abbrev pub holds_port : List Port → Port → Bool
+holds_port set p = list_any (same_port p) set
 
 -- whether two sets have the same ports
 abbrev pub same_set : List Port → List Port → Bool
-same_set s t = list_all (has t) s && list_all (has s) t
+same_set s t = list_all (holds_port t) s && list_all (holds_port s) t
 
 -- Sets of ports. A set is written as a list of its ports, and a set of sets as a list of these. Order and
 -- repetition in either say nothing: sets are compared by `same_set` alone.

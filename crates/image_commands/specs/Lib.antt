@@ -1,4 +1,4 @@
 pub mod Refusals
-pub mod Stops
+pub mod Endings
 pub mod Printed
 pub mod Runs

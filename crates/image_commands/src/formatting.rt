@@ -6,12 +6,12 @@ ghost use Rattle.record_codec.specs.declared.layout.TheConstants.{LEAST_RING, MO
 ghost use Rattle.step_core.specs.System.{digest_of, plant_of};
 ghost use Rattle.recovery.specs.Formatting.{HasFormatted, formatted_size};
 ghost use Rattle.image_commands.specs.Printed.{formatted_line, image_cells};
-ghost use Rattle.image_commands.specs.Stops.{IsToldOfFormat};
+ghost use Rattle.image_commands.specs.Endings.{IsToldOfFormat};
 ghost use Rattle.image_commands.specs.declared.refusal.ImageRefusal.{ImageRefusal};
-ghost use Rattle.image_commands.specs.declared.stop.ImageStop.TheVariants.{Refused};
+ghost use Rattle.image_commands.specs.declared.ending.ImageEnding.TheVariants.{Refused};
 
 use crate::printing::hand_on;
-use crate::stop::ImageStop;
+use crate::ending::ImageEnding;
 use disk_model::{BODY, Disk};
 use record_codec::ring::device_cells;
 use std::alloc::Global;
@@ -46,7 +46,7 @@ pub fn format_image<D: Disk + Drop, W: Write>(
     ring: u32,
     disk: D,
     output: &mut W,
-) -> Result<D, ImageStop>
+) -> Result<D, ImageEnding>
     requires ring_from { LEAST_RING ≤ ring }
     requires ring_to { ring ≤ MOST_RING }
     ensures printed { IfOk result (λ _. Appends (W.contents output.old) (W.contents output.new) (formatted_line (image_cells (plant_of system.now) ring))) }
@@ -58,7 +58,7 @@ pub fn format_image<D: Disk + Drop, W: Write>(
 {
     let image = match recovery::format(alloc, disk, system, ring) {
         Ok(image) => image,
-        Err(refused) => return Err(ImageStop::Refused(refused.fault.into())),
+        Err(refused) => return Err(ImageEnding::Refused(refused.fault.into())),
     };
     print_formatted(image_cells(system, ring), output)?;
     hand_on(output)?;

@@ -2,14 +2,14 @@
 //!
 //! An image is a device that stands for a state of a plant. [`format_image`] makes one, [`run_image`] runs a plant on it by the events of a
 //! script, and [`recover_image`] tells where the plant stands. Each prints what it did, and gives the device back where it ends well;
-//! where not, an [`ImageStop`] says why, and the exit status that a program ends with then.
+//! where not, an [`ImageEnding`] says why, and the exit status that a program ends with then.
 //!
 //! What is printed are definitions of `specs/`, and the contracts say that exactly these bytes were appended to a writer whose type says
 //! which bytes it took. Where the device keeps the disk model they are told of the state that the image stands for. No file is opened here.
 //!
 //! - `formatting`, `running`, `recovering`: the three commands, each in a file. `booting`: how a plant comes to be on a device.
 //!   `printing`: when what is printed is handed on.
-//! - `refusal`: why an image is refused, its line, and what an operator can do. `stop`: why a command ends early.
+//! - `refusal`: why an image is refused, its line, and what an operator can do. `ending`: why a command ends early.
 #![tactic(auto)]
 
 mod booting;
@@ -18,10 +18,10 @@ mod printing;
 mod recovering;
 mod refusal;
 mod running;
-mod stop;
+mod ending;
 
 pub use formatting::{format_image, image_bytes};
 pub use recovering::recover_image;
 pub use refusal::ImageRefusal;
 pub use running::run_image;
-pub use stop::ImageStop;
+pub use ending::ImageEnding;

@@ -10,13 +10,13 @@ ghost use Rattle.plant_image.specs.Faults.{fault_of};
 ghost use Rattle.script_lines.specs.Answers.{standing_text};
 ghost use Rattle.image_commands.specs.Printed.{recovered_text};
 ghost use Rattle.image_commands.specs.Runs.{StandsAsRead};
-ghost use Rattle.image_commands.specs.Stops.{IsOfNoRun, IsToldOf};
+ghost use Rattle.image_commands.specs.Endings.{IsOfNoRun, IsToldOf};
 ghost use Rattle.image_commands.specs.declared.refusal.ImageRefusal.{ImageRefusal};
-ghost use Rattle.image_commands.specs.declared.stop.ImageStop.TheVariants.{Refused};
+ghost use Rattle.image_commands.specs.declared.ending.ImageEnding.TheVariants.{Refused};
 
 use crate::booting::booted;
 use crate::printing::hand_on;
-use crate::stop::ImageStop;
+use crate::ending::ImageEnding;
 use disk_model::Disk;
 use script_lines::print_standing;
 use std::alloc::Global;
@@ -29,7 +29,7 @@ pub fn recover_image<D: Disk + Drop, W: Write>(
     system: &System,
     disk: D,
     output: &mut W,
-) -> Result<D, ImageStop>
+) -> Result<D, ImageEnding>
     ensures printed { (D.state disk).keeps ≡ true → OnOk result (Appends (W.contents output.old) (W.contents output.new)
         (recovered_text (plant_of system.now) (seen_cells (BODY + 1) (D.state disk)))) }
     ensures shape { OnOk result ((v : View) × Appends (W.contents output.old) (W.contents output.new) (standing_text (plant_of system.now) v)) }
@@ -41,7 +41,7 @@ pub fn recover_image<D: Disk + Drop, W: Write>(
 {
     let plant = match booted(alloc, system, disk) {
         Ok(plant) => plant,
-        Err(refusal) => return Err(ImageStop::Refused(refusal)),
+        Err(refusal) => return Err(ImageEnding::Refused(refusal)),
     };
     print_standing(&plant, output)?;
     hand_on(output)?;

@@ -7,13 +7,13 @@ ghost use Rattle.step_core.specs.System.{digest_of, plant_of};
 ghost use Rattle.plant_image.specs.Faults.{fault_of};
 ghost use Rattle.plant_core.specs.View.{View};
 ghost use Rattle.image_commands.specs.Runs.{HasRunOn, IsRunOn};
-ghost use Rattle.image_commands.specs.Stops.{IsToldOf};
+ghost use Rattle.image_commands.specs.Endings.{IsToldOf};
 ghost use Rattle.image_commands.specs.declared.refusal.ImageRefusal.{ImageRefusal};
-ghost use Rattle.image_commands.specs.declared.stop.ImageStop.TheVariants.{Failed, Refused};
+ghost use Rattle.image_commands.specs.declared.ending.ImageEnding.TheVariants.{Failed, Refused};
 
 use crate::booting::booted;
 use crate::refusal::ImageRefusal;
-use crate::stop::ImageStop;
+use crate::ending::ImageEnding;
 use disk_model::Disk;
 use plant_core::{Event, Hands};
 use script_lines::run_script;
@@ -30,7 +30,7 @@ pub fn run_image<D: Disk + Drop, W: Write>(
     events: &[Event],
     disk: D,
     output: &mut W,
-) -> Result<D, ImageStop>
+) -> Result<D, ImageEnding>
     ensures ran { IfOk result (λ image. HasRunOn (plant_of system.now) (digest_of system.now) (D.state disk) events.now (D.state image) (W.contents output.old) (W.contents output.new)) }
     ensures failed { result ≡ Err Failed → (after : View) × IsRunOn (plant_of system.now) (digest_of system.now) (D.state disk) events.now true after (W.contents output.old) (W.contents output.new) }
     ensures told { (D.state disk).keeps ≡ true → IfErr result (IsToldOf (fault_of (plant_of system.now) (digest_of system.now)
@@ -39,14 +39,14 @@ pub fn run_image<D: Disk + Drop, W: Write>(
 {
     let mut hands = match Hands::new(alloc, system.atoms().len()) {
         Ok(hands) => hands,
-        Err(_) => return Err(ImageStop::Refused(ImageRefusal::Memory)),
+        Err(_) => return Err(ImageEnding::Refused(ImageRefusal::Memory)),
     };
     let mut plant = match booted(alloc, system, disk) {
         Ok(plant) => plant,
-        Err(refusal) => return Err(ImageStop::Refused(refusal)),
+        Err(refusal) => return Err(ImageEnding::Refused(refusal)),
     };
     if run_script(&mut plant, &mut hands, events, output)? {
-        return Err(ImageStop::Failed);
+        return Err(ImageEnding::Failed);
     }
     plant.stands();
     Ok(plant.into_disk())

@@ -6,10 +6,10 @@ use Rattle.step_core.specs.Plant.{PlantDefinition}
 use Rattle.plant_text.specs.Text.{PlantText, text_of}
 use Rattle.plant_text.specs.Meaning.{meaning}
 use Rattle.plant_tasks.specs.Printed.{counted, printed_of, Prints}
-use Rattle.plant_tasks.specs.Stop.{Tells, IsOfOutput}
+use Rattle.plant_tasks.specs.Ending.{Tells, IsOfOutput}
 use Rattle.command_line.specs.declared.request.Task.{Task}
-use Rattle.plant_tasks.specs.declared.stop.PlantStop.{PlantStop}
-use Rattle.plant_tasks.specs.declared.stop.PlantStop.TheVariants.{Usage, Plant, Unopened, Memory, Unwritten}
+use Rattle.plant_tasks.specs.declared.ending.PlantEnding.{PlantEnding}
+use Rattle.plant_tasks.specs.declared.ending.PlantEnding.TheVariants.{Usage, Plant, Unopened, Memory, Unwritten}
 
 -- what was appended stays so where the bytes are kept
 pub appended_and_kept : (a b c : Option (List ℕ)) (text : List ℕ) → Appends a b text → Keeps b c → Appends a c text
@@ -41,24 +41,24 @@ pub of_known : (known : Option (List ℕ)) (text : List ℕ) (P : List ℕ → T
 of_known None text P same holds = tt
 of_known (Some bytes) text P same holds = subst P same holds
 
--- a stop of the output, behind bytes that mean a plant
-pub output_tells : (stop : PlantStop) (bytes : List ℕ) (plant : PlantText) → meaning bytes ≡ Ok plant → IsOfOutput stop → Tells stop bytes
+-- an ending of the output, behind bytes that mean a plant
+pub output_tells : (ending : PlantEnding) (bytes : List ℕ) (plant : PlantText) → meaning bytes ≡ Ok plant → IsOfOutput ending → Tells ending bytes
 output_tells (Plant told) bytes plant means of = absurd of
 output_tells Usage bytes plant means of = absurd of
 output_tells Unopened bytes plant means of = absurd of
 output_tells Memory bytes plant means of = tt
 output_tells Unwritten bytes plant means of = (plant, means)
 
--- a stop of the output, behind bytes that mean a plant as far as they are known
-stop_tells : (stop : PlantStop) (known : Option (List ℕ)) (plant : PlantText) → IsOfOutput stop → IfSome known (λ bytes. meaning bytes ≡ Ok plant) →
-    IfSome known (λ bytes. Tells stop bytes)
-stop_tells stop None plant of means = tt
-stop_tells stop (Some bytes) plant of means = output_tells stop bytes plant means of
+-- an ending of the output, behind bytes that mean a plant as far as they are known
+ending_tells : (ending : PlantEnding) (known : Option (List ℕ)) (plant : PlantText) → IsOfOutput ending → IfSome known (λ bytes. meaning bytes ≡ Ok plant) →
+    IfSome known (λ bytes. Tells ending bytes)
+ending_tells ending None plant of means = tt
+ending_tells ending (Some bytes) plant of means = output_tells ending bytes plant means of
 
--- a result that is such a stop
-pub refused_behind_a_plant : {A : Type 0} (result : Result A PlantStop) (stop : PlantStop) (known : Option (List ℕ)) (plant : PlantText) →
-    result ≡ Err stop → IsOfOutput stop → IfSome known (λ bytes. meaning bytes ≡ Ok plant) → IfErr result (λ told. IfSome known (λ bytes. Tells told bytes))
-refused_behind_a_plant (Ok done) stop known plant is of means = absurd (cc)
-refused_behind_a_plant (Err told) stop known plant is of means =
-    let one : stop ≡ told = cc in
-    stop_tells told known plant (subst IsOfOutput one of) means
+-- a result that is such an ending
+pub refused_behind_a_plant : {A : Type 0} (result : Result A PlantEnding) (ending : PlantEnding) (known : Option (List ℕ)) (plant : PlantText) →
+    result ≡ Err ending → IsOfOutput ending → IfSome known (λ bytes. meaning bytes ≡ Ok plant) → IfErr result (λ told. IfSome known (λ bytes. Tells told bytes))
+refused_behind_a_plant (Ok done) ending known plant is of means = absurd (cc)
+refused_behind_a_plant (Err told) ending known plant is of means =
+    let one : ending ≡ told = cc in
+    ending_tells told known plant (subst IsOfOutput one of) means

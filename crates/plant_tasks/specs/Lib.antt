@@ -1,3 +1,3 @@
 pub mod Explanation
 pub mod Printed
-pub mod Stop
+pub mod Ending

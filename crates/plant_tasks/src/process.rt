@@ -1,6 +1,6 @@
 //! What both programs do in their process: words, and a fault that is shown.
 use crate::explanation::explanation_in;
-use crate::stop::PlantStop;
+use crate::ending::PlantEnding;
 use plant_text::PlantFault;
 use std::alloc::{AllocError, Global};
 use std::env::Args;
@@ -12,13 +12,13 @@ use std::{env, str};
 const LAUNCHER: &str = "bip_run";
 
 /// The words of the command line, the name first by which both programs are called.
-pub fn words_of_process<R: Env + Eprint + AllocGlobal>(rt: &R) -> Result<Vec<String>, PlantStop> {
+pub fn words_of_process<R: Env + Eprint + AllocGlobal>(rt: &R) -> Result<Vec<String>, PlantEnding> {
     match env::args(rt) {
-        Ok(words) => renamed(rt.alloc(), words).map_err(|_| PlantStop::Memory),
-        Err(error) if error.kind() == IoErrorKind::OutOfMemory => Err(PlantStop::Memory),
+        Ok(words) => renamed(rt.alloc(), words).map_err(|_| PlantEnding::Memory),
+        Err(error) if error.kind() == IoErrorKind::OutOfMemory => Err(PlantEnding::Memory),
         Err(_) => {
             let _ = eprintln!(rt; "error: a word of the command line is no UTF-8 text");
-            Err(PlantStop::Usage)
+            Err(PlantEnding::Usage)
         }
     }
 }

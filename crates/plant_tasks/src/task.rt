@@ -7,11 +7,11 @@ ghost use Rattle.plant_text.specs.Taken.{TakesFew};
 ghost use Rattle.plant_text.specs.Text.{text_of};
 ghost use Rattle.plant_text.specs.declared.fault.PlantFault.{PlantFault};
 ghost use Rattle.plant_tasks.specs.Printed.{printed_of, Prints};
-ghost use Rattle.plant_tasks.specs.Stop.{Tells, IsOfOutput};
-ghost use Rattle.plant_tasks.specs.declared.stop.PlantStop.TheVariants.{Plant};
+ghost use Rattle.plant_tasks.specs.Ending.{Tells, IsOfOutput};
+ghost use Rattle.plant_tasks.specs.declared.ending.PlantEnding.TheVariants.{Plant};
 
 use crate::counts::print_counts;
-use crate::stop::PlantStop;
+use crate::ending::PlantEnding;
 use command_line::Task;
 use plant_drawing::draw_to;
 use plant_text::{PlantFault, plant_of_text};
@@ -29,9 +29,9 @@ pub fn perform<R: Read, W: Write>(
     reader: &mut R,
     text: &mut Vec<u8>,
     output: &mut W,
-) -> Result<(), PlantStop>
+) -> Result<(), PlantEnding>
     ensures printed { OnOk result (IfSome (R.remaining reader.old) (λ bytes. Prints task.now bytes (W.contents output.old) (W.contents output.new))) }
-    ensures refused { IfErr result (λ stop. IfSome (R.remaining reader.old) (λ bytes. Tells stop bytes)) }
+    ensures refused { IfErr result (λ ending. IfSome (R.remaining reader.old) (λ bytes. Tells ending bytes)) }
     ensures nothing_printed { (told : PlantFault) → result ≡ Err (Plant told) → output.new ≡ output.old }
     ensures kept { (told : PlantFault) → result ≡ Err (Plant told) → 0 < told.line → IfSome (R.remaining reader.old) (λ bytes. text.new.items ≡ bytes) }
     ensures few { TakesFew (R.remaining reader.old) (R.remaining reader.new) }
@@ -47,9 +47,9 @@ pub fn read_plant<R: Read>(
     alloc: Global,
     reader: &mut R,
     text: &mut Vec<u8>,
-) -> Result<System, PlantStop>
+) -> Result<System, PlantEnding>
     ensures plant { IfOk result (λ system. IfSome (R.remaining reader.old) (λ bytes. meaning bytes ≡ Ok (text_of (plant_of system)))) }
-    ensures refused { IfErr result (λ stop. IfSome (R.remaining reader.old) (λ bytes. Tells stop bytes)) }
+    ensures refused { IfErr result (λ ending. IfSome (R.remaining reader.old) (λ bytes. Tells ending bytes)) }
     ensures kept { (told : PlantFault) → result ≡ Err (Plant told) → 0 < told.line → IfSome (R.remaining reader.old) (λ bytes. text.new.items ≡ bytes) }
     ensures few { TakesFew (R.remaining reader.old) (R.remaining reader.new) }
 {
@@ -58,9 +58,9 @@ pub fn read_plant<R: Read>(
 }
 
 /// The bytes of a plant text.
-fn read_bytes<R: Read>(alloc: Global, reader: &mut R) -> Result<Vec<u8>, PlantStop>
+fn read_bytes<R: Read>(alloc: Global, reader: &mut R) -> Result<Vec<u8>, PlantEnding>
     ensures all { IfOk result (λ text. IfSome (R.remaining reader.old) (λ bytes. text.items ≡ bytes)) }
-    ensures refused { IfErr result (λ stop. IfSome (R.remaining reader.old) (λ bytes. Tells stop bytes)) }
+    ensures refused { IfErr result (λ ending. IfSome (R.remaining reader.old) (λ bytes. Tells ending bytes)) }
     ensures no_line { (told : PlantFault) → result ≡ Err (Plant told) → told.line ≡ 0 }
     ensures few { TakesFew (R.remaining reader.old) (R.remaining reader.new) }
 {
@@ -73,7 +73,7 @@ fn print_task<W: Write>(
     task: &Task,
     system: &System,
     output: &mut W,
-) -> Result<(), PlantStop>
+) -> Result<(), PlantEnding>
     ensures printed { OnOk result (Appends (W.contents output.old) (W.contents output.new) (printed_of task.now (plant_of system.now))) }
     ensures of_output { IfErr result IsOfOutput }
 {

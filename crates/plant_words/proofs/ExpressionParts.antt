@@ -9,7 +9,7 @@ use Rattle.petri_atom.specs.declared.parts.TheConstants.{MAX_WORDS}
 use Rattle.plant_words.specs.declared.expression_fault.ExpressionFault.{ExpressionFault}
 use Rattle.plant_words.specs.declared.expression_word.Word.{Word}
 use Rattle.plant_words.specs.declared.expression_word.Word.TheVariants.{Number, Variable, Negation, Operation}
-use Rattle.plant_words.specs.ExpressionWords.{number_in, variable_in, operator_in, could_be_variable, word_in}
+use Rattle.plant_words.specs.ExpressionWords.{number_in, variable_found, operator_in, could_be_variable, word_in}
 use Rattle.plant_words.specs.Expressions.{Reading, expressions_in, expression_in, led_by, wanted_behind, on_trees, behind, only}
 use Rattle.petri_atom.specs.Name.{is_same_text}
 use Rattle.plant_words.specs.Numbers.{is_numeric, int_in}
@@ -87,7 +87,7 @@ words_of_expression {V = V} named words rest tree read =
 
 -- a word that says a variable is its name
 named_by : {V : Type 0} (negates : Bool) (operator : Option Operator) (numeric : Bool) (value : Option ℤ) (could_be : Bool) (meant : Option V) (v : V) →
-    (if negates then Ok Negation else option_map_or (λ o. Ok (Operation o)) operator (if numeric then number_in value else variable_in could_be meant)) ≡ Ok (Variable v) → meant ≡ Some v
+    (if negates then Ok Negation else option_map_or (λ o. Ok (Operation o)) operator (if numeric then number_in value else variable_found could_be meant)) ≡ Ok (Variable v) → meant ≡ Some v
 named_by true operator numeric value could_be meant v says = absurd (cc)
 named_by false (Some o) numeric value could_be meant v says = absurd (cc)
 named_by false None true None could_be meant v says = absurd (cc)

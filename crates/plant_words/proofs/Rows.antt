@@ -6,7 +6,7 @@ use Rattle.plant_words.specs.Lines.{lines_of, is_legal_line}
 use Rattle.plant_words.specs.Words.{words_of, is_passed_over}
 use Rattle.plant_words.specs.Numbers.{is_numeric, int_in, pick_in}
 use Rattle.plant_words.specs.Names.{name_in}
-use Rattle.plant_words.specs.Splits.{port_in, export_in, named_mask_in}
+use Rattle.plant_words.specs.Splits.{port_parts, export_parts, named_mask_in}
 use Rattle.plant_words.specs.declared.numbers.TheConstants.{MAX_DIGITS}
 
 -- ---- lines
@@ -146,43 +146,43 @@ no_name_begins_with_a_digit = refl
 reserved_words_are_no_names : name_in (codes "when") ≡ None
 reserved_words_are_no_names = refl
 
-a_port : port_in (codes "A.p") ≡ Some (record { atom = codes "A"; port = codes "p"; quoted = false })
+a_port : port_parts (codes "A.p") ≡ Some (record { atom = codes "A"; port = codes "p"; quoted = false })
 a_port = refl
 
-a_quoted_port : port_in (codes "A.p'") ≡ Some (record { atom = codes "A"; port = codes "p"; quoted = true })
+a_quoted_port : port_parts (codes "A.p'") ≡ Some (record { atom = codes "A"; port = codes "p"; quoted = true })
 a_quoted_port = refl
 
-one_quote_alone_is_taken : port_in (codes "A.p''") ≡ Some (record { atom = codes "A"; port = codes "p'"; quoted = true })
+one_quote_alone_is_taken : port_parts (codes "A.p''") ≡ Some (record { atom = codes "A"; port = codes "p'"; quoted = true })
 one_quote_alone_is_taken = refl
 
-two_dots_make_no_port : port_in (codes "A.b.c") ≡ None
+two_dots_make_no_port : port_parts (codes "A.b.c") ≡ None
 two_dots_make_no_port = refl
 
-no_port_without_a_dot : port_in (codes "Ap'") ≡ None
+no_port_without_a_dot : port_parts (codes "Ap'") ≡ None
 no_port_without_a_dot = refl
 
-no_port_without_a_name : port_in (codes "A.'") ≡ None
+no_port_without_a_name : port_parts (codes "A.'") ≡ None
 no_port_without_a_name = refl
 
-no_port_without_an_atom : port_in (codes ".p") ≡ None
+no_port_without_an_atom : port_parts (codes ".p") ≡ None
 no_port_without_an_atom = refl
 
-no_port_in_the_empty_word : port_in [] ≡ None
+no_port_in_the_empty_word : port_parts [] ≡ None
 no_port_in_the_empty_word = refl
 
-no_port_in_a_bracket : port_in (codes "[") ≡ None
+no_port_in_a_bracket : port_parts (codes "[") ≡ None
 no_port_in_a_bracket = refl
 
-no_port_in_the_end_of_a_bracket : port_in (codes "]'") ≡ None
+no_port_in_the_end_of_a_bracket : port_parts (codes "]'") ≡ None
 no_port_in_the_end_of_a_bracket = refl
 
-an_export : export_in (codes "A.n") ≡ Some (codes "A", codes "n")
+an_export : export_parts (codes "A.n") ≡ Some (codes "A", codes "n")
 an_export = refl
 
-a_quote_is_part_of_an_export : export_in (codes "A.n'") ≡ Some (codes "A", codes "n'")
+a_quote_is_part_of_an_export : export_parts (codes "A.n'") ≡ Some (codes "A", codes "n'")
 a_quote_is_part_of_an_export = refl
 
-no_export_in_the_empty_word : export_in [] ≡ None
+no_export_in_the_empty_word : export_parts [] ≡ None
 no_export_in_the_empty_word = refl
 
 a_named_mask : named_mask_in (codes "link:3") ≡ Some (codes "link", codes "3")

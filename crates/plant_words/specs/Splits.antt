@@ -15,8 +15,8 @@ abbrev pub sides_in : ℕ → List ℕ → Option (List ℕ × List ℕ)
 sides_in byte word = both_of (slice_split (λ b. b == byte) word)
 
 -- `ATOM.NAME`, as an export is written: its parts around the only dot (46)
-abbrev pub export_in : List ℕ → Option (List ℕ × List ℕ)
-export_in word = sides_in 46 word
+abbrev pub export_parts : List ℕ → Option (List ℕ × List ℕ)
+export_parts word = sides_in 46 word
 
 -- `NAME:MASK`: its parts around the only colon (58)
 abbrev pub named_mask_in : List ℕ → Option (List ℕ × List ℕ)
@@ -37,5 +37,5 @@ pub record PortParts : Type 0 where
   pub quoted : Bool
 
 -- `ATOM.PORT` or `ATOM.PORT'`
-abbrev pub port_in : List ℕ → Option PortParts
-port_in word = option_map (λ sides. record { atom = sides.0; port = sides.1; quoted = is_quoted word }) (sides_in 46 (without_quote word))
+abbrev pub port_parts : List ℕ → Option PortParts
+port_parts word = option_map (λ sides. record { atom = sides.0; port = sides.1; quoted = is_quoted word }) (sides_in 46 (without_quote word))

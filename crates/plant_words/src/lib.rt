@@ -13,7 +13,7 @@
 //!
 //! In contracts, `Lines` is the list of the lines that are left, and `Words` that of the words, so a layer above
 //! goes down a list. What a word is stands in `specs/` as a function on its bytes: `int_in`, `pick_in`,
-//! `name_in`, `port_in`, `export_in` and `named_mask_in`.
+//! `name_in`, `port_parts`, `export_parts` and `named_mask_in`.
 //!
 //! | Word | Is | Read by |
 //! |---|---|---|

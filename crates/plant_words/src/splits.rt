@@ -3,7 +3,7 @@ ghost use Rattle.std.specs.Prelude.{◌≡◌, ◌≤◌, ◌==◌, length};
 ghost use Rattle.std.specs.List.{position_or_len};
 ghost use Rattle.std.specs.Option.{option_map};
 ghost use Rattle.plant_words.specs.Words.{is_filled};
-ghost use Rattle.plant_words.specs.Splits.{sides_in, export_in, named_mask_in, port_in, is_quoted, without_quote};
+ghost use Rattle.plant_words.specs.Splits.{sides_in, export_parts, named_mask_in, port_parts, is_quoted, without_quote};
 ghost use Rattle.plant_words.specs.Lent.{sides_of, port_parts_of};
 
 /// A port of a connector's tree, as `ATOM.PORT` or `ATOM.PORT'` writes it.
@@ -19,7 +19,7 @@ pub struct PortWord<'a> {
 
 /// The parts of `ATOM.PORT` or `ATOM.PORT'`. `None` where the word hasn't exactly one dot, or a part is empty.
 pub fn split_port(word: &[u8]) -> Option<PortWord<'_>>
-    ensures { option_map port_parts_of result ≡ port_in word.now }
+    ensures { option_map port_parts_of result ≡ port_parts word.now }
 {
     let (atom, port) = sides(b'.', without_quote(word))?;
     Some(PortWord {
@@ -31,7 +31,7 @@ pub fn split_port(word: &[u8]) -> Option<PortWord<'_>>
 
 /// The parts of `ATOM.NAME`. `None` where the word hasn't exactly one dot, or a part is empty.
 pub fn split_export(word: &[u8]) -> Option<(&[u8], &[u8])>
-    ensures { option_map sides_of result ≡ export_in word.now }
+    ensures { option_map sides_of result ≡ export_parts word.now }
 {
     sides(b'.', word)
 }

@@ -1,7 +1,7 @@
 use Rattle.std.proofs.Common.{◌≡◌, ◌∙◌, ap, sym, Ok, Some, None}
 use Rattle.std.specs.Option.{option_map, option_map_or}
 use Rattle.plant_words.specs.Lent.{port_parts_of}
-use Rattle.plant_words.specs.Splits.{port_in}
+use Rattle.plant_words.specs.Splits.{port_parts}
 use Rattle.connector_lines.specs.declared.token.Token.{Token}
 use Rattle.connector_lines.specs.Tokens.{bracket_in, leaf_of, leaf_in}
 use Rattle.connector_lines.proofs.token.read_word.Goals as goal
@@ -12,6 +12,6 @@ returns-in-Some-find_port g c =
     let word = c.args.word.now in
     let parts = c.in-Some-split_port.parts in
     let no_bracket : bracket_in word ≡ None = sym c.bracket.ensures ∙ c.in_default.is in
-    let written : port_in word ≡ Some (port_parts_of parts) = sym c.split_port.ensures ∙ ap (option_map port_parts_of) c.in-Some-split_port.is in
+    let written : port_parts word ≡ Some (port_parts_of parts) = sym c.split_port.ensures ∙ ap (option_map port_parts_of) c.in-Some-split_port.is in
     let found : named parts.atom.now parts.port.now ≡ Some c.in-Some-find_port.port = sym c.find_port.ensures ∙ c.in-Some-find_port.is in
-    sym (ap (λ o. option_map_or (λ (b : Token). Ok b) o (leaf_in named (port_in word))) no_bracket ∙ ap (leaf_in named) written ∙ ap (leaf_of parts.quoted) found)
+    sym (ap (λ o. option_map_or (λ (b : Token). Ok b) o (leaf_in named (port_parts word))) no_bracket ∙ ap (leaf_in named) written ∙ ap (leaf_of parts.quoted) found)

@@ -1,5 +1,5 @@
 use Rattle.std.proofs.Common.{◌≡◌, ◌∙◌, sym, ap, ◌+◌, ◌<◌, ◌≤◌, [], ◌∷◌, ◌++◌, length, append_assoc, append-nil, Some, Ok, arith}
-use Rattle.connector_lines.specs.Tokens.{word_in, level_behind, tokens_in}
+use Rattle.connector_lines.specs.Tokens.{token_in, level_behind, tokens_in}
 use Rattle.connector_lines.specs.Shape.{fault_in}
 use Rattle.connector_lines.specs.Judging.{fault_behind}
 use Rattle.connector_lines.proofs.Readings.{all_read, all_closed, some_tokens, tree_of_tokens, word_is_behind, one_level_more, one_more_is_made}
@@ -11,7 +11,7 @@ loop-word-preserved g c =
     let seen = c.loop-word.invariant in
     let token = c.in_ok-token.token in
     let next = c.in_ok-next.next in
-    let said : word_in named c.in-Some.word.now ≡ Ok token = sym c.in_ok-token.ensures in
+    let said : token_in named c.in-Some.word.now ≡ Ok token = sym c.in_ok-token.ensures in
     let goes : level_behind token c.loop-word.level ≡ Some next = sym c.level_behind.ensures ∙ c.in_ok-next.ensures.ok_part in
     let higher : next ≤ c.loop-word.level + 1 = one_level_more token c.loop-word.level next goes in
     record {

@@ -2,7 +2,7 @@ use Rattle.std.proofs.Common.{sym, subst}
 use Rattle.std.proofs.lemmas.Result.{err_from_is_err_and}
 use Rattle.step_core.specs.System.{plant_of}
 use Rattle.plant_text.specs.Text.{text_of}
-use Rattle.plant_tasks.specs.Stop.{IsOfOutput}
+use Rattle.plant_tasks.specs.Ending.{IsOfOutput}
 use Rattle.plant_tasks.proofs.Printing.{appended_and_kept, prints_of_plant, refused_behind_a_plant}
 use Rattle.plant_tasks.proofs.task.perform.Goals as goal
 

@@ -1,26 +1,26 @@
--- What the program tells where it stops, and its exit status.
+-- What the program tells where it ends early, and its exit status.
 use Rattle.std.specs.Prelude.{ℕ, List, [], ◌++◌, codes, decimal, Result, Ok, Err}
 use Rattle.file_disk.specs.Messages.{message_of}
 use Rattle.file_disk.specs.declared.fault.FileFault.{FileFault}
 use Rattle.file_disk.specs.declared.fault.FileFault.TheVariants as file
 use Rattle.script_lines.specs.Message.{line_message}
 use Rattle.image_commands.specs.Refusals.{advice_for, refusal_line}
-use Rattle.image_commands.specs.Stops.{status_at}
-use Rattle.image_commands.specs.declared.stop.ImageStop.{ImageStop}
-use Rattle.image_commands.specs.declared.stop.ImageStop.TheVariants as image
-use Rattle.plant_tasks.specs.Stop as plant
-use Rattle.bip_image.specs.declared.stop.Paths.{Paths}
-use Rattle.bip_image.specs.declared.stop.Stop.{Stop}
-use Rattle.bip_image.specs.declared.stop.Stop.TheVariants.{OfPlant, Script, ScriptUnread, ImageUnopened, Image}
+use Rattle.image_commands.specs.Endings.{status_at}
+use Rattle.image_commands.specs.declared.ending.ImageEnding.{ImageEnding}
+use Rattle.image_commands.specs.declared.ending.ImageEnding.TheVariants as image
+use Rattle.plant_tasks.specs.Ending as plant
+use Rattle.bip_image.specs.declared.ending.Paths.{Paths}
+use Rattle.bip_image.specs.declared.ending.Ending.{Ending}
+use Rattle.bip_image.specs.declared.ending.Ending.TheVariants.{OfPlant, Script, ScriptUnread, ImageUnopened, Image}
 
 -- the exit status of the program: 0 done, 1 a refused plant, script or image, 2 usage, 3 a file, a device, the memory or the output
-abbrev pub status_of : {A : Type 0} → Result A Stop → ℕ
+abbrev pub status_of : {A : Type 0} → Result A Ending → ℕ
 status_of (Ok done) = 0
-status_of (Err (OfPlant stop)) = plant.status_at stop
+status_of (Err (OfPlant ending)) = plant.status_at ending
 status_of (Err (Script line)) = 1
 status_of (Err ScriptUnread) = 3
 status_of (Err (ImageUnopened fault)) = 3
-status_of (Err (Image stop)) = status_at stop
+status_of (Err (Image ending)) = status_at ending
 
 -- what is told of an image's file that can't be opened or made
 abbrev pub unopened_text : List ℕ → FileFault → List ℕ
@@ -28,32 +28,32 @@ unopened_text path file.InUse = codes "file " ++ path ++ codes " in use\n"
 unopened_text path fault = plant.file_line path
 
 -- what is told of a command on an image that ended early: its refusal; the answers of a run tell that the device failed
-abbrev pub image_text : ImageStop → List ℕ
+abbrev pub image_text : ImageEnding → List ℕ
 image_text (image.Refused refusal) = refusal_line refusal ++ codes "\n"
 image_text image.Failed = []
 image_text image.Unwritten = []
 
--- what is told of a stop, where the texts and the image are at these paths
-abbrev pub told_text : Paths → Stop → List ℕ
-told_text paths (OfPlant stop) = plant.told_text paths.plant.now stop
+-- what is told of an ending, where the texts and the image are at these paths
+abbrev pub told_text : Paths → Ending → List ℕ
+told_text paths (OfPlant ending) = plant.told_text paths.plant.now ending
 told_text paths (Script line) = codes "script line " ++ decimal line ++ codes "\n"
 told_text paths ScriptUnread = plant.file_line paths.script.now
 told_text paths (ImageUnopened fault) = unopened_text paths.image.now fault
-told_text paths (Image stop) = image_text stop
+told_text paths (Image ending) = image_text ending
 
--- a sentence behind the line of a stop
+-- a sentence behind the line of an ending
 abbrev pub behind_line : List ℕ → List ℕ
 behind_line sentence = codes "  " ++ sentence ++ codes "\n"
 
 -- what more is told of a command on an image that ended early
-abbrev pub more_of_image : ImageStop → List ℕ
+abbrev pub more_of_image : ImageEnding → List ℕ
 more_of_image (image.Refused refusal) = behind_line (advice_for refusal)
 more_of_image image.Failed = []
 more_of_image image.Unwritten = []
 
--- what is told behind the line of a stop, where more is to be told
-abbrev pub more_text : Stop → List ℕ
+-- what is told behind the line of an ending, where more is to be told
+abbrev pub more_text : Ending → List ℕ
 more_text (Script line) = behind_line (line_message line)
 more_text (ImageUnopened fault) = behind_line (message_of fault)
-more_text (Image stop) = more_of_image stop
-more_text stop = []
+more_text (Image ending) = more_of_image ending
+more_text ending = []

@@ -1,19 +1,19 @@
 //! Why the program ends early, what it tells then, and its exit status.
 ghost use Rattle.std.specs.Prelude.{◌≡◌};
-ghost use Rattle.bip_image.specs.Stop.{status_of};
+ghost use Rattle.bip_image.specs.Ending.{status_of};
 
 use command_line::{ImageTask, Request, Work};
 use file_disk::FileFault;
-use image_commands::ImageStop;
-use plant_tasks::{PlantStop, PlantTold};
+use image_commands::ImageEnding;
+use plant_tasks::{PlantEnding, PlantTold};
 use script_lines::ScriptFault;
 use std::fmt;
 
 /// Why the program ends without having done what it was asked for.
 #[derive(Clone, Copy)]
-pub(crate) enum Stop {
+pub(crate) enum Ending {
     /// An end that a task of the plant alone may have too: by the words, the plant's text, the memory or the output.
-    OfPlant(PlantStop),
+    OfPlant(PlantEnding),
     /// The script is refused at the line with this number, and at 0 where it is too long.
     Script(u32),
     /// The script could not be opened or read.
@@ -21,21 +21,21 @@ pub(crate) enum Stop {
     /// The image's file could not be opened or made.
     ImageUnopened(FileFault),
     /// The command on the image ended early.
-    Image(ImageStop),
+    Image(ImageEnding),
 }
 
 /// The exit status of the program: 0 where it did what it was asked for, 1 where the plant, the script or the image is refused,
 /// 2 where the words of the command line were not understood, and 3 where a file, a device, the memory or the output failed.
-pub(crate) fn exit_status(ended: &Result<(), Stop>) -> u8
+pub(crate) fn exit_status(ended: &Result<(), Ending>) -> u8
     ensures { result ≡ status_of ended.now }
 {
     match ended {
         Ok(()) => 0,
-        Err(Stop::OfPlant(stop)) => stop.exit_status(),
-        Err(Stop::Script(_)) => 1,
-        Err(Stop::ScriptUnread) => 3,
-        Err(Stop::ImageUnopened(_)) => 3,
-        Err(Stop::Image(stop)) => stop.exit_status(),
+        Err(Ending::OfPlant(ending)) => ending.exit_status(),
+        Err(Ending::Script(_)) => 1,
+        Err(Ending::ScriptUnread) => 3,
+        Err(Ending::ImageUnopened(_)) => 3,
+        Err(Ending::Image(ending)) => ending.exit_status(),
     }
 }
 
@@ -86,95 +86,95 @@ impl<'a> Paths<'a> {
     }
 }
 
-/// What is told of a stop: a line, or nothing where `clap` or the answers of a run told it, and where the output failed.
+/// What is told of an ending: a line, or nothing where `clap` or the answers of a run told it, and where the output failed.
 #[derive(Clone, Copy)]
 pub(crate) struct Told<'a> {
-    /// Why the program stops.
-    pub(crate) stop: Stop,
+    /// Why the program ends early.
+    pub(crate) ending: Ending,
     /// Where its texts and its image are.
     pub(crate) paths: Paths<'a>,
 }
 
 impl<'a> fmt::Display for Told<'a> {
     ghost use Rattle.std.specs.Prelude.{Some};
-    ghost use Rattle.bip_image.specs.Stop.{told_text};
+    ghost use Rattle.bip_image.specs.Ending.{told_text};
 
-    ghost output = { λ told. Some (told_text told.paths told.stop) };
+    ghost output = { λ told. Some (told_text told.paths told.ending) };
 
     fn fmt<W: fmt::Write>(&self, f: &mut fmt::Formatter<W>) -> fmt::Result {
-        match self.stop {
-            Stop::OfPlant(stop) => {
+        match self.ending {
+            Ending::OfPlant(ending) => {
                 let told = PlantTold {
-                    stop,
+                    ending,
                     path: self.paths.plant,
                 };
                 write!(f, "{told}")
             }
-            Stop::Script(line) => writeln!(f, "script line {line}"),
-            Stop::ScriptUnread => writeln!(f, "file {}", self.paths.script),
-            Stop::ImageUnopened(FileFault::InUse) => {
+            Ending::Script(line) => writeln!(f, "script line {line}"),
+            Ending::ScriptUnread => writeln!(f, "file {}", self.paths.script),
+            Ending::ImageUnopened(FileFault::InUse) => {
                 writeln!(f, "file {} in use", self.paths.image)
             }
-            Stop::ImageUnopened(_) => writeln!(f, "file {}", self.paths.image),
-            Stop::Image(ImageStop::Refused(refusal)) => writeln!(f, "{refusal}"),
-            Stop::Image(_) => Ok(()),
+            Ending::ImageUnopened(_) => writeln!(f, "file {}", self.paths.image),
+            Ending::Image(ImageEnding::Refused(refusal)) => writeln!(f, "{refusal}"),
+            Ending::Image(_) => Ok(()),
         }
     }
 }
 
-/// What is told of a stop behind its line, where more is to be told: what it means, and what can be done. Of a plant's fault the
+/// What is told of an ending behind its line, where more is to be told: what it means, and what can be done. Of a plant's fault the
 /// line of the text is shown in its place.
 #[derive(Clone, Copy)]
 pub(crate) struct More {
-    /// Why the program stops.
-    pub(crate) stop: Stop,
+    /// Why the program ends early.
+    pub(crate) ending: Ending,
 }
 
 impl fmt::Display for More {
     ghost use Rattle.std.specs.Prelude.{Some};
-    ghost use Rattle.bip_image.specs.Stop.{more_text};
+    ghost use Rattle.bip_image.specs.Ending.{more_text};
 
-    ghost output = { λ more. Some (more_text more.stop) };
+    ghost output = { λ more. Some (more_text more.ending) };
 
     fn fmt<W: fmt::Write>(&self, f: &mut fmt::Formatter<W>) -> fmt::Result {
-        match self.stop {
-            Stop::Script(line) => writeln!(f, "  {}", ScriptFault::Line(line)),
-            Stop::ImageUnopened(fault) => writeln!(f, "  {fault}"),
-            Stop::Image(ImageStop::Refused(refusal)) => writeln!(f, "  {}", refusal.advice()),
+        match self.ending {
+            Ending::Script(line) => writeln!(f, "  {}", ScriptFault::Line(line)),
+            Ending::ImageUnopened(fault) => writeln!(f, "  {fault}"),
+            Ending::Image(ImageEnding::Refused(refusal)) => writeln!(f, "  {}", refusal.advice()),
             _ => Ok(()),
         }
     }
 }
 
-impl From<PlantStop> for Stop {
-    ghost use Rattle.bip_image.specs.declared.stop.Stop.TheVariants.{OfPlant};
+impl From<PlantEnding> for Ending {
+    ghost use Rattle.bip_image.specs.declared.ending.Ending.TheVariants.{OfPlant};
 
-    ghost from_gives = { λ told stop. stop ≡ OfPlant told };
+    ghost from_gives = { λ told ending. ending ≡ OfPlant told };
 
-    fn from(stop: PlantStop) -> Self {
-        Stop::OfPlant(stop)
+    fn from(ending: PlantEnding) -> Self {
+        Ending::OfPlant(ending)
     }
 }
 
-impl From<ScriptFault> for Stop {
+impl From<ScriptFault> for Ending {
     ghost use Rattle.bip_image.specs.Script.{of_script};
 
-    ghost from_gives = { λ fault stop. stop ≡ of_script fault };
+    ghost from_gives = { λ fault ending. ending ≡ of_script fault };
 
     fn from(fault: ScriptFault) -> Self {
         match fault {
-            ScriptFault::Line(number) => Stop::Script(number),
-            ScriptFault::Memory => Stop::OfPlant(PlantStop::Memory),
+            ScriptFault::Line(number) => Ending::Script(number),
+            ScriptFault::Memory => Ending::OfPlant(PlantEnding::Memory),
         }
     }
 }
 
-impl From<ImageStop> for Stop {
-    ghost use Rattle.bip_image.specs.declared.stop.Stop.TheVariants.{Image};
+impl From<ImageEnding> for Ending {
+    ghost use Rattle.bip_image.specs.declared.ending.Ending.TheVariants.{Image};
 
-    ghost from_gives = { λ told stop. stop ≡ Image told };
+    ghost from_gives = { λ told ending. ending ≡ Image told };
 
-    fn from(stop: ImageStop) -> Self {
-        Stop::Image(stop)
+    fn from(ending: ImageEnding) -> Self {
+        Ending::Image(ending)
     }
 }

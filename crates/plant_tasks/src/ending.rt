@@ -1,6 +1,6 @@
 //! Why a program ends early at a plant's text, the words, the memory or the output: what it tells then, and its exit status.
 ghost use Rattle.std.specs.Prelude.{◌≡◌};
-ghost use Rattle.plant_tasks.specs.Stop.{ended_by};
+ghost use Rattle.plant_tasks.specs.Ending.{ended_by};
 
 use command_line::Answered;
 use plant_text::{Fault, PlantFault};
@@ -10,7 +10,7 @@ use text_io::WriteFault;
 
 /// Why a program ends without having done with a plant what it was asked for.
 #[derive(Clone, Copy)]
-pub enum PlantStop {
+pub enum PlantEnding {
     /// The words of the command line ask for nothing that the program does.
     Usage,
     /// The text is no plant, or could not be read.
@@ -23,59 +23,59 @@ pub enum PlantStop {
     Unwritten,
 }
 
-impl PlantStop {
+impl PlantEnding {
     ghost use Rattle.std.specs.Prelude.{◌≡◌};
-    ghost use Rattle.plant_tasks.specs.Stop.{status_at};
+    ghost use Rattle.plant_tasks.specs.Ending.{status_at};
 
-    /// The exit status of a program that stops so: 1 where the plant is refused, 2 where the words of the command line were not
+    /// The exit status of a program that ends so: 1 where the plant is refused, 2 where the words of the command line were not
     /// understood, and 3 where a file, the memory or the output failed.
     pub fn exit_status(&self) -> u8
         ensures { result ≡ status_at self.now }
     {
         match self {
-            PlantStop::Usage => 2,
-            PlantStop::Plant(told) => match told.fault {
+            PlantEnding::Usage => 2,
+            PlantEnding::Plant(told) => match told.fault {
                 Fault::Memory | Fault::Read => 3,
                 _ => 1,
             },
-            PlantStop::Unopened => 3,
-            PlantStop::Memory => 3,
-            PlantStop::Unwritten => 3,
+            PlantEnding::Unopened => 3,
+            PlantEnding::Memory => 3,
+            PlantEnding::Unwritten => 3,
         }
     }
 }
 
 /// How a program ends where the words of the command line are no request, and it was told so.
-pub fn ended(answered: Answered) -> Result<(), PlantStop>
+pub fn ended(answered: Answered) -> Result<(), PlantEnding>
     ensures { result ≡ ended_by answered }
 {
     match answered {
         Answered::Helped => Ok(()),
-        Answered::Usage => Err(PlantStop::Usage),
-        Answered::Memory => Err(PlantStop::Memory),
-        Answered::Unwritten => Err(PlantStop::Unwritten),
+        Answered::Usage => Err(PlantEnding::Usage),
+        Answered::Memory => Err(PlantEnding::Memory),
+        Answered::Unwritten => Err(PlantEnding::Unwritten),
     }
 }
 
-/// What is told of a stop: a line, or nothing where `clap` told it, and where the output failed.
+/// What is told of an ending: a line, or nothing where `clap` told it, and where the output failed.
 #[derive(Clone, Copy)]
 pub struct PlantTold<'a> {
-    /// Why the program stops.
-    pub stop: PlantStop,
+    /// Why the program ends early.
+    pub ending: PlantEnding,
     /// Where the plant text stands, as the words of the command line name it; empty where they name none.
     pub path: &'a str,
 }
 
 impl<'a> fmt::Display for PlantTold<'a> {
     ghost use Rattle.std.specs.Prelude.{Some};
-    ghost use Rattle.plant_tasks.specs.Stop.{told_text};
+    ghost use Rattle.plant_tasks.specs.Ending.{told_text};
 
-    ghost output = { λ told. Some (told_text told.path.now told.stop) };
+    ghost output = { λ told. Some (told_text told.path.now told.ending) };
 
     fn fmt<W: fmt::Write>(&self, f: &mut fmt::Formatter<W>) -> fmt::Result {
-        match self.stop {
-            PlantStop::Usage => Ok(()),
-            PlantStop::Plant(told) => match (told.fault, told.fault.subject()) {
+        match self.ending {
+            PlantEnding::Usage => Ok(()),
+            PlantEnding::Plant(told) => match (told.fault, told.fault.subject()) {
                 (Fault::Read, _) => writeln!(f, "file {}", self.path),
                 (fault, None) => writeln!(
                     f,
@@ -92,42 +92,42 @@ impl<'a> fmt::Display for PlantTold<'a> {
                     fault.name()
                 ),
             },
-            PlantStop::Unopened => writeln!(f, "file {}", self.path),
-            PlantStop::Memory => f.write_str("memory\n"),
-            PlantStop::Unwritten => Ok(()),
+            PlantEnding::Unopened => writeln!(f, "file {}", self.path),
+            PlantEnding::Memory => f.write_str("memory\n"),
+            PlantEnding::Unwritten => Ok(()),
         }
     }
 }
 
-impl From<PlantFault> for PlantStop {
-    ghost use Rattle.plant_tasks.specs.declared.stop.PlantStop.TheVariants.{Plant};
+impl From<PlantFault> for PlantEnding {
+    ghost use Rattle.plant_tasks.specs.declared.ending.PlantEnding.TheVariants.{Plant};
 
-    ghost from_gives = { λ fault stop. stop ≡ Plant fault };
+    ghost from_gives = { λ fault ending. ending ≡ Plant fault };
 
     fn from(fault: PlantFault) -> Self {
-        PlantStop::Plant(fault)
+        PlantEnding::Plant(fault)
     }
 }
 
-impl From<WriteFault> for PlantStop {
-    ghost use Rattle.plant_tasks.specs.declared.stop.PlantStop.TheVariants.{Unwritten};
+impl From<WriteFault> for PlantEnding {
+    ghost use Rattle.plant_tasks.specs.declared.ending.PlantEnding.TheVariants.{Unwritten};
 
-    ghost from_gives = { λ _ stop. stop ≡ Unwritten };
+    ghost from_gives = { λ _ ending. ending ≡ Unwritten };
 
     fn from(_: WriteFault) -> Self {
-        PlantStop::Unwritten
+        PlantEnding::Unwritten
     }
 }
 
-impl From<TraceFault> for PlantStop {
-    ghost use Rattle.plant_tasks.specs.Stop.{of_trace};
+impl From<TraceFault> for PlantEnding {
+    ghost use Rattle.plant_tasks.specs.Ending.{of_trace};
 
-    ghost from_gives = { λ fault stop. stop ≡ of_trace fault };
+    ghost from_gives = { λ fault ending. ending ≡ of_trace fault };
 
     fn from(fault: TraceFault) -> Self {
         match fault {
-            TraceFault::Memory => PlantStop::Memory,
-            TraceFault::Write => PlantStop::Unwritten,
+            TraceFault::Memory => PlantEnding::Memory,
+            TraceFault::Write => PlantEnding::Unwritten,
         }
     }
 }

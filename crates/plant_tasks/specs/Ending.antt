@@ -1,4 +1,4 @@
--- What a program tells where it stops at a plant's text, the words, the memory or the output, and its exit status.
+-- What a program tells where it ends early at a plant's text, the words, the memory or the output, and its exit status.
 use Rattle.std.specs.Prelude.{◌≡◌, ◌≢◌, ℕ, List, [], ◌++◌, codes, decimal, Option, Some, None, Result, Ok, Err}
 use Rattle.plant_text.specs.Fault.{number_of, name_of, subject_of, of_no_line}
 use Rattle.plant_text.specs.Meaning.{meaning}
@@ -10,8 +10,8 @@ use Rattle.run_text.specs.declared.fault.TraceFault.{TraceFault}
 use Rattle.run_text.specs.declared.fault.TraceFault.TheVariants as trace
 use Rattle.command_line.specs.declared.answer.Answered.{Answered}
 use Rattle.command_line.specs.declared.answer.Answered.TheVariants as answered
-use Rattle.plant_tasks.specs.declared.stop.PlantStop.{PlantStop}
-use Rattle.plant_tasks.specs.declared.stop.PlantStop.TheVariants.{Usage, Plant, Unopened, Memory, Unwritten}
+use Rattle.plant_tasks.specs.declared.ending.PlantEnding.{PlantEnding}
+use Rattle.plant_tasks.specs.declared.ending.PlantEnding.TheVariants.{Usage, Plant, Unopened, Memory, Unwritten}
 
 -- the exit status at a fault of a plant: a refused plant is 1; want of memory, and a text that can't be read, are 3
 abbrev pub fault_status : Fault → ℕ
@@ -19,8 +19,8 @@ fault_status fault.Memory = 3
 fault_status fault.Read = 3
 fault_status fault = 1
 
--- the exit status of a program that stops so: 1 a refused plant, 2 usage, 3 a file, the memory or the output
-abbrev pub status_at : PlantStop → ℕ
+-- the exit status of a program that ends so: 1 a refused plant, 2 usage, 3 a file, the memory or the output
+abbrev pub status_at : PlantEnding → ℕ
 status_at Usage = 2
 status_at (Plant told) = fault_status told.fault
 status_at Unopened = 3
@@ -28,7 +28,7 @@ status_at Memory = 3
 status_at Unwritten = 3
 
 -- how a program ends where the words of the command line are no request, and it was told so
-abbrev pub ended_by : Answered → Result (Unit {0}) PlantStop
+abbrev pub ended_by : Answered → Result (Unit {0}) PlantEnding
 ended_by answered.Helped = Ok tt
 ended_by answered.Usage = Err Usage
 ended_by answered.Memory = Err Memory
@@ -54,31 +54,31 @@ abbrev pub plant_text : List ℕ → Fault → PlantFault → List ℕ
 plant_text path fault.Read told = file_line path
 plant_text path fault told = fault_line told
 
--- What is told of a stop, where the plant's text is at the path. Of the words of the command line clap tells, and of an output that takes nothing
+-- What is told of an ending, where the plant's text is at the path. Of the words of the command line clap tells, and of an output that takes nothing
 -- there is nothing to tell.
-abbrev pub told_text : List ℕ → PlantStop → List ℕ
+abbrev pub told_text : List ℕ → PlantEnding → List ℕ
 told_text path Usage = []
 told_text path (Plant told) = plant_text path told.fault told
 told_text path Unopened = file_line path
 told_text path Memory = codes "memory\n"
 told_text path Unwritten = []
 
--- the stop at a fault of a run
-abbrev pub of_trace : TraceFault → PlantStop
+-- the ending at a fault of a run
+abbrev pub of_trace : TraceFault → PlantEnding
 of_trace trace.Memory = Memory
 of_trace trace.Write = Unwritten
 
--- A stop behind these bytes of a plant text: a fault that is told is theirs, but for want of memory and a reader that failed; the output fails
+-- An ending behind these bytes of a plant text: a fault that is told is theirs, but for want of memory and a reader that failed; the output fails
 -- only behind a plant; memory may always be wanting; and words and files have no part in it.
-abbrev pub Tells : PlantStop → List ℕ → Type 0
+abbrev pub Tells : PlantEnding → List ℕ → Type 0
 Tells (Plant told) bytes = told ≢ of_no_line fault.Memory → told ≢ of_no_line fault.Read → meaning bytes ≡ Err told
 Tells Usage bytes = ⊥
 Tells Unopened bytes = ⊥
 Tells Memory bytes = Unit {0}
 Tells Unwritten bytes = (plant : PlantText) × (meaning bytes ≡ Ok plant)
 
--- a stop of what is printed: memory is wanting, or the output fails
-abbrev pub IsOfOutput : PlantStop → Type 0
+-- an ending of what is printed: memory is wanting, or the output fails
+abbrev pub IsOfOutput : PlantEnding → Type 0
 IsOfOutput (Plant told) = ⊥
 IsOfOutput Usage = ⊥
 IsOfOutput Unopened = ⊥

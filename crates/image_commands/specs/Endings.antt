@@ -4,23 +4,23 @@ use Rattle.plant_image.specs.declared.fault.ImageFault.{ImageFault}
 use Rattle.image_commands.specs.Refusals.{IsRefusedBy, is_failure}
 use Rattle.image_commands.specs.declared.refusal.ImageRefusal.{ImageRefusal}
 use Rattle.image_commands.specs.declared.refusal.ImageRefusal.TheVariants.{WrongSize, Disk, Memory}
-use Rattle.image_commands.specs.declared.stop.ImageStop.{ImageStop}
-use Rattle.image_commands.specs.declared.stop.ImageStop.TheVariants.{Refused, Failed, Unwritten}
+use Rattle.image_commands.specs.declared.ending.ImageEnding.{ImageEnding}
+use Rattle.image_commands.specs.declared.ending.ImageEnding.TheVariants.{Refused, Failed, Unwritten}
 
--- the exit status of a program that stops so: 1 a refused image, 3 the device, the memory or the output
-abbrev pub status_at : ImageStop → ℕ
+-- the exit status of a program that ends so: 1 a refused image, 3 the device, the memory or the output
+abbrev pub status_at : ImageEnding → ℕ
 status_at (Refused refusal) = if is_failure refusal then 3 else 1
 status_at Failed = 3
 status_at Unwritten = 3
 
--- A stop before a run: an image is refused by what is wrong with it, and no run has failed.
-abbrev pub IsToldOf : Option ImageFault → ImageStop → Type 0
+-- An ending before a run: an image is refused by what is wrong with it, and no run has failed.
+abbrev pub IsToldOf : Option ImageFault → ImageEnding → Type 0
 IsToldOf found (Refused refusal) = IsRefusedBy found refusal
 IsToldOf found Failed = Unit {0}
 IsToldOf found Unwritten = Unit {0}
 
 -- the command runs no events, so that none of them can fail
-abbrev pub IsOfNoRun : ImageStop → Type 0
+abbrev pub IsOfNoRun : ImageEnding → Type 0
 IsOfNoRun (Refused refusal) = Unit {0}
 IsOfNoRun Failed = ⊥
 IsOfNoRun Unwritten = Unit {0}
@@ -32,8 +32,8 @@ IsRefusedFor bytes wanted Disk = Unit {0}
 IsRefusedFor bytes wanted Memory = Unit {0}
 IsRefusedFor bytes wanted refusal = ⊥
 
--- A stop of formatting.
-abbrev pub IsToldOfFormat : ℕ → ℕ → ImageStop → Type 0
+-- An ending of formatting.
+abbrev pub IsToldOfFormat : ℕ → ℕ → ImageEnding → Type 0
 IsToldOfFormat bytes wanted (Refused refusal) = IsRefusedFor bytes wanted refusal
 IsToldOfFormat bytes wanted Failed = ⊥
 IsToldOfFormat bytes wanted Unwritten = Unit {0}
