@@ -5,8 +5,8 @@ use Rattle.std.specs.List.{list_all}
 use Rattle.std.proofs.lemmas.Bool.{and_parts, and_from, ltb-true, lt-ltb}
 use Rattle.petri_atom.specs.Expression.{Tree, number, variable, negation, operation, all_variables, has_variables_below}
 use Rattle.petri_atom.specs.Definition.{PortDefinition, TransitionDefinition, UpdateDefinition, are_below, exports_few, exports_once, exports_known, has_known_variables, has_known_numbers_in, is_small_transition, has_each_place_once, has_source_and_target}
+use Rattle.petri_atom.proofs.Fitting.{all_weaker}
 use Rattle.atom_lines.specs.Sound.{is_sound_port, is_sound_transition}
-use Rattle.plant_words.proofs.Once.{all_weaker}
 
 -- below a bound, and so below a larger one
 still_below : (m n k : ℕ) → m ≤ n → nat_lt k m ≡ true → nat_lt k n ≡ true

@@ -1,5 +1,5 @@
 -- What a port of an atom exports.
-use Rattle.std.proofs.Common.{◌≡◌, ◌∙◌, refl, sym, ap, ℕ, zero, suc, ◌<◌, ◌≤◌, Bool, true, ◌&&◌, List, [], ◌∷◌, length, map, get_or, Some}
+use Rattle.std.proofs.Common.{◌≡◌, ◌∙◌, refl, sym, ap, ℕ, ◌<◌, ◌≤◌, true, ◌&&◌, List, length, map, get_or, Some}
 use Rattle.std.specs.Prelude.{slice_get}
 use Rattle.std.specs.List.{list_all}
 use Rattle.std.specs.Option.{option_map}
@@ -9,15 +9,8 @@ use Rattle.petri_atom.specs.Definition.{PortDefinition, exports_few, exports_onc
 use Rattle.petri_atom.specs.Parts.{port_of}
 use Rattle.petri_atom.specs.declared.parts.Port.{Port}
 use Rattle.petri_atom.specs.declared.state.TheConstants.{MAX_EXPORTS}
+use Rattle.petri_atom.proofs.Fitting.{all_get}
 use Rattle.atom_lines.specs.Sound.{is_sound_port}
-
--- what each passes, the one with a number passes
-all_get : {X : Type 0} (f : X → Bool) (xs : List X) (i : ℕ) (x : X) → list_all f xs ≡ true → slice_get xs i ≡ Some x → f x ≡ true
-all_get f [] i x all there = absurd (cc)
-all_get f (y ∷ ys) zero x all there =
-    let same : y ≡ x = cc in
-    ap f (sym same) ∙ (and_parts (f y) (list_all f ys) all).0
-all_get f (y ∷ ys) (suc i) x all there = all_get f ys i x (and_parts (f y) (list_all f ys) all).1 there
 
 -- the port with the number, as it was written
 pub port_there : (ports seen : List Port) (i k : ℕ) (p : Port) → seen ≡ ports → k ≡ i → k < length seen → p ≡ get_or seen k p → slice_get (map port_of ports) i ≡ Some (port_of p)

@@ -15,10 +15,10 @@ use Rattle.petri_atom.specs.declared.fault.AtomFault.{AtomFault}
 use Rattle.petri_atom.specs.declared.fault.AtomFault.TheVariants.{Limit, Twice, Unknown, NoPlace, Memory}
 use Rattle.petri_atom.specs.declared.state.TheConstants.{MAX_PLACES, MAX_VARIABLES}
 use Rattle.petri_atom.specs.declared.parts.TheConstants.{MAX_PORTS, MAX_TRANSITIONS}
+use Rattle.petri_atom.proofs.Fitting.{all_weaker}
 use Rattle.atom_lines.specs.declared.draft.AtomDraft.{AtomDraft}
 use Rattle.atom_lines.specs.Draft.{drafted}
 use Rattle.atom_lines.specs.Sound.{is_sound_port, is_sound_transition}
-use Rattle.plant_words.proofs.Once.{all_weaker}
 
 -- where each kind of rule is kept, there is no first that isn't
 no_first : (limits once known ends : Bool) → (limits && once && known && ends) ≡ true →

@@ -12,9 +12,9 @@
 //! A task of a plant alone is done by the program `bip_run`; the launcher at the top of the repository runs whichever the words ask for.
 #![tactic(auto)]
 
+mod ending;
 mod process;
 mod script;
-mod ending;
 
 use std::io::IsTerminal;
 use std::process::ExitCode;

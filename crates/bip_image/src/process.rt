@@ -2,8 +2,8 @@
 ghost use Rattle.std.specs.Prelude.{◌≡◌};
 ghost use Rattle.bip_image.specs.Ending.{status_of};
 
+use crate::ending::{Ending, More, Paths, Told, exit_status};
 use crate::script::read_events;
-use crate::ending::{More, Paths, Ending, Told, exit_status};
 use command_line::{ImageTask, Request, Work, is_standard_input, read_request};
 use file_disk::{FileDisk, FileFault};
 use image_commands::{format_image, image_bytes, recover_image, run_image};

@@ -87,7 +87,10 @@ fn end<R: Eprint>(rt: &R, plant: &str, ended: Result<(), PlantEnding>) -> u8
     match ended {
         Ok(()) => 0,
         Err(ending) => {
-            let _ = rt.eprint(PlantTold { ending, path: plant });
+            let _ = rt.eprint(PlantTold {
+                ending,
+                path: plant,
+            });
             ending.exit_status()
         }
     }

@@ -1,8 +1,8 @@
 -- Which format of a run a word names.
 use Rattle.std.specs.Prelude.{ℕ, List, codes, if◌then◌else◌}
 use Rattle.petri_atom.specs.Name.{is_same_text}
-use Rattle.run_text.specs.declared.format.Format.{Format}
-use Rattle.run_text.specs.declared.format.Format.TheVariants.{Lines, Csv, Jsonl}
+use Rattle.text_io.specs.declared.format.Format.{Format}
+use Rattle.text_io.specs.declared.format.Format.TheVariants.{Lines, Csv, Jsonl}
 
 -- the format that a word names: the fixed lines where it is neither `csv` nor `jsonl`
 abbrev pub format_in : List ℕ → Format

@@ -2,7 +2,7 @@
 ghost use Rattle.std.specs.Prelude.{◌≡◌};
 ghost use Rattle.command_line.specs.Formats.{format_in};
 
-use run_text::Format;
+use text_io::Format;
 
 /// The format that the word names; the fixed lines where it names none.
 pub(crate) fn format_named(word: &str) -> Format

@@ -44,6 +44,29 @@ Exit status:
   3  a file ('file PATH'), the memory ('memory', or 'plant line 0: fault 15 Memory')
      or the standard output failed";
 
+pub(crate) const CHOICES_BRIEF: &str = "Lists what a plant can fire next";
+
+pub(crate) const CHOICES_ABOUT: &str =
+    "Lists what a plant can fire next, from its first state or after some picks.
+
+Fires the picks as 'trace' does, and prints a line for each choice that the plant then
+has: the number by which a pick takes it, its connector, and each participant as
+ATOM.PORT/TRANSITION. After the first 1000 choices the line 'more N' says how many others
+there are. If nothing is possible, the line is 'stuck'.";
+
+pub(crate) const CHOICES_AFTER: &str = "Example:
+  bip_run choices examples/sample.plant 0
+prints what can be fired after the pick 0
+  0 tick A.t/0
+  1 send A.t/0 B.u/0
+
+Exit status:
+  0  the choices are listed, also where there is none
+  1  the text is no plant; the standard error has 'plant line L: fault K NAME'
+  2  the words of the command line were not understood
+  3  a file ('file PATH'), the memory ('memory', or 'plant line 0: fault 15 Memory')
+     or the standard output failed";
+
 pub(crate) const TRACE_BRIEF: &str = "Runs a plant from its first state, and prints the run";
 
 pub(crate) const TRACE_ABOUT: &str = "Runs a plant from its first state, and prints the run.

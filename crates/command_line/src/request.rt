@@ -1,6 +1,6 @@
 //! What the command line asks for.
 use crate::ring::RingLength;
-use run_text::Format;
+use text_io::Format;
 
 /// What is to be done with a plant.
 #[derive(Debug, Drop, PartialEq, Eq)]
@@ -9,6 +9,8 @@ pub enum Task {
     Check,
     /// It is run from its first state, by these picks, and the run is printed in this format.
     Trace(Vec<u64>, Format),
+    /// It is run from its first state by these picks, and what can be fired next is listed.
+    Choices(Vec<u64>),
     /// It is drawn as a graph.
     Draw,
 }

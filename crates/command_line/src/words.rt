@@ -2,9 +2,10 @@
 use crate::answer::{Answered, show};
 use crate::formats::format_named;
 use crate::help::{
-    ABOUT, AFTER, CHECK_ABOUT, CHECK_AFTER, CHECK_BRIEF, DRAW_ABOUT, DRAW_AFTER, DRAW_BRIEF,
-    FORMAT_ABOUT, FORMAT_AFTER, FORMAT_BRIEF, RECOVER_ABOUT, RECOVER_AFTER, RECOVER_BRIEF,
-    RUN_ABOUT, RUN_AFTER, RUN_BRIEF, TRACE_ABOUT, TRACE_AFTER, TRACE_BRIEF,
+    ABOUT, AFTER, CHECK_ABOUT, CHECK_AFTER, CHECK_BRIEF, CHOICES_ABOUT, CHOICES_AFTER,
+    CHOICES_BRIEF, DRAW_ABOUT, DRAW_AFTER, DRAW_BRIEF, FORMAT_ABOUT, FORMAT_AFTER, FORMAT_BRIEF,
+    RECOVER_ABOUT, RECOVER_AFTER, RECOVER_BRIEF, RUN_ABOUT, RUN_AFTER, RUN_BRIEF, TRACE_ABOUT,
+    TRACE_AFTER, TRACE_BRIEF,
 };
 use crate::input::are_one_input;
 use crate::picks::{PickFault, read_picks};
@@ -14,8 +15,8 @@ use clap::builder::ValueParser;
 use clap::error::ErrorKind;
 use clap::{Arg, ArgAction, ArgMatches, Command, Error};
 use record_codec::{LEAST_RING, MOST_RING};
-use run_text::Format;
 use std::alloc::{AllocError, Global};
+use text_io::Format;
 
 const PLANT: &str = "PLANT";
 
@@ -40,6 +41,8 @@ const USUAL_RING: &str = "64";
 const EXPLAIN: &str = "explain";
 
 const CHECK: &str = "check";
+
+const CHOICES: &str = "choices";
 
 const TRACE: &str = "trace";
 
@@ -75,6 +78,7 @@ fn request_of<'a>(
 ) -> Result<Request<'a>, Error> {
     match matches.subcommand() {
         Some((CHECK, found)) => plant_request(program, found, Task::Check),
+        Some((CHOICES, found)) => choices_request(alloc, program, found),
         Some((TRACE, found)) => trace_request(alloc, program, found),
         Some((DRAW, found)) => plant_request(program, found, Task::Draw),
         Some((FORMAT, found)) => format_request(alloc, program, found),
@@ -116,14 +120,34 @@ fn image_request<'a>(
     request(program, found, Work::OnImage(image, task))
 }
 
+/// The request to list what can be fired next.
+fn choices_request<'a>(
+    alloc: Global,
+    program: &mut Command<'a>,
+    found: &ArgMatches<'a>,
+) -> Result<Request<'a>, Error> {
+    let picks = picks_given(alloc, program, found)?;
+    plant_request(program, found, Task::Choices(picks))
+}
+
 /// The request to run a plant from its first state.
 fn trace_request<'a>(
     alloc: Global,
     program: &mut Command<'a>,
     found: &ArgMatches<'a>,
 ) -> Result<Request<'a>, Error> {
+    let picks = picks_given(alloc, program, found)?;
+    plant_request(program, found, Task::Trace(picks, format_given(found)))
+}
+
+/// The picks that are given.
+fn picks_given<'a>(
+    alloc: Global,
+    program: &mut Command<'a>,
+    found: &ArgMatches<'a>,
+) -> Result<Vec<u64>, Error> {
     match read_picks(alloc, found.get_strs(PICK).unwrap_or(&[])) {
-        Ok(picks) => plant_request(program, found, Task::Trace(picks, format_given(found))),
+        Ok(picks) => Ok(picks),
         Err(PickFault::NoPick(word)) => Err(no_pick(alloc, program, word)?),
         Err(PickFault::Memory) => Err(Error::from(AllocError)),
     }
@@ -204,6 +228,7 @@ fn program<'a>(alloc: Global) -> Result<Command<'a>, AllocError> {
         .subcommand_required(true)
         .arg_required_else_help(true);
     let program = with_command(Ok(program), check_command(alloc));
+    let program = with_command(program, choices_command(alloc));
     let program = with_command(program, trace_command(alloc));
     let program = with_command(program, draw_command(alloc));
     let program = with_command(program, format_command(alloc));
@@ -238,6 +263,17 @@ fn check_command<'a>(alloc: Global) -> Result<Command<'a>, AllocError> {
         .after_help(CHECK_AFTER);
     let command = with_argument(Ok(command), explain_argument(alloc));
     with_argument(command, plant_argument(alloc))
+}
+
+/// The command that lists what can be fired next.
+fn choices_command<'a>(alloc: Global) -> Result<Command<'a>, AllocError> {
+    let command = Command::new(alloc, CHOICES)
+        .about(CHOICES_BRIEF)
+        .long_about(CHOICES_ABOUT)
+        .after_help(CHOICES_AFTER);
+    let command = with_argument(Ok(command), explain_argument(alloc));
+    let command = with_argument(command, plant_argument(alloc));
+    with_argument(command, pick_argument(alloc))
 }
 
 /// The command that runs a plant.

@@ -7,14 +7,14 @@ use Rattle.connector_tree.specs.declared.tree.Port.{Port}
 use Rattle.connector_tree.specs.declared.faults.TreeFault.{TreeFault}
 use Rattle.connector_tree.specs.declared.faults.TreeFault.TheVariants.{TooManyLeaves, TooDeep, SameAtom, Empty}
 use Rattle.connector_tree.specs.Faults.{has_repeat, atoms}
-use Rattle.connector_lines.specs.declared.token.Token.{Token}
-use Rattle.connector_lines.specs.declared.token.Token.TheVariants.{Leaf, Open, Close}
+use Rattle.connector_tree.specs.declared.token.Token.{Token}
+use Rattle.connector_tree.specs.declared.token.Token.TheVariants.{Leaf, Open, Close}
+use Rattle.connector_tree.specs.Tokens.{level_behind, ports_in}
+use Rattle.connector_tree.specs.TokenFaults.{deepest, is_open, is_close, begins_with_close, has_empty_bracket}
+use Rattle.connector_tree.proofs.TokenDepth.{level_least}
+use Rattle.connector_tree.proofs.Levels.{some_same}
 use Rattle.connector_lines.specs.declared.shape.Shape.{Shape}
-use Rattle.connector_lines.specs.Tokens.{level_behind}
-use Rattle.connector_lines.specs.Shape.{ports_in, deepest, is_open, is_close, begins_with_close, has_empty_bracket}
 use Rattle.connector_lines.specs.Judging.{is_too_wide_behind, is_too_deep_behind, has_empty_behind, fault_behind}
-use Rattle.connector_lines.proofs.Depth.{level_least}
-use Rattle.connector_lines.proofs.Readings.{some_same}
 
 -- the fault that four tests tell, in their order
 fault_at : Bool → Bool → Bool → Bool → Option TreeFault

@@ -1,15 +1,7 @@
-pub mod Written
-pub mod Leaves
-pub mod Depth
 pub mod Judging
-pub mod Empties
-pub mod Agreement
-pub mod Meaning
-pub mod OneTree
 pub mod Readings
 pub mod WantingTrees
 pub mod NamedPorts
-pub mod Drafting
 mod TreeRows
 pub mod Expressions
 pub mod Targets

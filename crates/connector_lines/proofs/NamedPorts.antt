@@ -7,13 +7,14 @@ use Rattle.petri_atom.specs.Name.{is_same_text}
 use Rattle.plant_words.specs.Splits.{PortParts, port_parts}
 use Rattle.connector_tree.specs.declared.tree.Port.{Port}
 use Rattle.connector_tree.specs.declared.faults.TreeFault.{TreeFault}
-use Rattle.connector_lines.specs.declared.token.Token.{Token}
-use Rattle.connector_lines.specs.declared.token.Token.TheVariants.{Leaf, Open, Close}
+use Rattle.connector_tree.specs.declared.token.Token.{Token}
+use Rattle.connector_tree.specs.declared.token.Token.TheVariants.{Leaf, Open, Close}
+use Rattle.connector_tree.specs.Tokens.{level_behind, ports_in}
+use Rattle.connector_tree.specs.TokenFaults.{fault_in}
 use Rattle.connector_lines.specs.declared.tree_words_fault.TreeWordsFault.{TreeWordsFault}
 use Rattle.connector_lines.specs.declared.tree_words_fault.TreeWordsFault.TheVariants.{Shape}
-use Rattle.connector_lines.specs.Tokens.{Names, Reading, leaf_of, leaf_in, token_in, level_behind, led_by, behind, tokens_in}
+use Rattle.connector_lines.specs.Tokens.{Names, Reading, leaf_of, leaf_in, token_in, led_by, behind, tokens_in}
 use Rattle.connector_lines.specs.Trees.{unless, judged, tree_in}
-use Rattle.connector_lines.specs.Shape.{ports_in, fault_in}
 
 -- ---- faults
 

@@ -1,18 +1,16 @@
 -- Laws of readings.
-use Rattle.std.proofs.Common.{◌≡◌, ◌≢◌, ℕ, ◌+◌, ◌-◌, ◌<◌, ◌≤◌, ◌==◌, Bool, true, false, if◌then◌else◌, List, [], ◌∷◌, ◌++◌, length, get_or, drop, Option, Some, None, IsSome, Result, Ok, Err, IfOk, IsOkAnd, refl, ap, sym, subst, ◌∙◌, append_assoc, append-nil, arith}
-use Rattle.std.proofs.lemmas.Bool.{both_ways}
-use Rattle.std.proofs.lemmas.List.{drop_more}
+use Rattle.std.proofs.Common.{◌≡◌, ◌≢◌, ℕ, ◌<◌, ◌==◌, Bool, true, false, if◌then◌else◌, List, [], ◌∷◌, ◌++◌, length, Option, Some, None, Result, Ok, Err, IfOk, IsOkAnd, refl, ap, sym, subst, ◌∙◌, append_assoc, append-nil, arith}
 use Rattle.std.specs.Option.{option_map_or}
 use Rattle.std.specs.declared.alloc.AllocError.{AllocError}
 use Rattle.std.specs.declared.alloc.Global.{Global}
 use Rattle.std.specs.declared.vec.Vec.{Vec}
 use Rattle.connector_tree.specs.declared.faults.TreeFault.{TreeFault}
-use Rattle.connector_lines.specs.declared.token.Token.{Token}
-use Rattle.connector_lines.specs.declared.token.Token.TheVariants.{Leaf, Open, Close}
+use Rattle.connector_tree.specs.declared.token.Token.{Token}
+use Rattle.connector_tree.specs.Tokens.{level_behind, is_balanced}
+use Rattle.connector_tree.specs.TokenFaults.{fault_in}
 use Rattle.connector_lines.specs.declared.tree_words_fault.TreeWordsFault.{TreeWordsFault}
 use Rattle.connector_lines.specs.declared.tree_words_fault.TreeWordsFault.TheVariants.{Shape}
-use Rattle.connector_lines.specs.Tokens.{Names, Reading, token_in, level_behind, is_balanced, led_by, behind, tokens_in}
-use Rattle.connector_lines.specs.Shape.{fault_in}
+use Rattle.connector_lines.specs.Tokens.{Names, Reading, token_in, led_by, behind, tokens_in}
 use Rattle.connector_lines.specs.Trees.{unless, judged, tree_in}
 
 -- tokens in front of those that are read behind them
@@ -52,16 +50,6 @@ at_words named (word ∷ words) level = at_word (token_in named word) level (λ 
 pub balanced : (named : Names) (words : List (List ℕ)) (level : ℕ) (tokens : List Token) → tokens_in named level words ≡ Ok tokens → is_balanced level tokens ≡ true
 unfolding IsBalanced
 balanced named words level tokens h = subst (λ r. IsBalanced level r) h (at_words named words level)
-
-is_some : (o : Option ℕ) (test : ℕ → Bool) → option_map_or test o false ≡ true → IsSome o
-is_some None test h = absurd (both_ways false refl h)
-is_some (Some level) test h = refl
-
--- where brackets are balanced behind some tokens, the next token closes none that isn't open
-pub next_level : (i level : ℕ) (tokens : List Token) (token : Token) → i < length tokens → is_balanced level (drop i tokens) ≡ true → IsSome (level_behind (get_or tokens i token) level)
-next_level i level tokens token within balanced =
-    is_some (level_behind (get_or tokens i token) level) (λ next. is_balanced next (drop (i + 1) tokens))
-    (ap (is_balanced level) (sym (drop_more tokens i token within)) ∙ balanced)
 
 -- ---- trees of words
 
@@ -127,20 +115,6 @@ pub word_is_behind : (named : Names) (before : List Token) (level next : ℕ) (w
     behind_all (before ++ token ∷ []) (tokens_in named next rest) ≡ behind_all before (tokens_in named level words)
 word_is_behind named before level next words rest word token is said goes =
     led_behind before token (tokens_in named next rest) ∙ sym (ap (behind_all before) (what_word_says named level words rest word token (Some next) is said goes))
-
--- two numbers that are there
-pub some_same : (m n : ℕ) → ◌≡◌ {A = Option ℕ} (Some m) (Some n) → m ≡ n
-some_same m n is = cc
-
-one_level_less : (none : Bool) (level next : ℕ) → (if none then None else Some (level - 1)) ≡ Some next → next ≤ level + 1
-one_level_less true level next is = absurd (cc)
-one_level_less false level next is = let same : level - 1 ≡ next = some_same (level - 1) next is in omega (arith, same)
-
--- no more than one bracket more is open behind a token
-pub one_level_more : (token : Token) (level next : ℕ) → level_behind token level ≡ Some next → next ≤ level + 1
-one_level_more (Leaf port trigger) level next is = let same : level ≡ next = some_same level next is in omega (arith, same)
-one_level_more Open level next is = let same : level + 1 ≡ next = some_same (level + 1) next is in omega (arith, same)
-one_level_more (Close trigger) level next is = one_level_less (level == 0) level next is
 
 -- no bracket is open behind the last word
 pub all_closed : (named : Names) (level : ℕ) (words : List (List ℕ)) → words ≡ [] → level ≡ 0 → tokens_in named level words ≡ Ok []

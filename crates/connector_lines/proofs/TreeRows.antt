@@ -3,12 +3,11 @@ use Rattle.std.proofs.Common.{◌≡◌, ℕ, ◌-◌, ◌==◌, ◌&&◌, true,
 use Rattle.connector_tree.specs.declared.tree.Port.{Port}
 use Rattle.connector_tree.specs.declared.faults.TreeFault.TheVariants.{TooManyLeaves, TooDeep, SameAtom, Empty}
 use Rattle.plant_words.specs.Words.{words_of}
-use Rattle.connector_lines.specs.declared.token.Token.{Token}
-use Rattle.connector_lines.specs.declared.token.Token.TheVariants.{Leaf, Open, Close}
+use Rattle.connector_tree.specs.declared.token.Token.{Token}
+use Rattle.connector_tree.specs.declared.token.Token.TheVariants.{Leaf, Open, Close}
 use Rattle.connector_lines.specs.declared.tree_words_fault.TreeWordsFault.TheVariants.{UnknownName, Shape, Tree}
 use Rattle.connector_lines.specs.Tokens.{Reading}
 use Rattle.connector_lines.specs.Trees.{tree_in}
-use Rattle.connector_lines.specs.Meaning.{interactions_in}
 
 -- the atoms `a` to `z`, by their place in the alphabet, each with the ports `p` and `q`, which are 0 and 1
 named : List ℕ → List ℕ → Option Port
@@ -149,21 +148,3 @@ an_empty_bracket = refl
 an_empty_bracket_inside : read (codes "a.p [ b.p [ ]' ]") ≡ Err (Tree Empty)
 unfolding read
 an_empty_bracket_inside = refl
-
--- ---- what tokens mean
-
-a_leader_and_a_follower : interactions_in (trigger 0 ∷ synchron 1 ∷ []) ≡ 1 ∷ 3 ∷ []
-unfolding synchron trigger
-a_leader_and_a_follower = refl
-
-followers_together_only : interactions_in (trigger 0 ∷ Open ∷ synchron 1 ∷ synchron 2 ∷ Close false ∷ []) ≡ 1 ∷ 7 ∷ []
-unfolding synchron trigger
-followers_together_only = refl
-
-a_leading_bracket : interactions_in (Open ∷ trigger 0 ∷ synchron 1 ∷ Close false ∷ synchron 2 ∷ []) ≡ 5 ∷ 7 ∷ []
-unfolding synchron trigger
-a_leading_bracket = refl
-
-a_bracket_between_followers : interactions_in (trigger 2 ∷ Open ∷ trigger 0 ∷ synchron 25 ∷ Close false ∷ synchron 1 ∷ []) ≡ 1 ∷ 3 ∷ 7 ∷ 9 ∷ 11 ∷ 15 ∷ []
-unfolding synchron trigger
-a_bracket_between_followers = refl

@@ -4,11 +4,12 @@ use Rattle.std.specs.Option.{option_map_or}
 use Rattle.plant_words.specs.Splits.{PortParts, port_parts}
 use Rattle.connector_tree.specs.declared.tree.Port.{Port}
 use Rattle.connector_tree.specs.declared.faults.TreeFault.{TreeFault}
-use Rattle.connector_lines.specs.declared.token.Token.{Token}
+use Rattle.connector_tree.specs.declared.token.Token.{Token}
+use Rattle.connector_tree.specs.Tokens.{level_behind}
+use Rattle.connector_tree.specs.TokenFaults.{fault_in}
 use Rattle.connector_lines.specs.declared.tree_words_fault.TreeWordsFault.{TreeWordsFault}
 use Rattle.connector_lines.specs.declared.tree_words_fault.TreeWordsFault.TheVariants.{Memory, Shape}
-use Rattle.connector_lines.specs.Tokens.{Names, Reading, bracket_in, leaf_of, leaf_in, token_in, level_behind, led_by, behind, tokens_in}
-use Rattle.connector_lines.specs.Shape.{fault_in}
+use Rattle.connector_lines.specs.Tokens.{Names, Reading, bracket_in, leaf_of, leaf_in, token_in, led_by, behind, tokens_in}
 use Rattle.connector_lines.specs.Trees.{unless, judged, tree_in}
 
 port_wants_none : (trigger : Bool) (port : Option Port) → leaf_of trigger port ≢ Err Memory

@@ -4,9 +4,10 @@ use Rattle.connector_tree.specs.declared.tree.TheConstants.{MAX_LEAVES, MAX_DEPT
 use Rattle.connector_tree.specs.declared.faults.TreeFault.{TreeFault}
 use Rattle.connector_tree.specs.declared.faults.TreeFault.TheVariants.{TooManyLeaves, TooDeep, SameAtom, Empty}
 use Rattle.connector_tree.specs.Faults.{has_repeat, atoms}
-use Rattle.connector_lines.specs.declared.token.Token.{Token}
+use Rattle.connector_tree.specs.declared.token.Token.{Token}
+use Rattle.connector_tree.specs.Tokens.{ports_in}
+use Rattle.connector_tree.specs.TokenFaults.{deepest, begins_with_close, has_empty_bracket}
 use Rattle.connector_lines.specs.declared.shape.Shape.{Shape}
-use Rattle.connector_lines.specs.Shape.{ports_in, deepest, begins_with_close, has_empty_bracket}
 
 -- with ports of these atoms, there are too many
 abbrev pub is_too_wide_behind : Shape → List ℕ → Bool

@@ -1,9 +1,5 @@
 pub mod Tokens
-pub mod Shape
 pub mod Trees
-pub mod Connectors
-pub mod Meaning
-pub mod TreeDrafts
 pub mod Judging
 pub mod Exports
 pub mod Rows
@@ -11,3 +7,4 @@ pub mod Parts
 pub mod Draft
 pub mod Sides
 pub mod Rules
+pub mod TreeWordsFaults

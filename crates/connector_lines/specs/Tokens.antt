@@ -1,11 +1,12 @@
 -- What words say where a tree may stand.
-use Rattle.std.specs.Prelude.{ℕ, ◌+◌, ◌-◌, ◌==◌, Bool, true, false, if◌then◌else◌, List, [], ◌∷◌, codes, Option, Some, None, Result, Ok, Err}
+use Rattle.std.specs.Prelude.{ℕ, ◌==◌, Bool, true, false, if◌then◌else◌, List, [], ◌∷◌, codes, Option, Some, None, Result, Ok, Err}
 use Rattle.std.specs.Option.{option_map_or}
 use Rattle.petri_atom.specs.Name.{is_same_text}
 use Rattle.plant_words.specs.Splits.{PortParts, port_parts}
 use Rattle.connector_tree.specs.declared.tree.Port.{Port}
-use Rattle.connector_lines.specs.declared.token.Token.{Token}
-use Rattle.connector_lines.specs.declared.token.Token.TheVariants.{Leaf, Open, Close}
+use Rattle.connector_tree.specs.declared.token.Token.{Token}
+use Rattle.connector_tree.specs.declared.token.Token.TheVariants.{Leaf, Open, Close}
+use Rattle.connector_tree.specs.Tokens.{level_behind}
 use Rattle.connector_lines.specs.declared.tree_words_fault.TreeWordsFault.{TreeWordsFault}
 use Rattle.connector_lines.specs.declared.tree_words_fault.TreeWordsFault.TheVariants.{UnknownName, Shape}
 
@@ -34,17 +35,6 @@ leaf_in named (Some parts) = leaf_of parts.quoted (named parts.atom parts.port)
 -- what a word says: a bracket, or else a port that is named
 abbrev pub token_in : Names → List ℕ → Result Token TreeWordsFault
 token_in named word = option_map_or (λ bracket. Ok bracket) (bracket_in word) (leaf_in named (port_parts word))
-
--- how many brackets are open behind a token, where so many are open before it; none where it closes one and none is open
-abbrev pub level_behind : Token → ℕ → Option ℕ
-level_behind (Leaf port trigger) level = Some level
-level_behind Open level = Some (level + 1)
-level_behind (Close trigger) level = if level == 0 then None else Some (level - 1)
-
--- each bracket that ends is open, and all are closed at the end, where so many are open before these tokens
-abbrev pub is_balanced : ℕ → List Token → Bool
-is_balanced level [] = level == 0
-is_balanced level (token ∷ tokens) = option_map_or (λ next. is_balanced next tokens) (level_behind token level) false
 
 -- the tokens of words, or their first fault
 abbrev pub Reading : Type 0

@@ -4,10 +4,10 @@ use Rattle.std.specs.declared.alloc.AllocError.{AllocError}
 use Rattle.std.specs.declared.alloc.Global.{Global}
 use Rattle.std.specs.declared.vec.Vec.{Vec}
 use Rattle.connector_tree.specs.declared.faults.TreeFault.{TreeFault}
-use Rattle.connector_lines.specs.declared.token.Token.{Token}
+use Rattle.connector_tree.specs.declared.token.Token.{Token}
+use Rattle.connector_tree.specs.TokenFaults.{fault_in}
 use Rattle.connector_lines.specs.declared.tree_words_fault.TreeWordsFault.TheVariants.{Shape, Tree}
 use Rattle.connector_lines.specs.Tokens.{Names, Reading, tokens_in}
-use Rattle.connector_lines.specs.Shape.{fault_in}
 
 -- the tokens, or the fault of their tree
 abbrev pub unless : List Token → Option TreeFault → Reading

@@ -27,14 +27,15 @@
 //! | `[` | the begin of a bracket |
 //! | `]`, `]'` | the end of the bracket that began last, which is a synchron or a trigger |
 //!
-//! What words say is told as a flat list of tokens, one for each word: `tree_in` gives the tokens of a line, or its fault, and
-//! `tokens_of` (`specs/Connectors.antt`) writes a connector down as its tokens. The connector that is read has exactly the
-//! tokens of the line, and no other connector has them ([`laws`]).
+//! What words say is told as a flat list of tokens, one for each word: `tree_in` gives the tokens of a line, or its fault. The
+//! connector that is read has exactly the tokens of the line, and no other connector has them
+//! ([`laws`](connector_tree::laws) of `connector_tree`).
 //!
 //! - The faults of the tree itself are told when each word is read, in the order in which `connector_tree` tells them, so that
 //!   [`interactions`](connector_tree::interactions) of a tree that was read fails for want of memory alone.
 //! - No line can make the calls nest deeper: words become a flat list of tokens, and a tree is made only of a list
-//!   without fault, by a loop. Each step takes time that grows with the number of words and no faster.
+//!   without fault, by a loop ([`connector_of`](connector_tree::connector_of)). Each step takes time that grows with the
+//!   number of words and no faster.
 //!
 //! # Guard clauses and transfers
 //!
@@ -62,8 +63,7 @@
 //! # Modules
 //!
 //! - `token`: what one word of a tree says, and which ports there are. `tree`: the words of a line as a connector.
-//! - `shape`: the faults of a tree, as its tokens are read. `tree_draft`: a connector made from tokens.
-//! - `tree_words_fault`: why words are no tree. `laws`: what tokens say of a connector.
+//! - `shape`: the faults of a tree, as its tokens are read, without memory. `tree_words_fault`: why words are no tree.
 //! - `draft`: the connector so far, and its lines. `exports`: which variable a word names. `parts`: a guard clause, a transfer.
 //! - `connectors`: what rules may name. `side`: one side of a rule. `rule`: the lines of rules.
 #![tactic(auto)]
@@ -71,20 +71,18 @@
 mod connectors;
 mod draft;
 mod exports;
-pub mod laws;
 mod parts;
 mod rule;
 mod shape;
 mod side;
 mod token;
 mod tree;
-mod tree_draft;
 mod tree_words_fault;
 
 pub use connectors::Connectors;
 pub use draft::WireDraft;
 pub use exports::Exports;
 pub use rule::{read_maximal, read_priority};
-pub use token::{Ports, Token};
+pub use token::Ports;
 pub use tree::read_tree;
 pub use tree_words_fault::TreeWordsFault;

@@ -2,14 +2,13 @@
 ghost use Rattle.std.specs.Prelude.{◌≡◌, ◌<◌, ◌≤◌, ℕ, [], ◌∷◌, ◌++◌, ◌==◌, ◌||◌, nat_le, length, List, Some, true, false};
 ghost use Rattle.std.specs.List.{list_any};
 ghost use Rattle.connector_tree.specs.Faults.{has_repeat};
-ghost use Rattle.connector_lines.specs.declared.token.Token.{Token};
-ghost use Rattle.connector_lines.specs.Tokens.{level_behind};
-ghost use Rattle.connector_lines.specs.Shape.{is_open, is_close, fault_in};
+ghost use Rattle.connector_tree.specs.declared.token.Token.{Token};
+ghost use Rattle.connector_tree.specs.Tokens.{level_behind};
+ghost use Rattle.connector_tree.specs.TokenFaults.{is_open, is_close, fault_in};
 ghost use Rattle.connector_lines.specs.Judging.{fault_behind, is_too_wide_behind};
 
-use crate::token::Token;
 use arrayvec::ArrayVec;
-use connector_tree::{MAX_DEPTH, MAX_LEAVES, TreeFault};
+use connector_tree::{MAX_DEPTH, MAX_LEAVES, Token, TreeFault};
 
 /// What the first tokens of a tree say of its faults. It takes no memory, however many there are.
 #[derive(Drop)]

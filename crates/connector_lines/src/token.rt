@@ -1,9 +1,10 @@
 //! What one word of a tree says.
 ghost use Rattle.std.specs.Prelude.{◌≡◌, ◌<◌};
-ghost use Rattle.connector_lines.specs.Tokens.{bracket_in, token_in, level_behind};
+ghost use Rattle.connector_tree.specs.Tokens.{level_behind};
+ghost use Rattle.connector_lines.specs.Tokens.{bracket_in, token_in};
 
 use crate::tree_words_fault::TreeWordsFault;
-use connector_tree::Port;
+use connector_tree::{Port, Token};
 use plant_words::split_port;
 
 /// Which ports a tree may name.
@@ -16,17 +17,6 @@ pub trait Ports {
     /// The port of an atom, by both names, or `None` where there is no such atom, or it has no such port.
     fn find_port(&self, atom: &[u8], port: &[u8]) -> Option<Port>
         ensures { result ≡ port_named self.now atom.now port.now };
-}
-
-/// What one word of a tree says.
-#[derive(Clone, Copy, Debug, PartialEq, Eq)]
-pub enum Token {
-    /// A port, and whether it is a trigger.
-    Leaf { port: Port, trigger: bool },
-    /// A bracket begins.
-    Open,
-    /// The bracket that began last ends, and whether it is a trigger.
-    Close { trigger: bool },
 }
 
 /// What the word says, where a tree may stand.

@@ -2,14 +2,13 @@
 ghost use Rattle.std.specs.Prelude.{◌≡◌, ◌≢◌, ◌<◌, ◌≤◌, length, [], ◌∷◌, ◌++◌, IfOk, IfErr, OnOk, IsOk, IsOkAnd, None, Ok, Err};
 ghost use Rattle.connector_tree.specs.Tree.{tree_of};
 ghost use Rattle.connector_tree.specs.Faults.{fault_of};
+ghost use Rattle.connector_tree.specs.Tokens.{tokens_of};
 ghost use Rattle.connector_lines.specs.Trees.{tree_in, AreRead};
-ghost use Rattle.connector_lines.specs.Connectors.{tokens_of};
 
 use crate::shape::Shape;
-use crate::token::{Ports, Token, level_behind, read_word};
-use crate::tree_draft::connector;
+use crate::token::{Ports, level_behind, read_word};
 use crate::tree_words_fault::TreeWordsFault;
-use connector_tree::Connector;
+use connector_tree::{Connector, Token, connector_of};
 use plant_words::Words;
 use std::alloc::{AllocError, Global};
 
@@ -34,7 +33,7 @@ pub fn read_tree<N: Ports>(
         return Err(TreeWordsFault::Shape);
     }
     let tokens = read_tokens(alloc, words, names)?;
-    Ok(connector(alloc, &tokens?)?)
+    Ok(connector_of(alloc, &tokens?)?)
 }
 
 /// What each word says, as far as there is memory for it; or the first fault from the left, and where no word has one the

@@ -1,9 +1,12 @@
 //! Why words are no tree of a connector.
 use connector_tree::TreeFault;
+use plant_words::LineFault;
 use std::alloc::AllocError;
+use std::fmt;
+use thiserror::Error;
 
 /// Why words are no tree of a connector, or that memory ran out.
-#[derive(Clone, Copy, Debug, PartialEq, Eq)]
+#[derive(Clone, Copy, Debug, PartialEq, Eq, Error)]
 pub enum TreeWordsFault {
     /// A word that is written as a port names an atom or a port that isn't there.
     UnknownName,
@@ -13,6 +16,22 @@ pub enum TreeWordsFault {
     Tree(TreeFault),
     /// Memory ran out.
     Memory,
+}
+
+impl fmt::Display for TreeWordsFault {
+    ghost use Rattle.std.specs.Prelude.{Some};
+    ghost use Rattle.connector_lines.specs.TreeWordsFaults.{message_of};
+
+    ghost output = { λ fault. Some (message_of fault) };
+
+    fn fmt<W: fmt::Write>(&self, f: &mut fmt::Formatter<W>) -> fmt::Result {
+        match self {
+            TreeWordsFault::UnknownName => write!(f, "{}", LineFault::UnknownName),
+            TreeWordsFault::Shape => write!(f, "{}", LineFault::Shape),
+            TreeWordsFault::Tree(fault) => write!(f, "{fault}"),
+            TreeWordsFault::Memory => write!(f, "{}", LineFault::Memory),
+        }
+    }
 }
 
 impl From<AllocError> for TreeWordsFault {

@@ -4,3 +4,7 @@ pub mod Masks
 pub mod Faults
 pub mod Walk
 pub mod Ports
+pub mod Tokens
+pub mod TokenFaults
+pub mod TokenMeaning
+pub mod TreeDrafts

@@ -2,11 +2,11 @@ ghost use Rattle.std.specs.Prelude.{◌≡◌};
 
 use crate::tree::{MAX_DEPTH, MAX_LEAVES};
 use std::alloc::AllocError;
-use std::error::Error;
 use std::fmt;
+use thiserror::Error;
 
 /// Why a tree is no connector, or its interactions could not be listed.
-#[derive(Clone, Copy, Debug, PartialEq, Eq)]
+#[derive(Clone, Copy, Debug, PartialEq, Eq, Error)]
 pub enum TreeFault {
     /// It has more leaves than `MAX_LEAVES`.
     TooManyLeaves,
@@ -45,8 +45,6 @@ impl fmt::Display for TreeFault {
         }
     }
 }
-
-impl Error for TreeFault {}
 
 impl From<AllocError> for TreeFault {
     ghost use Rattle.connector_tree.specs.declared.faults.TreeFault.TheVariants.{Memory};

@@ -1,11 +1,14 @@
-//! Laws of the algebra. Each function does nothing: its contract is the law.
+//! Laws of the algebra, and of connectors as tokens. Each function does nothing: its contract is the law.
 
 ghost use Rattle.std.specs.Prelude.{◌≡◌, ℕ, ◌-◌, ◌^◌, Bool, true, false, [], ◌∷◌, length, IsTrue};
 ghost use Rattle.connector_tree.specs.Tree.{Tree, no_child, child, Branch, bracket, leaves, has_empty};
-ghost use Rattle.connector_tree.specs.Faults.{has_repeat, atoms};
+ghost use Rattle.connector_tree.specs.Faults.{has_repeat, atoms, fault_of};
 ghost use Rattle.connector_tree.specs.PortSets.{branch_sets, port_sets, is_port_set};
-ghost use Rattle.connector_tree.specs.Masks.{is_set, ports_of, IsInteraction};
+ghost use Rattle.connector_tree.specs.Masks.{is_set, ports_of, interactions_of, IsInteraction};
 ghost use Rattle.connector_tree.specs.Ports.{beside, are_synchrons, is_port, are_ports};
+ghost use Rattle.connector_tree.specs.Tokens.{tokens_of, ports_in};
+ghost use Rattle.connector_tree.specs.TokenFaults.{fault_in};
+ghost use Rattle.connector_tree.specs.TokenMeaning.{port_sets_in, interactions_in};
 
 /// Ports without a trigger act together or not at all.
 pub fn synchrons_act_together()
@@ -50,4 +53,25 @@ pub fn full_mask_is_an_interaction()
 /// Where no bracket is empty, some port takes part in each interaction.
 pub fn some_port_acts()
     ensures { (tree : Tree) → has_empty tree ≡ false → is_port_set tree [] ≡ false }
+{}
+
+/// The ports among the tokens are the leaves.
+pub fn tokens_have_the_leaves()
+    ensures { (tree : Tree) → ports_in (tokens_of tree) ≡ leaves tree }
+{}
+
+/// The fault that is told of the tokens is the connector's.
+pub fn tokens_have_the_fault()
+    ensures { (tree : Tree) → fault_in (tokens_of tree) ≡ fault_of tree }
+{}
+
+/// The port sets and the interactions that the tokens say are the connector's.
+pub fn tokens_have_the_interactions()
+    ensures port_sets { (tree : Tree) → port_sets_in (tokens_of tree) ≡ port_sets tree }
+    ensures interactions { (tree : Tree) → interactions_in (tokens_of tree) ≡ interactions_of tree }
+{}
+
+/// Connectors with the same tokens are the same.
+pub fn tokens_are_of_one_tree()
+    ensures { (one other : Tree) → tokens_of one ≡ tokens_of other → one ≡ other }
 {}

@@ -15,7 +15,14 @@
 //! `interactions` (`walk`) lists exactly the masks whose ports are a port set, rising, each once. It looks at
 //! each mask once, by one walk down the tree: `specs/Walk.antt` is that walk, and no public clause cites it.
 //! What is no connector is told before, without memory, by its first fault (`shape`, `specs/Faults.antt`).
-//! `laws` has what follows for each connector.
+//!
+//! A connector is also written as a flat list of tokens (`token`): a port with its mark, a bracket that begins, a bracket that
+//! ends. `tokens_of` (`specs/Tokens.antt`) writes it so; `fault_in` and `interactions_in` (`specs/TokenFaults.antt`,
+//! `specs/TokenMeaning.antt`) say of tokens which fault and which interactions they have. `connector_of` (`tree_draft`) makes the
+//! connector of tokens whose brackets are balanced and that have no fault. It does so by a loop: however the tokens nest, no
+//! call does.
+//!
+//! `laws` has what follows for each connector, and that its tokens say all of it.
 #![tactic(auto)]
 
 mod faults;
@@ -23,12 +30,16 @@ pub mod laws;
 mod ports;
 mod row;
 mod shape;
+mod token;
 mod tree;
+mod tree_draft;
 mod walk;
 
 pub use faults::TreeFault;
 pub use ports::leaves;
 pub use row::LeafRow;
 pub use shape::first_fault;
+pub use token::Token;
 pub use tree::{Child, Connector, MAX_DEPTH, MAX_LEAVES, Mask, Node, Port};
+pub use tree_draft::connector_of;
 pub use walk::interactions;

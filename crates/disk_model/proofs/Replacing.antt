@@ -5,7 +5,8 @@ use Rattle.disk_model.specs.Cells.{Cell, seen_cells, IsNoneOf, Leaves, OldOrEmpt
 use Rattle.disk_model.specs.Moments.{leaves_then, leaves_weaker, old_or_empty_before, old_or_empty_seen, empty_or_new_seen, settled_cells, same_count}
 use Rattle.disk_model.specs.Reading.{reads_leave, reads_seen, reads_settled}
 
-none_of_one : (o k : ℕ) → k ≢ o → IsNoneOf (o ∷ []) k
+-- another number is none of one
+pub none_of_one : (o k : ℕ) → k ≢ o → IsNoneOf (o ∷ []) k
 none_of_one o k ne zero within = λ same. ne (sym same)
 none_of_one o k ne (suc i) within = absurd (omega arith)
 

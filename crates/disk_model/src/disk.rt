@@ -1,11 +1,11 @@
 ghost use Rattle.std.specs.Prelude.{◌≡◌, ◌+◌, ◌^◌, ◌<◌, ◌≤◌, false, true, length, take, drop, is_ok, is_err, IfOk, OnOk, OnErr, Some, codes};
 ghost use Rattle.disk_model.specs.DiskState.{DiskState, size_of, Counts, IsUnchanged, Writes, FailsToWrite, Syncs};
 
-use std::error::Error;
 use std::fmt;
+use thiserror::Error;
 
 /// The device failed in this call. Its count of failures rose by one, short of the greatest `u64`.
-#[derive(Clone, Copy, Debug, PartialEq, Eq)]
+#[derive(Clone, Copy, Debug, PartialEq, Eq, Error)]
 pub struct DiskFault;
 
 impl fmt::Display for DiskFault {
@@ -15,8 +15,6 @@ impl fmt::Display for DiskFault {
         f.write_str("the device failed")
     }
 }
-
-impl Error for DiskFault {}
 
 /// A block device of a fixed size.
 pub trait Disk {

@@ -1,10 +1,10 @@
 //! Why a file is not opened as a device.
 use crate::LARGEST_IMAGE;
-use std::error::Error;
 use std::fmt;
+use thiserror::Error;
 
 /// Why a file is not opened as a device.
-#[derive(Clone, Copy, Debug, PartialEq, Eq)]
+#[derive(Clone, Copy, Debug, PartialEq, Eq, Error)]
 pub enum FileFault {
     /// To create: more bytes than the largest image has. Nothing was made.
     TooLarge,
@@ -53,5 +53,3 @@ impl fmt::Display for FileFault {
         }
     }
 }
-
-impl Error for FileFault {}

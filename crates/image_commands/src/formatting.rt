@@ -10,8 +10,8 @@ ghost use Rattle.image_commands.specs.Endings.{IsToldOfFormat};
 ghost use Rattle.image_commands.specs.declared.refusal.ImageRefusal.{ImageRefusal};
 ghost use Rattle.image_commands.specs.declared.ending.ImageEnding.TheVariants.{Refused};
 
-use crate::printing::hand_on;
 use crate::ending::ImageEnding;
+use crate::printing::hand_on;
 use disk_model::{BODY, Disk};
 use record_codec::ring::device_cells;
 use std::alloc::Global;

@@ -13,15 +13,15 @@
 #![tactic(auto)]
 
 mod booting;
+mod ending;
 mod formatting;
 mod printing;
 mod recovering;
 mod refusal;
 mod running;
-mod ending;
 
+pub use ending::ImageEnding;
 pub use formatting::{format_image, image_bytes};
 pub use recovering::recover_image;
 pub use refusal::ImageRefusal;
 pub use running::run_image;
-pub use ending::ImageEnding;

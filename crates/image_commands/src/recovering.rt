@@ -15,8 +15,8 @@ ghost use Rattle.image_commands.specs.declared.refusal.ImageRefusal.{ImageRefusa
 ghost use Rattle.image_commands.specs.declared.ending.ImageEnding.TheVariants.{Refused};
 
 use crate::booting::booted;
-use crate::printing::hand_on;
 use crate::ending::ImageEnding;
+use crate::printing::hand_on;
 use disk_model::Disk;
 use script_lines::print_standing;
 use std::alloc::Global;

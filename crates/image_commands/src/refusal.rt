@@ -2,9 +2,10 @@
 use plant_image::ImageFault;
 use recovery::{BootFault, FormatFault};
 use std::fmt;
+use thiserror::Error;
 
 /// Why an image is refused, or what failed before a command on it began.
-#[derive(Clone, Copy, Debug, PartialEq, Eq)]
+#[derive(Clone, Copy, Debug, PartialEq, Eq, Error)]
 pub enum ImageRefusal {
     /// The first cell is empty, or no identity begins in it.
     NotFormatted,

@@ -12,8 +12,8 @@ ghost use Rattle.image_commands.specs.declared.refusal.ImageRefusal.{ImageRefusa
 ghost use Rattle.image_commands.specs.declared.ending.ImageEnding.TheVariants.{Failed, Refused};
 
 use crate::booting::booted;
-use crate::refusal::ImageRefusal;
 use crate::ending::ImageEnding;
+use crate::refusal::ImageRefusal;
 use disk_model::Disk;
 use plant_core::{Event, Hands};
 use script_lines::run_script;

@@ -44,16 +44,16 @@ has-moved m bound ss ts k below past unmarked =
     ⊎_elim (λ h. has-set_below 64 test k h ∙ none) (λ h. has-above (set_below 64 test) 64 k (set_below-lt 64 test) h)
     (cases_lt k 64)
 
--- what holds of each transition holds of the one with a number
-all_get : {X : Type 0} (f : X → Bool) (xs : List X) (i : ℕ) (x : X) → list_all f xs ≡ true → slice_get xs i ≡ Some x → f x ≡ true
+-- what each passes, the one with a number passes
+pub all_get : {X : Type 0} (f : X → Bool) (xs : List X) (i : ℕ) (x : X) → list_all f xs ≡ true → slice_get xs i ≡ Some x → f x ≡ true
 all_get f [] i x all there = absurd (cc)
 all_get f (y ∷ ys) zero x all there =
     let same : y ≡ x = cc in
     ap f (sym same) ∙ (and_parts (f y) (list_all f ys) all).0
 all_get f (y ∷ ys) (suc i) x all there = all_get f ys i x (and_parts (f y) (list_all f ys) all).1 there
 
--- what each passes, it passes where the test is weaker
-all_weaker : {X : Type 0} (f g : X → Bool) → ((x : X) → f x ≡ true → g x ≡ true) → (xs : List X) → list_all f xs ≡ true → list_all g xs ≡ true
+-- what passes one test passes a weaker one
+pub all_weaker : {X : Type 0} (f g : X → Bool) → ((x : X) → f x ≡ true → g x ≡ true) → (xs : List X) → list_all f xs ≡ true → list_all g xs ≡ true
 all_weaker f g weaker [] all = refl
 all_weaker f g weaker (x ∷ xs) all =
     let parts = and_parts (f x) (list_all f xs) all in

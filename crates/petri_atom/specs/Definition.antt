@@ -39,6 +39,14 @@ pub record AtomDefinition : Type 0 where
   pub ports : List PortDefinition
   pub transitions : List TransitionDefinition
 
+-- the name of the variable with a number; empty where it is not there
+abbrev pub variable_name : AtomDefinition → ℕ → List ℕ
+variable_name a variable = option_map_or (λ v. v.name) (slice_get a.variables variable) []
+
+-- the name of the port with a number; empty where it is not there
+abbrev pub port_name : AtomDefinition → ℕ → List ℕ
+port_name a port = option_map_or (λ p. p.name) (slice_get a.ports port) []
+
 -- ---- offered
 
 -- a marking lets a transition move: all its sources are marked, and no target that is no source is

@@ -41,7 +41,7 @@ pub struct Atom {
 
 impl Atom {
     ghost use Rattle.petri_atom.specs.Atom.{definition_of};
-    ghost use Rattle.petri_atom.specs.Definition.{Fits, exports_of, offers_number, fired, initial};
+    ghost use Rattle.petri_atom.specs.Definition.{Fits, exports_of, offers_number, fired, initial, port_name, variable_name};
 
     /// The atom that is made of these parts, or the rule that they break first.
     pub fn new(
@@ -127,6 +127,26 @@ impl Atom {
         ensures { map port_of result.now ≡ (definition_of self.now).ports }
     {
         &self.ports
+    }
+
+    /// The name of the variable with this number; empty where it is not there.
+    pub fn variable_name(&self, variable: u8) -> &[u8]
+        ensures { result.now ≡ variable_name (definition_of self.now) variable }
+    {
+        match self.variables().get(usize::from(variable)) {
+            Some(variable) => variable.name.as_bytes(),
+            None => &[],
+        }
+    }
+
+    /// The name of the port with this number; empty where it is not there.
+    pub fn port_name(&self, port: u16) -> &[u8]
+        ensures { result.now ≡ port_name (definition_of self.now) port }
+    {
+        match self.ports().get(usize::from(port)) {
+            Some(port) => port.name.as_bytes(),
+            None => &[],
+        }
     }
 
     /// The transitions, in the order of their numbers.

@@ -2,11 +2,11 @@
 ghost use Rattle.std.specs.Prelude.{◌≡◌};
 
 use std::alloc::AllocError;
-use std::error::Error;
 use std::fmt;
+use thiserror::Error;
 
 /// Why parts make no atom, or that memory ran out.
-#[derive(Clone, Copy, Debug, PartialEq, Eq)]
+#[derive(Clone, Copy, Debug, PartialEq, Eq, Error)]
 pub enum AtomFault {
     /// A limit is passed: places, variables, ports, transitions, exported variables, updates or words of an expression.
     Limit,
@@ -38,8 +38,6 @@ impl fmt::Display for AtomFault {
         }
     }
 }
-
-impl Error for AtomFault {}
 
 impl From<AllocError> for AtomFault {
     ghost use Rattle.petri_atom.specs.declared.fault.AtomFault.TheVariants as fault;

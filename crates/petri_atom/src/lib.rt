@@ -9,7 +9,8 @@
 //! source is, and its guard is not 0. Firing one assigns the values that are delivered to its port's
 //! exported variables, runs its updates in order, and moves the marking.
 //!
-//! - `atom`: what an atom answers of a state: [`Atom::offers`], [`Atom::first_enabled`], [`Atom::apply`].
+//! - `atom`: what an atom answers of a state: [`Atom::offers`], [`Atom::first_enabled`], [`Atom::apply`]; its parts, and the names of
+//!   variables and ports by their numbers.
 //! - `expression`: expressions over any kind of variable, and their values.
 //! - `name`, `parts`, `transition`: what an atom is made of. A transition keeps its places as machine words
 //!   too, so that a test of a marking is two operations; that they are those sets is kept by its type.

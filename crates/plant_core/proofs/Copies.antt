@@ -4,8 +4,8 @@ use Rattle.std.specs.Prelude.{IfSome}
 use Rattle.std.specs.Option.{option_map}
 use Rattle.std.proofs.Math.Seq.{take-append-add}
 use Rattle.std.proofs.lemmas.Bool.{cases_eq, cases_lt}
-use Rattle.std.proofs.lemmas.List.{append-nil, append_assoc, get_or_past, length-append, take-append-le, take_all}
-use Rattle.std.proofs.lemmas.Option.{none-some, same_Some, slice_get_within}
+use Rattle.std.proofs.lemmas.List.{append-nil, append_assoc, get_or_past, length-append, take-append-le, take_all, take_more, take_more_set}
+use Rattle.std.proofs.lemmas.Option.{get_or_from_slice_get, none-some, same_Some, slice_get_within}
 use Rattle.petri_atom.specs.Definition.{AtomDefinition}
 use Rattle.petri_atom.specs.Local.{Local}
 use Rattle.disk_model.specs.Cells.{Cell}
@@ -28,6 +28,16 @@ use Rattle.plant_core.specs.Kept.{AreOnTheWay, FitsTogether}
 use Rattle.plant_core.specs.Snapshots.{AreOwn, held_at}
 use Rattle.plant_core.specs.View.{View, fired_number, with_all_acked, with_asked, with_fired, with_stored}
 use Rattle.plant_core.proofs.Flushing.{front-runs}
+
+-- ---- one after the other
+
+-- what is copied up to a number, and one more
+pub one_more_copied : {X : Type 0} (xs ys : List X) (i : ℕ) (x : X) → i < length xs → i < length ys → slice_get ys i ≡ Some x → take i xs ≡ take i ys → take (i + 1) (set xs i x) ≡ take (i + 1) ys
+one_more_copied xs ys i x inside within there so_far =
+    take_more_set xs i x inside ∙
+    ap (λ zs. zs ++ x ∷ []) so_far ∙
+    ap (λ y. take i ys ++ y ∷ []) (sym (get_or_from_slice_get ys i x x there)) ∙
+    sym (take_more ys i x within)
 
 -- ---- what is held
 

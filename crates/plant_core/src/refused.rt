@@ -3,9 +3,11 @@ ghost use Rattle.std.specs.Prelude.{◌≡◌};
 ghost use Rattle.plant_core.specs.Refusals.{number_of};
 
 use snapshot_writer::Encoded;
+use std::fmt;
+use thiserror::Error;
 
 /// Why a call of a durable plant is refused. Nothing changes then, but that a plant whose device failed is broken.
-#[derive(Clone, Copy, Debug, PartialEq, Eq)]
+#[derive(Clone, Copy, Debug, PartialEq, Eq, Error)]
 pub enum Refused {
     /// No interaction is possible.
     Stuck,
@@ -48,6 +50,29 @@ impl Refused {
             Refused::NothingNew => 9,
             Refused::Disk => 10,
             Refused::Broken => 11,
+        }
+    }
+}
+
+impl fmt::Display for Refused {
+    ghost use Rattle.std.specs.Prelude.{Some};
+    ghost use Rattle.plant_core.specs.Refusals.{message_of};
+
+    ghost output = { λ refused. Some (message_of refused) };
+
+    fn fmt<W: fmt::Write>(&self, f: &mut fmt::Formatter<W>) -> fmt::Result {
+        match self {
+            Refused::Stuck => f.write_str("no interaction is possible"),
+            Refused::Busy => f.write_str("an atom is away, and no choice is sure to be allowed"),
+            Refused::TailFull => f.write_str("a flush has to come before another firing"),
+            Refused::RingFull => f.write_str("the ring has no room for another record"),
+            Refused::Spent => f.write_str("the record with the greatest number is fired"),
+            Refused::Away(atom) => write!(f, "atom {atom} is away"),
+            Refused::Ahead(atom) => write!(f, "firings of atom {atom} are not acknowledged"),
+            Refused::Stranger => f.write_str("what was handed in is not what was kept of it"),
+            Refused::NothingNew => f.write_str("there is nothing to save, or nothing that may go"),
+            Refused::Disk => f.write_str("the device failed"),
+            Refused::Broken => f.write_str("the device failed in an earlier call"),
         }
     }
 }

@@ -2,4 +2,3 @@ pub mod Listing
 pub mod Seeking
 pub mod Telling
 mod Rows
-pub mod Naming

@@ -3,8 +3,8 @@ use Rattle.std.proofs.Common.{◌≡◌, ℕ, ◌+◌, ◌<◌, ◌∙◌, ap, s
 use Rattle.std.specs.Prelude.{Option, flat_map}
 use Rattle.std.specs.Io.KnownBytes.{Appends}
 use Rattle.std.proofs.lemmas.List.{drop_more, get_or-map, length-map}
-use Rattle.run_text.specs.Line.{numbered}
-use Rattle.run_text.proofs.Leading.{Leads, leads-element, leads-more, leads-same}
+use Rattle.text_io.specs.Numbered.{numbered}
+use Rattle.text_io.proofs.Leading.{Leads, leads-element, leads-more, leads-same}
 
 -- the next element is told, and those behind it are left
 pub leads-told : {X : Type 0} (say : X → List ℕ) (xs : List X) (i : ℕ) (d : X) (start now next : Option (List ℕ)) (all : List ℕ)

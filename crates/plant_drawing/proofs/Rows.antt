@@ -2,15 +2,15 @@
 use Rattle.std.proofs.Common.{◌≡◌, ◌∷◌, [], ℕ, List, pos, negsuc, true, false, refl, codes}
 use Rattle.std.specs.Fmt.{digits}
 use Rattle.petri_atom.specs.Expression.{Tree, number, variable, negation, operation}
-use Rattle.petri_atom.specs.Definition.{AtomDefinition}
+use Rattle.petri_atom.specs.Definition.{AtomDefinition, variable_name}
 use Rattle.petri_atom.specs.declared.expression.Operator.TheVariants.{Add, LessOrEqual, And}
 use Rattle.petri_atom.specs.declared.parts.Variable.{Variable}
 use Rattle.connector_tree.specs.Tree as connectors
 use Rattle.connector_tree.specs.declared.tree.Port.{Port}
 use Rattle.priority_filter.specs.declared.rule.Side.TheVariants.{Whole, One}
 use Rattle.priority_filter.specs.declared.rule.Rule.TheVariants.{Under, Maximal}
-use Rattle.step_core.specs.Plant.{WireDefinition}
-use Rattle.plant_drawing.specs.Expression.{expression_text, variable_name}
+use Rattle.step_core.specs.Plant.{PlantDefinition}
+use Rattle.plant_drawing.specs.Expression.{expression_text}
 use Rattle.plant_drawing.specs.Atom.{atom_lines, place_line, port_line, transition_lines}
 use Rattle.plant_drawing.specs.Connector.{connector_lines, guard_line, transfer_line}
 use Rattle.plant_drawing.specs.Export.{export_name}
@@ -30,24 +30,7 @@ unmarked_place = refl
 abbrev variables : List Variable
 variables = record { name = codes "n"; first = pos 0 } ∷ record { name = codes "m"; first = negsuc 1 } ∷ []
 
--- ports
-port_of_both : port_line 1 variables 2 (record { name = codes "t"; exports = 1 ∷ 0 ∷ [] }) ≡ codes "    port_1_2 [shape=ellipse, label=\"t m n\"];\n"
-unfolding digits
-port_of_both = refl
-
-port_of_none : port_line 1 variables 0 (record { name = codes "t"; exports = [] }) ≡ codes "    port_1_0 [shape=ellipse, label=\"t\"];\n"
-unfolding digits
-port_of_none = refl
-
--- an expression in prefix form
-abbrev test : Tree ℕ
-test = operation And (operation LessOrEqual (variable 0) (number (negsuc 2))) (negation (variable 1))
-
-prefix_form : expression_text (variable_name variables) test ≡ codes "&& <= n -3 ! m"
-unfolding digits
-prefix_form = refl
-
--- an atom with two variables, a port, and a transition from place 0 to places 0 and 1
+-- an atom with these variables and a port
 sample : AtomDefinition
 sample = record {
   name = codes "A";
@@ -57,6 +40,24 @@ sample = record {
   transitions = [];
 }
 
+-- ports
+port_of_both : port_line 1 sample 2 (record { name = codes "t"; exports = 1 ∷ 0 ∷ [] }) ≡ codes "    port_1_2 [shape=ellipse, label=\"t m n\"];\n"
+unfolding sample digits
+port_of_both = refl
+
+port_of_none : port_line 1 sample 0 (record { name = codes "t"; exports = [] }) ≡ codes "    port_1_0 [shape=ellipse, label=\"t\"];\n"
+unfolding digits
+port_of_none = refl
+
+-- an expression in prefix form
+abbrev test : Tree ℕ
+test = operation And (operation LessOrEqual (variable 0) (number (negsuc 2))) (negation (variable 1))
+
+prefix_form : expression_text (variable_name sample) test ≡ codes "&& <= n -3 ! m"
+unfolding sample digits
+prefix_form = refl
+
+-- a transition of the atom from place 0 to places 0 and 1
 guarded : transition_lines 0 sample 4 (record { port = 0; sources = 0 ∷ []; targets = 0 ∷ 1 ∷ []; guard = test; updates = record { variable = 1; value = operation Add (variable 1) (number (pos 1)) } ∷ [] })
     ≡ codes "    transition_0_4 [shape=box, label=\"t\\nwhen && <= n -3 ! m\\nm := + m 1\"];\n    port_0_0 -> transition_0_4 [style=dotted, arrowhead=none];\n    place_0_0 -> transition_0_4;\n    transition_0_4 -> place_0_0;\n    transition_0_4 -> place_0_1;\n"
 unfolding sample digits
@@ -114,18 +115,22 @@ transfer = refl
 
 -- rules between the connectors low and high
 module _ (connector : connectors.Tree) where
-  abbrev wires : List WireDefinition
-  wires = record { name = codes "low"; connector = connector; guards = []; transfers = [] } ∷ record { name = codes "high"; connector = connector; guards = []; transfers = [] } ∷ []
+  abbrev plant : PlantDefinition
+  plant = record {
+    atoms = [];
+    wires = record { name = codes "low"; connector = connector; guards = []; transfers = [] } ∷ record { name = codes "high"; connector = connector; guards = []; transfers = [] } ∷ [];
+    rules = [];
+  }
 
-  whole_sides : rule_line wires (Under (Whole 0) (Whole 1)) ≡ codes "  connector_0 -> connector_1 [style=dashed, color=firebrick, fontcolor=firebrick, label=\" low < high \"];\n"
+  whole_sides : rule_line plant (Under (Whole 0) (Whole 1)) ≡ codes "  connector_0 -> connector_1 [style=dashed, color=firebrick, fontcolor=firebrick, label=\" low < high \"];\n"
   unfolding digits
   whole_sides = refl
 
-  sides_by_masks : rule_line wires (Under (One 1 3) (One 1 255)) ≡ codes "  connector_1 -> connector_1 [style=dashed, color=firebrick, fontcolor=firebrick, label=\" high:3 < high:255 \"];\n"
+  sides_by_masks : rule_line plant (Under (One 1 3) (One 1 255)) ≡ codes "  connector_1 -> connector_1 [style=dashed, color=firebrick, fontcolor=firebrick, label=\" high:3 < high:255 \"];\n"
   unfolding digits
   sides_by_masks = refl
 
-  maximal : rule_line wires (Maximal 1) ≡ codes "  connector_1 -> connector_1 [style=dashed, color=firebrick, fontcolor=firebrick, label=\" maximal \"];\n"
+  maximal : rule_line plant (Maximal 1) ≡ codes "  connector_1 -> connector_1 [style=dashed, color=firebrick, fontcolor=firebrick, label=\" maximal \"];\n"
   unfolding digits
   maximal = refl
 

@@ -9,11 +9,11 @@ use Rattle.std.proofs.lemmas.Grind.{flat_map-append}
 use Rattle.std.proofs.lemmas.List.{drop_more}
 use Rattle.connector_tree.specs.declared.tree.Child.{Child}
 use Rattle.connector_tree.specs.declared.tree.Node.TheVariants as node
-use Rattle.connector_lines.specs.declared.token.Token.{Token}
-use Rattle.connector_lines.specs.declared.token.Token.TheVariants.{Leaf, Open, Close}
-use Rattle.connector_lines.specs.Connectors.{node_tokens, children_tokens}
-use Rattle.connector_lines.proofs.Written.{tokens-leaf, tokens-fusion}
-use Rattle.run_text.proofs.Leading.{Leads, leads-more, leads-same}
+use Rattle.connector_tree.specs.declared.token.Token.{Token}
+use Rattle.connector_tree.specs.declared.token.Token.TheVariants.{Leaf, Open, Close}
+use Rattle.connector_tree.specs.Tokens.{node_tokens, children_tokens}
+use Rattle.connector_tree.proofs.Written.{tokens-leaf, tokens-fusion}
+use Rattle.text_io.proofs.Leading.{Leads, leads-more, leads-same}
 
 -- a port is told once
 pub told-leaf : (say : Token → List ℕ) (atom port : ℕ) (trigger : Bool) → flat_map say (node_tokens (node.Leaf atom port) trigger) ≡ say (Leaf (record { atom = atom; port = port }) trigger)
@@ -47,9 +47,3 @@ bracket_told say children trigger (Err fault) start begun told after begins tell
 bracket_told say children trigger (Ok done) start begun told after begins tells ends =
     subst (Appends start after) (sym (told-fusion say children trigger))
     (Appends-trans start told after (say Open ++ flat_map say (children_tokens children.items)) (say (Close trigger)) (Appends-trans start begun told (say Open) (flat_map say (children_tokens children.items)) begins tells) ends)
-
--- a text is printed, and behind it what the last call prints
-pub told_last : {T E : Type 0} (result : Result T E) (start now after : Option (List ℕ)) (text last : List ℕ)
-    → Appends start now text → OnOk result (Appends now after last) → OnOk result (Appends start after (text ++ last))
-told_last (Err fault) start now after text last begins ends = tt
-told_last (Ok done) start now after text last begins ends = Appends-trans start now after text last begins ends

@@ -1,14 +1,13 @@
 -- An atom as a cluster: its variables in the label, and a node for each place, port and transition.
-use Rattle.std.specs.Prelude.{ℕ, Bool, if◌then◌else◌, List, [], ◌++◌, codes, decimal, flat_map, slice_get}
+use Rattle.std.specs.Prelude.{ℕ, Bool, if◌then◌else◌, List, [], ◌++◌, codes, decimal, flat_map}
 use Rattle.std.specs.Fmt.{signed_decimal}
-use Rattle.std.specs.Option.{option_map_or}
 use Rattle.petri_atom.specs.Expression.{Tree}
-use Rattle.petri_atom.specs.Definition.{AtomDefinition, PortDefinition, TransitionDefinition, UpdateDefinition}
+use Rattle.petri_atom.specs.Definition.{AtomDefinition, PortDefinition, TransitionDefinition, UpdateDefinition, port_name, variable_name}
 use Rattle.petri_atom.specs.declared.parts.Place.{Place}
 use Rattle.petri_atom.specs.declared.parts.Variable.{Variable}
-use Rattle.run_text.specs.Line.{numbered}
+use Rattle.text_io.specs.Numbered.{numbered}
 use Rattle.plant_drawing.specs.Node.{part_node}
-use Rattle.plant_drawing.specs.Expression.{variable_name, expression_text, is_one}
+use Rattle.plant_drawing.specs.Expression.{expression_text, is_one}
 
 -- a variable with its first value, on a line of its own
 abbrev pub variable_text : Variable → List ℕ
@@ -29,29 +28,25 @@ place_line atom k place =
     fill_of place.marked ++ named place.name
 
 -- a port with the variables that it exports
-abbrev pub port_line : ℕ → List Variable → ℕ → PortDefinition → List ℕ
-port_line atom variables k port =
+abbrev pub port_line : ℕ → AtomDefinition → ℕ → PortDefinition → List ℕ
+port_line atom a k port =
     codes "    " ++ part_node (codes "port") atom k ++ codes " [shape=ellipse, label=\"" ++ port.name ++
-    flat_map (λ v. codes " " ++ variable_name variables v) port.exports ++ codes "\"];\n"
-
--- the name of the port with a number; empty where it is not there
-abbrev pub port_name : List PortDefinition → ℕ → List ℕ
-port_name ports port = option_map_or (λ p. p.name) (slice_get ports port) []
+    flat_map (λ v. codes " " ++ variable_name a v) port.exports ++ codes "\"];\n"
 
 -- a guard, on a line of its own; nothing of one that is 1
-abbrev pub guard_text : List Variable → Tree ℕ → List ℕ
-guard_text variables guard =
-    if is_one guard then [] else codes "\\nwhen " ++ expression_text (variable_name variables) guard
+abbrev pub guard_text : AtomDefinition → Tree ℕ → List ℕ
+guard_text a guard =
+    if is_one guard then [] else codes "\\nwhen " ++ expression_text (variable_name a) guard
 
 -- an update, on a line of its own
-abbrev pub update_text : List Variable → UpdateDefinition → List ℕ
-update_text variables u =
-    codes "\\n" ++ variable_name variables u.variable ++ codes " := " ++ expression_text (variable_name variables) u.value
+abbrev pub update_text : AtomDefinition → UpdateDefinition → List ℕ
+update_text a u =
+    codes "\\n" ++ variable_name a u.variable ++ codes " := " ++ expression_text (variable_name a) u.value
 
 -- the name of a transition's port, its guard and its updates
 abbrev pub transition_label : AtomDefinition → TransitionDefinition → List ℕ
 transition_label a t =
-    port_name a.ports t.port ++ guard_text a.variables t.guard ++ flat_map (update_text a.variables) t.updates
+    port_name a t.port ++ guard_text a t.guard ++ flat_map (update_text a) t.updates
 
 -- a transition is a box with its label
 abbrev pub transition_line : ℕ → AtomDefinition → ℕ → TransitionDefinition → List ℕ
@@ -95,7 +90,7 @@ cluster_head atom a =
 -- its places, ports and transitions, in order
 abbrev pub cluster_parts : ℕ → AtomDefinition → List ℕ
 cluster_parts atom a =
-    numbered (place_line atom) 0 a.places ++ numbered (port_line atom a.variables) 0 a.ports ++
+    numbered (place_line atom) 0 a.places ++ numbered (port_line atom a) 0 a.ports ++
     numbered (transition_lines atom a) 0 a.transitions
 
 -- the cluster of the atom with a number

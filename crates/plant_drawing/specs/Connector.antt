@@ -1,24 +1,23 @@
 -- A connector as a node, and an edge to each of its ports.
 use Rattle.std.specs.Prelude.{ℕ, Bool, if◌then◌else◌, List, [], ◌++◌, codes, flat_map, slice_get}
 use Rattle.std.specs.Option.{option_map_or}
-use Rattle.petri_atom.specs.Definition.{AtomDefinition}
+use Rattle.petri_atom.specs.Definition.{AtomDefinition, port_name}
 use Rattle.petri_atom.specs.Expression.{Tree}
 use Rattle.connector_tree.specs.Tree.{leaves}
 use Rattle.connector_tree.specs.declared.tree.Port.{Port}
-use Rattle.connector_lines.specs.declared.token.Token.{Token}
-use Rattle.connector_lines.specs.declared.token.Token.TheVariants.{Leaf, Open, Close}
-use Rattle.connector_lines.specs.Connectors.{tokens_of}
+use Rattle.connector_tree.specs.declared.token.Token.{Token}
+use Rattle.connector_tree.specs.declared.token.Token.TheVariants.{Leaf, Open, Close}
+use Rattle.connector_tree.specs.Tokens.{tokens_of}
 use Rattle.step_core.specs.Plant.{TransferDefinition, WireDefinition}
 use Rattle.step_core.specs.declared.wire.Export.{Export}
 use Rattle.plant_drawing.specs.Node.{part_node, connector_node}
 use Rattle.plant_drawing.specs.Expression.{expression_text}
-use Rattle.plant_drawing.specs.Atom.{port_name}
 use Rattle.plant_drawing.specs.Export.{export_name}
 
 -- a port by the names of its atom and its own
 abbrev pub leaf_word : List AtomDefinition → Port → List ℕ
 leaf_word atoms port =
-    option_map_or (λ a. a.name ++ codes "." ++ port_name a.ports port.port) (slice_get atoms port.atom) []
+    option_map_or (λ a. a.name ++ codes "." ++ port_name a port.port) (slice_get atoms port.atom) []
 
 -- the mark of a trigger
 abbrev pub trigger_mark : Bool → List ℕ

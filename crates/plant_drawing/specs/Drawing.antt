@@ -1,7 +1,7 @@
 -- The drawing of a plant.
 use Rattle.std.specs.Prelude.{ℕ, List, ◌++◌, codes, flat_map}
 use Rattle.step_core.specs.Plant.{PlantDefinition}
-use Rattle.run_text.specs.Line.{numbered}
+use Rattle.text_io.specs.Numbered.{numbered}
 use Rattle.plant_drawing.specs.Atom.{atom_lines}
 use Rattle.plant_drawing.specs.Connector.{connector_lines}
 use Rattle.plant_drawing.specs.Rule.{rule_line}
@@ -10,7 +10,7 @@ use Rattle.plant_drawing.specs.Rule.{rule_line}
 abbrev pub parts_of : PlantDefinition → List ℕ
 parts_of plant =
     numbered atom_lines 0 plant.atoms ++ numbered (connector_lines plant.atoms) 0 plant.wires ++
-    flat_map (rule_line plant.wires) plant.rules
+    flat_map (rule_line plant) plant.rules
 
 -- how the graph is laid out: in one font, with some room between the nodes, and the label of an atom below its parts
 abbrev pub style : List ℕ

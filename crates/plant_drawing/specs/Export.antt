@@ -1,14 +1,13 @@
 -- Exported variables as a connector names them.
 use Rattle.std.specs.Prelude.{ℕ, List, [], ◌++◌, codes, slice_get}
 use Rattle.std.specs.Option.{option_map_or}
-use Rattle.petri_atom.specs.Definition.{AtomDefinition, exports_of}
+use Rattle.petri_atom.specs.Definition.{AtomDefinition, exports_of, variable_name}
 use Rattle.connector_tree.specs.declared.tree.Port.{Port}
 use Rattle.step_core.specs.declared.wire.Export.{Export}
-use Rattle.plant_drawing.specs.Expression.{variable_name}
 
 -- the name of a variable that a port of an atom exports, by its place among those; empty where it exports no such one
 abbrev pub exported_name : AtomDefinition → ℕ → ℕ → List ℕ
-exported_name a port export = option_map_or (variable_name a.variables) (slice_get (exports_of a port) export) []
+exported_name a port export = option_map_or (variable_name a) (slice_get (exports_of a port) export) []
 
 -- the same behind the name of the atom; empty where the atom is not there
 abbrev pub variable_of_port : List AtomDefinition → Port → ℕ → List ℕ

@@ -1,12 +1,10 @@
 -- Expressions as the plant text writes them.
-use Rattle.std.specs.Prelude.{ℕ, pos, Bool, false, List, [], ◌++◌, codes, slice_get}
+use Rattle.std.specs.Prelude.{ℕ, pos, Bool, false, List, ◌++◌, codes}
 use Rattle.std.specs.Fmt.{signed_decimal}
-use Rattle.std.specs.Option.{option_map_or}
 use Rattle.std.specs.Ordering.{int_eq}
 use Rattle.petri_atom.specs.Expression.{Tree, number, variable, negation, operation}
 use Rattle.petri_atom.specs.declared.expression.Operator.{Operator}
 use Rattle.petri_atom.specs.declared.expression.Operator.TheVariants.{Add, Subtract, Multiply, Min, Max, Less, LessOrEqual, Equal, NotEqual, And, Or}
-use Rattle.petri_atom.specs.declared.parts.Variable.{Variable}
 
 -- the word of an operator
 abbrev pub operator_word : Operator → List ℕ
@@ -21,10 +19,6 @@ operator_word Equal = codes "=="
 operator_word NotEqual = codes "!="
 operator_word And = codes "&&"
 operator_word Or = codes "||"
-
--- the name of the variable with a number; empty where it is not there
-abbrev pub variable_name : List Variable → ℕ → List ℕ
-variable_name variables v = option_map_or (λ x. x.name) (slice_get variables v) []
 
 -- an expression in prefix form, one space between two words, whose variables have the names that `name` tells
 abbrev pub expression_text : {V : Type 0} → (V → List ℕ) → Tree V → List ℕ

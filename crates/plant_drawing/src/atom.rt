@@ -1,13 +1,12 @@
 //! The cluster of an atom.
-ghost use Rattle.std.specs.Prelude.{◌++◌, codes, OnOk, flat_map, map};
+ghost use Rattle.std.specs.Prelude.{◌++◌, codes, OnOk, flat_map};
 ghost use Rattle.std.specs.Io.KnownBytes.{Appends};
 ghost use Rattle.petri_atom.specs.Atom.{definition_of};
+ghost use Rattle.petri_atom.specs.Definition.{variable_name};
 ghost use Rattle.petri_atom.specs.Parts.{port_of};
-ghost use Rattle.run_text.specs.Line.{numbered};
+ghost use Rattle.text_io.specs.Numbered.{numbered};
 ghost use Rattle.plant_drawing.specs.Atom.{atom_label, atom_lines, cluster_head, cluster_parts, fill_of, named, place_line, port_line, transition_lines, variable_text};
-ghost use Rattle.plant_drawing.specs.Expression.{variable_name};
 
-use crate::names::variable_name;
 use crate::node::print_part;
 use crate::transition::print_transition;
 use petri_atom::{Atom, Name, Place, Port, Variable};
@@ -55,7 +54,7 @@ fn print_parts<W: Write>(number: u64, atom: &Atom, output: &mut W) -> Result<(),
         (cluster_parts number (definition_of atom.now))) }
 {
     print_places(number, atom.places(), output)?;
-    print_ports(number, atom.variables(), atom.ports(), output)?;
+    print_ports(number, atom, output)?;
     print_transitions(number, atom, output)
 }
 
@@ -132,52 +131,43 @@ fn print_fill<W: Write>(marked: bool, output: &mut W) -> Result<(), WriteFault>
 }
 
 /// Prints the ports of an atom, each with the variables that it exports.
-fn print_ports<W: Write>(
-    atom: u64,
-    variables: &[Variable],
-    ports: &[Port],
-    output: &mut W,
-) -> Result<(), WriteFault>
+fn print_ports<W: Write>(number: u64, atom: &Atom, output: &mut W) -> Result<(), WriteFault>
     ensures { OnOk result (Appends (W.contents output.old) (W.contents output.new)
-        (numbered (port_line atom variables.now) 0 (map port_of ports.now))) }
+        (numbered (port_line number (definition_of atom.now)) 0 (definition_of atom.now).ports)) }
 {
-    for (number, port) in ports.iter().enumerate() {
-        print_port(atom, variables, number as u64, port, output)?;
+    for (port, made) in atom.ports().iter().enumerate() {
+        print_port(number, atom, port as u64, made, output)?;
     }
     Ok(())
 }
 
 /// Prints a port with the variables that it exports.
 fn print_port<W: Write>(
-    atom: u64,
-    variables: &[Variable],
     number: u64,
-    port: &Port,
+    atom: &Atom,
+    port: u64,
+    made: &Port,
     output: &mut W,
 ) -> Result<(), WriteFault>
     ensures { OnOk result (Appends (W.contents output.old) (W.contents output.new)
-        (port_line atom variables.now number (port_of port.now))) }
+        (port_line number (definition_of atom.now) port (port_of made.now))) }
 {
     print_text(output, b"    ")?;
-    print_part(b"port", atom, number, output)?;
+    print_part(b"port", number, port, output)?;
     print_text(output, b" [shape=ellipse, label=\"")?;
-    print_text(output, port.name.as_bytes())?;
-    print_exports(variables, &port.exports, output)?;
+    print_text(output, made.name.as_bytes())?;
+    print_exports(atom, &made.exports, output)?;
     print_text(output, b"\"];\n")
 }
 
 /// Prints the names of the variables with these numbers, each with a space before it.
-fn print_exports<W: Write>(
-    variables: &[Variable],
-    exports: &[u8],
-    output: &mut W,
-) -> Result<(), WriteFault>
+fn print_exports<W: Write>(atom: &Atom, exports: &[u8], output: &mut W) -> Result<(), WriteFault>
     ensures { OnOk result (Appends (W.contents output.old) (W.contents output.new)
-        (flat_map (λ v. codes " " ++ variable_name variables.now v) exports.now)) }
+        (flat_map (λ v. codes " " ++ variable_name (definition_of atom.now) v) exports.now)) }
 {
     for variable in exports {
         print_text(output, b" ")?;
-        print_text(output, variable_name(variables, *variable))?;
+        print_text(output, atom.variable_name(*variable))?;
     }
     Ok(())
 }

@@ -2,17 +2,16 @@
 ghost use Rattle.std.specs.Prelude.{◌++◌, codes, OnOk, flat_map, map};
 ghost use Rattle.std.specs.Io.KnownBytes.{Appends};
 ghost use Rattle.petri_atom.specs.Atom.{definition_of};
-ghost use Rattle.connector_lines.specs.declared.token.Token.TheVariants.{Leaf};
-ghost use Rattle.connector_lines.specs.Connectors.{children_tokens, node_tokens};
+ghost use Rattle.petri_atom.specs.Definition.{port_name};
+ghost use Rattle.connector_tree.specs.declared.token.Token.TheVariants.{Leaf};
+ghost use Rattle.connector_tree.specs.Tokens.{children_tokens, node_tokens};
 ghost use Rattle.connector_tree.specs.Tree.{leaves};
 ghost use Rattle.step_core.specs.Wire.{wire_of};
-ghost use Rattle.plant_drawing.specs.Atom.{port_name};
 ghost use Rattle.plant_drawing.specs.Connector.{arrow_to, connector_label, connector_line, connector_lines, end_of_edge, guard_line, leaf_word, port_edge, spaced_word, transfer_line, tree_text, trigger_mark};
 
 use crate::clauses::{print_guards, print_transfers};
 use crate::names::Exports;
 use crate::node::{print_connector, print_part};
-use crate::transition::port_name;
 use connector_tree::{Child, Node, Port};
 use petri_atom::Atom;
 use std::io::Write;
@@ -168,11 +167,11 @@ fn print_port<W: Write>(atoms: &[Atom], port: Port, output: &mut W) -> Result<()
 /// Prints the name of an atom and that of its port.
 fn print_port_of<W: Write>(atom: &Atom, port: u16, output: &mut W) -> Result<(), WriteFault>
     ensures { OnOk result (Appends (W.contents output.old) (W.contents output.new)
-        ((definition_of atom.now).name ++ codes "." ++ port_name (definition_of atom.now).ports port)) }
+        ((definition_of atom.now).name ++ codes "." ++ port_name (definition_of atom.now) port)) }
 {
     print_text(output, atom.name().as_bytes())?;
     print_text(output, b".")?;
-    print_text(output, port_name(atom.ports(), port))
+    print_text(output, atom.port_name(port))
 }
 
 /// Prints the mark of a trigger; nothing for a synchron.

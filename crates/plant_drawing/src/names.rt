@@ -3,11 +3,10 @@ ghost use Rattle.std.specs.Prelude.{◌≡◌, ◌++◌, List, ℕ, codes, OnOk,
 ghost use Rattle.std.specs.Io.KnownBytes.{Appends};
 ghost use Rattle.petri_atom.specs.Atom.{definition_of};
 ghost use Rattle.plant_drawing.specs.Export.{exported_name, variable_of_port};
-ghost use Rattle.plant_drawing.specs.Expression.{variable_name};
 
 use crate::leaf::leaf_at;
 use connector_tree::{Connector, Port};
-use petri_atom::{Atom, Variable};
+use petri_atom::Atom;
 use std::io::Write;
 use step_core::Export;
 use text_io::{WriteFault, print_text};
@@ -24,26 +23,17 @@ pub(crate) trait Names<V> {
 /// The variables of an atom, by their numbers.
 #[derive(Clone, Copy)]
 pub(crate) struct Variables<'a> {
-    pub(crate) variables: &'a [Variable],
+    pub(crate) atom: &'a Atom,
 }
 
 impl Names<u8> for Variables<'_> {
-    ghost use Rattle.plant_drawing.specs.Expression.{variable_name};
+    ghost use Rattle.petri_atom.specs.Atom.{definition_of};
+    ghost use Rattle.petri_atom.specs.Definition.{variable_name};
 
-    ghost name_of = { λ names variable. variable_name names.variables.now variable };
+    ghost name_of = { λ names variable. variable_name (definition_of names.atom.now) variable };
 
     fn print_name<W: Write>(&self, variable: &u8, output: &mut W) -> Result<(), WriteFault> {
-        print_text(output, variable_name(self.variables, *variable))
-    }
-}
-
-/// The name of the variable with this number; empty where it is not there.
-pub(crate) fn variable_name(variables: &[Variable], variable: u8) -> &[u8]
-    ensures { result.now ≡ variable_name variables.now variable }
-{
-    match variables.get(usize::from(variable)) {
-        Some(variable) => variable.name.as_bytes(),
-        None => &[],
+        print_text(output, self.atom.variable_name(*variable))
     }
 }
 
@@ -106,7 +96,7 @@ fn exported_name(atom: &Atom, port: u16, export: u8) -> &[u8]
     ensures { result.now ≡ exported_name (definition_of atom.now) port export }
 {
     match atom.exports(port).get(usize::from(export)) {
-        Some(variable) => variable_name(atom.variables(), *variable),
+        Some(variable) => atom.variable_name(*variable),
         None => &[],
     }
 }

@@ -4,7 +4,7 @@ ghost use Rattle.std.specs.Io.KnownBytes.{Appends};
 ghost use Rattle.petri_atom.specs.Atom.{definition_of};
 ghost use Rattle.step_core.specs.System.{plant_of};
 ghost use Rattle.step_core.specs.Wire.{wire_of};
-ghost use Rattle.run_text.specs.Line.{numbered};
+ghost use Rattle.text_io.specs.Numbered.{numbered};
 ghost use Rattle.plant_drawing.specs.Atom.{atom_lines};
 ghost use Rattle.plant_drawing.specs.Connector.{connector_lines};
 ghost use Rattle.plant_drawing.specs.Drawing.{drawing_of, parts_of, style};
@@ -51,7 +51,7 @@ fn print_parts<W: Write>(system: &System, output: &mut W) -> Result<(), WriteFau
 {
     print_atoms(system.atoms(), output)?;
     print_wires(system.atoms(), system.wires(), output)?;
-    print_rules(system.wires(), system.rules(), output)
+    print_rules(system, system.rules(), output)
 }
 
 /// Prints atoms, in the order of their numbers.

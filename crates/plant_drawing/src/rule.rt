@@ -1,71 +1,71 @@
 //! The edges of the priority rules.
-ghost use Rattle.std.specs.Prelude.{◌≡◌, OnOk, flat_map, map};
+ghost use Rattle.std.specs.Prelude.{◌≡◌, OnOk, flat_map};
 ghost use Rattle.std.specs.Io.KnownBytes.{Appends};
-ghost use Rattle.step_core.specs.Wire.{wire_of};
+ghost use Rattle.step_core.specs.System.{plant_of};
 ghost use Rattle.priority_filter.specs.declared.rule.Rule.TheVariants.{Under};
-ghost use Rattle.plant_drawing.specs.Rule.{arrow, maximal_line, rule_line, rule_style, side_connector, side_word, sides_text, wire_name};
+ghost use Rattle.plant_drawing.specs.Rule.{arrow, maximal_line, rule_line, rule_style, side_connector, side_word, sides_text};
 
 use crate::node::print_connector;
 use priority_filter::{Rule, Side};
 use std::io::Write;
-use step_core::Wire;
+use step_core::System;
 use text_io::{WriteFault, print_number, print_text};
 
 /// Prints the edge of each rule.
 pub(crate) fn print_rules<W: Write>(
-    wires: &[Wire],
+    system: &System,
     rules: &[Rule],
     output: &mut W,
 ) -> Result<(), WriteFault>
     ensures { OnOk result (Appends (W.contents output.old) (W.contents output.new)
-        (flat_map (rule_line (map wire_of wires.now)) rules.now)) }
+        (flat_map (rule_line (plant_of system.now)) rules.now)) }
 {
     for rule in rules {
-        print_rule(wires, *rule, output)?;
+        print_rule(system, *rule, output)?;
     }
     Ok(())
 }
 
 /// Prints the edge of a rule.
-fn print_rule<W: Write>(wires: &[Wire], rule: Rule, output: &mut W) -> Result<(), WriteFault>
+fn print_rule<W: Write>(system: &System, rule: Rule, output: &mut W) -> Result<(), WriteFault>
     ensures { OnOk result (Appends (W.contents output.old) (W.contents output.new)
-        (rule_line (map wire_of wires.now) rule)) }
+        (rule_line (plant_of system.now) rule)) }
 {
     match rule {
-        Rule::Under(left, right) => print_under(wires, left, right, output),
+        Rule::Under(left, right) => print_under(system, left, right, output),
         Rule::Maximal(connector) => print_maximal(u64::from(connector), output),
     }
 }
 
 /// Prints the dashed edge from the lower connector to the higher, with the rule on it.
 fn print_under<W: Write>(
-    wires: &[Wire],
+    system: &System,
     left: Side,
     right: Side,
     output: &mut W,
 ) -> Result<(), WriteFault>
     ensures { OnOk result (Appends (W.contents output.old) (W.contents output.new)
-        (rule_line (map wire_of wires.now) (Under left right))) }
+        (rule_line (plant_of system.now) (Under left right))) }
 {
     print_between(left, right, output)?;
     print_style(output)?;
-    print_sides(wires, left, right, output)?;
+    print_sides(system, left, right, output)?;
     print_text(output, b" \"];\n")
 }
 
 /// Prints the sides of a rule, the lower first.
 fn print_sides<W: Write>(
-    wires: &[Wire],
+    system: &System,
     left: Side,
     right: Side,
     output: &mut W,
 ) -> Result<(), WriteFault>
     ensures { OnOk result (Appends (W.contents output.old) (W.contents output.new)
-        (sides_text (map wire_of wires.now) left right)) }
+        (sides_text (plant_of system.now) left right)) }
 {
-    print_side(wires, left, output)?;
+    print_side(system, left, output)?;
     print_text(output, b" < ")?;
-    print_side(wires, right, output)
+    print_side(system, right, output)
 }
 
 /// Prints the dashed loop of a connector that is to be maximal.
@@ -118,26 +118,16 @@ fn side_connector(side: Side) -> u64
 }
 
 /// Prints a side as the plant text writes it: `NAME` or `NAME:MASK`.
-fn print_side<W: Write>(wires: &[Wire], side: Side, output: &mut W) -> Result<(), WriteFault>
+fn print_side<W: Write>(system: &System, side: Side, output: &mut W) -> Result<(), WriteFault>
     ensures { OnOk result (Appends (W.contents output.old) (W.contents output.new)
-        (side_word (map wire_of wires.now) side)) }
+        (side_word (plant_of system.now) side)) }
 {
     match side {
-        Side::Whole(connector) => print_text(output, wire_name(wires, connector)),
+        Side::Whole(connector) => print_text(output, system.wire_name(connector)),
         Side::One(connector, mask) => {
-            print_text(output, wire_name(wires, connector))?;
+            print_text(output, system.wire_name(connector))?;
             print_text(output, b":")?;
             print_number(output, u64::from(mask))
         }
-    }
-}
-
-/// The name of the connector with this number; empty where it is not there.
-fn wire_name(wires: &[Wire], connector: u16) -> &[u8]
-    ensures { result.now ≡ wire_name (map wire_of wires.now) connector }
-{
-    match wires.get(usize::from(connector)) {
-        Some(wire) => wire.name.as_bytes(),
-        None => &[],
     }
 }

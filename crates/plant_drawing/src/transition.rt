@@ -1,17 +1,16 @@
 //! The transitions of an atom, with their edges.
-ghost use Rattle.std.specs.Prelude.{◌≡◌, OnOk, flat_map, map};
+ghost use Rattle.std.specs.Prelude.{OnOk, flat_map, map};
 ghost use Rattle.std.specs.Io.KnownBytes.{Appends};
 ghost use Rattle.petri_atom.specs.Atom.{definition_of};
 ghost use Rattle.petri_atom.specs.Expression.{tree_of};
-ghost use Rattle.petri_atom.specs.Parts.{port_of};
 ghost use Rattle.petri_atom.specs.Transition.{transition_of};
 ghost use Rattle.petri_atom.specs.Update.{update_of};
-ghost use Rattle.plant_drawing.specs.Atom.{firing_edge, guard_text, port_name, source_edge, target_edge, transition_edges, transition_label, transition_line, transition_lines, update_text};
+ghost use Rattle.plant_drawing.specs.Atom.{firing_edge, guard_text, source_edge, target_edge, transition_edges, transition_label, transition_line, transition_lines, update_text};
 
 use crate::expression::{is_one, print_expression};
-use crate::names::{Variables, variable_name};
+use crate::names::Variables;
 use crate::node::print_part;
-use petri_atom::{Atom, Expression, Port, Transition, Update, Variable};
+use petri_atom::{Atom, Expression, Transition, Update};
 use std::io::Write;
 use text_io::{WriteFault, print_text};
 
@@ -68,65 +67,51 @@ fn print_label<W: Write>(atom: &Atom, made: &Transition, output: &mut W) -> Resu
     ensures { OnOk result (Appends (W.contents output.old) (W.contents output.new)
         (transition_label (definition_of atom.now) (transition_of made.now))) }
 {
-    print_text(output, port_name(atom.ports(), made.port()))?;
-    print_guard(atom.variables(), made.guard(), output)?;
-    print_updates(atom.variables(), made.updates(), output)
-}
-
-/// The name of the port with this number; empty where it is not there.
-pub(crate) fn port_name(ports: &[Port], port: u16) -> &[u8]
-    ensures { result.now ≡ port_name (map port_of ports.now) port }
-{
-    match ports.get(usize::from(port)) {
-        Some(port) => port.name.as_bytes(),
-        None => &[],
-    }
+    print_text(output, atom.port_name(made.port()))?;
+    print_guard(atom, made.guard(), output)?;
+    print_updates(atom, made.updates(), output)
 }
 
 /// Prints a guard on a line of its own; nothing of one that is 1.
 fn print_guard<W: Write>(
-    variables: &[Variable],
+    atom: &Atom,
     guard: &Expression<u8>,
     output: &mut W,
 ) -> Result<(), WriteFault>
     ensures { OnOk result (Appends (W.contents output.old) (W.contents output.new)
-        (guard_text variables.now (tree_of guard.now))) }
+        (guard_text (definition_of atom.now) (tree_of guard.now))) }
 {
     if is_one(guard) {
         return Ok(());
     }
     print_text(output, b"\\nwhen ")?;
-    print_expression(guard, &Variables { variables }, output)
+    print_expression(guard, &Variables { atom }, output)
 }
 
 /// Prints updates, each on a line of its own.
 fn print_updates<W: Write>(
-    variables: &[Variable],
+    atom: &Atom,
     updates: &[Update],
     output: &mut W,
 ) -> Result<(), WriteFault>
     ensures { OnOk result (Appends (W.contents output.old) (W.contents output.new)
-        (flat_map (update_text variables.now) (map update_of updates.now))) }
+        (flat_map (update_text (definition_of atom.now)) (map update_of updates.now))) }
 {
     for update in updates {
-        print_update(variables, update, output)?;
+        print_update(atom, update, output)?;
     }
     Ok(())
 }
 
 /// Prints an update on a line of its own.
-fn print_update<W: Write>(
-    variables: &[Variable],
-    update: &Update,
-    output: &mut W,
-) -> Result<(), WriteFault>
+fn print_update<W: Write>(atom: &Atom, update: &Update, output: &mut W) -> Result<(), WriteFault>
     ensures { OnOk result (Appends (W.contents output.old) (W.contents output.new)
-        (update_text variables.now (update_of update.now))) }
+        (update_text (definition_of atom.now) (update_of update.now))) }
 {
     print_text(output, b"\\n")?;
-    print_text(output, variable_name(variables, update.variable))?;
+    print_text(output, atom.variable_name(update.variable))?;
     print_text(output, b" := ")?;
-    print_expression(&update.value, &Variables { variables }, output)
+    print_expression(&update.value, &Variables { atom }, output)
 }
 
 /// Prints the dotted line from a port to one of its transitions.

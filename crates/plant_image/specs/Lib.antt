@@ -2,3 +2,4 @@ pub mod Contents
 pub mod Faults
 pub mod Standing
 pub mod Reading
+pub mod Messages

@@ -6,9 +6,10 @@ use Rattle.step_core.specs.Plant.{PlantDefinition}
 use Rattle.plant_text.specs.Text.{text_of}
 use Rattle.plant_text.specs.Meaning.{meaning}
 use Rattle.plant_drawing.specs.Drawing.{drawing_of}
+use Rattle.run_text.specs.Choices.{choices_after}
 use Rattle.run_text.specs.Trace.{trace_in}
 use Rattle.command_line.specs.declared.request.Task.{Task}
-use Rattle.command_line.specs.declared.request.Task.TheVariants.{Check, Trace, Draw}
+use Rattle.command_line.specs.declared.request.Task.TheVariants.{Check, Choices, Trace, Draw}
 
 -- a count behind the word for what is counted
 abbrev pub counted : List ℕ → ℕ → List ℕ
@@ -23,6 +24,7 @@ counts_line plant =
 -- what a task prints of a plant
 abbrev pub printed_of : Task → PlantDefinition → List ℕ
 printed_of Check plant = counts_line plant
+printed_of (Choices picks) plant = choices_after plant picks.items
 printed_of (Trace picks format) plant = trace_in format plant picks.items
 printed_of Draw plant = drawing_of plant
 

@@ -11,11 +11,11 @@
 #![tactic(auto)]
 
 mod counts;
+mod ending;
 mod explanation;
 mod process;
-mod ending;
 mod task;
 
-pub use process::{show_fault, words_of_process};
 pub use ending::{PlantEnding, PlantTold, ended};
+pub use process::{show_fault, words_of_process};
 pub use task::{perform, read_plant};

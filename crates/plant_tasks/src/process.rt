@@ -1,6 +1,6 @@
 //! What both programs do in their process: words, and a fault that is shown.
-use crate::explanation::explanation_in;
 use crate::ending::PlantEnding;
+use crate::explanation::explanation_in;
 use plant_text::PlantFault;
 use std::alloc::{AllocError, Global};
 use std::env::Args;

@@ -15,7 +15,7 @@ use crate::ending::PlantEnding;
 use command_line::Task;
 use plant_drawing::draw_to;
 use plant_text::{PlantFault, plant_of_text};
-use run_text::trace_as;
+use run_text::{print_choices_after, trace_as};
 use std::alloc::Global;
 use std::io::{Read, Write};
 use step_core::System;
@@ -79,6 +79,7 @@ fn print_task<W: Write>(
 {
     match task {
         Task::Check => print_counts(system, output)?,
+        Task::Choices(picks) => print_choices_after(alloc, system, picks, output)?,
         Task::Trace(picks, format) => trace_as(alloc, system, picks, *format, output)?,
         Task::Draw => draw_to(system, output)?,
     }

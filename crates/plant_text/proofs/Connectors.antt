@@ -9,8 +9,8 @@ use Rattle.connector_tree.specs.declared.tree.Port.{Port}
 use Rattle.step_core.specs.Plant.{TransferDefinition, WireDefinition}
 use Rattle.step_core.specs.declared.wire.Export.{Export}
 use Rattle.plant_words.specs.declared.line_fault.LineFault.{LineFault}
-use Rattle.connector_lines.specs.Connectors.{tokens_of}
-use Rattle.connector_lines.proofs.Leaves.{ports-tree}
+use Rattle.connector_tree.specs.Tokens.{tokens_of}
+use Rattle.connector_tree.proofs.TokenLeaves.{ports-tree}
 use Rattle.connector_lines.specs.Exports.{variable_in}
 use Rattle.connector_lines.specs.Rows.{guards_with, transfers_with, guard_row, transfer_row}
 use Rattle.plant_text.specs.Text.{WireText, wire_text_of}

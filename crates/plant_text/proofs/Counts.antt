@@ -1,7 +1,7 @@
 -- How many interactions the connectors of a text have.
 use Rattle.std.proofs.Common.{◌≡◌, ◌∙◌, sym, ap, refl, ℕ, suc, ◌+◌, List, [], ◌∷◌, length, map}
 use Rattle.std.proofs.lemmas.List.{length-map, length-append}
-use Rattle.connector_lines.specs.Meaning.{interactions_in}
+use Rattle.connector_tree.specs.TokenMeaning.{interactions_in}
 use Rattle.plant_text.specs.Interactions.{interactions_at, interactions_from, trees_of}
 use Rattle.plant_text.specs.Parts.{wire_listed}
 use Rattle.plant_text.specs.declared.listed.ListedWire.{ListedWire}

@@ -19,8 +19,9 @@ use Rattle.step_core.specs.Rules.{first_of, first_told, atom_fault, tree_fault, 
 use Rattle.step_core.specs.declared.fault.SystemFault.{SystemFault}
 use Rattle.step_core.specs.declared.fault.SystemFault.TheVariants.{Limit, BadAtom, BadConnector, BadWire, Order}
 use Rattle.step_core.specs.declared.limits.TheConstants.{MAX_INTERACTIONS}
-use Rattle.connector_lines.specs.Connectors.{tokens_of}
-use Rattle.connector_lines.proofs.Meaning as connector
+use Rattle.step_core.proofs.Alive.{order-sound}
+use Rattle.connector_tree.specs.Tokens.{tokens_of}
+use Rattle.connector_tree.proofs.TokenMeaning as connector
 use Rattle.plant_text.specs.Interactions.{interactions_at, interactions_from, interactions_of, trees_of}
 use Rattle.plant_text.specs.Text.{wire_text_of, text_of}
 
@@ -106,15 +107,4 @@ order_told plant fault told =
 -- where a plant breaks no rule, its rules put an order on the interactions that are written
 pub order_sound : (plant : PlantDefinition) → fault_of plant ≡ None → order_fault plant.rules (interactions_of (text_of plant).wires) ≡ None
 order_sound plant sound =
-    let later = second (early_fault plant) (first_of (late_fault plant) (fault_of_order plant)) sound in
-    let last = second (late_fault plant) (fault_of_order plant) later in
-    ap (order_fault plant.rules) (sym (interactions_written plant)) ∙
-    unmapped (order_fault plant.rules (map choice.named (choice.plant_interactions plant))) last
-  where
-    second : (a b : Option SystemFault) → first_of a b ≡ None → b ≡ None
-    second (Some fault) b none = absurd (none-some fault (sym none))
-    second None b none = none
-
-    unmapped : (o : Option OrderFault) → option_map Order o ≡ None → o ≡ None
-    unmapped None none = refl
-    unmapped (Some fault) none = absurd (none-some (Order fault) (sym none))
+    ap (order_fault plant.rules) (sym (interactions_written plant)) ∙ order-sound plant sound

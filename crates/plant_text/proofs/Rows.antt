@@ -8,7 +8,7 @@ use Rattle.priority_filter.specs.Decided.{order_fault, is_below}
 use Rattle.priority_filter.specs.declared.fault.OrderFault.TheVariants.{Cycle}
 use Rattle.priority_filter.specs.declared.rule.Rule.TheVariants.{Under, Maximal}
 use Rattle.priority_filter.specs.declared.rule.Side.TheVariants.{Whole, One}
-use Rattle.connector_lines.specs.declared.token.Token.TheVariants.{Leaf}
+use Rattle.connector_tree.specs.declared.token.Token.TheVariants.{Leaf}
 use Rattle.plant_text.specs.Text.{WireText, PlantText}
 use Rattle.plant_text.specs.Names.{port_named, export_named}
 use Rattle.plant_text.specs.Fault.{of_no_line, placed_message_of}

@@ -16,10 +16,11 @@ use Rattle.step_core.specs.Plant.{WireDefinition, PlantDefinition}
 use Rattle.step_core.specs.Rules.{first_of, first_told, first_broken, is_small_wire, is_within_limits, is_known_port, is_known_export, names_known, atom_fault, tree_fault, fault_of_wire, wire_fault, early_fault, fault_of_count, late_fault, fault_of_order, fault_of}
 use Rattle.step_core.specs.declared.fault.SystemFault.TheVariants.{Limit, BadAtom, BadConnector, BadWire, Order}
 use Rattle.step_core.specs.declared.limits.TheConstants.{MAX_ATOMS, MAX_WIRES, MAX_RULES, MAX_INTERACTIONS}
+use Rattle.step_core.proofs.FirstTold.{four}
 use Rattle.text_io.specs.declared.reading.TheConstants.{MAX_TEXT}
 use Rattle.plant_words.specs.Lines.{lines_of}
-use Rattle.connector_lines.proofs.Agreement.{fault-tree}
-use Rattle.connector_lines.proofs.Leaves.{ports-tree}
+use Rattle.connector_tree.proofs.TokenFaults.{fault-tree}
+use Rattle.connector_tree.proofs.TokenLeaves.{ports-tree}
 use Rattle.plant_text.specs.Text.{PlantText, wire_text_of, text_of}
 use Rattle.plant_text.specs.Interactions.{interactions_of}
 use Rattle.plant_text.specs.Fault.{of_no_line}
@@ -33,11 +34,6 @@ use Rattle.plant_text.proofs.SoundWires.{SoundBehind}
 use Rattle.plant_text.proofs.SoundLines.{HasNewName, SoundText, text_sound}
 
 -- ---- the rules of plants
-
--- a function of four truth values that are the same
-four : {X : Type 0} (f : Bool → Bool → Bool → Bool → X) {a b c d e g h i : Bool} → a ≡ e → b ≡ g → c ≡ h → d ≡ i → f a b c d ≡ f e g h i
-four f {b = b} {c = c} {d = d} {e = e} {g = g} {h = h} p q r s =
-    ap (λ x. f x b c d) p ∙ ap (λ x. f e x c d) q ∙ ap (λ x. f e g x d) r ∙ ap (λ x. f e g h x) s
 
 -- a connector of which this holds as it is written breaks no rule of connectors
 wire_keeps : (atoms : List AtomDefinition) (before : List WireDefinition) (w : WireDefinition) → SoundBehind atoms (map wire_text_of before) (wire_text_of w) → fault_of_wire atoms before w ≡ None

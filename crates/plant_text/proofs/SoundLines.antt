@@ -15,7 +15,7 @@ use Rattle.plant_words.specs.Words.{words_of, is_passed_over}
 use Rattle.plant_words.specs.Reading.{first_name, at_end, ◌>>=◌, check}
 use Rattle.atom_lines.proofs.Growing.{Grows, place_grows, variable_grows, port_grows, transition_grows}
 use Rattle.plant_words.proofs.Positions.{none-passes}
-use Rattle.connector_lines.specs.Meaning.{interactions_in}
+use Rattle.connector_tree.specs.TokenMeaning.{interactions_in}
 use Rattle.plant_text.specs.Text.{WireText, PlantText}
 use Rattle.plant_text.specs.Interactions.{interactions_of}
 use Rattle.plant_text.specs.Names.{kind_in, atom_number}

@@ -7,6 +7,7 @@ use Rattle.std.proofs.lemmas.List.{length-append, length-map, map-append}
 use Rattle.petri_atom.specs.Definition.{AtomDefinition}
 use Rattle.petri_atom.specs.Expression.{Tree, all_variables}
 use Rattle.petri_atom.specs.Name.{is_same_text}
+use Rattle.petri_atom.proofs.Fitting.{all_weaker}
 use Rattle.connector_tree.specs.declared.tree.Port.{Port}
 use Rattle.step_core.specs.Plant.{TransferDefinition}
 use Rattle.step_core.specs.Rules.{is_known_port, is_known_export}
@@ -15,12 +16,12 @@ use Rattle.step_core.specs.declared.wire.Export.{Export}
 use Rattle.plant_words.specs.Reading.{first_name, ◌>>=◌, check}
 use Rattle.plant_words.specs.declared.line_fault.LineFault.{LineFault}
 use Rattle.plant_words.proofs.Positions.{none-passes}
-use Rattle.plant_words.proofs.Once.{all_weaker}
-use Rattle.connector_lines.specs.Meaning.{interactions_in}
-use Rattle.connector_lines.specs.Shape.{ports_in, fault_in}
+use Rattle.connector_tree.specs.TokenMeaning.{interactions_in}
+use Rattle.connector_tree.specs.Tokens.{ports_in}
+use Rattle.connector_tree.specs.TokenFaults.{fault_in}
+use Rattle.connector_tree.specs.declared.token.Token.{Token}
 use Rattle.connector_lines.specs.Tokens.{Reading}
 use Rattle.connector_lines.specs.Trees.{tree_in}
-use Rattle.connector_lines.specs.declared.token.Token.{Token}
 use Rattle.connector_lines.proofs.NamedPorts.{tree-sound, ports-pass}
 use Rattle.connector_lines.specs.Rows.{guards_with, transfers_with}
 use Rattle.connector_lines.proofs.Added.{SoundGuards, SoundTransfers, guards_sound, transfers_sound}

@@ -9,11 +9,12 @@ use Rattle.priority_filter.specs.declared.fault.OrderFault.{OrderFault}
 use Rattle.priority_filter.specs.declared.fault.OrderFault.TheVariants as order
 use Rattle.step_core.specs.declared.fault.SystemFault.{SystemFault}
 use Rattle.step_core.specs.declared.fault.SystemFault.TheVariants as system
+use Rattle.plant_words.specs.LineFaults as of_words
 use Rattle.plant_words.specs.declared.line_fault.LineFault.{LineFault}
 use Rattle.plant_words.specs.declared.line_fault.LineFault.TheVariants as line
 use Rattle.connector_lines.specs.declared.tree_words_fault.TreeWordsFault.{TreeWordsFault}
 use Rattle.connector_lines.specs.declared.tree_words_fault.TreeWordsFault.TheVariants as words
-use Rattle.text_io.specs.declared.reading.TheConstants.{MAX_TEXT}
+use Rattle.text_io.specs.Reading as of_reading
 use Rattle.text_io.specs.declared.reading.TextFault.{TextFault}
 use Rattle.text_io.specs.declared.reading.TextFault.TheVariants as reading
 use Rattle.plant_text.specs.declared.fault.Fault.{Fault}
@@ -86,21 +87,21 @@ name_of Read = codes "Read"
 -- what a fault says to a person
 abbrev pub message_of : Fault → List ℕ
 message_of NotAscii = codes "a byte is no printed ASCII character, space or tab"
-message_of TooLong = codes "the text has more than " ++ decimal MAX_TEXT ++ codes " bytes"
+message_of TooLong = of_reading.message_of reading.TooLong
 message_of UnknownWord = codes "no line begins with this word"
 message_of Misplaced = codes "the line speaks of the latest atom or connector, and there is none yet"
-message_of BadName = codes "a name is malformed or reserved"
-message_of Twice = codes "a name is declared already, or stands twice where it may stand once"
-message_of UnknownName = codes "a name is not known here"
-message_of BadExpression = codes "an expression is malformed"
-message_of BadNumber = codes "a number is malformed, or has more than 64 bits"
-message_of Shape = codes "a word is missing, misplaced or left over"
+message_of BadName = of_words.message_of line.BadName
+message_of Twice = of_words.message_of line.Twice
+message_of UnknownName = of_words.message_of line.UnknownName
+message_of BadExpression = of_words.message_of line.BadExpression
+message_of BadNumber = of_words.message_of line.BadNumber
+message_of Shape = of_words.message_of line.Shape
 message_of (Tree fault) = connector.message_of fault
 message_of (Order fault) = priority.message_of fault
-message_of Limit = codes "a limit of plants is passed"
+message_of Limit = of_words.message_of line.Limit
 message_of NoAtom = codes "there is no atom"
-message_of Memory = codes "not enough memory for the plant"
-message_of Read = codes "the text could not be read"
+message_of Memory = of_words.message_of line.Memory
+message_of Read = of_reading.message_of reading.Read
 
 -- what a fault says to a person, with its line, where it is one of a line
 abbrev pub placed_message_of : PlantFault → List ℕ

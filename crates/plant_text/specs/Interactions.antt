@@ -2,8 +2,8 @@
 use Rattle.std.specs.Prelude.{ℕ, suc, ◌==◌, Bool, false, List, [], ◌∷◌, ◌++◌, map, slice_get}
 use Rattle.std.specs.List.{list_any}
 use Rattle.std.specs.Option.{option_map_or}
-use Rattle.connector_lines.specs.declared.token.Token.{Token}
-use Rattle.connector_lines.specs.Meaning.{interactions_in}
+use Rattle.connector_tree.specs.declared.token.Token.{Token}
+use Rattle.connector_tree.specs.TokenMeaning.{interactions_in}
 use Rattle.plant_text.specs.Text.{WireText}
 
 -- the interactions of a tree, each with the number of its connector

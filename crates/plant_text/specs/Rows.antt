@@ -11,9 +11,9 @@ use Rattle.plant_words.specs.declared.line_fault.LineFault.{LineFault}
 use Rattle.plant_words.specs.Reading.{◌>>=◌, check, first_name, at_end}
 use Rattle.atom_lines.specs.Rows.{place_row, variable_row, port_row}
 use Rattle.atom_lines.specs.Transitions.{transition_row}
-use Rattle.connector_lines.specs.declared.token.Token.{Token}
-use Rattle.connector_lines.specs.Meaning.{interactions_in}
-use Rattle.connector_lines.specs.Shape.{ports_in}
+use Rattle.connector_tree.specs.declared.token.Token.{Token}
+use Rattle.connector_tree.specs.TokenMeaning.{interactions_in}
+use Rattle.connector_tree.specs.Tokens.{ports_in}
 use Rattle.connector_lines.specs.Tokens.{Reading}
 use Rattle.connector_lines.specs.Trees.{tree_in}
 use Rattle.connector_lines.specs.Rules.{priority_in, maximal_in}

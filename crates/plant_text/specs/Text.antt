@@ -5,8 +5,8 @@ use Rattle.petri_atom.specs.Definition.{AtomDefinition}
 use Rattle.priority_filter.specs.declared.rule.Rule.{Rule}
 use Rattle.step_core.specs.Plant.{TransferDefinition, WireDefinition, PlantDefinition}
 use Rattle.step_core.specs.declared.wire.Export.{Export}
-use Rattle.connector_lines.specs.declared.token.Token.{Token}
-use Rattle.connector_lines.specs.Connectors.{tokens_of}
+use Rattle.connector_tree.specs.declared.token.Token.{Token}
+use Rattle.connector_tree.specs.Tokens.{tokens_of}
 
 -- a connector as it is written: its tree as a list of tokens
 pub record WireText : Type 0 where

@@ -5,7 +5,7 @@ ghost use Rattle.step_core.specs.declared.limits.TheConstants.{MAX_ATOMS, MAX_WI
 ghost use Rattle.connector_tree.specs.Tree.{tree_of};
 ghost use Rattle.connector_tree.specs.Faults.{fault_of};
 ghost use Rattle.atom_lines.specs.Draft.{drafted as atom_drafted};
-ghost use Rattle.connector_lines.specs.Connectors.{tokens_of};
+ghost use Rattle.connector_tree.specs.Tokens.{tokens_of};
 ghost use Rattle.connector_lines.specs.Trees.{tree_in};
 ghost use Rattle.plant_words.specs.Words.{words_of};
 ghost use Rattle.plant_text.specs.Fault.{IsFaultOf};

@@ -8,12 +8,12 @@ use connector_tree::TreeFault;
 use plant_words::LineFault;
 use priority_filter::OrderFault;
 use std::alloc::{AllocError, AllocFailed};
-use std::error::Error;
 use std::fmt;
-use text_io::{MAX_TEXT, TextFault};
+use text_io::TextFault;
+use thiserror::Error;
 
 /// What is wrong with a text, or why it could not be read.
-#[derive(Clone, Copy, Debug, PartialEq, Eq)]
+#[derive(Clone, Copy, Debug, PartialEq, Eq, Error)]
 pub enum Fault {
     /// A byte of the line is no printed ASCII character, space or tab. It is told before all else of the line.
     NotAscii,
@@ -156,30 +156,26 @@ impl fmt::Display for Fault {
     fn fmt<W: fmt::Write>(&self, f: &mut fmt::Formatter<W>) -> fmt::Result {
         match self {
             Fault::NotAscii => f.write_str("a byte is no printed ASCII character, space or tab"),
-            Fault::TooLong => write!(f, "the text has more than {MAX_TEXT} bytes"),
+            Fault::TooLong => write!(f, "{}", TextFault::TooLong),
             Fault::UnknownWord => f.write_str("no line begins with this word"),
             Fault::Misplaced => f.write_str(
                 "the line speaks of the latest atom or connector, and there is none yet",
             ),
-            Fault::BadName => f.write_str("a name is malformed or reserved"),
-            Fault::Twice => f.write_str(
-                "a name is declared already, or stands twice where it may stand once",
-            ),
-            Fault::UnknownName => f.write_str("a name is not known here"),
-            Fault::BadExpression => f.write_str("an expression is malformed"),
-            Fault::BadNumber => f.write_str("a number is malformed, or has more than 64 bits"),
-            Fault::Shape => f.write_str("a word is missing, misplaced or left over"),
+            Fault::BadName => write!(f, "{}", LineFault::BadName),
+            Fault::Twice => write!(f, "{}", LineFault::Twice),
+            Fault::UnknownName => write!(f, "{}", LineFault::UnknownName),
+            Fault::BadExpression => write!(f, "{}", LineFault::BadExpression),
+            Fault::BadNumber => write!(f, "{}", LineFault::BadNumber),
+            Fault::Shape => write!(f, "{}", LineFault::Shape),
             Fault::Tree(fault) => write!(f, "{fault}"),
             Fault::Order(fault) => write!(f, "{fault}"),
-            Fault::Limit => f.write_str("a limit of plants is passed"),
+            Fault::Limit => write!(f, "{}", LineFault::Limit),
             Fault::NoAtom => f.write_str("there is no atom"),
-            Fault::Memory => f.write_str("not enough memory for the plant"),
-            Fault::Read => f.write_str("the text could not be read"),
+            Fault::Memory => write!(f, "{}", LineFault::Memory),
+            Fault::Read => write!(f, "{}", TextFault::Read),
         }
     }
 }
-
-impl Error for Fault {}
 
 impl From<AllocError> for Fault {
     ghost from_gives = { λ _ told. told ≡ fault.Memory };
@@ -246,7 +242,7 @@ impl From<TextFault> for Fault {
 }
 
 /// The fault of a text, and the line that has it.
-#[derive(Clone, Copy, Debug, PartialEq, Eq)]
+#[derive(Clone, Copy, Debug, PartialEq, Eq, Error)]
 pub struct PlantFault {
     /// The number of the line, from 1; 0 where the fault is one of no line.
     pub line: u32,
@@ -289,8 +285,6 @@ impl fmt::Display for PlantFault {
         }
     }
 }
-
-impl Error for PlantFault {}
 
 impl From<AllocError> for PlantFault {
     ghost from_gives = { λ _ told. told ≡ record { line = 0; fault = fault.Memory } };

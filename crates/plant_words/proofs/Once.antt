@@ -1,4 +1,4 @@
--- What each of a list passes, and lists in which nothing stands twice.
+-- What each of a list passes with one more, and lists in which nothing stands twice.
 use Rattle.std.proofs.Common.{◌≡◌, ◌∙◌, refl, sym, ℕ, Bool, true, false, not, List, [], ◌∷◌, ◌++◌, None, position}
 use Rattle.std.specs.Prelude.{nat_eq}
 use Rattle.std.specs.List.{list_all, list_any}
@@ -9,13 +9,6 @@ use Rattle.std.proofs.lemmas.Slice.Eq.{slice_eq-Decides}
 use Rattle.petri_atom.specs.Name.{is_same_text}
 use Rattle.petri_atom.specs.Definition.{is_each_once}
 use Rattle.plant_words.proofs.Positions.{none-passes}
-
--- what passes one test passes a weaker one
-pub all_weaker : {X : Type 0} (f g : X → Bool) → ((x : X) → f x ≡ true → g x ≡ true) → (xs : List X) → list_all f xs ≡ true → list_all g xs ≡ true
-all_weaker f g weaker [] all = refl
-all_weaker f g weaker (x ∷ xs) all =
-    let parts = and_parts (f x) (list_all f xs) all in
-    and_from (g x) (list_all g xs) (weaker x parts.0) (all_weaker f g weaker xs parts.1)
 
 -- what each passes, and one more
 pub all_and_one : {X : Type 0} (f : X → Bool) (xs : List X) (x : X) → list_all f xs ≡ true → f x ≡ true → list_all f (xs ++ x ∷ []) ≡ true

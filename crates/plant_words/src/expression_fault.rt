@@ -1,7 +1,10 @@
 //! Why words are no expression.
+use crate::line_fault::LineFault;
+use std::fmt;
+use thiserror::Error;
 
 /// Why words are no expression.
-#[derive(Clone, Copy, Debug, PartialEq, Eq)]
+#[derive(Clone, Copy, Debug, PartialEq, Eq, Error)]
 pub enum ExpressionFault {
     /// A word that could be a variable's name names none that may stand here.
     UnknownName,
@@ -11,4 +14,16 @@ pub enum ExpressionFault {
     BadNumber,
     /// The expression has more words than [`MAX_WORDS`](petri_atom::MAX_WORDS).
     Limit,
+}
+
+impl fmt::Display for ExpressionFault {
+    ghost use Rattle.std.specs.Prelude.{Some};
+    ghost use Rattle.plant_words.specs.LineFaults.{line_fault, message_of};
+
+    ghost output = { λ fault. Some (message_of (line_fault fault)) };
+
+    // It says what the fault of its line says.
+    fn fmt<W: fmt::Write>(&self, f: &mut fmt::Formatter<W>) -> fmt::Result {
+        write!(f, "{}", LineFault::from(*self))
+    }
 }

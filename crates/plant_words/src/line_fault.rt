@@ -5,10 +5,12 @@ ghost use Rattle.plant_words.specs.declared.line_fault.LineFault.TheVariants as 
 
 use crate::expression_fault::ExpressionFault;
 use std::alloc::{AllocError, AllocFailed};
+use std::fmt;
+use thiserror::Error;
 
 /// The fault of a line of an atom, of a connector or of a rule, told by its first word from the left that is at fault, or that memory ran
 /// out.
-#[derive(Clone, Copy, Debug, PartialEq, Eq)]
+#[derive(Clone, Copy, Debug, PartialEq, Eq, Error)]
 pub enum LineFault {
     /// A word that must be a name is none, or is reserved.
     BadName,
@@ -27,6 +29,28 @@ pub enum LineFault {
     Limit,
     /// Memory ran out.
     Memory,
+}
+
+impl fmt::Display for LineFault {
+    ghost use Rattle.std.specs.Prelude.{Some};
+    ghost use Rattle.plant_words.specs.LineFaults.{message_of};
+
+    ghost output = { λ told. Some (message_of told) };
+
+    fn fmt<W: fmt::Write>(&self, f: &mut fmt::Formatter<W>) -> fmt::Result {
+        match self {
+            LineFault::BadName => f.write_str("a name is malformed or reserved"),
+            LineFault::Twice => f.write_str(
+                "a name is declared already, or stands twice where it may stand once",
+            ),
+            LineFault::UnknownName => f.write_str("a name is not known here"),
+            LineFault::BadExpression => f.write_str("an expression is malformed"),
+            LineFault::BadNumber => f.write_str("a number is malformed, or has more than 64 bits"),
+            LineFault::Shape => f.write_str("a word is missing, misplaced or left over"),
+            LineFault::Limit => f.write_str("a limit of plants is passed"),
+            LineFault::Memory => f.write_str("not enough memory for the plant"),
+        }
+    }
 }
 
 impl<T: Drop> From<AllocFailed<T>> for LineFault {

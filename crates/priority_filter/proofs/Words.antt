@@ -2,6 +2,7 @@
 use Rattle.std.proofs.Common.{◌≡◌, ℕ, ◌-◌, ◌*◌, ◌%◌, ◌^◌, ◌<◌, min, max, Bool, true, false, not, ◌&&◌, ◌||◌, eqb, refl, sym, ap, ◌∙◌, ⊎_elim, w64, arith}
 use Rattle.std.specs.Prelude.{bit_and, bit_or}
 use Rattle.std.specs.Int.{bit_at, bit_not, trailing_zeros}
+use Rattle.std.proofs.Math.Bool.{and-false}
 use Rattle.std.proofs.lemmas.Bool.{cases_eq}
 use Rattle.std.proofs.lemmas.Bool.Decides.{nat_tests}
 use Rattle.std.proofs.lemmas.Nat.{and_le_l}
@@ -81,11 +82,7 @@ module _ (left : ℕ) (some : 0 < left) (small : left < 2 ^ 64) where
         (λ same. ap (has_bit (bit_and kept (bit_not w64 (1 * 2 ^ lowest % 2 ^ 64)))) same ∙ ap (λ x. eqb x 1) (bit_at_clear_same w64 kept lowest lowest-below) ∙
         sym (ap (λ j. has_bit set j && (has_bit rest j || not (over j))) same ∙
         ap (λ x. has_bit set lowest && (eqb x 1 || not (over lowest))) (bit_at_clear_same w64 left lowest lowest-below) ∙
-        ap (λ b. has_bit set lowest && not b) told ∙ and_false (has_bit set lowest)))
+        ap (λ b. has_bit set lowest && not b) told ∙ and-false (has_bit set lowest)))
         (λ other. ap (λ x. eqb x 1) (bit_at_clear_other w64 kept lowest lowest-below k below other) ∙ so_far k below ∙
         ap (λ x. has_bit set k && (eqb x 1 || not (over k))) (sym (bit_at_clear_other w64 left lowest lowest-below k below other)))
         (cases_eq k lowest)
-      where
-        and_false : (b : Bool) → (b && false) ≡ false
-        and_false true = refl
-        and_false false = refl

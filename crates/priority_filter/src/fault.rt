@@ -1,10 +1,10 @@
 //! Why there is no order.
 use std::alloc::AllocError;
-use std::error::Error;
 use std::fmt;
+use thiserror::Error;
 
 /// Why rules and interactions give no order.
-#[derive(Clone, Copy, Debug, PartialEq, Eq)]
+#[derive(Clone, Copy, Debug, PartialEq, Eq, Error)]
 pub enum OrderFault {
     /// The interaction with this number is below itself, and no lower number is.
     Cycle(u16),
@@ -33,8 +33,6 @@ impl fmt::Display for OrderFault {
         }
     }
 }
-
-impl Error for OrderFault {}
 
 impl From<AllocError> for OrderFault {
     ghost use Rattle.std.specs.Prelude.{◌≡◌};

@@ -1,16 +1,15 @@
 -- The record of a step is in the ranges of a record, and can be of its plant.
-use Rattle.std.proofs.Common.{◌≡◌, ◌==◌, ◌<◌, ◌≤◌, ℕ, zero, suc, refl, sym, ◌∙◌, ap, subst, List, [], ◌∷◌, length, map, slice_get, is_none, nat_le, arith, ⊎_elim, All, Contains, Bool, true, false, ◌&&◌, Option, Some, None}
+use Rattle.std.proofs.Common.{◌≡◌, ◌==◌, ◌<◌, ◌≤◌, ℕ, zero, suc, refl, sym, ◌∙◌, ap, subst, List, [], ◌∷◌, length, map, slice_get, is_none, arith, ⊎_elim, All, Contains, Bool, true, false, ◌&&◌, Option, Some, None}
 use Rattle.std.specs.List.{list_all, list_any}
 use Rattle.std.specs.List.Sorted.{IsStrictlyIncreasing}
 use Rattle.std.specs.Option.{option_map_or}
-use Rattle.std.proofs.lemmas.Bool.{and_parts, and_from, cases_lt, eq-eqb, eqb-true, leb-true, false≢true, or_left, or_right}
+use Rattle.std.proofs.lemmas.Bool.{and_parts, and_from, cases_lt, eq-eqb, eqb-true, false≢true, or_left, or_right}
 use Rattle.std.proofs.lemmas.List.{get_or_past, length-map}
 use Rattle.std.proofs.lemmas.List.Elements.{All-map, All-contains_itself, All-weaker}
 use Rattle.std.proofs.lemmas.Option.{none-some, same_Some}
-use Rattle.petri_atom.specs.Definition.{AtomDefinition, TransitionDefinition, exports_few, exports_of, has_each_once, has_known_numbers, has_sources_and_targets, is_small_transition, is_well_formed, is_within_limits, offers_number}
+use Rattle.petri_atom.specs.Definition.{AtomDefinition, TransitionDefinition, exports_of, is_well_formed, offers_number}
 use Rattle.petri_atom.specs.Local.{Local, Row, delivered_value}
-use Rattle.petri_atom.specs.declared.parts.TheConstants.{MAX_PORTS, MAX_TRANSITIONS}
-use Rattle.petri_atom.specs.declared.state.TheConstants.{MAX_PLACES, MAX_VARIABLES}
+use Rattle.petri_atom.proofs.Fitting.{few_transitions}
 use Rattle.connector_tree.specs.declared.tree.Port.{Port}
 use Rattle.record_codec.specs.Entry.{IsEntry}
 use Rattle.record_codec.specs.Fired.{IsFired}
@@ -40,19 +39,6 @@ there-at : {X : Type 0} (xs : List X) (k : ℕ) → k < length xs → (x : X) ×
 there-at [] k within = absurd (omega arith)
 there-at (x ∷ xs) zero within = (x, refl)
 there-at (x ∷ xs) (suc k) within = there-at xs k (omega arith)
-
--- a well-formed atom has no more transitions than one may have
-fourth-of : (p q r s t u : Bool) → (p && q && r && s && t && u) ≡ true → s ≡ true
-fourth-of p q r s t u all = (and_parts (p && q && r) s (and_parts (p && q && r && s) t (and_parts (p && q && r && s && t) u all).0).0).1
-
-first-of : (p q r s : Bool) → (p && q && r && s) ≡ true → p ≡ true
-first-of p q r s all = (and_parts p q (and_parts (p && q) r (and_parts (p && q && r) s all).0).0).0
-
-few-transitions : (a : AtomDefinition) → is_well_formed a ≡ true → length a.transitions ≤ MAX_TRANSITIONS
-few-transitions a well =
-    leb-true (length a.transitions) MAX_TRANSITIONS
-    (fourth-of (nat_le (length a.places) MAX_PLACES) (nat_le (length a.variables) MAX_VARIABLES) (nat_le (length a.ports) MAX_PORTS) (nat_le (length a.transitions) MAX_TRANSITIONS) (list_all exports_few a.ports) (list_all is_small_transition a.transitions)
-    (first-of (is_within_limits a) (has_each_once a) (has_known_numbers a) (has_sources_and_targets a) well))
 
 -- where each value past a number is none, the row has none past it
 none-past : (row : Row) (n : ℕ) → ((j : ℕ) → n ≤ j → delivered_value row j ≡ None) → has_none_past n row ≡ true
@@ -147,7 +133,7 @@ module _ (plant : PlantDefinition) (states : List Local) (counts : List ℕ) (c 
           let below : count_of counts m.atom < n = count-below n m.atom first all in
           record {
             atom_within = omega (arith, inside, limits.atoms);
-            transition_within = omega (arith, range.of_atom m its.0 at its.1, few-transitions its.0 well);
+            transition_within = omega (arith, range.of_atom m its.0 at its.1, few_transitions its.0 well);
             participation_positive = omega arith;
             participation_within = omega arith;
           }

@@ -1,3 +1,4 @@
 pub mod Records
 pub mod Replay
 pub mod OfPlant
+pub mod Fault

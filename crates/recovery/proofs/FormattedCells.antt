@@ -13,6 +13,7 @@ use Rattle.disk_model.specs.Cells.{Cell, cell, cell_count, seen_cells, EmptyOrNe
 use Rattle.disk_model.specs.Moments.{closed_at_rest, empty_or_new_seen, leaves_then, leaves_weaker, old_or_empty_seen, same_count, seen_length, settled_cells}
 use Rattle.disk_model.specs.Reading.{may_before, reads_leave}
 use Rattle.disk_model.specs.Steps.{AreInside}
+use Rattle.disk_model.proofs.Replacing.{none_of_one}
 use Rattle.record_codec.specs.Base.{base_bytes}
 use Rattle.record_codec.specs.Bytes.{padded}
 use Rattle.record_codec.specs.Identity.{IsIdentity, identity_bytes}
@@ -30,10 +31,6 @@ same_cells : (cells before : List Cell) → length cells ≡ length before → (
 same_cells cells before count each = ext_get_or None cells before count (λ j within. each j)
 
 -- ---- emptying
-
-none_of_one : (o k : ℕ) → k ≢ o → IsNoneOf (o ∷ []) k
-none_of_one o k ne zero within = λ same. ne (sym same)
-none_of_one o k ne (suc i) within = absurd (omega arith)
 
 -- the numbers from 1 on: 0 is none of them, and each is one of a device's with one cell more
 none_of_others : (n : ℕ) → IsNoneOf (range_with_len 1 n) 0

@@ -2,9 +2,11 @@
 use disk_model::DiskFault;
 use plant_image::ImageFault;
 use std::alloc::AllocError;
+use std::fmt;
+use thiserror::Error;
 
 /// Why a device is not formatted.
-#[derive(Clone, Copy, Debug, PartialEq, Eq)]
+#[derive(Clone, Copy, Debug, PartialEq, Eq, Error)]
 pub enum FormatFault {
     /// The device has not the size that the plant and the ring ask for. It is as it was.
     WrongSize,
@@ -12,6 +14,23 @@ pub enum FormatFault {
     Disk,
     /// Memory ran out. The device is as it was.
     Memory,
+}
+
+impl fmt::Display for FormatFault {
+    ghost use Rattle.std.specs.Prelude.{Some};
+    ghost use Rattle.recovery.specs.Messages.{format_message};
+
+    ghost output = { λ fault. Some (format_message fault) };
+
+    fn fmt<W: fmt::Write>(&self, f: &mut fmt::Formatter<W>) -> fmt::Result {
+        match self {
+            FormatFault::WrongSize => {
+                f.write_str("it does not have the size that the plant and the ring ask for")
+            }
+            FormatFault::Disk => f.write_str("the device failed"),
+            FormatFault::Memory => f.write_str("not enough memory to format it"),
+        }
+    }
 }
 
 /// A device that was not formatted, and why not.
@@ -24,12 +43,26 @@ pub struct FormatRefused<D> {
 }
 
 /// Why no plant is booted from a device.
-#[derive(Clone, Copy, Debug, PartialEq, Eq)]
+#[derive(Clone, Copy, Debug, PartialEq, Eq, Error)]
 pub enum BootFault {
     /// What the device holds stands for no state of the plant, or memory ran out while that was found out. All cells are as they were.
     Image(ImageFault),
     /// The device failed. What it stood for it still stands for.
     Disk,
+}
+
+impl fmt::Display for BootFault {
+    ghost use Rattle.std.specs.Prelude.{Some};
+    ghost use Rattle.recovery.specs.Messages.{boot_message};
+
+    ghost output = { λ fault. Some (boot_message fault) };
+
+    fn fmt<W: fmt::Write>(&self, f: &mut fmt::Formatter<W>) -> fmt::Result {
+        match self {
+            BootFault::Image(fault) => write!(f, "{fault}"),
+            BootFault::Disk => f.write_str("the device failed"),
+        }
+    }
 }
 
 impl From<ImageFault> for BootFault {

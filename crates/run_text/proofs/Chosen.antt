@@ -1,5 +1,5 @@
 -- The run that a trace prints, and what is printed of it.
-use Rattle.std.proofs.Common.{◌≡◌, ℕ, zero, suc, ◌+◌, ◌<◌, ◌%◌, refl, sym, ◌∙◌, ap, List, [], ◌∷◌, ◌++◌, length, get_or, codes, append_assoc, arith}
+use Rattle.std.proofs.Common.{◌≡◌, ℕ, ◌+◌, ◌<◌, ◌%◌, refl, sym, ◌∙◌, ap, List, [], ◌∷◌, ◌++◌, length, get_or, codes, append_assoc, arith}
 use Rattle.std.specs.Prelude.{Option, Some, None, slice_get}
 use Rattle.std.specs.Option.{option_map_or}
 use Rattle.std.proofs.Math.Nat.{mod-lt}
@@ -10,8 +10,8 @@ use Rattle.step_core.specs.Choice.{ChoiceDefinition, choices}
 use Rattle.step_core.specs.Runs.{IsRun, fold}
 use Rattle.step_core.specs.Step.{next}
 use Rattle.step_core.proofs.Membership.{entry-in}
-use Rattle.run_text.specs.declared.format.Format.{Format}
-use Rattle.run_text.specs.Format.{end_text, head_text, step_text, stuck_text}
+use Rattle.text_io.specs.declared.format.Format.{Format}
+use Rattle.run_text.specs.Format.{end_text, step_text, stuck_text}
 use Rattle.run_text.specs.Runs.{chosen, step_lines, stuck_part}
 use Rattle.run_text.specs.Trace.{picked, trace_from}
 

@@ -1,7 +1,7 @@
-pub mod Leading
 pub mod Separating
 pub mod Running
 pub mod Chosen
 pub mod Telling
+pub mod Listed
 mod Rows
 mod RunRows

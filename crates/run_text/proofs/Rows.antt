@@ -15,7 +15,7 @@ use Rattle.run_text.specs.Csv.{state_row}
 use Rattle.run_text.specs.Delivered.{delivered_words}
 use Rattle.run_text.specs.Jsonl.{atom_object, state_object}
 use Rattle.run_text.specs.Trace.{trace_in, trace_text}
-use Rattle.run_text.specs.declared.format.Format.TheVariants.{Csv, Jsonl}
+use Rattle.text_io.specs.declared.format.Format.TheVariants.{Csv, Jsonl}
 
 -- no word, and two
 no_words : separated_by (codes " ") [] ≡ []

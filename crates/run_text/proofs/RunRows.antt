@@ -13,6 +13,7 @@ use Rattle.step_core.specs.Choice.{ChoiceDefinition, interaction_by, plant_inter
 use Rattle.priority_filter.specs.Decided.{is_overruled, is_below}
 use Rattle.step_core.specs.Step.{next}
 use Rattle.step_core.specs.declared.choice.Move.{Move}
+use Rattle.run_text.specs.Choices.{choices_after, more_text}
 use Rattle.run_text.specs.Trace.{picked, trace_text}
 
 -- port 0 of an atom
@@ -90,3 +91,13 @@ sent_from_three = refl
 tick_and_send_twice : trace_text sample (0 ∷ 1 ∷ 0 ∷ 1 ∷ []) ≡ codes "1 tick A.t/0\n2 send A.t/0 B.u/0\n3 tick A.t/0\n4 send A.t/0 B.u/0\nstate A [s] n=4\nstate B [s] m=3\n"
 unfolding sample digits moved set_below int_wrap is_overruled is_below
 tick_and_send_twice = refl
+
+-- after tick both can be fired, each by its number
+choices_after_tick : choices_after sample (0 ∷ []) ≡ codes "0 tick A.t/0\n1 send A.t/0 B.u/0\n"
+unfolding sample digits moved set_below int_wrap is_overruled is_below
+choices_after_tick = refl
+
+-- three more than are listed
+three_more : more_text 3 ≡ codes "more 3\n"
+unfolding digits
+three_more = refl

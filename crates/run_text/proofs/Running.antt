@@ -1,6 +1,6 @@
 -- A step of a run that is printed.
 use Rattle.std.proofs.Common.{◌≡◌, ℕ, ◌+◌, ◌<◌, ◌≤◌, ◌∙◌, ap, List, ◌++◌, length, drop, get_or, codes}
-use Rattle.std.specs.Prelude.{Option, Some, None, Result, Ok, Err, OnOk}
+use Rattle.std.specs.Prelude.{Option, Some, None}
 use Rattle.std.specs.Option.{option_map_or}
 use Rattle.std.specs.Io.KnownBytes.{Appends}
 use Rattle.std.proofs.KnownBytes.{Appends-trans}
@@ -9,10 +9,10 @@ use Rattle.petri_atom.specs.Local.{Local}
 use Rattle.step_core.specs.Plant.{PlantDefinition}
 use Rattle.step_core.specs.Choice.{ChoiceDefinition}
 use Rattle.step_core.specs.Step.{next}
-use Rattle.run_text.specs.declared.format.Format.{Format}
+use Rattle.text_io.specs.declared.format.Format.{Format}
+use Rattle.text_io.proofs.Leading.{Leads, leads-more, leads-same}
 use Rattle.run_text.specs.Format.{end_text, step_text, stuck_text}
 use Rattle.run_text.specs.Trace.{picked, trace_from}
-use Rattle.run_text.proofs.Leading.{Leads, leads-more, leads-same}
 
 -- the line of the choice that a pick takes is printed, and the run goes on from the state after it
 pub leads-fired : (format : Format) (plant : PlantDefinition) (states : List Local) (number : ℕ) (picks : List ℕ) (i : ℕ) (c : ChoiceDefinition) (start before line after : Option (List ℕ)) (all : List ℕ)
@@ -41,9 +41,3 @@ leads-stuck format plant states number picks i start now after all within none l
     ap (trace_from format plant states number) (drop_more picks i 0 within) ∙
     ap (λ found. option_map_or (λ d. step_text format plant states number d ++ codes "\n" ++ later d) found (stuck_text format ++ end_text format plant states)) none in
     leads-more _ _ _ _ _ _ (leads-same l left) told
-
--- all of a text is printed where the last call prints what is left of it
-pub told-left : {T E : Type 0} (result : Result T E) (start now after : Option (List ℕ)) (left all : List ℕ)
-    → Leads start now left all → OnOk result (Appends now after left) → OnOk result (Appends start after all)
-told-left (Err fault) start now after left all l ends = tt
-told-left (Ok done) start now after left all l ends = l.by after ends

@@ -8,12 +8,12 @@ use Rattle.step_core.specs.Choice.{ChoiceDefinition}
 use Rattle.step_core.specs.Delivery.{IsTold}
 use Rattle.step_core.specs.Step.{transfer}
 use Rattle.step_core.specs.declared.choice.Move.{Move}
-use Rattle.run_text.specs.declared.format.Format.{Format}
-use Rattle.run_text.specs.declared.format.Format.TheVariants.{Lines, Csv, Jsonl}
+use Rattle.text_io.specs.Numbered.{numbered}
+use Rattle.text_io.specs.declared.format.Format.{Format}
+use Rattle.text_io.specs.declared.format.Format.TheVariants.{Lines, Csv, Jsonl}
 use Rattle.run_text.specs.Csv.{fired_row, participant_words}
 use Rattle.run_text.specs.Format.{step_text}
 use Rattle.run_text.specs.Jsonl.{fired_object, move_object, participant_object}
-use Rattle.run_text.specs.Line.{numbered}
 use Rattle.run_text.specs.Told.{told_each, told_text}
 
 -- where each element is said by its number as it is said by itself, all are

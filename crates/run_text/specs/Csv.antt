@@ -3,13 +3,13 @@ use Rattle.std.specs.Prelude.{ℕ, List, [], ◌++◌, flat_map, map, slice_get,
 use Rattle.std.specs.Option.{option_map_or}
 use Rattle.petri_atom.specs.Local.{Local, Row}
 use Rattle.petri_atom.specs.Definition.{AtomDefinition}
-use Rattle.step_core.specs.Plant.{PlantDefinition}
+use Rattle.step_core.specs.Plant.{PlantDefinition, wire_name}
 use Rattle.step_core.specs.Choice.{ChoiceDefinition}
 use Rattle.step_core.specs.Step.{transfer}
 use Rattle.step_core.specs.declared.choice.Move.{Move}
-use Rattle.run_text.specs.declared.format.Format.TheVariants.{Csv}
+use Rattle.text_io.specs.declared.format.Format.TheVariants.{Csv}
 use Rattle.run_text.specs.Word.{separated_by}
-use Rattle.run_text.specs.Line.{participant, places_text, value_words, wire_name}
+use Rattle.run_text.specs.Line.{participant, places_text, value_words}
 use Rattle.run_text.specs.Delivered.{delivered_words}
 
 -- the words of what a participant gets

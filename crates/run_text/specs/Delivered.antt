@@ -2,16 +2,12 @@
 use Rattle.std.specs.Prelude.{ℕ, ℤ, List, [], ◌∷◌, ◌++◌, slice_get, codes, Option}
 use Rattle.std.specs.Option.{option_map_or}
 use Rattle.petri_atom.specs.Local.{delivered_value}
-use Rattle.petri_atom.specs.Definition.{AtomDefinition, exports_of}
+use Rattle.petri_atom.specs.Definition.{AtomDefinition, exports_of, variable_name}
 use Rattle.petri_atom.specs.Local.{Row}
-use Rattle.run_text.specs.declared.format.Format.{Format}
-use Rattle.run_text.specs.declared.format.Format.TheVariants.{Lines, Csv, Jsonl}
+use Rattle.text_io.specs.Numbered.{numbered}
+use Rattle.text_io.specs.declared.format.Format.{Format}
+use Rattle.text_io.specs.declared.format.Format.TheVariants.{Lines, Csv, Jsonl}
 use Rattle.run_text.specs.Word.{assigned_text}
-use Rattle.run_text.specs.Line.{numbered}
-
--- the name of the variable of an atom with a number
-abbrev pub variable_name : AtomDefinition → ℕ → List ℕ
-variable_name a variable = option_map_or (λ v. v.name) (slice_get a.variables variable) []
 
 -- the variables that the port of a transition exports
 abbrev pub exports_by : AtomDefinition → ℕ → List ℕ

@@ -4,8 +4,8 @@ use Rattle.petri_atom.specs.Local.{Local}
 use Rattle.petri_atom.specs.Definition.{AtomDefinition}
 use Rattle.step_core.specs.Plant.{PlantDefinition}
 use Rattle.step_core.specs.Choice.{ChoiceDefinition}
-use Rattle.run_text.specs.declared.format.Format.{Format}
-use Rattle.run_text.specs.declared.format.Format.TheVariants.{Lines, Csv, Jsonl}
+use Rattle.text_io.specs.declared.format.Format.{Format}
+use Rattle.text_io.specs.declared.format.Format.TheVariants.{Lines, Csv, Jsonl}
 use Rattle.run_text.specs.Line.{fired_line, state_line, states_said}
 use Rattle.run_text.specs.Csv.{state_row, step_row}
 use Rattle.run_text.specs.Jsonl.{state_object, step_object}

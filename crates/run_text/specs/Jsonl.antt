@@ -4,19 +4,19 @@ use Rattle.std.specs.Option.{option_map_or}
 use Rattle.petri_atom.specs.Local.{Local}
 use Rattle.petri_atom.specs.Definition.{AtomDefinition}
 use Rattle.petri_atom.specs.Local.{Row}
-use Rattle.step_core.specs.Plant.{PlantDefinition}
+use Rattle.step_core.specs.Plant.{PlantDefinition, wire_name}
 use Rattle.step_core.specs.Choice.{ChoiceDefinition}
 use Rattle.step_core.specs.Step.{transfer}
 use Rattle.step_core.specs.declared.choice.Move.{Move}
-use Rattle.run_text.specs.declared.format.Format.TheVariants.{Jsonl}
+use Rattle.text_io.specs.declared.format.Format.TheVariants.{Jsonl}
 use Rattle.run_text.specs.Word.{quoted, separated_by}
-use Rattle.run_text.specs.Line.{places_text, port_name, value_words, wire_name}
+use Rattle.run_text.specs.Line.{fired_port_name, places_text, value_words}
 use Rattle.run_text.specs.Delivered.{delivered_words}
 
 -- a participant: its atom, the port that its transition fires, the transition's number, and the values that were delivered to it
 abbrev pub atom_object : AtomDefinition → ℕ → Row → List ℕ
 atom_object a transition d =
-    codes "{\"atom\":" ++ quoted a.name ++ codes ",\"port\":" ++ quoted (port_name a transition) ++
+    codes "{\"atom\":" ++ quoted a.name ++ codes ",\"port\":" ++ quoted (fired_port_name a transition) ++
     codes ",\"transition\":" ++ decimal transition ++ codes ",\"delivered\":{" ++
     separated_by (codes ",") (delivered_words Jsonl a transition d) ++ codes "}}"
 

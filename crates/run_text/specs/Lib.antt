@@ -8,3 +8,4 @@ pub mod Format
 pub mod Trace
 pub mod Runs
 pub mod Message
+pub mod Choices

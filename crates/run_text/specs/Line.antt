@@ -1,36 +1,27 @@
 -- What the lines of a run say.
-use Rattle.std.specs.Prelude.{ℕ, ◌+◌, ℤ, List, [], ◌∷◌, ◌++◌, flat_map, slice_get, codes, decimal, if◌then◌else◌}
+use Rattle.std.specs.Prelude.{ℕ, ℤ, List, [], ◌∷◌, ◌++◌, flat_map, slice_get, codes, decimal, if◌then◌else◌}
 use Rattle.std.specs.Fmt.{signed_decimal}
 use Rattle.std.specs.Option.{option_map_or}
 use Rattle.petri_atom.specs.Local.{Local, has, value_in}
-use Rattle.petri_atom.specs.Definition.{AtomDefinition}
+use Rattle.petri_atom.specs.Definition.{AtomDefinition, port_name}
 use Rattle.petri_atom.specs.declared.parts.Place.{Place}
 use Rattle.petri_atom.specs.declared.parts.Variable.{Variable}
-use Rattle.step_core.specs.Plant.{PlantDefinition}
+use Rattle.step_core.specs.Plant.{PlantDefinition, wire_name}
 use Rattle.step_core.specs.Choice.{ChoiceDefinition}
 use Rattle.step_core.specs.declared.choice.Move.{Move}
-use Rattle.run_text.specs.declared.format.Format.{Format}
-use Rattle.run_text.specs.declared.format.Format.TheVariants.{Lines}
+use Rattle.text_io.specs.Numbered.{numbered}
+use Rattle.text_io.specs.declared.format.Format.{Format}
+use Rattle.text_io.specs.declared.format.Format.TheVariants.{Lines}
 use Rattle.run_text.specs.Word.{separated_by, between_text, name_text, assigned_text}
 
--- what is said of each element of a list, the elements numbered from n, one after another
-abbrev pub numbered : {X Y : Type 0} → (ℕ → X → List Y) → ℕ → List X → List Y
-numbered say n [] = []
-numbered say n (x ∷ xs) = say n x ++ numbered say (n + 1) xs
-
--- the name of the connector with a number
-abbrev pub wire_name : PlantDefinition → ℕ → List ℕ
-wire_name plant connector = option_map_or (λ w. w.name) (slice_get plant.wires connector) []
-
--- the name of the port that a transition of an atom fires
-abbrev pub port_name : AtomDefinition → ℕ → List ℕ
-port_name a transition =
-    option_map_or (λ t. option_map_or (λ p. p.name) (slice_get a.ports t.port) []) (slice_get a.transitions transition) []
+-- the name of the port that a transition of an atom fires; empty where the transition is not there
+abbrev pub fired_port_name : AtomDefinition → ℕ → List ℕ
+fired_port_name a transition = option_map_or (λ t. port_name a t.port) (slice_get a.transitions transition) []
 
 -- a participant of a fired interaction: its name, the port that its transition fires, and the transition's number
 abbrev pub participant : List AtomDefinition → Move → List ℕ
 participant atoms m =
-    option_map_or (λ a. a.name ++ codes "." ++ port_name a m.transition ++ codes "/" ++ decimal m.transition)
+    option_map_or (λ a. a.name ++ codes "." ++ fired_port_name a m.transition ++ codes "/" ++ decimal m.transition)
     (slice_get atoms m.atom) []
 
 -- a fired interaction: its number, its connector's name, and its participants in rising order of their atoms

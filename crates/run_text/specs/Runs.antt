@@ -5,7 +5,7 @@ use Rattle.petri_atom.specs.Local.{Local}
 use Rattle.step_core.specs.Plant.{PlantDefinition}
 use Rattle.step_core.specs.Choice.{ChoiceDefinition}
 use Rattle.step_core.specs.Step.{next}
-use Rattle.run_text.specs.declared.format.Format.{Format}
+use Rattle.text_io.specs.declared.format.Format.{Format}
 use Rattle.run_text.specs.Format.{step_text, stuck_text}
 use Rattle.run_text.specs.Trace.{picked}
 

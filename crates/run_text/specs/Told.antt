@@ -4,9 +4,10 @@ use Rattle.petri_atom.specs.Local.{Row}
 use Rattle.step_core.specs.Plant.{PlantDefinition}
 use Rattle.step_core.specs.Choice.{ChoiceDefinition}
 use Rattle.step_core.specs.declared.choice.Move.{Move}
-use Rattle.run_text.specs.declared.format.Format.{Format}
-use Rattle.run_text.specs.declared.format.Format.TheVariants.{Lines, Csv, Jsonl}
-use Rattle.run_text.specs.Line.{fired_line, numbered}
+use Rattle.text_io.specs.Numbered.{numbered}
+use Rattle.text_io.specs.declared.format.Format.{Format}
+use Rattle.text_io.specs.declared.format.Format.TheVariants.{Lines, Csv, Jsonl}
+use Rattle.run_text.specs.Line.{fired_line}
 use Rattle.run_text.specs.Csv.{fired_row, participant_words}
 use Rattle.run_text.specs.Jsonl.{fired_object, move_object}
 

@@ -5,8 +5,8 @@ use Rattle.petri_atom.specs.Local.{Local}
 use Rattle.step_core.specs.Plant.{PlantDefinition}
 use Rattle.step_core.specs.Choice.{ChoiceDefinition, choices}
 use Rattle.step_core.specs.Step.{initial_states, next}
-use Rattle.run_text.specs.declared.format.Format.{Format}
-use Rattle.run_text.specs.declared.format.Format.TheVariants.{Lines}
+use Rattle.text_io.specs.declared.format.Format.{Format}
+use Rattle.text_io.specs.declared.format.Format.TheVariants.{Lines}
 use Rattle.run_text.specs.Format.{head_text, step_text, stuck_text, end_text}
 
 -- the choice that a pick takes: the entry of the state's choices at the pick modulo their number; none where there is no choice

@@ -1,8 +1,8 @@
 -- The words of a run, and what stands between them, in each format.
 use Rattle.std.specs.Prelude.{ℕ, ℤ, List, [], ◌∷◌, ◌++◌, codes}
 use Rattle.std.specs.Fmt.{signed_decimal}
-use Rattle.run_text.specs.declared.format.Format.{Format}
-use Rattle.run_text.specs.declared.format.Format.TheVariants.{Lines, Csv, Jsonl}
+use Rattle.text_io.specs.declared.format.Format.{Format}
+use Rattle.text_io.specs.declared.format.Format.TheVariants.{Lines, Csv, Jsonl}
 
 -- words with this between two, and this before the first
 abbrev pub separated_after : List ℕ → List ℕ → List (List ℕ) → List ℕ

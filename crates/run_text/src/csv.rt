@@ -5,19 +5,18 @@ ghost use Rattle.petri_atom.specs.Atom.{definition_of};
 ghost use Rattle.connector_tree.specs.declared.tree.TheConstants.{MAX_LEAVES};
 ghost use Rattle.step_core.specs.Chosen.{choice_of};
 ghost use Rattle.step_core.specs.System.{plant_of};
+ghost use Rattle.text_io.specs.declared.format.Format.TheVariants.{Csv};
 ghost use Rattle.run_text.specs.Csv.{fired_row, participant_words, state_row};
 ghost use Rattle.run_text.specs.Told.{told_words};
 ghost use Rattle.run_text.specs.Word.{after_words, between_text, separated_after, separated_by};
-ghost use Rattle.run_text.specs.declared.format.Format.TheVariants.{Csv};
 
 use crate::delivered::print_delivered;
-use crate::fired::{print_moves, wire_name};
-use crate::format::Format;
+use crate::fired::print_moves;
 use crate::states::{print_places, print_values};
 use petri_atom::{Atom, AtomState, Delivered};
 use std::io::Write;
 use step_core::{Choice, Move, System};
-use text_io::{WriteFault, print_number, print_text};
+use text_io::{Format, WriteFault, print_number, print_text};
 
 /// Prints the row of a fired interaction, without its end; `told` has at the place of each move what its atom got.
 pub(crate) fn print_step_row<W: Write>(
@@ -35,7 +34,7 @@ pub(crate) fn print_step_row<W: Write>(
     print_text(output, b"step,")?;
     print_number(output, number)?;
     print_text(output, b",")?;
-    print_text(output, wire_name(system, choice.connector))?;
+    print_text(output, system.wire_name(choice.connector))?;
     print_text(output, b",")?;
     print_moves(system.atoms(), moves, b"", output)?;
     print_text(output, b",")?;

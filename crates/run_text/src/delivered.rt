@@ -2,14 +2,14 @@
 ghost use Rattle.std.specs.Prelude.{◌≡◌, IfOk, OnOk};
 ghost use Rattle.std.specs.Io.KnownBytes.{Appends};
 ghost use Rattle.petri_atom.specs.Atom.{definition_of};
-ghost use Rattle.run_text.specs.Delivered.{delivered_words, export_text, export_words, exports_by, owner_text, variable_name};
+ghost use Rattle.run_text.specs.Delivered.{delivered_words, export_text, export_words, exports_by, owner_text};
 ghost use Rattle.run_text.specs.Word.{after_words, between_text, separated_after};
 
-use crate::format::Format;
+use crate::format::between_text;
 use crate::word::print_assigned;
 use petri_atom::{Atom, Delivered};
 use std::io::Write;
-use text_io::{WriteFault, print_text};
+use text_io::{Format, WriteFault, print_text};
 
 /// Prints what is delivered to an atom that fires the transition, in the order of what its port exports, with `before`
 /// before the first value; returns what is to stand before the value that is printed next.
@@ -51,7 +51,7 @@ fn print_export<W: Write>(
         Some(value) => {
             print_text(output, before)?;
             print_value(format, atom, variable, value, output)?;
-            Ok(format.between())
+            Ok(between_text(format))
         }
         None => Ok(before),
     }
@@ -69,7 +69,7 @@ fn print_value<W: Write>(
         (export_text format (definition_of atom.now) variable value)) }
 {
     print_owner(format, atom, output)?;
-    print_assigned(format, variable_name(atom, variable), value, output)
+    print_assigned(format, atom.variable_name(variable), value, output)
 }
 
 /// Prints what stands before a variable of the atom: in JSON nothing, and else the atom's name.
@@ -83,16 +83,6 @@ fn print_owner<W: Write>(format: Format, atom: &Atom, output: &mut W) -> Result<
             print_text(output, b".")
         }
         Format::Jsonl => print_text(output, b""),
-    }
-}
-
-/// The name of the variable with this number; empty where it is not there.
-fn variable_name(atom: &Atom, variable: u8) -> &[u8]
-    ensures { result.now ≡ variable_name (definition_of atom.now) variable }
-{
-    match atom.variables().get(usize::from(variable)) {
-        Some(variable) => variable.name.as_bytes(),
-        None => &[],
     }
 }
 

@@ -2,12 +2,12 @@
 ghost use Rattle.std.specs.Prelude.{◌≡◌};
 
 use std::alloc::AllocError;
-use std::error::Error;
 use std::fmt;
 use text_io::WriteFault;
+use thiserror::Error;
 
 /// Why a trace was not written to its end.
-#[derive(Clone, Copy, Debug, PartialEq, Eq)]
+#[derive(Clone, Copy, Debug, PartialEq, Eq, Error)]
 pub enum TraceFault {
     /// There was no memory for the plant that runs: its states, and what a step keeps. Nothing was written.
     Memory,
@@ -28,8 +28,6 @@ impl fmt::Display for TraceFault {
         }
     }
 }
-
-impl Error for TraceFault {}
 
 impl From<AllocError> for TraceFault {
     ghost use Rattle.run_text.specs.declared.fault.TraceFault.TheVariants.{Memory};

@@ -1,11 +1,10 @@
 //! The line of a fired interaction.
-ghost use Rattle.std.specs.Prelude.{◌≡◌, ◌++◌, [], codes, decimal, map, slice_get, OnOk};
+ghost use Rattle.std.specs.Prelude.{◌≡◌, ◌++◌, codes, decimal, map, OnOk};
 ghost use Rattle.std.specs.Io.KnownBytes.{Appends};
-ghost use Rattle.std.specs.Option.{option_map_or};
 ghost use Rattle.petri_atom.specs.Atom.{definition_of};
 ghost use Rattle.step_core.specs.Chosen.{choice_of};
 ghost use Rattle.step_core.specs.System.{plant_of};
-ghost use Rattle.run_text.specs.Line.{fired_line, participant, port_name, wire_name};
+ghost use Rattle.run_text.specs.Line.{fired_line, fired_port_name, participant};
 ghost use Rattle.run_text.specs.Word.{separated_after};
 
 use petri_atom::Atom;
@@ -26,7 +25,7 @@ pub fn print_choice<W: Write>(
 {
     print_number(output, number)?;
     print_text(output, b" ")?;
-    print_text(output, wire_name(system, choice.connector))?;
+    print_text(output, system.wire_name(choice.connector))?;
     print_moves(system.atoms(), choice.moves.as_slice(), b" ", output)
 }
 
@@ -63,41 +62,21 @@ fn print_move<W: Write>(atoms: &[Atom], step: Move, output: &mut W) -> Result<()
 /// Prints the participant that is this atom.
 fn print_of_atom<W: Write>(atom: &Atom, transition: u16, output: &mut W) -> Result<(), WriteFault>
     ensures { OnOk result (Appends (W.contents output.old) (W.contents output.new)
-        ((definition_of atom.now).name ++ codes "." ++ port_name (definition_of atom.now) transition ++ codes "/" ++ decimal transition)) }
+        ((definition_of atom.now).name ++ codes "." ++ fired_port_name (definition_of atom.now) transition ++ codes "/" ++ decimal transition)) }
 {
     print_text(output, atom.name().as_bytes())?;
     print_text(output, b".")?;
-    print_text(output, port_name(atom, transition))?;
+    print_text(output, fired_port_name(atom, transition))?;
     print_text(output, b"/")?;
     print_number(output, u64::from(transition))
 }
 
-/// The name of the connector with this number; empty where it is not there.
-pub(crate) fn wire_name(system: &System, connector: u16) -> &[u8]
-    ensures { result.now ≡ wire_name (plant_of system.now) connector }
-{
-    match system.wires().get(usize::from(connector)) {
-        Some(wire) => wire.name.as_bytes(),
-        None => &[],
-    }
-}
-
 /// The name of the port that the transition fires; empty where the transition is not there.
-pub(crate) fn port_name(atom: &Atom, transition: u16) -> &[u8]
-    ensures { result.now ≡ port_name (definition_of atom.now) transition }
+pub(crate) fn fired_port_name(atom: &Atom, transition: u16) -> &[u8]
+    ensures { result.now ≡ fired_port_name (definition_of atom.now) transition }
 {
     match atom.transitions().get(usize::from(transition)) {
-        Some(transition) => name_of_port(atom, transition.port()),
-        None => &[],
-    }
-}
-
-/// The name of the port with this number; empty where it is not there.
-fn name_of_port(atom: &Atom, port: u16) -> &[u8]
-    ensures { result.now ≡ option_map_or (λ p. p.name) (slice_get (definition_of atom.now).ports port) [] }
-{
-    match atom.ports().get(usize::from(port)) {
-        Some(port) => port.name.as_bytes(),
+        Some(transition) => atom.port_name(transition.port()),
         None => &[],
     }
 }

@@ -6,19 +6,18 @@ ghost use Rattle.connector_tree.specs.declared.tree.TheConstants.{MAX_LEAVES};
 ghost use Rattle.step_core.specs.Chosen.{choice_of};
 ghost use Rattle.step_core.specs.System.{plant_of};
 ghost use Rattle.run_text.specs.Jsonl.{atom_object, fired_object, move_object, state_object};
-ghost use Rattle.run_text.specs.Line.{port_name};
+ghost use Rattle.run_text.specs.Line.{fired_port_name};
 ghost use Rattle.run_text.specs.Told.{told_objects};
 ghost use Rattle.run_text.specs.Word.{quoted, separated_by};
 
 use crate::delivered::print_delivered;
-use crate::fired::{port_name, wire_name};
-use crate::format::Format;
+use crate::fired::fired_port_name;
 use crate::states::{print_places, print_values};
 use crate::word::print_quoted;
 use petri_atom::{Atom, AtomState, Delivered};
 use std::io::Write;
 use step_core::{Choice, Move, System};
-use text_io::{WriteFault, print_number, print_text};
+use text_io::{Format, WriteFault, print_number, print_text};
 
 /// Prints the object of a fired interaction, without the end of its line; `told` has at the place of each move what its atom
 /// got.
@@ -36,7 +35,7 @@ pub(crate) fn print_step_object<W: Write>(
     print_text(output, b"{\"kind\":\"step\",\"number\":")?;
     print_number(output, number)?;
     print_text(output, b",\"connector\":")?;
-    print_quoted(wire_name(system, choice.connector), output)?;
+    print_quoted(system.wire_name(choice.connector), output)?;
     print_text(output, b",\"participants\":[")?;
     print_participants(system, choice.moves.as_slice(), told, output)?;
     print_text(output, b"]}")
@@ -97,12 +96,12 @@ fn print_atom_object<W: Write>(
 /// Prints the members of a participant's object that say what it fires.
 fn print_fired<W: Write>(atom: &Atom, transition: u16, output: &mut W) -> Result<(), WriteFault>
     ensures { OnOk result (Appends (W.contents output.old) (W.contents output.new)
-        (codes "{\"atom\":" ++ quoted (definition_of atom.now).name ++ codes ",\"port\":" ++ quoted (port_name (definition_of atom.now) transition) ++ codes ",\"transition\":" ++ decimal transition)) }
+        (codes "{\"atom\":" ++ quoted (definition_of atom.now).name ++ codes ",\"port\":" ++ quoted (fired_port_name (definition_of atom.now) transition) ++ codes ",\"transition\":" ++ decimal transition)) }
 {
     print_text(output, b"{\"atom\":")?;
     print_quoted(atom.name().as_bytes(), output)?;
     print_text(output, b",\"port\":")?;
-    print_quoted(port_name(atom, transition), output)?;
+    print_quoted(fired_port_name(atom, transition), output)?;
     print_text(output, b",\"transition\":")?;
     print_number(output, u64::from(transition))
 }

@@ -4,10 +4,10 @@ ghost use Rattle.step_core.specs.Choice.{choices};
 ghost use Rattle.step_core.specs.Plant.{PlantDefinition};
 ghost use Rattle.step_core.specs.Runs.{IsRun, fold};
 ghost use Rattle.step_core.specs.Step.{initial_states};
+ghost use Rattle.text_io.specs.declared.format.Format.{Format};
 ghost use Rattle.run_text.specs.Format.{head_text, end_text};
 ghost use Rattle.run_text.specs.Runs.{chosen, step_lines, stuck_part};
 ghost use Rattle.run_text.specs.Trace.{trace_in};
-ghost use Rattle.run_text.specs.declared.format.Format.{Format};
 
 /// A trace prints a run of the plant from its first states and the state at the run's end: the choices that its picks take, each by
 /// its line. Fewer choices than picks are taken only where the end has no choice.

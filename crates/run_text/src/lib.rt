@@ -2,7 +2,7 @@
 //!
 //! A run is printed line by line: a line for each interaction that is fired, and at the end a line for the state of each
 //! atom. The lines are the fixed ones (`specs/Line.antt`), rows of five columns (`specs/Csv.antt`) or JSON objects
-//! (`specs/Jsonl.antt`); `specs/Trace.antt` defines the text of a run in each [`Format`], as one fold of the model's choices
+//! (`specs/Jsonl.antt`); `specs/Trace.antt` defines the text of a run in each [`text_io::Format`], as one fold of the model's choices
 //! and steps. Contracts say that exactly this text was appended to a writer, where its type says which bytes it took; they
 //! say nothing of when a writer fails.
 //!
@@ -10,15 +10,17 @@
 //! - `fired`: [`print_choice`] prints a fired interaction, as `2 send A.t/0 B.u/0`.
 //! - `states`: [`print_states`] prints the states, as `state A [s] n=4`, [`print_state`] that of one atom; and the lines of the states in
 //!   each format.
+//! - `choices`: [`print_choices`] lists what can be fired next, as `0 tick A.t/0`; [`print_choices_after`] the same after some picks.
 //! - `csv` and `jsonl`: the rows, and the objects.
 //! - `delivered`: the values that a firing delivers, as words.
-//! - `format` and `word`: the formats, and what in a line differs by them alone.
+//! - `format` and `word`: what in a run, and in a line, differs by the format alone.
 //! - `fault`: why a trace was not written to its end.
 //! - `laws`: what a printed run says of the plant.
 //!
 //! Memory is taken only to make the plant that runs (its states, and what a step keeps), before anything is printed.
 #![tactic(auto)]
 
+mod choices;
 mod csv;
 mod delivered;
 mod fault;
@@ -30,8 +32,8 @@ mod states;
 mod trace;
 mod word;
 
+pub use choices::{MOST_LISTED, print_choices, print_choices_after};
 pub use fault::TraceFault;
 pub use fired::print_choice;
-pub use format::Format;
 pub use states::{print_state, print_states};
 pub use trace::{trace_as, trace_to};

@@ -10,13 +10,13 @@ ghost use Rattle.run_text.specs.Line.{places_text, state_line, states_text, valu
 ghost use Rattle.run_text.specs.Word.{between_text, separated_after};
 
 use crate::csv::print_state_row;
-use crate::format::Format;
+use crate::format::between_text;
 use crate::jsonl::print_state_object;
 use crate::word::{print_assigned, print_name};
 use petri_atom::{Atom, AtomState, MAX_PLACES, Place, Variable};
 use std::io::Write;
 use step_core::{PlantState, System};
-use text_io::{WriteFault, end_line, print_text};
+use text_io::{Format, WriteFault, end_line, print_text};
 
 /// Prints a line for the state of each atom, in the order of the atoms: `state`, the atom's name, its marked places in
 /// brackets, and its variables, each as `NAME=VALUE`.
@@ -106,7 +106,7 @@ pub(crate) fn print_places<W: Write>(
         if is_marked(marking, number) {
             print_text(output, between)?;
             print_name(format, place.name.as_bytes(), output)?;
-            between = format.between();
+            between = between_text(format);
         }
     }
     Ok(())
@@ -139,7 +139,7 @@ pub(crate) fn print_values<W: Write>(
             value_at(values, number),
             output,
         )?;
-        between = format.between();
+        between = between_text(format);
     }
     Ok(())
 }

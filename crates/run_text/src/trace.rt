@@ -14,7 +14,7 @@ ghost use Rattle.run_text.specs.declared.fault.TraceFault.TheVariants.{Memory};
 use crate::csv::print_step_row;
 use crate::fault::TraceFault;
 use crate::fired::print_choice;
-use crate::format::Format;
+use crate::format::{head_text, stuck_text};
 use crate::jsonl::print_step_object;
 use crate::states::print_end;
 use connector_tree::MAX_LEAVES;
@@ -22,7 +22,7 @@ use petri_atom::Delivered;
 use std::alloc::Global;
 use std::io::Write;
 use step_core::{Choice, Stepper, System};
-use text_io::{WriteFault, end_line, print_text};
+use text_io::{Format, WriteFault, end_line, print_text};
 
 /// Prints the run of a plant from its first states on in the fixed lines, as [`trace_as`] does with [`Format::Lines`]: for each
 /// pick the line of the interaction that it fires, and then the line of each atom's state.
@@ -58,7 +58,7 @@ pub fn trace_as<W: Write>(
     ensures nothing_written { result ≡ Err Memory → output.new ≡ output.old }
 {
     let mut run = Stepper::first(alloc, system)?;
-    print_text(output, format.head())?;
+    print_text(output, head_text(format))?;
     print_run(&mut run, picks, format, output)?;
     Ok(())
 }
@@ -82,7 +82,7 @@ fn print_run<W: Write>(
                 end_line(output)?;
             }
             None => {
-                print_text(output, format.stuck())?;
+                print_text(output, stuck_text(format))?;
                 break;
             }
         }
@@ -129,7 +129,7 @@ fn print_told<W: Write>(
 }
 
 /// The choice that the pick takes; `None` where the present state has no choice.
-fn picked(run: &Stepper<'_>, pick: u64) -> Option<Choice>
+pub(crate) fn picked(run: &Stepper<'_>, pick: u64) -> Option<Choice>
     ensures choice { option_map choice_of result ≡ picked (plant_in run.now) (states_in run.now) pick }
     ensures allowed { IfSome result (λ choice. IsAllowed (plant_in run.now) (states_in run.now) (choice_of choice)) }
 {

@@ -3,9 +3,9 @@ ghost use Rattle.std.specs.Prelude.{OnOk};
 ghost use Rattle.std.specs.Io.KnownBytes.{Appends};
 ghost use Rattle.run_text.specs.Word.{assigned_text, name_text, quoted};
 
-use crate::format::Format;
+use crate::format::equals_text;
 use std::io::Write;
-use text_io::{WriteFault, print_signed, print_text};
+use text_io::{Format, WriteFault, print_signed, print_text};
 
 /// Prints a variable and its value.
 pub(crate) fn print_assigned<W: Write>(
@@ -18,7 +18,7 @@ pub(crate) fn print_assigned<W: Write>(
         (assigned_text format name.now value)) }
 {
     print_name(format, name, output)?;
-    print_text(output, format.equals())?;
+    print_text(output, equals_text(format))?;
     print_signed(output, value)
 }
 

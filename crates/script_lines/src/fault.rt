@@ -2,12 +2,12 @@
 ghost use Rattle.std.specs.Prelude.{◌≡◌};
 
 use std::alloc::AllocError;
-use std::error::Error;
 use std::fmt;
 use text_io::MAX_TEXT;
+use thiserror::Error;
 
 /// Why a script is refused.
-#[derive(Clone, Copy, Debug, PartialEq, Eq)]
+#[derive(Clone, Copy, Debug, PartialEq, Eq, Error)]
 pub enum ScriptFault {
     /// The first line that asks for no event, by its number from 1; 0 where the script is too long.
     Line(u32),
@@ -29,8 +29,6 @@ impl fmt::Display for ScriptFault {
         }
     }
 }
-
-impl Error for ScriptFault {}
 
 impl From<AllocError> for ScriptFault {
     ghost use Rattle.script_lines.specs.declared.fault.ScriptFault.TheVariants.{Memory};

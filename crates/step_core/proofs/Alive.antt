@@ -101,7 +101,7 @@ module _ (atoms : List AtomDefinition) (states : List Local) where
       subst (λ n. 1 ≤ n) (sym (length-map rows make)) (some-rows i.ports all)
 
 -- the rules of a plant that breaks no rule put an order on its interactions
-order-sound : (plant : PlantDefinition) → fault_of plant ≡ None → order_fault plant.rules (map named (plant_interactions plant)) ≡ None
+pub order-sound : (plant : PlantDefinition) → fault_of plant ≡ None → order_fault plant.rules (map named (plant_interactions plant)) ≡ None
 order-sound plant sound =
     unmapped (order_fault plant.rules (map named (plant_interactions plant)))
     (second (late_fault plant) (fault_of_order plant) (second (early_fault plant) (first_of (late_fault plant) (fault_of_order plant)) sound))

@@ -3,8 +3,10 @@ use Rattle.std.specs.Prelude.{Option, Some, None, slice_get, filter, flat_map}
 use Rattle.std.specs.List.{list_all}
 use Rattle.std.specs.Option.{option_map_or}
 use Rattle.std.proofs.lemmas.Bool.{and_parts, and_from}
+use Rattle.std.proofs.lemmas.List.Folds.{list_all-append, list_all-map}
 use Rattle.petri_atom.specs.Local.{Local, Row}
 use Rattle.petri_atom.specs.Definition.{AtomDefinition, enabled, offers_number}
+use Rattle.petri_atom.proofs.Fitting.{all_weaker}
 use Rattle.connector_tree.specs.declared.tree.Port.{Port}
 use Rattle.step_core.specs.Plant.{PlantDefinition, of_atom}
 use Rattle.step_core.specs.Choice.{Interaction, ChoiceDefinition, move_of, moves_of, combinations, choices_of, choices_at, choices, is_allowed_at, flat_from, plant_interactions}
@@ -26,22 +28,10 @@ stepped-at atoms moves d n (suc i) (s ∷ states) x within =
 -- tests of lists that are made of others
 module _ {X : Type 0} (f : X → Bool) where
   pub all-append : (xs ys : List X) → list_all f xs ≡ true → list_all f ys ≡ true → list_all f (xs ++ ys) ≡ true
-  all-append [] ys all more = more
-  all-append (x ∷ xs) ys all more =
-      let parts = and_parts (f x) (list_all f xs) all in
-      and_from (f x) (list_all f (xs ++ ys)) parts.0 (all-append xs ys parts.1 more)
+  all-append xs ys all more = list_all-append f xs ys ∙ and_from (list_all f xs) (list_all f ys) all more
 
   pub all-map : {Y : Type 0} (h : Y → X) (ys : List Y) → list_all (λ y. f (h y)) ys ≡ true → list_all f (map h ys) ≡ true
-  all-map h [] all = refl
-  all-map h (y ∷ ys) all =
-      let parts = and_parts (f (h y)) (list_all (λ z. f (h z)) ys) all in
-      and_from (f (h y)) (list_all f (map h ys)) parts.0 (all-map h ys parts.1)
-
-  all-weaker : (g : X → Bool) → ((x : X) → f x ≡ true → g x ≡ true) → (xs : List X) → list_all f xs ≡ true → list_all g xs ≡ true
-  all-weaker g weaker [] all = refl
-  all-weaker g weaker (x ∷ xs) all =
-      let parts = and_parts (f x) (list_all f xs) all in
-      and_from (g x) (list_all g xs) (weaker x parts.0) (all-weaker g weaker xs parts.1)
+  all-map h ys all = list_all-map f h ys ∙ all
 
   all-filter : (xs : List X) → list_all f (filter f xs) ≡ true
   all-filter [] = refl
@@ -61,19 +51,13 @@ module _ {X : Type 0} (f : X → Bool) where
   all-rows [] rest all passed = refl
   all-rows (x ∷ xs) rest all passed =
       let parts = and_parts (f x) (list_all f xs) all in
-      all-append-rows (map (λ row. x ∷ row) rest) (flat_map (λ y. map (λ row. y ∷ row) rest) xs) (each parts.0 rest passed) (all-rows xs rest parts.1 passed)
+      list_all-append (list_all f) (map (λ row. x ∷ row) rest) (flat_map (λ y. map (λ row. y ∷ row) rest) xs) ∙ and_from _ _ (each parts.0 rest passed) (all-rows xs rest parts.1 passed)
     where
       each : f x ≡ true → (rows : List (List X)) → list_all (list_all f) rows ≡ true → list_all (list_all f) (map (λ row. x ∷ row) rows) ≡ true
       each here [] passed = refl
       each here (row ∷ rows) passed =
           let parts = and_parts (list_all f row) (list_all (list_all f) rows) passed in
           and_from (f x && list_all f row) _ (and_from (f x) (list_all f row) here parts.0) (each here rows parts.1)
-
-      all-append-rows : (rs' bs' : List (List X)) → list_all (list_all f) rs' ≡ true → list_all (list_all f) bs' ≡ true → list_all (list_all f) (rs' ++ bs') ≡ true
-      all-append-rows [] ys all more = more
-      all-append-rows (r ∷ rs) ys all more =
-          let parts = and_parts (list_all f r) (list_all (list_all f) rs) all in
-          and_from (list_all f r) (list_all (list_all f) (rs ++ ys)) parts.0 (all-append-rows rs ys parts.1 more)
 
   -- and so have the rows of several lists
   all-combinations : (xss : List (List X)) → list_all (list_all f) xss ≡ true → list_all (list_all f) (combinations xss) ≡ true
@@ -98,7 +82,7 @@ offered-moves atoms states p = by-atom (slice_get atoms p.atom) refl
     by-state a there None none = refl
     by-state a there (Some s) known =
         all-map (is_offered_move atoms states) (move_of p.atom) (enabled a s p.port)
-        (all-weaker (offers_number a s) (λ t. is_offered_move atoms states (move_of p.atom t)) (λ t here. ap (λ o. option_map_or (λ b. option_map_or (λ z. offers_number b z t) (slice_get states p.atom) false) o false) there ∙ ap (λ o. option_map_or (λ z. offers_number a z t) o false) known ∙ here) (enabled a s p.port) (all-filter (offers_number a s) _))
+        (all_weaker (offers_number a s) (λ t. is_offered_move atoms states (move_of p.atom t)) (λ t here. ap (λ o. option_map_or (λ b. option_map_or (λ z. offers_number b z t) (slice_get states p.atom) false) o false) there ∙ ap (λ o. option_map_or (λ z. offers_number a z t) o false) known ∙ here) (enabled a s p.port) (all-filter (offers_number a s) _))
 
     by-atom : (o : Option AtomDefinition) → slice_get atoms p.atom ≡ o → list_all (is_offered_move atoms states) (option_map_or (λ a. option_map_or (λ s. map (move_of p.atom) (enabled a s p.port)) (slice_get states p.atom) []) o []) ≡ true
     by-atom None none = refl

@@ -1,5 +1,5 @@
 -- What a plant is.
-use Rattle.std.specs.Prelude.{ℕ, List, slice_get}
+use Rattle.std.specs.Prelude.{ℕ, List, [], slice_get}
 use Rattle.std.specs.Option.{option_map_or}
 use Rattle.petri_atom.specs.Local.{Local}
 use Rattle.petri_atom.specs.Expression.{Tree}
@@ -25,6 +25,10 @@ pub record PlantDefinition : Type 0 where
   pub atoms : List AtomDefinition
   pub wires : List WireDefinition
   pub rules : List Rule
+
+-- the name of the connector with a number; empty where it is not there
+abbrev pub wire_name : PlantDefinition → ℕ → List ℕ
+wire_name plant connector = option_map_or (λ w. w.name) (slice_get plant.wires connector) []
 
 -- the atom and the local state with a number, and what is read of both; nothing where one is not there
 abbrev pub of_atom : {X : Type 0} → List AtomDefinition → List Local → ℕ → (AtomDefinition → Local → X) → X → X

@@ -2,11 +2,11 @@
 use connector_tree::TreeFault;
 use priority_filter::OrderFault;
 use std::alloc::AllocError;
-use std::error::Error;
 use std::fmt;
+use thiserror::Error;
 
 /// What is wrong with a wire beside its tree.
-#[derive(Clone, Copy, Debug, PartialEq, Eq)]
+#[derive(Clone, Copy, Debug, PartialEq, Eq, Error)]
 pub enum WireFault {
     /// An earlier wire has its name.
     NameTwice,
@@ -19,7 +19,7 @@ pub enum WireFault {
 }
 
 /// Why atoms and wires make no plant.
-#[derive(Clone, Copy, Debug, PartialEq, Eq)]
+#[derive(Clone, Copy, Debug, PartialEq, Eq, Error)]
 pub enum SystemFault {
     /// There is no atom, or there are more atoms, wires, rules, guards, transfers, words or interactions than a plant may have.
     Limit,
@@ -53,8 +53,6 @@ impl fmt::Display for WireFault {
     }
 }
 
-impl Error for WireFault {}
-
 impl fmt::Display for SystemFault {
     ghost use Rattle.std.specs.Prelude.{Some};
     ghost use Rattle.step_core.specs.Messages.{message_of};
@@ -76,8 +74,6 @@ impl fmt::Display for SystemFault {
         }
     }
 }
-
-impl Error for SystemFault {}
 
 impl From<AllocError> for SystemFault {
     ghost use Rattle.std.specs.Prelude.{◌≡◌};

@@ -103,6 +103,7 @@ impl System {
 }
 
 impl System {
+    ghost use Rattle.step_core.specs.Plant.{wire_name};
     ghost use Rattle.step_core.specs.System.{plant_of, digest_of};
 
     /// The atoms, in the order of their numbers.
@@ -117,6 +118,16 @@ impl System {
         ensures { map wire_of result.now ≡ (plant_of self.now).wires }
     {
         &self.wires
+    }
+
+    /// The name of the connector with this number; empty where it is not there.
+    pub fn wire_name(&self, connector: u16) -> &[u8]
+        ensures { result.now ≡ wire_name (plant_of self.now) connector }
+    {
+        match self.wires().get(usize::from(connector)) {
+            Some(wire) => wire.name.as_bytes(),
+            None => &[],
+        }
     }
 
     /// The digest of the text that the plant was read from.

@@ -1,2 +1,3 @@
+pub mod Numbered
 pub mod Printing
 pub mod Reading

@@ -7,12 +7,12 @@ ghost use Rattle.std.specs.Fmt.{signed_decimal};
 ghost use Rattle.std.specs.Io.KnownBytes.{Appends};
 
 use itoa::Buffer;
-use std::error::Error;
 use std::io::Write;
 use std::{fmt, io};
+use thiserror::Error;
 
 /// The writer answered an error. It may have taken a part of what was printed.
-#[derive(Clone, Copy, Debug, PartialEq, Eq)]
+#[derive(Clone, Copy, Debug, PartialEq, Eq, Error)]
 pub struct WriteFault;
 
 impl fmt::Display for WriteFault {
@@ -25,8 +25,6 @@ impl fmt::Display for WriteFault {
         f.write_str("the text could not be written")
     }
 }
-
-impl Error for WriteFault {}
 
 impl From<io::Error> for WriteFault {
     fn from(_: io::Error) -> Self {

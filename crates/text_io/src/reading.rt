@@ -6,9 +6,9 @@ ghost use Rattle.text_io.specs.Reading.{GivesUp};
 ghost use Rattle.text_io.specs.declared.reading.TextFault.TheVariants.{TooLong, Read as ReadFault};
 
 use std::alloc::{AllocError, Global};
-use std::error::Error;
 use std::io::Read;
 use std::{fmt, io};
+use thiserror::Error;
 
 /// The most bytes that a text may have.
 pub const MAX_TEXT: usize = 1_048_576;
@@ -17,7 +17,7 @@ pub const MAX_TEXT: usize = 1_048_576;
 const PART: usize = 4_096;
 
 /// Why a text could not be read.
-#[derive(Clone, Copy, Debug, PartialEq, Eq)]
+#[derive(Clone, Copy, Debug, PartialEq, Eq, Error)]
 pub enum TextFault {
     /// The reader gave more than `MAX_TEXT` bytes.
     TooLong,
@@ -41,8 +41,6 @@ impl fmt::Display for TextFault {
         }
     }
 }
-
-impl Error for TextFault {}
 
 impl From<AllocError> for TextFault {
     ghost use Rattle.text_io.specs.declared.reading.TextFault.TheVariants.{Memory};

@@ -2,7 +2,7 @@ use Rattle.std.proofs.Common.{◌≡◌, ◌∙◌, ap, sym, Ok, Some, None}
 use Rattle.std.specs.Option.{option_map, option_map_or}
 use Rattle.plant_words.specs.Lent.{port_parts_of}
 use Rattle.plant_words.specs.Splits.{port_parts}
-use Rattle.connector_lines.specs.declared.token.Token.{Token}
+use Rattle.connector_tree.specs.declared.token.Token.{Token}
 use Rattle.connector_lines.specs.Tokens.{bracket_in, leaf_of, leaf_in}
 use Rattle.connector_lines.proofs.token.read_word.Goals as goal
 

@@ -1,8 +1,10 @@
 use Rattle.std.proofs.Common.{◌≡◌, ◌∙◌, sym, ap, ◌+◌, ◌<◌, ◌≤◌, [], ◌∷◌, ◌++◌, length, append_assoc, append-nil, Some, Ok, arith}
-use Rattle.connector_lines.specs.Tokens.{token_in, level_behind, tokens_in}
-use Rattle.connector_lines.specs.Shape.{fault_in}
+use Rattle.connector_tree.specs.Tokens.{level_behind}
+use Rattle.connector_tree.specs.TokenFaults.{fault_in}
+use Rattle.connector_tree.proofs.Levels.{one_level_more}
+use Rattle.connector_lines.specs.Tokens.{token_in, tokens_in}
 use Rattle.connector_lines.specs.Judging.{fault_behind}
-use Rattle.connector_lines.proofs.Readings.{all_read, all_closed, some_tokens, tree_of_tokens, word_is_behind, one_level_more, one_more_is_made}
+use Rattle.connector_lines.proofs.Readings.{all_read, all_closed, some_tokens, tree_of_tokens, word_is_behind, one_more_is_made}
 use Rattle.connector_lines.proofs.tree.read_tokens.Goals as goal
 
 pub loop-word-preserved : goal.loop-word-preserved

@@ -1,7 +1,7 @@
 use Rattle.std.proofs.Common.{◌≡◌, ◌+◌, ◌<◌, ◌≤◌, ◌++◌, List, length, IfOk}
-use Rattle.connector_lines.specs.declared.token.Token.{Token}
+use Rattle.connector_tree.specs.declared.token.Token.{Token}
+use Rattle.connector_tree.specs.TokenFaults.{fault_in}
 use Rattle.connector_lines.specs.Tokens.{tokens_in}
-use Rattle.connector_lines.specs.Shape.{fault_in}
 use Rattle.connector_lines.specs.Judging.{fault_behind}
 use Rattle.connector_lines.proofs.Readings.{behind_all}
 use Rattle.connector_lines.proofs.tree.read_tokens.Given as goal

@@ -1,8 +1,8 @@
 use Rattle.std.proofs.KnownBytes.{Appends-trans}
-use Rattle.plant_drawing.proofs.Telling.{told_last}
+use Rattle.text_io.proofs.Leading.{told-last}
 use Rattle.plant_drawing.proofs.atom.print_place.Goals as goal
 
 pub returns : goal.returns
 returns g c =
-    told_last c.print_named.result (g.W.Write.contents c.args.output.now) (g.W.Write.contents c.print_fill.new.output) (g.W.Write.contents c.print_named.new.output) _ _
+    told-last c.print_named.result (g.W.Write.contents c.args.output.now) (g.W.Write.contents c.print_fill.new.output) (g.W.Write.contents c.print_named.new.output) _ _
     (Appends-trans _ _ _ _ _ (Appends-trans _ _ _ _ _ (Appends-trans _ _ _ _ _ (c.in_ok-print_text.ensures) c.in_ok-print_part.ensures) c.in_ok-print_text-2.ensures) c.in_ok-print_fill.ensures) c.print_named.ensures

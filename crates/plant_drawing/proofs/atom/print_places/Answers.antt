@@ -1,5 +1,5 @@
 use Rattle.std.proofs.Common.{arith}
-use Rattle.run_text.proofs.Leading.{leads-element}
+use Rattle.text_io.proofs.Leading.{leads-element}
 use Rattle.plant_drawing.specs.Atom.{place_line}
 use Rattle.plant_drawing.proofs.atom.print_places.Goals as goal
 

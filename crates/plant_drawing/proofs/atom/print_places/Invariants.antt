@@ -1,7 +1,7 @@
 -- The places from this number on are left.
 use Rattle.std.proofs.Common.{drop}
-use Rattle.run_text.specs.Line.{numbered}
-use Rattle.run_text.proofs.Leading.{Leads}
+use Rattle.text_io.specs.Numbered.{numbered}
+use Rattle.text_io.proofs.Leading.{Leads}
 use Rattle.plant_drawing.specs.Atom.{place_line}
 use Rattle.plant_drawing.proofs.atom.print_places.Given as goal
 

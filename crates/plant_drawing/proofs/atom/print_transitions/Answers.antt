@@ -1,8 +1,8 @@
 use Rattle.std.proofs.Common.{◌+◌, ◌<◌, arith, sym, subst, drop, length, map}
 use Rattle.petri_atom.specs.Atom.{definition_of}
 use Rattle.petri_atom.specs.Transition.{transition_of}
-use Rattle.run_text.specs.Line.{numbered}
-use Rattle.run_text.proofs.Leading.{Leads}
+use Rattle.text_io.specs.Numbered.{numbered}
+use Rattle.text_io.proofs.Leading.{Leads}
 use Rattle.plant_drawing.specs.Atom.{transition_lines}
 use Rattle.plant_drawing.proofs.Listing.{leads-mapped}
 use Rattle.plant_drawing.proofs.atom.print_transitions.Goals as goal

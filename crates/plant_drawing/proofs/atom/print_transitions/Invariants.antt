@@ -1,8 +1,8 @@
 -- The transitions from this number on are left.
 use Rattle.std.proofs.Common.{drop}
 use Rattle.petri_atom.specs.Atom.{definition_of}
-use Rattle.run_text.specs.Line.{numbered}
-use Rattle.run_text.proofs.Leading.{Leads}
+use Rattle.text_io.specs.Numbered.{numbered}
+use Rattle.text_io.proofs.Leading.{Leads}
 use Rattle.plant_drawing.specs.Atom.{transition_lines}
 use Rattle.plant_drawing.proofs.atom.print_transitions.Given as goal
 

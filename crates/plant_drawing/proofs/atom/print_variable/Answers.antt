@@ -3,7 +3,7 @@ use Rattle.std.specs.Fmt.{signed_decimal}
 use Rattle.std.specs.Io.KnownBytes.{Appends}
 use Rattle.std.proofs.KnownBytes.{Appends-trans}
 use Rattle.std.proofs.lemmas.Int.{to_z-of_z}
-use Rattle.plant_drawing.proofs.Telling.{told_last}
+use Rattle.text_io.proofs.Leading.{told-last}
 use Rattle.plant_drawing.proofs.atom.print_variable.Goals as goal
 
 pub returns : goal.returns
@@ -17,5 +17,5 @@ returns g c =
     let name : Appends begun named c.args.variable.now.name = subst (Appends begun named) c.as_bytes.ensures c.in_ok-print_text-2.ensures in
     let first : OnOk c.print_signed.result (Appends assigned after (signed_decimal value)) =
     subst (λ z. OnOk c.print_signed.result (Appends assigned after (signed_decimal z))) (to_z-of_z w64 value fits) c.print_signed.ensures in
-    told_last c.print_signed.result (g.W.Write.contents c.args.output.now) assigned after _ (signed_decimal value)
+    told-last c.print_signed.result (g.W.Write.contents c.args.output.now) assigned after _ (signed_decimal value)
     (Appends-trans _ _ _ _ _ (Appends-trans _ _ _ _ _ (c.in_ok-print_text.ensures) name) c.in_ok-print_text-3.ensures) first

@@ -1,7 +1,7 @@
 -- The variables from this one on are left.
 use Rattle.std.proofs.Common.{drop}
 use Rattle.std.specs.Prelude.{flat_map}
-use Rattle.run_text.proofs.Leading.{Leads}
+use Rattle.text_io.proofs.Leading.{Leads}
 use Rattle.plant_drawing.specs.Atom.{variable_text}
 use Rattle.plant_drawing.proofs.atom.print_variables.Given as goal
 

@@ -1,7 +1,7 @@
 use Rattle.std.proofs.Common.{◌≡◌, ◌∙◌, ap, sym, subst, append-nil, OnOk}
 use Rattle.std.specs.Prelude.{flat_map}
 use Rattle.std.specs.Io.KnownBytes.{Appends}
-use Rattle.connector_lines.specs.Connectors.{node_tokens, children_tokens}
+use Rattle.connector_tree.specs.Tokens.{node_tokens, children_tokens}
 use Rattle.plant_drawing.specs.Connector.{port_edge}
 use Rattle.plant_drawing.proofs.Telling.{told-fusion}
 use Rattle.plant_drawing.proofs.connector.+edges.Goals as goal

@@ -1,8 +1,8 @@
 -- The edges of the children from this one on are left.
 use Rattle.std.proofs.Common.{drop}
 use Rattle.std.specs.Prelude.{flat_map}
-use Rattle.connector_lines.specs.Connectors.{children_tokens}
-use Rattle.run_text.proofs.Leading.{Leads}
+use Rattle.connector_tree.specs.Tokens.{children_tokens}
+use Rattle.text_io.proofs.Leading.{Leads}
 use Rattle.plant_drawing.specs.Connector.{port_edge}
 use Rattle.plant_drawing.proofs.connector.+edges.Given as goal
 

@@ -2,7 +2,7 @@ use Rattle.std.proofs.Common.{sym, subst, map, OnOk}
 use Rattle.std.specs.Prelude.{flat_map}
 use Rattle.std.specs.Io.KnownBytes.{Appends}
 use Rattle.petri_atom.specs.Atom.{definition_of}
-use Rattle.connector_lines.specs.Connectors.{node_tokens, children_tokens}
+use Rattle.connector_tree.specs.Tokens.{node_tokens, children_tokens}
 use Rattle.plant_drawing.specs.Connector.{spaced_word}
 use Rattle.plant_drawing.proofs.Telling.{bracket_told}
 use Rattle.plant_drawing.proofs.connector.+words.Goals as goal

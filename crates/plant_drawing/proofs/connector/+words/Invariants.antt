@@ -2,8 +2,8 @@
 use Rattle.std.proofs.Common.{drop, map}
 use Rattle.std.specs.Prelude.{flat_map}
 use Rattle.petri_atom.specs.Atom.{definition_of}
-use Rattle.connector_lines.specs.Connectors.{children_tokens}
-use Rattle.run_text.proofs.Leading.{Leads}
+use Rattle.connector_tree.specs.Tokens.{children_tokens}
+use Rattle.text_io.proofs.Leading.{Leads}
 use Rattle.plant_drawing.specs.Connector.{spaced_word}
 use Rattle.plant_drawing.proofs.connector.+words.Given as goal
 

@@ -1,8 +1,8 @@
 -- The atoms from this number on are left.
 use Rattle.std.proofs.Common.{drop, map}
 use Rattle.petri_atom.specs.Atom.{definition_of}
-use Rattle.run_text.specs.Line.{numbered}
-use Rattle.run_text.proofs.Leading.{Leads}
+use Rattle.text_io.specs.Numbered.{numbered}
+use Rattle.text_io.proofs.Leading.{Leads}
 use Rattle.plant_drawing.specs.Atom.{atom_lines}
 use Rattle.plant_drawing.proofs.plant.print_atoms.Given as goal
 

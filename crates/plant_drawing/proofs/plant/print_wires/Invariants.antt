@@ -2,8 +2,8 @@
 use Rattle.std.proofs.Common.{drop, map}
 use Rattle.petri_atom.specs.Atom.{definition_of}
 use Rattle.step_core.specs.Wire.{wire_of}
-use Rattle.run_text.specs.Line.{numbered}
-use Rattle.run_text.proofs.Leading.{Leads}
+use Rattle.text_io.specs.Numbered.{numbered}
+use Rattle.text_io.proofs.Leading.{Leads}
 use Rattle.plant_drawing.specs.Connector.{connector_lines}
 use Rattle.plant_drawing.proofs.plant.print_wires.Given as goal
 

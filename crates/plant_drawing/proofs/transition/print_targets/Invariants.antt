@@ -1,7 +1,7 @@
 -- The arrows of the places from this one on are left.
 use Rattle.std.proofs.Common.{drop}
 use Rattle.std.specs.Prelude.{flat_map}
-use Rattle.run_text.proofs.Leading.{Leads}
+use Rattle.text_io.proofs.Leading.{Leads}
 use Rattle.plant_drawing.specs.Atom.{target_edge}
 use Rattle.plant_drawing.proofs.transition.print_targets.Given as goal
 

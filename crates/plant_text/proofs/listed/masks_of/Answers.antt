@@ -1,6 +1,6 @@
 use Rattle.std.proofs.Common.{◌∙◌, sym}
 use Rattle.connector_tree.specs.Tree.{tree_of}
-use Rattle.connector_lines.proofs.Meaning.{interactions_written}
+use Rattle.connector_tree.proofs.TokenMeaning.{interactions_written}
 use Rattle.plant_text.proofs.listed.masks_of.Goals as goal
 
 pub returns-in-Ok-clause-masks : goal.returns-in-Ok-clause-masks

@@ -3,11 +3,12 @@ use Rattle.std.specs.Io.KnownBytes.{Appends}
 use Rattle.std.proofs.lemmas.List.{get_or_default}
 use Rattle.step_core.specs.System.{plant_of}
 use Rattle.step_core.specs.declared.choice.Move.{Move}
+use Rattle.text_io.specs.Numbered.{numbered}
+use Rattle.text_io.proofs.Leading.{Leads}
 use Rattle.run_text.specs.Csv.{participant_words}
-use Rattle.run_text.specs.Line.{numbered}
 use Rattle.run_text.specs.Told.{told_words}
 use Rattle.run_text.specs.Word.{after_words, separated_after, separated_by}
-use Rattle.run_text.proofs.Leading.{Leads, leads-numbered}
+use Rattle.run_text.proofs.Separating.{leads-numbered}
 use Rattle.run_text.proofs.csv.print_deliveries.Goals as goal
 
 -- atom 0 and its transition 0

@@ -1,12 +1,12 @@
 -- What the participants from this place on got is left.
 use Rattle.std.proofs.Common.{[], drop, get_or}
 use Rattle.step_core.specs.System.{plant_of}
+use Rattle.text_io.specs.Numbered.{numbered}
+use Rattle.text_io.specs.declared.format.Format.TheVariants.{Csv}
+use Rattle.text_io.proofs.Leading.{Leads}
 use Rattle.run_text.specs.Csv.{participant_words}
-use Rattle.run_text.specs.Line.{numbered}
 use Rattle.run_text.specs.Told.{told_words}
 use Rattle.run_text.specs.Word.{between_text, separated_after, separated_by}
-use Rattle.run_text.specs.declared.format.Format.TheVariants.{Csv}
-use Rattle.run_text.proofs.Leading.{Leads}
 use Rattle.run_text.proofs.csv.print_deliveries.Given as goal
 
 abbrev pub invariant-loop-place : goal.invariant-loop-place

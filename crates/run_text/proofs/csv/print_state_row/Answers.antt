@@ -3,10 +3,10 @@ use Rattle.std.specs.Prelude.{OnOk}
 use Rattle.std.specs.Io.KnownBytes.{Appends}
 use Rattle.std.proofs.KnownBytes.{Appends-trans}
 use Rattle.petri_atom.specs.Atom.{definition_of}
-use Rattle.run_text.specs.declared.format.Format.TheVariants.{Csv}
+use Rattle.text_io.specs.declared.format.Format.TheVariants.{Csv}
+use Rattle.text_io.proofs.Leading.{told-last}
 use Rattle.run_text.specs.Line.{places_text, value_words}
 use Rattle.run_text.specs.Word.{separated_by}
-use Rattle.run_text.proofs.Leading.{told-last}
 use Rattle.run_text.proofs.csv.print_state_row.Goals as goal
 
 pub returns : goal.returns

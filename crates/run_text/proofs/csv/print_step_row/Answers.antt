@@ -4,10 +4,11 @@ use Rattle.std.specs.Io.KnownBytes.{Appends}
 use Rattle.std.proofs.KnownBytes.{Appends-trans}
 use Rattle.step_core.specs.Chosen.{choice_of}
 use Rattle.step_core.specs.System.{plant_of}
-use Rattle.run_text.specs.Line.{participant, wire_name}
+use Rattle.step_core.specs.Plant.{wire_name}
+use Rattle.text_io.proofs.Leading.{told-last}
+use Rattle.run_text.specs.Line.{participant}
 use Rattle.run_text.specs.Told.{told_words}
 use Rattle.run_text.specs.Word.{separated_by}
-use Rattle.run_text.proofs.Leading.{told-last}
 use Rattle.run_text.proofs.csv.print_step_row.Goals as goal
 
 pub returns : goal.returns

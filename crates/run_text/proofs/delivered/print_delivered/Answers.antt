@@ -2,10 +2,11 @@ use Rattle.std.proofs.Common.{◌≡◌, ◌+◌, ◌<◌, ◌∙◌, ap, sym, s
 use Rattle.std.specs.Io.KnownBytes.{Appends}
 use Rattle.std.proofs.lemmas.List.{get_or_default}
 use Rattle.petri_atom.specs.Atom.{definition_of}
+use Rattle.text_io.specs.Numbered.{numbered}
+use Rattle.text_io.proofs.Leading.{Leads}
 use Rattle.run_text.specs.Delivered.{delivered_word, delivered_words, export_words, exports_by}
-use Rattle.run_text.specs.Line.{numbered}
 use Rattle.run_text.specs.Word.{after_words, between_text, separated_after}
-use Rattle.run_text.proofs.Leading.{Leads, after-numbered, leads-numbered}
+use Rattle.run_text.proofs.Separating.{after-numbered, leads-numbered}
 use Rattle.run_text.proofs.delivered.print_delivered.Goals as goal
 
 pub loop-export-preserved : goal.loop-export-preserved

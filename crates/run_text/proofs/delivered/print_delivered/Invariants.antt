@@ -1,10 +1,10 @@
 -- The exported variables from this place on are left, and what stands before the next word is told by them.
 use Rattle.std.proofs.Common.{◌≡◌, drop}
 use Rattle.petri_atom.specs.Atom.{definition_of}
+use Rattle.text_io.specs.Numbered.{numbered}
+use Rattle.text_io.proofs.Leading.{Leads}
 use Rattle.run_text.specs.Delivered.{delivered_word, delivered_words, exports_by}
-use Rattle.run_text.specs.Line.{numbered}
 use Rattle.run_text.specs.Word.{after_words, between_text, separated_after}
-use Rattle.run_text.proofs.Leading.{Leads}
 use Rattle.run_text.proofs.delivered.print_delivered.Given as goal
 
 abbrev pub invariant-loop-export : goal.invariant-loop-export

@@ -4,9 +4,10 @@ use Rattle.std.specs.Io.KnownBytes.{Appends}
 use Rattle.std.proofs.KnownBytes.{Appends-trans}
 use Rattle.petri_atom.specs.Atom.{definition_of}
 use Rattle.step_core.specs.System.{plant_of}
-use Rattle.run_text.specs.Line.{participant, wire_name}
+use Rattle.step_core.specs.Plant.{wire_name}
+use Rattle.text_io.proofs.Leading.{told-last}
+use Rattle.run_text.specs.Line.{participant}
 use Rattle.run_text.specs.Word.{separated_after}
-use Rattle.run_text.proofs.Leading.{told-last}
 use Rattle.run_text.proofs.Separating.{separated-each}
 use Rattle.run_text.proofs.fired.print_choice.Goals as goal
 

@@ -3,9 +3,9 @@ use Rattle.std.proofs.KnownBytes.{Appends-trans}
 use Rattle.std.proofs.lemmas.List.{drop_more}
 use Rattle.petri_atom.specs.Atom.{definition_of}
 use Rattle.step_core.specs.declared.choice.Move.{Move}
+use Rattle.text_io.proofs.Leading.{leads-more, leads-same}
 use Rattle.run_text.specs.Line.{participant}
 use Rattle.run_text.specs.Word.{separated_after}
-use Rattle.run_text.proofs.Leading.{leads-more, leads-same}
 use Rattle.run_text.proofs.fired.print_moves.Goals as goal
 
 -- atom 0 and its transition 0

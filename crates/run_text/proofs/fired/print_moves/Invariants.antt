@@ -1,9 +1,9 @@
 -- The participants from this place on are left.
 use Rattle.std.proofs.Common.{codes, drop, map}
 use Rattle.petri_atom.specs.Atom.{definition_of}
+use Rattle.text_io.proofs.Leading.{Leads}
 use Rattle.run_text.specs.Line.{participant}
 use Rattle.run_text.specs.Word.{separated_after}
-use Rattle.run_text.proofs.Leading.{Leads}
 use Rattle.run_text.proofs.fired.print_moves.Given as goal
 
 abbrev pub invariant-loop-step : goal.invariant-loop-step

@@ -5,7 +5,7 @@ use Rattle.std.proofs.lemmas.List.{get_or_default}
 use Rattle.step_core.specs.System.{plant_of}
 use Rattle.step_core.specs.declared.choice.Move.{Move}
 use Rattle.run_text.specs.Jsonl.{move_object}
-use Rattle.run_text.proofs.Leading.{leads-numbered}
+use Rattle.run_text.proofs.Separating.{leads-numbered}
 use Rattle.run_text.proofs.jsonl.print_participants.Goals as goal
 
 -- atom 0 and its transition 0

@@ -1,11 +1,11 @@
 -- The participants from this place on are left.
 use Rattle.std.proofs.Common.{[], ◌∷◌, codes, drop, get_or}
 use Rattle.step_core.specs.System.{plant_of}
+use Rattle.text_io.specs.Numbered.{numbered}
+use Rattle.text_io.proofs.Leading.{Leads}
 use Rattle.run_text.specs.Jsonl.{move_object}
-use Rattle.run_text.specs.Line.{numbered}
 use Rattle.run_text.specs.Told.{told_objects}
 use Rattle.run_text.specs.Word.{separated_after, separated_by}
-use Rattle.run_text.proofs.Leading.{Leads}
 use Rattle.run_text.proofs.jsonl.print_participants.Given as goal
 
 abbrev pub invariant-loop-place : goal.invariant-loop-place

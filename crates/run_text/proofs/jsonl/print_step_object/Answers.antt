@@ -3,10 +3,10 @@ use Rattle.std.specs.Io.KnownBytes.{Appends}
 use Rattle.std.proofs.KnownBytes.{Appends-trans}
 use Rattle.step_core.specs.Chosen.{choice_of}
 use Rattle.step_core.specs.System.{plant_of}
-use Rattle.run_text.specs.Line.{wire_name}
+use Rattle.step_core.specs.Plant.{wire_name}
+use Rattle.text_io.proofs.Leading.{told-last}
 use Rattle.run_text.specs.Told.{told_objects}
 use Rattle.run_text.specs.Word.{quoted, separated_by}
-use Rattle.run_text.proofs.Leading.{told-last}
 use Rattle.run_text.proofs.jsonl.print_step_object.Goals as goal
 
 pub returns : goal.returns

@@ -1,9 +1,10 @@
 -- The atoms from this number on are left.
 use Rattle.std.proofs.Common.{drop}
 use Rattle.step_core.specs.System.{plant_of}
+use Rattle.text_io.specs.Numbered.{numbered}
+use Rattle.text_io.proofs.Leading.{Leads}
 use Rattle.run_text.specs.Format.{atom_text, end_text}
-use Rattle.run_text.specs.Line.{numbered, state_text}
-use Rattle.run_text.proofs.Leading.{Leads}
+use Rattle.run_text.specs.Line.{state_text}
 use Rattle.run_text.proofs.states.print_end.Given as goal
 
 abbrev pub invariant-loop-number : goal.invariant-loop-number

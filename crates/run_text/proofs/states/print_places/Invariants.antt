@@ -1,8 +1,9 @@
 -- The marked places from this number on are left.
 use Rattle.std.proofs.Common.{drop}
-use Rattle.run_text.specs.Line.{marked_name, numbered, places_text}
+use Rattle.text_io.specs.Numbered.{numbered}
+use Rattle.text_io.proofs.Leading.{Leads}
+use Rattle.run_text.specs.Line.{marked_name, places_text}
 use Rattle.run_text.specs.Word.{between_text, separated_after}
-use Rattle.run_text.proofs.Leading.{Leads}
 use Rattle.run_text.proofs.states.print_places.Given as goal
 
 abbrev pub invariant-loop-number : goal.invariant-loop-number

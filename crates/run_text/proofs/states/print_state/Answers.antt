@@ -4,10 +4,10 @@ use Rattle.std.specs.Io.KnownBytes.{Appends}
 use Rattle.std.proofs.KnownBytes.{Appends-trans}
 use Rattle.petri_atom.specs.Atom.{definition_of}
 use Rattle.petri_atom.specs.Local.{value_in}
-use Rattle.run_text.specs.declared.format.Format.TheVariants.{Lines}
+use Rattle.text_io.specs.declared.format.Format.TheVariants.{Lines}
+use Rattle.text_io.proofs.Leading.{told-last}
 use Rattle.run_text.specs.Line.{places_text, value_words, values_text}
 use Rattle.run_text.specs.Word.{assigned_text, separated_after}
-use Rattle.run_text.proofs.Leading.{told-last}
 use Rattle.run_text.proofs.Separating.{separated-numbered}
 use Rattle.run_text.proofs.states.print_state.Goals as goal
 

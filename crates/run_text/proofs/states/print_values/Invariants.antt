@@ -1,8 +1,9 @@
 -- The variables from this number on are left.
 use Rattle.std.proofs.Common.{drop}
-use Rattle.run_text.specs.Line.{numbered, value_word, value_words}
+use Rattle.text_io.specs.Numbered.{numbered}
+use Rattle.text_io.proofs.Leading.{Leads}
+use Rattle.run_text.specs.Line.{value_word, value_words}
 use Rattle.run_text.specs.Word.{between_text, separated_after}
-use Rattle.run_text.proofs.Leading.{Leads}
 use Rattle.run_text.proofs.states.print_values.Given as goal
 
 abbrev pub invariant-loop-number : goal.invariant-loop-number

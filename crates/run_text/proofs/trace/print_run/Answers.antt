@@ -4,10 +4,10 @@ use Rattle.std.specs.Io.KnownBytes.{Appends}
 use Rattle.step_core.specs.Chosen.{choice_of}
 use Rattle.step_core.specs.Running.{plant_in, states_in}
 use Rattle.step_core.specs.Step.{next}
+use Rattle.text_io.proofs.Leading.{Leads, leads-same, told-left}
 use Rattle.run_text.specs.Format.{end_text}
 use Rattle.run_text.specs.Trace.{trace_from}
-use Rattle.run_text.proofs.Leading.{Leads, leads-same}
-use Rattle.run_text.proofs.Running.{leads-ended, leads-fired, leads-stuck, told-left}
+use Rattle.run_text.proofs.Running.{leads-ended, leads-fired, leads-stuck}
 use Rattle.run_text.proofs.trace.print_run.Goals.{else-loop-fired-test, then-loop-fired-test+in-None+in_ok-print_text-in-None}
 use Rattle.run_text.proofs.trace.print_run.Goals as goal
 
@@ -46,7 +46,7 @@ returns g c =
           (leads-ended format plant states (l.fired + 1) picks l.fired start _ all w.loop-fired-test.false l.invariant.left)
       | then-loop-fired-test+in-None+in_ok-print_text-in-None w ↦ subst (λ output. Leads start (g.W.Write.contents output) (end_text format plant states) all) (sym w.output-is)
           (leads-stuck format plant states (l.fired + 1) picks l.fired start _ _ all w.loop-fired-test.true (sym w.picked.ensures.choice ∙ ap (option_map choice_of) w.in-None.is) l.invariant.left
-          (subst (Appends _ _) w.stuck.ensures w.in_ok-print_text-in-None.ensures))
+          (subst (Appends _ _) w.stuck_text.ensures w.in_ok-print_text-in-None.ensures))
     ] in
     told-left c.print_end.result start now after _ all left
     (subst (λ text. OnOk c.print_end.result (Appends now after text)) (ap (λ p. end_text format p c.states.result.now) c.system.ensures.plant ∙ ap (end_text format plant) c.states.ensures.states) c.print_end.ensures)

@@ -1,8 +1,8 @@
 -- The run from the present states on, by the picks that are left, is left.
 use Rattle.std.proofs.Common.{◌≡◌, ◌+◌, drop}
 use Rattle.step_core.specs.Running.{plant_in, states_in}
+use Rattle.text_io.proofs.Leading.{Leads}
 use Rattle.run_text.specs.Trace.{trace_from}
-use Rattle.run_text.proofs.Leading.{Leads}
 use Rattle.run_text.proofs.trace.print_run.Given as goal
 
 abbrev pub invariant-loop-fired : goal.invariant-loop-fired

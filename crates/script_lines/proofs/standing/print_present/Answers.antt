@@ -5,8 +5,8 @@ use Rattle.std.proofs.lemmas.List.{get_or-map, length-map}
 use Rattle.petri_atom.specs.Atom.{definition_of}
 use Rattle.step_core.specs.System.{plant_of}
 use Rattle.plant_core.specs.Plants.{view_of}
+use Rattle.text_io.proofs.Leading.{leads-element}
 use Rattle.run_text.specs.Line.{state_line, state_text, states_text}
-use Rattle.run_text.proofs.Leading.{leads-element}
 use Rattle.script_lines.proofs.standing.print_present.Goals as goal
 
 pub loop-number-preserved : goal.loop-number-preserved

@@ -2,8 +2,9 @@
 use Rattle.std.proofs.Common.{drop}
 use Rattle.step_core.specs.System.{plant_of}
 use Rattle.plant_core.specs.Plants.{view_of}
-use Rattle.run_text.specs.Line.{numbered, state_line, state_text, states_text}
-use Rattle.run_text.proofs.Leading.{Leads}
+use Rattle.text_io.specs.Numbered.{numbered}
+use Rattle.text_io.proofs.Leading.{Leads}
+use Rattle.run_text.specs.Line.{state_line, state_text, states_text}
 use Rattle.script_lines.proofs.standing.print_present.Given as goal
 
 abbrev pub invariant-loop-number : goal.invariant-loop-number

@@ -2,8 +2,8 @@ use Rattle.std.proofs.Common.{◌∙◌, refl, ap, ◌∷◌, ◌++◌, ◌&&◌
 use Rattle.std.specs.Prelude.{nat_le}
 use Rattle.connector_tree.specs.Faults.{atoms}
 use Rattle.connector_tree.specs.declared.tree.TheConstants.{MAX_DEPTH}
+use Rattle.connector_tree.specs.Tokens.{ports_in}
 use Rattle.connector_lines.specs.declared.shape.Shape.{Shape}
-use Rattle.connector_lines.specs.Shape.{ports_in}
 use Rattle.connector_lines.specs.Judging.{is_too_wide_behind}
 use Rattle.connector_lines.proofs.Judging.{token_added, no_port}
 use Rattle.connector_lines.proofs.shape.Shape.add.Goals as goal

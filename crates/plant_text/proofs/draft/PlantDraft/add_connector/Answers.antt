@@ -1,8 +1,8 @@
 use Rattle.std.proofs.Common.{◌∙◌, sym, ap, ℕ, List, [], ◌∷◌, ◌++◌, Ok, Err}
 use Rattle.std.proofs.lemmas.Result.{IfOk-from_err}
-use Rattle.connector_lines.specs.Trees.{tree_in}
-use Rattle.connector_lines.specs.Connectors.{tokens_of}
+use Rattle.connector_tree.specs.Tokens.{tokens_of}
 use Rattle.connector_tree.specs.Tree.{tree_of}
+use Rattle.connector_lines.specs.Trees.{tree_in}
 use Rattle.step_core.specs.declared.limits.TheConstants.{MAX_WIRES}
 use Rattle.plant_text.specs.Draft.{drafted}
 use Rattle.plant_text.specs.Fault.{of_line}

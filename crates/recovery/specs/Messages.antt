@@ -1,0 +1,18 @@
+-- What is told where a device is not formatted, and where no plant is booted from it.
+use Rattle.std.specs.Prelude.{ℕ, List, codes}
+use Rattle.plant_image.specs.Messages.{message_of}
+use Rattle.recovery.specs.declared.fault.BootFault.{BootFault}
+use Rattle.recovery.specs.declared.fault.BootFault.TheVariants as boot
+use Rattle.recovery.specs.declared.fault.FormatFault.{FormatFault}
+use Rattle.recovery.specs.declared.fault.FormatFault.TheVariants as format
+
+-- what a fault of formatting says of the device to a person
+abbrev pub format_message : FormatFault → List ℕ
+format_message format.WrongSize = codes "it does not have the size that the plant and the ring ask for"
+format_message format.Disk = codes "the device failed"
+format_message format.Memory = codes "not enough memory to format it"
+
+-- what a fault of booting says of the device to a person
+abbrev pub boot_message : BootFault → List ℕ
+boot_message (boot.Image fault) = message_of fault
+boot_message boot.Disk = codes "the device failed"

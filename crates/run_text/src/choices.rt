@@ -1,0 +1,91 @@
+//! The list of what can be fired next.
+ghost use Rattle.std.specs.Prelude.{◌≡◌, ◌-◌, ◌≤◌, Err, OnOk, length, take};
+ghost use Rattle.std.specs.Io.KnownBytes.{Appends};
+ghost use Rattle.step_core.specs.Choice.{choices};
+ghost use Rattle.step_core.specs.Running.{plant_in, states_in};
+ghost use Rattle.step_core.specs.System.{plant_of};
+ghost use Rattle.run_text.specs.Choices.{choice_text, choices_after, choices_text, more_text, state_after};
+ghost use Rattle.text_io.specs.Numbered.{numbered};
+ghost use Rattle.run_text.specs.declared.fault.TraceFault.TheVariants.{Memory};
+
+use crate::fault::TraceFault;
+use crate::fired::print_choice;
+use crate::trace::picked;
+use std::alloc::Global;
+use std::io::Write;
+use step_core::{Stepper, System};
+use text_io::{WriteFault, end_line, print_text};
+
+/// How many choices of a state are listed at most.
+pub const MOST_LISTED: u64 = 1_000;
+
+/// Prints the choices that a plant has after some picks: from its first state on each pick is fired as
+/// [`trace_as`](crate::trace_as) fires it, and then [`print_choices`] lists the choices of the state at the end.
+pub fn print_choices_after<W: Write>(
+    alloc: Global,
+    system: &System,
+    picks: &[u64],
+    output: &mut W,
+) -> Result<(), TraceFault>
+    ensures choices { OnOk result (Appends (W.contents output.old) (W.contents output.new)
+        (choices_after (plant_of system.now) picks.now)) }
+    ensures nothing_written { result ≡ Err Memory → output.new ≡ output.old }
+{
+    let mut run = Stepper::first(alloc, system)?;
+    fire_picks(&mut run, picks);
+    print_choices(&run, output)?;
+    Ok(())
+}
+
+/// Prints the choices of the present state, each on a line: the number by which a pick takes it, from 0, its connector, and
+/// its participants. After [`MOST_LISTED`] of them one line says how many more there are. If there is no choice, the line is `stuck`.
+pub fn print_choices<W: Write>(run: &Stepper<'_>, output: &mut W) -> Result<(), WriteFault>
+    ensures { OnOk result (Appends (W.contents output.old) (W.contents output.new)
+        (choices_text (plant_in run.now) (choices (plant_in run.now) (states_in run.now)))) }
+{
+    let count = run.count();
+    if count == 0 {
+        return print_text(output, b"stuck\n");
+    }
+    let listed = count.min(u128::from(MOST_LISTED)) as u64;
+    print_listed(run, listed, output)?;
+    print_more(count - u128::from(listed), output)
+}
+
+/// Prints the first choices of the present state.
+fn print_listed<W: Write>(run: &Stepper<'_>, listed: u64, output: &mut W) -> Result<(), WriteFault>
+    requires { listed ≤ length (choices (plant_in run.now) (states_in run.now)) }
+    ensures { OnOk result (Appends (W.contents output.old) (W.contents output.new)
+        (numbered (choice_text (plant_in run.now)) 0 (take listed (choices (plant_in run.now) (states_in run.now))))) }
+{
+    let mut place = 0;
+    while place < listed {
+        print_choice(place, run.system(), &run.nth(u128::from(place)), output)?;
+        end_line(output)?;
+        place += 1;
+    }
+    Ok(())
+}
+
+/// Prints how many more choices there are, if there are any.
+fn print_more<W: Write>(more: u128, output: &mut W) -> Result<(), WriteFault>
+    ensures { OnOk result (Appends (W.contents output.old) (W.contents output.new) (more_text more)) }
+{
+    if more > 0 {
+        writeln!(output, "more {more}")?;
+    }
+    Ok(())
+}
+
+/// Fires the choice that each pick takes, until the picks end or nothing is possible.
+fn fire_picks(run: &mut Stepper<'_>, picks: &[u64])
+    ensures plant { plant_in run.new ≡ plant_in run.old }
+    ensures states { states_in run.new ≡ state_after (plant_in run.old) (states_in run.old) picks.now }
+{
+    for pick in picks {
+        match picked(run, *pick) {
+            Some(choice) => run.fire(&choice),
+            None => break,
+        }
+    }
+}
