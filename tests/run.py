@@ -23,7 +23,8 @@ A case is a folder tests/COMMAND/CASE. The program runs in a fresh copy of it, i
                       FILE is in use                      another program has the file open and locked
     any other     a file that the words may name; `about`, if there, says what the case shows
 
-Each run that examples/README.md shows is a case too, shown/WORDS, and so is each stop of tests/stops.py, stops/MOMENT.
+Each run that examples/README.md shows is a case too, shown/WORDS, and so is each stop of tests/stops.py, stops/MOMENT; and usage/version_of_the_kit,
+by which the version of the program names the kit as `rt version` does.
 
 Words on the command line choose cases: `tests/run.py check` runs those whose COMMAND/CASE has `check` in it.
 """
@@ -182,12 +183,12 @@ class Case:
         return ran.returncode, ran.stdout, ran.stderr
 
 
-class Shown(Case):
-    """A run that examples/README.md shows: a block with the command, an empty line, and what is printed."""
+class Made(Case):
+    """A case without a folder."""
 
-    def __init__(self, words, printed):
-        self.name = f"shown/{words}"
-        self.files = {"args": words.replace(" ", "\n").encode(), "stdout": printed.encode()}
+    def __init__(self, name, words, files):
+        self.name = name
+        self.files = {"args": words.replace(" ", "\n").encode(), **files}
 
     def bytes_of(self, name):
         return self.files.get(name)
@@ -197,8 +198,16 @@ class Shown(Case):
 
 
 def shown_runs():
+    """The runs that examples/README.md shows: a block with the command, an empty line, and what is printed."""
     page = (ROOT / "examples" / "README.md").read_text()
-    return [Shown(*run) for run in re.findall(r"^```\n\./bip_run (.+)\n\n((?:.+\n)*)```$", page, re.M)]
+    runs = re.findall(r"^```\n\./bip_run (.+)\n\n((?:.+\n)*)```$", page, re.M)
+    return [Made(f"shown/{words}", words, {"stdout": printed.encode()}) for words, printed in runs]
+
+
+def version_of_the_kit():
+    """The program's version names the kit that proved it."""
+    kit = subprocess.run(["rt", "version"], stdout=subprocess.PIPE, check=True).stdout
+    return Made("usage/version_of_the_kit", "--version", {"stdout-has": kit})
 
 
 class Answers(unittest.TestCase):
@@ -223,7 +232,7 @@ class Answers(unittest.TestCase):
 
 def cases(words):
     """The cases whose name has one of the words in it; all, where there is no word."""
-    found = [Case(args.parent) for args in sorted(TESTS.glob("*/*/args"))] + shown_runs()
+    found = [Case(args.parent) for args in sorted(TESTS.glob("*/*/args"))] + shown_runs() + [version_of_the_kit()]
     return [case for case in found if not words or any(word in case.name for word in words)]
 
 

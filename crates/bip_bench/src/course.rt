@@ -1,35 +1,36 @@
 //! A run of random choices.
-ghost use Rattle.std.specs.Prelude.{◌≡◌, ◌≤◌, ◌<◌, ◌%◌};
+ghost use Rattle.std.specs.Prelude.{◌≡◌, ◌≤◌, ◌<◌, ◌%◌, length};
 ghost use Rattle.step_core.specs.Running.{plant_in};
 
 use crate::hash::Hash;
-use crate::picks::Picks;
-use run_text::print_states;
+use run_text::{Picks, RandomPicks, print_states};
 use step_core::Stepper;
 
-/// Fires so many choices, each by the next pick modulo how many there are, and says how many it fired: fewer only where
-/// nothing is possible any more.
-pub(crate) fn fire_steps(run: &mut Stepper<'_>, steps: u64, picks: &mut Picks) -> u64
-    ensures few { result ≤ steps }
+/// Fires a choice by each of the picks, modulo how many there are, and says how many it fired: fewer only if nothing is
+/// possible any more.
+pub(crate) fn fire_steps(run: &mut Stepper<'_>, picks: &mut RandomPicks) -> u64
+    ensures few { result ≤ length picks.old }
     ensures plant { plant_in run.new ≡ plant_in run.old }
 {
+    let steps = picks.count();
     for fired in 0..steps {
-        if !fire_step(run, picks) {
-            return fired;
+        match picks.next_pick() {
+            Some(pick) if fire_step(run, pick) => {}
+            _ => return fired,
         }
     }
     steps
 }
 
-/// Fires one choice by the next pick, and says whether there was one.
-fn fire_step(run: &mut Stepper<'_>, picks: &mut Picks) -> bool
+/// Fires one choice by the pick, and says whether there was one.
+fn fire_step(run: &mut Stepper<'_>, pick: u64) -> bool
     ensures plant { plant_in run.new ≡ plant_in run.old }
 {
     let count = run.count();
     if count == 0 {
         return false;
     }
-    let choice = run.nth(place_of(picks.next_pick(), count));
+    let choice = run.nth(place_of(pick, count));
     run.fire(&choice);
     true
 }

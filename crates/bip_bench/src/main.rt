@@ -3,7 +3,7 @@
 //! It measures the crates of the simulator, and is no part of what they promise; `bench/README.md` says how to run it.
 //!
 //! - `command`: the words of the command line.
-//! - `picks`: the random picks. `hash`: the hash that names a final state.
+//! - `hash`: the hash that names a final state.
 //! - `course`: a run of random choices. `report`: the line that is printed.
 //! - `process`: words, files, the clock, the standard output and error.
 #![tactic(auto)]
@@ -11,7 +11,6 @@
 mod command;
 mod course;
 mod hash;
-mod picks;
 mod process;
 mod report;
 

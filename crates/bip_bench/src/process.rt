@@ -1,9 +1,9 @@
 //! The program in its process: words, files, the clock, the standard output and error.
 use crate::command::{Command, Task, USAGE, read_command};
 use crate::course::{fire_steps, hash_of_states};
-use crate::picks::Picks;
 use crate::report::{Seconds, rate};
 use plant_text::read_plant;
+use run_text::RandomPicks;
 use std::alloc::Global;
 use std::io::Read;
 use std::rt::{Clock, Env, Files};
@@ -98,9 +98,9 @@ fn print_run<R: Clock + Print + AllocGlobal>(
     timed: bool,
 ) -> Result<(), Ending> {
     let mut run = Stepper::first(rt.alloc(), system).map_err(|_| Ending::System)?;
-    let mut picks = Picks::new(seed);
+    let mut picks = RandomPicks::new(seed, steps);
     let start = Instant::now(rt).map_err(|_| Ending::System)?;
-    let fired = fire_steps(&mut run, steps, &mut picks);
+    let fired = fire_steps(&mut run, &mut picks);
     let time = start.elapsed(rt).map_err(|_| Ending::System)?;
     let hash = hash_of_states(&run);
     let printed = if timed {

@@ -1,5 +1,8 @@
 //! The help of the commands.
 
+/// The version of the program, and the kit and the logic in which it is proved, as `rt version` names them.
+pub(crate) const VERSION: &str = "0.1.0 (proved with rattle-kit-13f logic dac8208d650f15bf)";
+
 pub(crate) const ABOUT: &str =
     "Reads the text of a plant, and says what stands in it, draws it or runs it.
 
@@ -74,7 +77,8 @@ pub(crate) const TRACE_ABOUT: &str = "Runs a plant from its first state, and pri
 Prints a line for each pick: the number of the interaction that it fires, its connector,
 and each participant as ATOM.PORT/TRANSITION. A pick takes the entry of the state's
 choices at the pick modulo their number. Where nothing is possible the line 'stuck' is
-printed, and the picks that follow are passed over. At the end there is a line for each
+printed, and the picks that follow are passed over. With --random N the picks are N random
+ones; the same seed gives the same run. At the end there is a line for each
 atom: its marked places, and its variables with their values.
 
 With --format csv the run is a table, with a row for each of these and a first row that

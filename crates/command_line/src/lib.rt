@@ -5,7 +5,7 @@
 //!
 //! - `words`: the commands, and how a request is read from the words. `help`: what is told of the commands.
 //! - `answer`: what `clap` says in place of a request, and how the program then ends.
-//! - `picks`: the words of a run's picks. `formats`: the words for the formats of a run. `ring`: the word for an image's room.
+//! - `picking`: how the choices of a run are picked. `picks`: the words of a run's picks. `formats`: the words for the formats of a run. `ring`: the word for an image's room.
 //!   `input`: the word for the standard input.
 //! - `request`: what is asked for.
 #![tactic(auto)]
@@ -14,6 +14,7 @@ mod answer;
 mod formats;
 mod help;
 mod input;
+mod picking;
 mod picks;
 mod request;
 mod ring;
@@ -21,6 +22,6 @@ mod words;
 
 pub use answer::Answered;
 pub use input::is_standard_input;
-pub use request::{ImageTask, Request, Task, Work};
+pub use request::{ImageTask, Picking, Request, Task, Work};
 pub use ring::RingLength;
 pub use words::read_request;

@@ -2,15 +2,24 @@
 use crate::ring::RingLength;
 use text_io::Format;
 
+/// How the choices of a run are picked.
+#[derive(Debug, Drop, PartialEq, Eq)]
+pub enum Picking {
+    /// One by one.
+    Given(Vec<u64>),
+    /// So many at random, by a seed.
+    Random(u64, u64),
+}
+
 /// What is to be done with a plant.
 #[derive(Debug, Drop, PartialEq, Eq)]
 pub enum Task {
     /// Its parts are counted.
     Check,
     /// It is run from its first state, by these picks, and the run is printed in this format.
-    Trace(Vec<u64>, Format),
+    Trace(Picking, Format),
     /// It is run from its first state by these picks, and what can be fired next is listed.
-    Choices(Vec<u64>),
+    Choices(Picking),
     /// It is drawn as a graph.
     Draw,
 }

@@ -5,11 +5,11 @@ use crate::help::{
     ABOUT, AFTER, CHECK_ABOUT, CHECK_AFTER, CHECK_BRIEF, CHOICES_ABOUT, CHOICES_AFTER,
     CHOICES_BRIEF, DRAW_ABOUT, DRAW_AFTER, DRAW_BRIEF, FORMAT_ABOUT, FORMAT_AFTER, FORMAT_BRIEF,
     RECOVER_ABOUT, RECOVER_AFTER, RECOVER_BRIEF, RUN_ABOUT, RUN_AFTER, RUN_BRIEF, TRACE_ABOUT,
-    TRACE_AFTER, TRACE_BRIEF,
+    TRACE_AFTER, TRACE_BRIEF, VERSION,
 };
 use crate::input::are_one_input;
-use crate::picks::{PickFault, read_picks};
-use crate::request::{ImageTask, Request, Task, Work};
+use crate::picking::{PickingFault, picking_named};
+use crate::request::{ImageTask, Picking, Request, Task, Work};
 use crate::ring::{RingLength, ring_named};
 use clap::builder::ValueParser;
 use clap::error::ErrorKind;
@@ -32,6 +32,10 @@ const LINES: &str = "lines";
 
 /// The formats in which a run is printed, as `format_named` knows them.
 const FORMATS: &[&str] = &[LINES, "csv", "jsonl"];
+
+const RANDOM: &str = "random";
+
+const SEED: &str = "seed";
 
 const RING: &str = "ring";
 
@@ -126,8 +130,8 @@ fn choices_request<'a>(
     program: &mut Command<'a>,
     found: &ArgMatches<'a>,
 ) -> Result<Request<'a>, Error> {
-    let picks = picks_given(alloc, program, found)?;
-    plant_request(program, found, Task::Choices(picks))
+    let picking = picking_given(alloc, program, found)?;
+    plant_request(program, found, Task::Choices(picking))
 }
 
 /// The request to run a plant from its first state.
@@ -136,20 +140,20 @@ fn trace_request<'a>(
     program: &mut Command<'a>,
     found: &ArgMatches<'a>,
 ) -> Result<Request<'a>, Error> {
-    let picks = picks_given(alloc, program, found)?;
-    plant_request(program, found, Task::Trace(picks, format_given(found)))
+    let picking = picking_given(alloc, program, found)?;
+    plant_request(program, found, Task::Trace(picking, format_given(found)))
 }
 
-/// The picks that are given.
-fn picks_given<'a>(
+/// How the choices of a run are picked.
+fn picking_given<'a>(
     alloc: Global,
     program: &mut Command<'a>,
     found: &ArgMatches<'a>,
-) -> Result<Vec<u64>, Error> {
-    match read_picks(alloc, found.get_strs(PICK).unwrap_or(&[])) {
-        Ok(picks) => Ok(picks),
-        Err(PickFault::NoPick(word)) => Err(no_pick(alloc, program, word)?),
-        Err(PickFault::Memory) => Err(Error::from(AllocError)),
+) -> Result<Picking, Error> {
+    let words = found.get_strs(PICK).unwrap_or(&[]);
+    match picking_named(alloc, words, found.get_str(RANDOM), found.get_str(SEED)) {
+        Ok(picking) => Ok(picking),
+        Err(fault) => Err(no_picking(alloc, program, fault)?),
     }
 }
 
@@ -196,10 +200,38 @@ fn path_given<'a>(
     }
 }
 
-/// The answer to a word that stands for a pick and is none.
-fn no_pick(alloc: Global, program: &mut Command<'_>, word: &str) -> Result<Error, AllocError> {
+/// The answer to words that do not say how choices are picked.
+fn no_picking(
+    alloc: Global,
+    program: &mut Command<'_>,
+    fault: PickingFault<'_>,
+) -> Result<Error, AllocError> {
+    match fault {
+        PickingFault::NoPick(word) => no_number(alloc, program, word, "[PICK]...", "a pick"),
+        PickingFault::NoCount(word) => no_number(alloc, program, word, "--random <N>", "a number"),
+        PickingFault::NoSeed(word) => no_number(alloc, program, word, "--seed <S>", "a seed"),
+        PickingFault::Both => program.error(
+            ErrorKind::ArgumentConflict,
+            "the picks are given, so they cannot be random too",
+        ),
+        PickingFault::SeedAlone => program.error(
+            ErrorKind::MissingRequiredArgument,
+            "a seed is for random picks, and '--random <N>' is missing",
+        ),
+        PickingFault::Memory => Ok(Error::from(AllocError)),
+    }
+}
+
+/// The answer to a word that must be a number of 64 bits and is none.
+fn no_number(
+    alloc: Global,
+    program: &mut Command<'_>,
+    word: &str,
+    argument: &str,
+    what: &str,
+) -> Result<Error, AllocError> {
     let message = format!(in alloc;
-        "invalid value '{word}' for '[PICK]...': a pick is digits alone, at most 18446744073709551615"
+        "invalid value '{word}' for '{argument}': {what} is digits alone, at most 18446744073709551615"
     )?;
     program.error(ErrorKind::ValueValidation, message.as_str())
 }
@@ -223,6 +255,7 @@ fn one_input(program: &mut Command<'_>) -> Result<Error, AllocError> {
 /// The program with its commands.
 fn program<'a>(alloc: Global) -> Result<Command<'a>, AllocError> {
     let program = Command::new(alloc, "bip_run")
+        .version(VERSION)
         .about(ABOUT)
         .after_help(AFTER)
         .subcommand_required(true)
@@ -271,7 +304,9 @@ fn choices_command<'a>(alloc: Global) -> Result<Command<'a>, AllocError> {
         .about(CHOICES_BRIEF)
         .long_about(CHOICES_ABOUT)
         .after_help(CHOICES_AFTER);
-    let command = with_argument(Ok(command), explain_argument(alloc));
+    let command = with_argument(Ok(command), random_argument(alloc));
+    let command = with_argument(command, seed_argument(alloc));
+    let command = with_argument(command, explain_argument(alloc));
     let command = with_argument(command, plant_argument(alloc));
     with_argument(command, pick_argument(alloc))
 }
@@ -283,6 +318,8 @@ fn trace_command<'a>(alloc: Global) -> Result<Command<'a>, AllocError> {
         .long_about(TRACE_ABOUT)
         .after_help(TRACE_AFTER);
     let command = with_argument(Ok(command), trace_format_argument(alloc));
+    let command = with_argument(command, random_argument(alloc));
+    let command = with_argument(command, seed_argument(alloc));
     let command = with_argument(command, explain_argument(alloc));
     let command = with_argument(command, plant_argument(alloc));
     with_argument(command, pick_argument(alloc))
@@ -379,6 +416,21 @@ fn trace_format_argument<'a>(alloc: Global) -> Arg<'a> {
         .value_parser(ValueParser::Names(FORMATS))
         .default_value(LINES)
         .help("How the run is printed")
+}
+
+/// The option that asks for random picks.
+fn random_argument<'a>(alloc: Global) -> Arg<'a> {
+    Arg::new(alloc, RANDOM)
+        .long(RANDOM)
+        .value_name("N")
+        .help("Picks at random, N times")
+}
+
+/// The option that says which random picks they are.
+fn seed_argument<'a>(alloc: Global) -> Arg<'a> {
+    Arg::new(alloc, SEED).long(SEED).value_name("S").help(
+        "Which random picks: the same seed gives the same ones; without it the seed is 1",
+    )
 }
 
 /// The argument of the picks.

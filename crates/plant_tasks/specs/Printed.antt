@@ -7,7 +7,10 @@ use Rattle.plant_text.specs.Text.{text_of}
 use Rattle.plant_text.specs.Meaning.{meaning}
 use Rattle.plant_drawing.specs.Drawing.{drawing_of}
 use Rattle.run_text.specs.Choices.{choices_after}
+use Rattle.run_text.specs.Picks.{random_picks}
 use Rattle.run_text.specs.Trace.{trace_in}
+use Rattle.command_line.specs.declared.request.Picking.{Picking}
+use Rattle.command_line.specs.declared.request.Picking.TheVariants.{Given, Random}
 use Rattle.command_line.specs.declared.request.Task.{Task}
 use Rattle.command_line.specs.declared.request.Task.TheVariants.{Check, Choices, Trace, Draw}
 
@@ -21,11 +24,16 @@ counts_line plant =
     counted (codes "atoms ") (length plant.atoms) ++ counted (codes " connectors ") (length plant.wires) ++
     counted (codes " interactions ") (length (plant_interactions plant)) ++ counted (codes " rules ") (length plant.rules) ++ codes "\n"
 
+-- the picks of a run: those that are given, or random ones
+abbrev pub picks_said : Picking → List ℕ
+picks_said (Given picks) = picks.items
+picks_said (Random count seed) = random_picks seed count
+
 -- what a task prints of a plant
 abbrev pub printed_of : Task → PlantDefinition → List ℕ
 printed_of Check plant = counts_line plant
-printed_of (Choices picks) plant = choices_after plant picks.items
-printed_of (Trace picks format) plant = trace_in format plant picks.items
+printed_of (Choices picking) plant = choices_after plant (picks_said picking)
+printed_of (Trace picking format) plant = trace_in format plant (picks_said picking)
 printed_of Draw plant = drawing_of plant
 
 -- the bytes are the text of a plant, and what the task says of it was appended

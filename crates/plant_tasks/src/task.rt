@@ -6,16 +6,17 @@ ghost use Rattle.plant_text.specs.Meaning.{meaning};
 ghost use Rattle.plant_text.specs.Taken.{TakesFew};
 ghost use Rattle.plant_text.specs.Text.{text_of};
 ghost use Rattle.plant_text.specs.declared.fault.PlantFault.{PlantFault};
-ghost use Rattle.plant_tasks.specs.Printed.{printed_of, Prints};
+ghost use Rattle.run_text.specs.RunPicks.{picks_left};
+ghost use Rattle.plant_tasks.specs.Printed.{picks_said, printed_of, Prints};
 ghost use Rattle.plant_tasks.specs.Ending.{Tells, IsOfOutput};
 ghost use Rattle.plant_tasks.specs.declared.ending.PlantEnding.TheVariants.{Plant};
 
 use crate::counts::print_counts;
 use crate::ending::PlantEnding;
-use command_line::Task;
+use command_line::{Picking, Task};
 use plant_drawing::draw_to;
 use plant_text::{PlantFault, plant_of_text};
-use run_text::{print_choices_after, trace_as};
+use run_text::{GivenPicks, RandomPicks, RunPicks, print_choices_after, trace_by};
 use std::alloc::Global;
 use std::io::{Read, Write};
 use step_core::System;
@@ -79,11 +80,25 @@ fn print_task<W: Write>(
 {
     match task {
         Task::Check => print_counts(system, output)?,
-        Task::Choices(picks) => print_choices_after(alloc, system, picks, output)?,
-        Task::Trace(picks, format) => trace_as(alloc, system, picks, *format, output)?,
+        Task::Choices(picking) => {
+            print_choices_after(alloc, system, &mut picks_of(picking), output)?
+        }
+        Task::Trace(picking, format) => {
+            trace_by(alloc, system, &mut picks_of(picking), *format, output)?
+        }
         Task::Draw => draw_to(system, output)?,
     }
     Ok(())
+}
+
+/// The picks of a run.
+fn picks_of(picking: &Picking) -> RunPicks<'_>
+    ensures { picks_left result ≡ picks_said picking.now }
+{
+    match picking {
+        Picking::Given(picks) => RunPicks::Given(GivenPicks::of(picks)),
+        Picking::Random(count, seed) => RunPicks::Random(RandomPicks::new(*seed, *count)),
+    }
 }
 
 /// Hands on what the writer still keeps.

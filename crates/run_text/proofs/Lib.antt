@@ -3,5 +3,6 @@ pub mod Running
 pub mod Chosen
 pub mod Telling
 pub mod Listed
+pub mod Random
 mod Rows
 mod RunRows

@@ -14,6 +14,7 @@ use Rattle.priority_filter.specs.Decided.{is_overruled, is_below}
 use Rattle.step_core.specs.Step.{next}
 use Rattle.step_core.specs.declared.choice.Move.{Move}
 use Rattle.run_text.specs.Choices.{choices_after, more_text}
+use Rattle.run_text.specs.Picks.{random_picks}
 use Rattle.run_text.specs.Trace.{picked, trace_text}
 
 -- port 0 of an atom
@@ -101,3 +102,7 @@ choices_after_tick = refl
 three_more : more_text 3 ≡ codes "more 3\n"
 unfolding digits
 three_more = refl
+
+-- the first random picks of the seed 1, as the generator is published
+picks_of_the_seed_1 : random_picks 1 3 ≡ 5180492295206395165 ∷ 12380297144915551517 ∷ 13389498078930870103 ∷ []
+picks_of_the_seed_1 = refl

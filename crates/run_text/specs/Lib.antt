@@ -9,3 +9,5 @@ pub mod Trace
 pub mod Runs
 pub mod Message
 pub mod Choices
+pub mod Picks
+pub mod RunPicks

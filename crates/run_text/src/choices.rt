@@ -10,6 +10,7 @@ ghost use Rattle.run_text.specs.declared.fault.TraceFault.TheVariants.{Memory};
 
 use crate::fault::TraceFault;
 use crate::fired::print_choice;
+use crate::picks::Picks;
 use crate::trace::picked;
 use std::alloc::Global;
 use std::io::Write;
@@ -20,15 +21,15 @@ use text_io::{WriteFault, end_line, print_text};
 pub const MOST_LISTED: u64 = 1_000;
 
 /// Prints the choices that a plant has after some picks: from its first state on each pick is fired as
-/// [`trace_as`](crate::trace_as) fires it, and then [`print_choices`] lists the choices of the state at the end.
-pub fn print_choices_after<W: Write>(
+/// [`trace_by`](crate::trace_by) fires it, and then [`print_choices`] lists the choices of the state at the end.
+pub fn print_choices_after<P: Picks, W: Write>(
     alloc: Global,
     system: &System,
-    picks: &[u64],
+    picks: &mut P,
     output: &mut W,
 ) -> Result<(), TraceFault>
     ensures choices { OnOk result (Appends (W.contents output.old) (W.contents output.new)
-        (choices_after (plant_of system.now) picks.now)) }
+        (choices_after (plant_of system.now) (P.left picks.old))) }
     ensures nothing_written { result ≡ Err Memory → output.new ≡ output.old }
 {
     let mut run = Stepper::first(alloc, system)?;
@@ -78,12 +79,12 @@ fn print_more<W: Write>(more: u128, output: &mut W) -> Result<(), WriteFault>
 }
 
 /// Fires the choice that each pick takes, until the picks end or nothing is possible.
-fn fire_picks(run: &mut Stepper<'_>, picks: &[u64])
+fn fire_picks<P: Picks>(run: &mut Stepper<'_>, picks: &mut P)
     ensures plant { plant_in run.new ≡ plant_in run.old }
-    ensures states { states_in run.new ≡ state_after (plant_in run.old) (states_in run.old) picks.now }
+    ensures states { states_in run.new ≡ state_after (plant_in run.old) (states_in run.old) (P.left picks.old) }
 {
-    for pick in picks {
-        match picked(run, *pick) {
+    while let Some(pick) = picks.next_pick() {
+        match picked(run, pick) {
             Some(choice) => run.fire(&choice),
             None => break,
         }

@@ -6,7 +6,8 @@
 //! and steps. Contracts say that exactly this text was appended to a writer, where its type says which bytes it took; they
 //! say nothing of when a writer fails.
 //!
-//! - `trace`: [`trace_as`] fires what a list of picks chooses, and prints it in a format; [`trace_to`] prints the fixed lines.
+//! - `trace`: [`trace_by`] fires what picks choose, and prints it in a format; [`trace_as`] by a list of picks, [`trace_to`] in the
+//!   fixed lines. `picks`: where picks come from: a list, or random ones by a seed.
 //! - `fired`: [`print_choice`] prints a fired interaction, as `2 send A.t/0 B.u/0`.
 //! - `states`: [`print_states`] prints the states, as `state A [s] n=4`, [`print_state`] that of one atom; and the lines of the states in
 //!   each format.
@@ -28,6 +29,7 @@ mod fired;
 mod format;
 mod jsonl;
 pub mod laws;
+mod picks;
 mod states;
 mod trace;
 mod word;
@@ -35,5 +37,6 @@ mod word;
 pub use choices::{MOST_LISTED, print_choices, print_choices_after};
 pub use fault::TraceFault;
 pub use fired::print_choice;
+pub use picks::{GivenPicks, Picks, RandomPicks, RunPicks};
 pub use states::{print_state, print_states};
-pub use trace::{trace_as, trace_to};
+pub use trace::{trace_as, trace_by, trace_to};

@@ -16,6 +16,7 @@ use crate::fault::TraceFault;
 use crate::fired::print_choice;
 use crate::format::{head_text, stuck_text};
 use crate::jsonl::print_step_object;
+use crate::picks::{GivenPicks, Picks};
 use crate::states::print_end;
 use connector_tree::MAX_LEAVES;
 use petri_atom::Delivered;
@@ -42,10 +43,9 @@ pub fn trace_to<W: Write>(
     trace_as(alloc, system, picks, Format::Lines, output)
 }
 
-/// Prints the run of a plant from its first states on in a format: what stands before the run, for each pick the line of the
-/// interaction that it fires, and then the line of each atom's state.
+/// Prints the run of a plant from its first states on in a format, by picks that are given one by one.
 ///
-/// Picks are taken as [`trace_to`] takes them, whatever the format.
+/// What is printed, and how a pick is taken, is what [`trace_by`] says.
 pub fn trace_as<W: Write>(
     alloc: Global,
     system: &System,
@@ -57,6 +57,24 @@ pub fn trace_as<W: Write>(
         (trace_in format (plant_of system.now) picks.now)) }
     ensures nothing_written { result ≡ Err Memory → output.new ≡ output.old }
 {
+    trace_by(alloc, system, &mut GivenPicks::of(picks), format, output)
+}
+
+/// Prints the run of a plant from its first states on in a format: what comes before the run, for each pick the line of the
+/// interaction that it fires, and then the line of each atom's state.
+///
+/// Picks are taken as [`trace_to`] takes them, whatever the format. Memory is taken before the first pick, and none after it.
+pub fn trace_by<P: Picks, W: Write>(
+    alloc: Global,
+    system: &System,
+    picks: &mut P,
+    format: Format,
+    output: &mut W,
+) -> Result<(), TraceFault>
+    ensures trace { OnOk result (Appends (W.contents output.old) (W.contents output.new)
+        (trace_in format (plant_of system.now) (P.left picks.old))) }
+    ensures nothing_written { result ≡ Err Memory → output.new ≡ output.old }
+{
     let mut run = Stepper::first(alloc, system)?;
     print_text(output, head_text(format))?;
     print_run(&mut run, picks, format, output)?;
@@ -64,21 +82,25 @@ pub fn trace_as<W: Write>(
 }
 
 /// Prints the run from the present state on, and leaves the plant in the state at its end.
-fn print_run<W: Write>(
+fn print_run<P: Picks, W: Write>(
     run: &mut Stepper<'_>,
-    picks: &[u64],
+    picks: &mut P,
     format: Format,
     output: &mut W,
 ) -> Result<(), WriteFault>
     ensures { OnOk result (Appends (W.contents output.old) (W.contents output.new)
-        (trace_from format (plant_in run.old) (states_in run.old) 1 picks.now)) }
+        (trace_from format (plant_in run.old) (states_in run.old) 1 (P.left picks.old))) }
 {
     // One row for all steps: each writes it anew.
     let mut told = [Delivered::of([None, None, None, None]); MAX_LEAVES];
-    for (fired, pick) in picks.iter().enumerate() {
-        match picked(run, *pick) {
+    for fired in 0..picks.count() {
+        let pick = match picks.next_pick() {
+            Some(pick) => pick,
+            None => break,
+        };
+        match picked(run, pick) {
             Some(choice) => {
-                print_step(format, fired as u64 + 1, run, &choice, &mut told, output)?;
+                print_step(format, fired + 1, run, &choice, &mut told, output)?;
                 end_line(output)?;
             }
             None => {
