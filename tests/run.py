@@ -21,10 +21,13 @@ A case is a folder tests/COMMAND/CASE. The program runs in a fresh copy of it, i
                       FILE is EXAMPLE without LINE        the file is made: an example, but for one line
                       FILE has BYTES at PLACE             these bytes, to the base 16, go into the file behind the runs of `before`
                       FILE is in use                      another program has the file open and locked
+                      FILE is COUNT bytes long            the file is cut or gets zeros at its end, behind the runs of `before`
+                      FILE is a pipe                      the file is made, a pipe with a name
     any other     a file that the words may name; `about`, if there, says what the case shows
 
-Each run that examples/README.md shows is a case too, shown/WORDS, and so is each stop of tests/stops.py, stops/MOMENT; and usage/version_of_the_kit,
-by which the version of the program names the kit as `rt version` does.
+Each run that examples/README.md shows is a case too, shown/WORDS, and so is each stop of tests/stops.py, stops/MOMENT, each round of
+tests/images.py, texts.py and scripts.py, images/ROUND, texts/ROUND and scripts/ROUND, and usage/version_of_the_kit, by which the version of the program names the kit as
+`rt version` does.
 
 Words on the command line choose cases: `tests/run.py check` runs those whose COMMAND/CASE has `check` in it.
 """
@@ -42,7 +45,10 @@ import tty
 import unittest
 from pathlib import Path
 
+import images
+import scripts
 import stops
+import texts
 
 TESTS = Path(__file__).resolve().parent
 ROOT = TESTS.parent
@@ -59,6 +65,7 @@ BYTES = {"line feeds": b"\n", "spaces": b" ", "zeros": b"\0"}
 # The settings that are made behind the runs of `before`: FILE has BYTES at PLACE, and FILE is in use.
 PATCH = re.compile(r"(\S+) has ([0-9a-f]+) at (\d+)")
 IN_USE = re.compile(r"(\S+) is in use")
+LONG = re.compile(r"(\S+) is (\d+) bytes long")
 
 
 def built_program(words):
@@ -142,9 +149,11 @@ class Case:
                 (place / made[1]).write_text(without_line((ROOT / made[2]).read_text(), made[3]))
             elif given := re.fullmatch(r"memory of (\d+) KiB", line):
                 command = f"ulimit -d {given[1]} && {command}"
+            elif piped := re.fullmatch(r"(\S+) is a pipe", line):
+                os.mkfifo(place / piped[1])
             elif line in OUTPUTS:
                 command = f"{command} {OUTPUTS[line]}"
-            elif line != TERMINAL and not PATCH.fullmatch(line) and not IN_USE.fullmatch(line):
+            elif line != TERMINAL and not any(later.fullmatch(line) for later in (PATCH, IN_USE, LONG)):
                 raise ValueError(f"{self.name}: no such setting: {line}")
         return command
 
@@ -156,6 +165,8 @@ class Case:
         for line in self.lines_of("setting"):
             if patched := PATCH.fullmatch(line):
                 patch(place / patched[1], int(patched[3]), bytes.fromhex(patched[2]))
+            elif long := LONG.fullmatch(line):
+                os.truncate(place / long[1], int(long[2]))
 
     @contextlib.contextmanager
     def files_in_use(self, place):
@@ -238,6 +249,9 @@ def cases(words):
 
 def suite(chosen, words):
     tests = stops.suite(built_program, words)
+    tests.addTests(images.suite(built_program, words))
+    tests.addTests(texts.suite(built_program, words))
+    tests.addTests(scripts.suite(built_program, words))
     for case in chosen:
         setattr(Answers, f"test {case.name}", lambda self, case=case: self.check_case(case))
         tests.addTest(Answers(f"test {case.name}"))

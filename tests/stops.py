@@ -6,6 +6,7 @@ no less than the last that was told, and the run must go on from there. The stat
 and not by the program.
 """
 
+import signal
 import subprocess
 import tempfile
 import time
@@ -14,7 +15,9 @@ from pathlib import Path
 
 ROOT = Path(__file__).resolve().parent.parent
 PLANT = ROOT / "examples" / "sample.plant"
-MOMENTS = 20
+MOMENTS = 21
+# By what it is killed: the machine's own way, that of a service's manager, and that of a terminal.
+SIGNALS = [signal.SIGKILL, signal.SIGTERM, signal.SIGINT]
 FIRINGS = 4000
 # A run is killed behind so many flushes, and no later than so many seconds from its start.
 FLUSHES_APART = 6
@@ -52,7 +55,7 @@ def line_of(number, name):
 
 
 class Stops(unittest.TestCase):
-    """The run is killed at twenty moments."""
+    """The run is killed at some moments."""
 
     program = None
 
@@ -63,6 +66,7 @@ class Stops(unittest.TestCase):
 
     def killed_run(self, image, events, moment):
         """Runs the events, kills the program at the moment, and gives the whole lines that it had printed."""
+        ending = SIGNALS[moment % len(SIGNALS)]
         started = time.monotonic()
         words = ["run", str(PLANT), str(image), str(events)]
         with subprocess.Popen([str(self.program(words)), *words], stdout=subprocess.PIPE) as running:
@@ -74,9 +78,9 @@ class Stops(unittest.TestCase):
                     break
             # Not always at the same place behind a flush.
             time.sleep(moment % 5 / 5000)
-            running.kill()
+            running.send_signal(ending)
             lines += running.stdout.readlines()
-        self.assertEqual(running.returncode, -9, "the run ended before it was killed")
+        self.assertEqual(running.returncode, -ending, "the run ended before it was killed")
         return [line.decode().rstrip("\n") for line in lines if line.endswith(b"\n")]
 
     def check_moment(self, moment):
