@@ -24,6 +24,12 @@ FLUSHES_APART = 6
 LATEST = 0.4
 
 
+def hear_signals():
+    """The program is to hear each signal, also where the shell that began the tests passes some over."""
+    for ending in {signal.SIGTERM, signal.SIGINT}:
+        signal.signal(ending, signal.SIG_DFL)
+
+
 def script():
     """Some thousand events: ticks and sends by no short pattern, a flush behind some of them, and an atom that is asked for or stored, or a trim, behind others."""
     lines = []
@@ -69,7 +75,7 @@ class Stops(unittest.TestCase):
         ending = SIGNALS[moment % len(SIGNALS)]
         started = time.monotonic()
         words = ["run", str(PLANT), str(image), str(events)]
-        with subprocess.Popen([str(self.program(words)), *words], stdout=subprocess.PIPE) as running:
+        with subprocess.Popen([str(self.program(words)), *words], stdout=subprocess.PIPE, preexec_fn=hear_signals) as running:
             lines, flushes = [], 0
             for line in running.stdout:
                 lines.append(line)
