@@ -1,0 +1,5 @@
+pub mod Warned
+pub mod Mapped
+pub mod Leaves
+pub mod Within
+mod Rows

@@ -1,0 +1,11 @@
+pub mod Names
+pub mod Messages
+pub mod Lines
+pub mod Ports
+pub mod Places
+pub mod Reads
+pub mod Atoms
+pub mod Connectors
+pub mod Rules
+pub mod Warnings
+pub mod Report
