@@ -5,4 +5,4 @@ pub mod Telling
 pub mod Listed
 pub mod Random
 mod Rows
-mod RunRows
+pub mod RunRows

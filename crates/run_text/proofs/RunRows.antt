@@ -26,7 +26,7 @@ abbrev transfers : List TransferDefinition
 transfers = record { target = record { leaf = 1; export = 0 }; value = variable (record { leaf = 0; export = 0 }) } ∷ []
 
 -- A counts in n; B remembers in m what A had counted when both last met
-sample : PlantDefinition
+unfoldable pub sample : PlantDefinition
 sample = record {
   atoms = record {
     name = codes "A";

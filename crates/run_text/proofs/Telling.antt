@@ -14,7 +14,7 @@ use Rattle.text_io.specs.declared.format.Format.TheVariants.{Lines, Csv, Jsonl}
 use Rattle.run_text.specs.Csv.{fired_row, participant_words}
 use Rattle.run_text.specs.Format.{step_text}
 use Rattle.run_text.specs.Jsonl.{fired_object, move_object, participant_object}
-use Rattle.run_text.specs.Told.{told_each, told_text}
+use Rattle.run_text.specs.Told.{told_each, told_objects, told_text}
 
 -- where each element is said by its number as it is said by itself, all are
 numbered-each : {X Y : Type 0} (say : ℕ → X → List Y) (words : X → List Y) (n : ℕ) (xs : List X)
@@ -39,12 +39,16 @@ told-each say moves delivered rows told =
     (λ k m there. subst (λ place. say m (get_or rows place []) ≡ say m (delivered m.atom)) (let e : k ≡ k + 0 = omega arith in e)
     (ap (say m) (get_or_from_slice_get rows k (delivered m.atom) [] (told k m there))))
 
+-- the objects that are told are those of the participants
+pub told-participants : (plant : PlantDefinition) (states : List Local) (c : ChoiceDefinition) (rows : List Row)
+    → IsTold c.moves (transfer plant states c) rows → told_objects plant rows c.moves ≡ map (participant_object plant states c) c.moves
+told-participants plant states c rows told =
+    told-each (λ m d. move_object plant m d ∷ []) c.moves (transfer plant states c) rows told ∙ flat-single (participant_object plant states c) c.moves
+
 -- the line that is printed by the rows is the line of the choice
 pub told-line : (format : Format) (plant : PlantDefinition) (states : List Local) (number : ℕ) (c : ChoiceDefinition) (rows : List Row)
     → IsTold c.moves (transfer plant states c) rows → told_text format plant rows number c ≡ step_text format plant states number c
 told-line Lines plant states number c rows told = refl
 told-line Csv plant states number c rows told =
     ap (fired_row plant number c) (told-each (participant_words plant) c.moves (transfer plant states c) rows told)
-told-line Jsonl plant states number c rows told =
-    ap (fired_object plant number c)
-    (told-each (λ m d. move_object plant m d ∷ []) c.moves (transfer plant states c) rows told ∙ flat-single (participant_object plant states c) c.moves)
+told-line Jsonl plant states number c rows told = ap (fired_object plant number c) (told-participants plant states c rows told)

@@ -28,18 +28,30 @@ move_object plant m d = option_map_or (λ a. atom_object a m.transition d) (slic
 abbrev pub participant_object : PlantDefinition → List Local → ChoiceDefinition → Move → List ℕ
 participant_object plant states c m = move_object plant m (transfer plant states c m.atom)
 
--- a fired interaction: its number, its connector's name, and the objects of its participants
-abbrev pub fired_object : PlantDefinition → ℕ → ChoiceDefinition → List (List ℕ) → List ℕ
-fired_object plant number c participants =
+-- a fired interaction that is not closed yet: its number, its connector's name, and the objects of its participants
+abbrev pub fired_members : PlantDefinition → ℕ → ChoiceDefinition → List (List ℕ) → List ℕ
+fired_members plant number c participants =
     codes "{\"kind\":\"step\",\"number\":" ++ decimal number ++ codes ",\"connector\":" ++ quoted (wire_name plant c.connector) ++
-    codes ",\"participants\":[" ++ separated_by (codes ",") participants ++ codes "]}"
+    codes ",\"participants\":[" ++ separated_by (codes ",") participants ++ codes "]"
 
--- the same of a choice that is fired from these states
+-- a fired interaction
+abbrev pub fired_object : PlantDefinition → ℕ → ChoiceDefinition → List (List ℕ) → List ℕ
+fired_object plant number c participants = fired_members plant number c participants ++ codes "}"
+
+-- the same two of a choice that is fired from these states: not closed yet
+abbrev pub step_members : PlantDefinition → List Local → ℕ → ChoiceDefinition → List ℕ
+step_members plant states number c = fired_members plant number c (map (participant_object plant states c) c.moves)
+
+-- and closed
 abbrev pub step_object : PlantDefinition → List Local → ℕ → ChoiceDefinition → List ℕ
-step_object plant states number c = fired_object plant number c (map (participant_object plant states c) c.moves)
+step_object plant states number c = step_members plant states number c ++ codes "}"
 
--- an atom in a state: its name, its marked places, and its variables with their values
+-- what an object says of an atom in a state: its name, its marked places, and its variables with their values
+abbrev pub state_members : AtomDefinition → Local → List ℕ
+state_members a state =
+    codes "\"atom\":" ++ quoted a.name ++ codes ",\"places\":[" ++ places_text Jsonl state.marking a.places ++
+    codes "],\"variables\":{" ++ separated_by (codes ",") (value_words Jsonl state.values a.variables) ++ codes "}"
+
+-- an atom in a state
 abbrev pub state_object : AtomDefinition → Local → List ℕ
-state_object a state =
-    codes "{\"kind\":\"state\",\"atom\":" ++ quoted a.name ++ codes ",\"places\":[" ++ places_text Jsonl state.marking a.places ++
-    codes "],\"variables\":{" ++ separated_by (codes ",") (value_words Jsonl state.values a.variables) ++ codes "}}"
+state_object a state = codes "{\"kind\":\"state\"," ++ state_members a state ++ codes "}"

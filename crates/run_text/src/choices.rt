@@ -1,8 +1,9 @@
 //! The list of what can be fired next.
-ghost use Rattle.std.specs.Prelude.{◌≡◌, ◌-◌, ◌≤◌, Err, OnOk, length, take};
+ghost use Rattle.std.specs.Prelude.{◌≡◌, ◌-◌, ◌≤◌, Err, IfOk, OnOk, length, take};
 ghost use Rattle.std.specs.Io.KnownBytes.{Appends};
 ghost use Rattle.step_core.specs.Choice.{choices};
-ghost use Rattle.step_core.specs.Running.{plant_in, states_in};
+ghost use Rattle.step_core.specs.Running.{plant_in, states_in, system_in};
+ghost use Rattle.step_core.specs.Step.{initial_states};
 ghost use Rattle.step_core.specs.System.{plant_of};
 ghost use Rattle.run_text.specs.Choices.{choice_text, choices_after, choices_text, more_text, state_after};
 ghost use Rattle.text_io.specs.Numbered.{numbered};
@@ -12,7 +13,7 @@ use crate::fault::TraceFault;
 use crate::fired::print_choice;
 use crate::picks::Picks;
 use crate::trace::picked;
-use std::alloc::Global;
+use std::alloc::{AllocError, Global};
 use std::io::Write;
 use step_core::{Stepper, System};
 use text_io::{WriteFault, end_line, print_text};
@@ -32,10 +33,23 @@ pub fn print_choices_after<P: Picks, W: Write>(
         (choices_after (plant_of system.now) (P.left picks.old))) }
     ensures nothing_written { result ≡ Err Memory → output.new ≡ output.old }
 {
+    print_choices(&run_after(alloc, system, picks)?, output)?;
+    Ok(())
+}
+
+/// The plant after some picks: from its first state on each is fired as [`trace_by`](crate::trace_by) fires it.
+pub fn run_after<'s, P: Picks>(
+    alloc: Global,
+    system: &'s System,
+    picks: &mut P,
+) -> Result<Stepper<'s>, AllocError>
+    ensures system { IfOk result (λ run. system_in run ≡ system.now) }
+    ensures plant { IfOk result (λ run. plant_in run ≡ plant_of system.now) }
+    ensures states { IfOk result (λ run. states_in run ≡ state_after (plant_of system.now) (initial_states (plant_of system.now)) (P.left picks.old)) }
+{
     let mut run = Stepper::first(alloc, system)?;
     fire_picks(&mut run, picks);
-    print_choices(&run, output)?;
-    Ok(())
+    Ok(run)
 }
 
 /// Prints the choices of the present state, each on a line: the number by which a pick takes it, from 0, its connector, and
@@ -80,6 +94,7 @@ fn print_more<W: Write>(more: u128, output: &mut W) -> Result<(), WriteFault>
 
 /// Fires the choice that each pick takes, until the picks end or nothing is possible.
 fn fire_picks<P: Picks>(run: &mut Stepper<'_>, picks: &mut P)
+    ensures system { system_in run.new ≡ system_in run.old }
     ensures plant { plant_in run.new ≡ plant_in run.old }
     ensures states { states_in run.new ≡ state_after (plant_in run.old) (states_in run.old) (P.left picks.old) }
 {

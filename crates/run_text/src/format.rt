@@ -16,7 +16,7 @@ pub(crate) fn head_text(format: Format) -> &'static [u8]
 }
 
 /// The line that says that nothing is possible, with its end.
-pub(crate) fn stuck_text(format: Format) -> &'static [u8]
+pub fn stuck_text(format: Format) -> &'static [u8]
     ensures { result.now ≡ stuck_text format }
 {
     match format {

@@ -5,7 +5,7 @@ ghost use Rattle.petri_atom.specs.Atom.{definition_of};
 ghost use Rattle.connector_tree.specs.declared.tree.TheConstants.{MAX_LEAVES};
 ghost use Rattle.step_core.specs.Chosen.{choice_of};
 ghost use Rattle.step_core.specs.System.{plant_of};
-ghost use Rattle.run_text.specs.Jsonl.{atom_object, fired_object, move_object, state_object};
+ghost use Rattle.run_text.specs.Jsonl.{atom_object, fired_members, fired_object, move_object, state_members, state_object};
 ghost use Rattle.run_text.specs.Line.{fired_port_name};
 ghost use Rattle.run_text.specs.Told.{told_objects};
 ghost use Rattle.run_text.specs.Word.{quoted, separated_by};
@@ -32,13 +32,29 @@ pub(crate) fn print_step_object<W: Write>(
     ensures { OnOk result (Appends (W.contents output.old) (W.contents output.new)
         (fired_object (plant_of system.now) number (choice_of choice.now) (told_objects (plant_of system.now) told.now choice.now.moves))) }
 {
+    print_step_members(number, system, choice, told, output)?;
+    print_text(output, b"}")
+}
+
+/// Prints the same object up to its closing brace, so that more members can follow.
+pub fn print_step_members<W: Write>(
+    number: u64,
+    system: &System,
+    choice: &Choice,
+    told: &[Delivered],
+    output: &mut W,
+) -> Result<(), WriteFault>
+    requires { MAX_LEAVES ≤ length told.now }
+    ensures { OnOk result (Appends (W.contents output.old) (W.contents output.new)
+        (fired_members (plant_of system.now) number (choice_of choice.now) (told_objects (plant_of system.now) told.now choice.now.moves))) }
+{
     print_text(output, b"{\"kind\":\"step\",\"number\":")?;
     print_number(output, number)?;
     print_text(output, b",\"connector\":")?;
     print_quoted(system.wire_name(choice.connector), output)?;
     print_text(output, b",\"participants\":[")?;
     print_participants(system, choice.moves.as_slice(), told, output)?;
-    print_text(output, b"]}")
+    print_text(output, b"]")
 }
 
 /// Prints the objects of the participants.
@@ -115,11 +131,26 @@ pub(crate) fn print_state_object<W: Write>(
     ensures { OnOk result (Appends (W.contents output.old) (W.contents output.new)
         (state_object (definition_of atom.now) state.now)) }
 {
-    print_text(output, b"{\"kind\":\"state\",\"atom\":")?;
+    print_text(output, b"{\"kind\":\"state\",")?;
+    print_state_members(atom, state, output)?;
+    print_text(output, b"}")
+}
+
+/// Prints the members of an object that say which atom is in which state: its name, the names of its marked places, and its
+/// variables with their values.
+pub fn print_state_members<W: Write>(
+    atom: &Atom,
+    state: &AtomState,
+    output: &mut W,
+) -> Result<(), WriteFault>
+    ensures { OnOk result (Appends (W.contents output.old) (W.contents output.new)
+        (state_members (definition_of atom.now) state.now)) }
+{
+    print_text(output, b"\"atom\":")?;
     print_quoted(atom.name().as_bytes(), output)?;
     print_text(output, b",\"places\":[")?;
     print_places(Format::Jsonl, atom.places(), state.places(), output)?;
     print_text(output, b"],\"variables\":{")?;
     print_values(Format::Jsonl, atom.variables(), state.values(), b"", output)?;
-    print_text(output, b"}}")
+    print_text(output, b"}")
 }

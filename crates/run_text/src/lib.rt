@@ -11,12 +11,17 @@
 //! - `fired`: [`print_choice`] prints a fired interaction, as `2 send A.t/0 B.u/0`.
 //! - `states`: [`print_states`] prints the states, as `state A [s] n=4`, [`print_state`] that of one atom; and the lines of the states in
 //!   each format.
-//! - `choices`: [`print_choices`] lists what can be fired next, as `0 tick A.t/0`; [`print_choices_after`] the same after some picks.
+//! - `choices`: [`print_choices`] lists what can be fired next, as `0 tick A.t/0`; [`print_choices_after`] the same after some picks, and
+//!   [`run_after`] is the plant then.
 //! - `csv` and `jsonl`: the rows, and the objects.
 //! - `delivered`: the values that a firing delivers, as words.
 //! - `format` and `word`: what in a run, and in a line, differs by the format alone.
 //! - `fault`: why a trace was not written to its end.
 //! - `laws`: what a printed run says of the plant.
+//!
+//! A crate that prints a run in another way takes the parts from here: [`picked`] is the choice that a pick takes; [`print_told`] and
+//! [`print_step_members`] print one that was fired, [`stuck_text`] says that there is none; [`print_places`], [`is_marked`], [`value_at`]
+//! and [`print_state_members`] read and print a state.
 //!
 //! Memory is taken only to make the plant that runs (its states, and what a step keeps), before anything is printed.
 #![tactic(auto)]
@@ -34,9 +39,11 @@ mod states;
 mod trace;
 mod word;
 
-pub use choices::{MOST_LISTED, print_choices, print_choices_after};
+pub use choices::{MOST_LISTED, print_choices, print_choices_after, run_after};
 pub use fault::TraceFault;
 pub use fired::print_choice;
+pub use format::stuck_text;
+pub use jsonl::{print_state_members, print_step_members};
 pub use picks::{GivenPicks, Picks, RandomPicks, RunPicks};
-pub use states::{print_state, print_states};
-pub use trace::{trace_as, trace_by, trace_to};
+pub use states::{is_marked, print_places, print_state, print_states, value_at};
+pub use trace::{picked, print_told, trace_as, trace_by, trace_to};

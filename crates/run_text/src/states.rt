@@ -92,7 +92,7 @@ pub fn print_state<W: Write>(
 }
 
 /// Prints the names of the marked places.
-pub(crate) fn print_places<W: Write>(
+pub fn print_places<W: Write>(
     format: Format,
     places: &[Place],
     marking: u64,
@@ -113,7 +113,7 @@ pub(crate) fn print_places<W: Write>(
 }
 
 /// Whether the place with this number is marked.
-fn is_marked(marking: u64, place: usize) -> bool
+pub fn is_marked(marking: u64, place: usize) -> bool
     ensures { result ≡ has marking place }
 {
     place < MAX_PLACES && (marking >> place) & 1 == 1
@@ -145,7 +145,7 @@ pub(crate) fn print_values<W: Write>(
 }
 
 /// The value of the variable with this number; 0 where there is none.
-fn value_at(values: &[i64], variable: usize) -> i64
+pub fn value_at(values: &[i64], variable: usize) -> i64
     ensures { result ≡ value_in values.now variable }
 {
     values.get(variable).copied().unwrap_or(0)

@@ -132,7 +132,7 @@ fn print_step<W: Write>(
 }
 
 /// Prints the line of a choice that was fired, without its end; `told` has at the place of each move what its atom got.
-fn print_told<W: Write>(
+pub fn print_told<W: Write>(
     format: Format,
     number: u64,
     system: &System,
@@ -151,7 +151,7 @@ fn print_told<W: Write>(
 }
 
 /// The choice that the pick takes; `None` where the present state has no choice.
-pub(crate) fn picked(run: &Stepper<'_>, pick: u64) -> Option<Choice>
+pub fn picked(run: &Stepper<'_>, pick: u64) -> Option<Choice>
     ensures choice { option_map choice_of result ≡ picked (plant_in run.now) (states_in run.now) pick }
     ensures allowed { IfSome result (λ choice. IsAllowed (plant_in run.now) (states_in run.now) (choice_of choice)) }
 {

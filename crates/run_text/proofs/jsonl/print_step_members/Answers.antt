@@ -7,7 +7,7 @@ use Rattle.step_core.specs.Plant.{wire_name}
 use Rattle.text_io.proofs.Leading.{told-last}
 use Rattle.run_text.specs.Told.{told_objects}
 use Rattle.run_text.specs.Word.{quoted, separated_by}
-use Rattle.run_text.proofs.jsonl.print_step_object.Goals as goal
+use Rattle.run_text.proofs.jsonl.print_step_members.Goals as goal
 
 pub returns : goal.returns
 returns g c =

@@ -1,0 +1,5 @@
+pub mod Stepping
+pub mod Telling
+pub mod OfAtoms
+pub mod Listing
+mod Rows

@@ -1,0 +1,14 @@
+-- The atoms from this number on are left.
+use Rattle.std.proofs.Common.{drop}
+use Rattle.step_core.specs.System.{plant_of}
+use Rattle.text_io.specs.Numbered.{numbered}
+use Rattle.text_io.proofs.Leading.{Leads}
+use Rattle.run_states.specs.Columns.{atom_columns, columns_of}
+use Rattle.run_states.specs.OfAtoms.{of_atom}
+use Rattle.run_states.proofs.columns.print_columns.Given as goal
+
+abbrev pub invariant-loop-number : goal.invariant-loop-number
+invariant-loop-number g l =
+    Leads (g.W.Write.contents l.initial.output) (g.W.Write.contents l.output)
+    (numbered (of_atom (λ n. atom_columns) l.states) l.number (drop l.number (plant_of l.system).atoms))
+    (columns_of (plant_of l.system) l.states)

@@ -1,0 +1,14 @@
+-- The atoms from this number on are left.
+use Rattle.std.proofs.Common.{drop}
+use Rattle.step_core.specs.System.{plant_of}
+use Rattle.text_io.specs.Numbered.{numbered}
+use Rattle.text_io.proofs.Leading.{Leads}
+use Rattle.run_states.specs.OfAtoms.{of_atom}
+use Rattle.run_states.specs.Values.{atom_values, values_of}
+use Rattle.run_states.proofs.values.print_values.Given as goal
+
+abbrev pub invariant-loop-number : goal.invariant-loop-number
+invariant-loop-number g l =
+    Leads (g.W.Write.contents l.initial.output) (g.W.Write.contents l.output)
+    (numbered (of_atom atom_values l.states) l.number (drop l.number (plant_of l.system).atoms))
+    (values_of (plant_of l.system) l.states)

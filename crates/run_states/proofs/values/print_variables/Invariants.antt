@@ -1,0 +1,12 @@
+-- The variables from this number on are left.
+use Rattle.std.proofs.Common.{drop}
+use Rattle.text_io.specs.Numbered.{numbered}
+use Rattle.text_io.proofs.Leading.{Leads}
+use Rattle.run_states.specs.Values.{variable_value_of}
+use Rattle.run_states.proofs.values.print_variables.Given as goal
+
+abbrev pub invariant-loop-number : goal.invariant-loop-number
+invariant-loop-number g l =
+    Leads (g.W.Write.contents l.initial.output) (g.W.Write.contents l.output)
+    (numbered (variable_value_of l.atom l.values) l.number (drop l.number l.variables))
+    (numbered (variable_value_of l.atom l.values) 0 l.variables)

@@ -1,0 +1,11 @@
+pub mod Steps
+pub mod OfAtoms
+pub mod Columns
+pub mod Objects
+pub mod States
+pub mod Told
+pub mod Signals
+pub mod Declarations
+pub mod Values
+pub mod Changes
+pub mod Waves

@@ -1,0 +1,62 @@
+-- A run with its states, in each format.
+use Rattle.std.specs.Prelude.{ℕ, List, [], ◌++◌, codes}
+use Rattle.petri_atom.specs.Local.{Local}
+use Rattle.step_core.specs.Plant.{PlantDefinition}
+use Rattle.step_core.specs.Choice.{ChoiceDefinition}
+use Rattle.step_core.specs.Step.{initial_states, next}
+use Rattle.text_io.specs.declared.format.Format.{Format}
+use Rattle.text_io.specs.declared.format.Format.TheVariants.{Lines, Csv, Jsonl}
+use Rattle.run_text.specs.Format.{step_text, stuck_text}
+use Rattle.run_text.specs.Jsonl.{step_members}
+use Rattle.run_text.specs.Line.{states_text}
+use Rattle.run_states.specs.Columns.{columns_of, names_of}
+use Rattle.run_states.specs.Objects.{states_end}
+use Rattle.run_states.specs.Steps.{told_from}
+
+-- what stands before the run: the names of the columns
+abbrev pub head_line : Format → PlantDefinition → List ℕ
+head_line Lines plant = []
+head_line Csv plant = names_of plant ++ codes "\n"
+head_line Jsonl plant = []
+
+-- a state: in lines of its own, as the columns that end a row, or as the member that ends an object
+abbrev pub present_part : Format → PlantDefinition → List Local → List ℕ
+present_part Lines plant states = states_text plant states
+present_part Csv plant states = columns_of plant states ++ codes "\n"
+present_part Jsonl plant states = states_end plant states
+
+-- what stands before the state at the start
+abbrev pub start_begin : Format → List ℕ
+start_begin Lines = []
+start_begin Csv = codes "start,,,,"
+start_begin Jsonl = codes "{\"kind\":\"start\""
+
+-- the state at the start
+abbrev pub start_lines : Format → PlantDefinition → List Local → List ℕ
+start_lines format plant states = start_begin format ++ present_part format plant states
+
+-- what stands before the state after a choice that is fired from these states: the choice as a trace prints it
+abbrev pub fired_begin : Format → PlantDefinition → List Local → ℕ → ChoiceDefinition → List ℕ
+fired_begin Lines plant states number c = step_text Lines plant states number c ++ codes "\n"
+fired_begin Csv plant states number c = step_text Csv plant states number c
+fired_begin Jsonl plant states number c = step_members plant states number c
+
+-- a choice that is fired from these states, and the state after it
+abbrev pub fired_lines : Format → PlantDefinition → List Local → ℕ → ChoiceDefinition → List ℕ
+fired_lines format plant states number c = fired_begin format plant states number c ++ present_part format plant (next plant states c)
+
+-- nothing is possible in these states; a row says them again
+abbrev pub stuck_lines : Format → PlantDefinition → List Local → List ℕ
+stuck_lines Lines plant states = stuck_text Lines
+stuck_lines Csv plant states = codes "stuck,,,," ++ present_part Csv plant states
+stuck_lines Jsonl plant states = stuck_text Jsonl
+
+-- the run from a state on, whose next fired interaction has this number, without that state
+abbrev pub states_from : Format → PlantDefinition → List Local → ℕ → List ℕ → List ℕ
+states_from format plant states number picks =
+    told_from (fired_lines format plant) (stuck_lines format plant) (λ number. []) plant states number picks
+
+-- the run of a plant from its first states on, with these states and behind what stands before it
+abbrev pub states_in : Format → PlantDefinition → List ℕ → List ℕ
+states_in format plant picks =
+    head_line format plant ++ start_lines format plant (initial_states plant) ++ states_from format plant (initial_states plant) 1 picks

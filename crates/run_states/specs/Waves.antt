@@ -1,0 +1,36 @@
+-- A run as a value change dump: time counts the interactions that are fired.
+use Rattle.std.specs.Prelude.{ℕ, List, ◌++◌, codes, decimal}
+use Rattle.petri_atom.specs.Local.{Local}
+use Rattle.step_core.specs.Plant.{PlantDefinition}
+use Rattle.step_core.specs.Choice.{ChoiceDefinition}
+use Rattle.step_core.specs.Step.{initial_states, next}
+use Rattle.run_states.specs.Changes.{changes_of}
+use Rattle.run_states.specs.Declarations.{declarations_of}
+use Rattle.run_states.specs.Steps.{told_from}
+use Rattle.run_states.specs.Values.{values_of}
+
+-- a time
+abbrev pub time_line : ℕ → List ℕ
+time_line time = codes "#" ++ decimal time ++ codes "\n"
+
+-- the values of all signals at the start
+abbrev pub start_values : PlantDefinition → List Local → List ℕ
+start_values plant states = codes "#0\n$dumpvars\n" ++ values_of plant states ++ codes "$end\n"
+
+-- the time of a choice that is fired from these states, and what it changes
+abbrev pub step_changes : PlantDefinition → List Local → ℕ → ChoiceDefinition → List ℕ
+step_changes plant states time c = time_line time ++ changes_of plant states (next plant states c)
+
+-- nothing is possible
+abbrev pub stuck_line : List ℕ
+stuck_line = codes "$comment stuck $end\n"
+
+-- the changes from a state on, the next of them at this time; then one more time, so that the last state has a width
+abbrev pub waves_from : PlantDefinition → List Local → ℕ → List ℕ → List ℕ
+waves_from plant states time picks =
+    told_from (step_changes plant) (λ states. stuck_line) time_line plant states time picks
+
+-- the run of a plant from its first states on
+abbrev pub waves_of : PlantDefinition → List ℕ → List ℕ
+waves_of plant picks =
+    declarations_of plant ++ start_values plant (initial_states plant) ++ waves_from plant (initial_states plant) 1 picks

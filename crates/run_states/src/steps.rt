@@ -1,0 +1,109 @@
+//! The steps of a run, each with the state after it.
+ghost use Rattle.std.specs.Prelude.{◌≡◌, OnOk};
+ghost use Rattle.std.specs.Io.KnownBytes.{Appends};
+ghost use Rattle.step_core.specs.Choice.{IsAllowed};
+ghost use Rattle.step_core.specs.Chosen.{choice_of};
+ghost use Rattle.step_core.specs.Fitting.{IsOf};
+ghost use Rattle.step_core.specs.Running.{plant_in, states_in};
+ghost use Rattle.step_core.specs.Step.{next};
+ghost use Rattle.step_core.specs.System.{plant_of};
+ghost use Rattle.run_states.specs.States.{fired_lines, states_from, stuck_lines};
+ghost use Rattle.run_states.specs.Told.{told_begin};
+
+use crate::present::print_present;
+use connector_tree::MAX_LEAVES;
+use petri_atom::Delivered;
+use run_text::{Picks, picked, print_step_members, print_told, stuck_text};
+use std::io::Write;
+use step_core::{Choice, PlantState, Stepper, System};
+use text_io::{Format, WriteFault, end_line, print_text};
+
+/// Prints the run from the present state on, without that state.
+pub(crate) fn print_steps<P: Picks, W: Write>(
+    run: &mut Stepper<'_>,
+    picks: &mut P,
+    format: Format,
+    output: &mut W,
+) -> Result<(), WriteFault>
+    ensures { OnOk result (Appends (W.contents output.old) (W.contents output.new)
+        (states_from format (plant_in run.old) (states_in run.old) 1 (P.left picks.old))) }
+{
+    // One row for all steps: each writes it anew.
+    let mut told = [Delivered::of([None, None, None, None]); MAX_LEAVES];
+    for fired in 0..picks.count() {
+        let pick = match picks.next_pick() {
+            Some(pick) => pick,
+            None => break,
+        };
+        match picked(run, pick) {
+            Some(choice) => print_step(format, fired + 1, run, &choice, &mut told, output)?,
+            None => {
+                print_stuck(format, run.system(), run.states(), output)?;
+                break;
+            }
+        }
+    }
+    Ok(())
+}
+
+/// Fires a choice of the present state, and prints it with the state after it; `told` is for what it delivers.
+fn print_step<W: Write>(
+    format: Format,
+    number: u64,
+    run: &mut Stepper<'_>,
+    choice: &Choice,
+    told: &mut [Delivered; MAX_LEAVES],
+    output: &mut W,
+) -> Result<(), WriteFault>
+    requires { IsAllowed (plant_in run.old) (states_in run.old) (choice_of choice.now) }
+    ensures plant { plant_in run.new ≡ plant_in run.old }
+    ensures next { states_in run.new ≡ next (plant_in run.old) (states_in run.old) (choice_of choice.now) }
+    ensures printed { OnOk result (Appends (W.contents output.old) (W.contents output.new)
+        (fired_lines format (plant_in run.old) (states_in run.old) number (choice_of choice.now))) }
+{
+    run.fire_telling(choice, told);
+    print_begin(format, number, run.system(), choice, told, output)?;
+    print_present(format, run.system(), run.states(), output)
+}
+
+/// Prints a choice that was fired, up to where the state after it follows; `told` has at the place of each move what its atom got.
+fn print_begin<W: Write>(
+    format: Format,
+    number: u64,
+    system: &System,
+    choice: &Choice,
+    told: &[Delivered; MAX_LEAVES],
+    output: &mut W,
+) -> Result<(), WriteFault>
+    ensures { OnOk result (Appends (W.contents output.old) (W.contents output.new)
+        (told_begin format (plant_of system.now) told.now number (choice_of choice.now))) }
+{
+    match format {
+        Format::Lines => {
+            print_told(Format::Lines, number, system, choice, told, output)?;
+            end_line(output)
+        }
+        Format::Csv => print_told(Format::Csv, number, system, choice, told, output),
+        Format::Jsonl => print_step_members(number, system, choice, told, output),
+    }
+}
+
+/// Prints that nothing is possible in the state.
+fn print_stuck<W: Write>(
+    format: Format,
+    system: &System,
+    states: &PlantState,
+    output: &mut W,
+) -> Result<(), WriteFault>
+    requires { IsOf (plant_of system.now) states.now }
+    ensures { OnOk result (Appends (W.contents output.old) (W.contents output.new)
+        (stuck_lines format (plant_of system.now) states.now)) }
+{
+    match format {
+        Format::Lines | Format::Jsonl => print_text(output, stuck_text(format)),
+        Format::Csv => {
+            print_text(output, b"stuck,,,,")?;
+            print_present(Format::Csv, system, states, output)
+        }
+    }
+}
