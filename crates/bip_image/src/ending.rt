@@ -5,8 +5,9 @@ ghost use Rattle.bip_image.specs.Ending.{status_of};
 use command_line::{ImageTask, Request, Work};
 use file_disk::FileFault;
 use image_commands::ImageEnding;
-use plant_tasks::{PlantEnding, PlantTold};
+use plant_tasks::{PlantEnding, PlantTold, shown_path};
 use script_lines::ScriptFault;
+use std::alloc::{AllocError, Global};
 use std::fmt;
 
 /// Why the program ends without having done what it was asked for.
@@ -82,6 +83,45 @@ impl<'a> Paths<'a> {
             plant: request.plant,
             script,
             image,
+        }
+    }
+}
+
+/// The same paths, as they are shown.
+#[derive(Drop)]
+pub(crate) struct ShownPaths {
+    plant: String,
+    script: String,
+    image: String,
+}
+
+impl ShownPaths {
+    ghost use Rattle.std.specs.Prelude.{◌≡◌, IfOk, string_bytes};
+    ghost use Rattle.shown_fault.specs.Shown.{shown};
+
+    /// These paths, byte by byte as a line of a plant text is shown.
+    pub(crate) fn of(alloc: Global, paths: Paths<'_>) -> Result<Self, AllocError>
+        ensures plant { IfOk result (λ all. string_bytes all.plant ≡ shown paths.entry.plant.now) }
+        ensures script { IfOk result (λ all. string_bytes all.script ≡ shown paths.entry.script.now) }
+        ensures image { IfOk result (λ all. string_bytes all.image ≡ shown paths.entry.image.now) }
+    {
+        Ok(ShownPaths {
+            plant: shown_path(alloc, paths.plant)?,
+            script: shown_path(alloc, paths.script)?,
+            image: shown_path(alloc, paths.image)?,
+        })
+    }
+
+    /// They are lent.
+    pub(crate) fn lend(&self) -> Paths<'_>
+        ensures plant { result.plant.now ≡ string_bytes self.now.plant }
+        ensures script { result.script.now ≡ string_bytes self.now.script }
+        ensures image { result.image.now ≡ string_bytes self.now.image }
+    {
+        Paths {
+            plant: &self.plant,
+            script: &self.script,
+            image: &self.image,
         }
     }
 }

@@ -2,15 +2,19 @@
 ghost use Rattle.std.specs.Prelude.{◌≡◌};
 ghost use Rattle.bip_image.specs.Ending.{status_of};
 
-use crate::ending::{Ending, More, Paths, Told, exit_status};
+use crate::ending::{Ending, More, Paths, ShownPaths, Told, exit_status};
 use crate::script::read_events;
 use command_line::{ImageTask, Request, Work, is_standard_input, read_request};
 use file_disk::{FileDisk, FileFault};
-use image_commands::{format_image, image_bytes, recover_image, run_image};
+use image_commands::{ImageEnding, format_image, image_bytes, recover_image, run_image};
 use plant_core::Event;
-use plant_tasks::{PlantEnding, ended, read_plant, show_fault, words_of_process};
+use plant_tasks::{
+    PlantEnding, Watched, ended, read_plant, tell_file_failure, tell_more, tell_output_failure,
+    words_of_process,
+};
+use std::alloc::Global;
 use std::fs::File;
-use std::io::{BufWriter, Write};
+use std::io::{BufWriter, Read, Write};
 use std::rt::{Env, Files};
 use std::{fs, io};
 use step_core::System;
@@ -45,22 +49,28 @@ fn serve<R: Files<File = File> + Input + Print + Eprint + AllocGlobal>(
     request: &Request<'_>,
     explain: bool,
 ) -> u8 {
+    let Ok(paths) = ShownPaths::of(rt.alloc(), Paths::of(request)) else {
+        return end(rt, Paths::none(), Err(Ending::OfPlant(PlantEnding::Memory)));
+    };
     let mut text = Vec::new(rt.alloc());
-    let ended = work(rt, request, &mut text);
-    let status = end(rt, Paths::of(request), ended);
+    let mut failure = None;
+    let ended = work(rt, request, &mut text, &mut failure);
+    let status = end(rt, paths.lend(), ended);
     if let Err(ending) = ended
         && (explain || request.explain)
     {
-        tell_more(rt, &text, ending);
+        tell_all(rt, ending, request.plant, &text, failure);
     }
     status
 }
 
-/// Does what was asked for, where it is a task on an image. The text of the plant is put into `text`.
+/// Does what was asked for, where it is a task on an image. The text of the plant is put into `text`, and a failure of the system into
+/// `failure`.
 fn work<R: Files<File = File> + Input + Print + Eprint + AllocGlobal>(
     rt: &R,
     request: &Request<'_>,
     text: &mut Vec<u8>,
+    failure: &mut Option<io::Error>,
 ) -> Result<(), Ending> {
     match &request.work {
         Work::OfPlant(_) => {
@@ -68,11 +78,15 @@ fn work<R: Files<File = File> + Input + Print + Eprint + AllocGlobal>(
             Err(Ending::OfPlant(PlantEnding::Usage))
         }
         Work::OnImage(image, task) => {
-            let mut output = BufWriter::new(rt.alloc(), io::writer(rt)).map_err(
+            let mut output = BufWriter::new(rt.alloc(), Watched::new(io::writer(rt))).map_err(
                 |_| PlantEnding::Memory,
             )?;
-            let system = plant_at(rt, request.plant, text)?;
-            work_on_image(rt, *task, &system, image, &mut output)
+            let system = plant_at(rt, request.plant, text, failure)?;
+            let ended = work_on_image(rt, *task, &system, image, &mut output, failure);
+            if let Some(error) = output.get_ref().failure() {
+                *failure = Some(error);
+            }
+            ended
         }
     }
 }
@@ -84,6 +98,7 @@ fn work_on_image<R: Files<File = File> + Input + AllocGlobal, W: Write>(
     system: &System,
     image: &str,
     output: &mut W,
+    failure: &mut Option<io::Error>,
 ) -> Result<(), Ending> {
     let alloc = rt.alloc();
     match task {
@@ -92,7 +107,7 @@ fn work_on_image<R: Files<File = File> + Input + AllocGlobal, W: Write>(
             format_image(alloc, system, ring.records, disk, output)?;
         }
         ImageTask::Run(script) => {
-            let events = script_at(rt, system, script)?;
+            let events = script_at(rt, system, script, failure)?;
             let disk = device_at(rt, image)?;
             run_image(alloc, system, &events, disk, output)?;
         }
@@ -104,30 +119,68 @@ fn work_on_image<R: Files<File = File> + Input + AllocGlobal, W: Write>(
     Ok(())
 }
 
-/// The plant that stands at the path. Its text is put into `text`.
+/// The plant that stands at the path. Its text is put into `text`, and a failure of its file into `failure`.
 fn plant_at<R: Files<File = File> + Input + AllocGlobal>(
     rt: &R,
     path: &str,
     text: &mut Vec<u8>,
+    failure: &mut Option<io::Error>,
 ) -> Result<System, PlantEnding> {
     if is_standard_input(path) {
-        return read_plant(rt.alloc(), &mut rt.reader(), text);
+        return plant_from(rt.alloc(), rt.reader(), text, failure);
     }
-    let mut file = fs::open(rt, path).map_err(|_| PlantEnding::Unopened)?;
-    read_plant(rt.alloc(), &mut file, text)
+    match fs::open(rt, path) {
+        Ok(file) => plant_from(rt.alloc(), file, text, failure),
+        Err(error) => {
+            *failure = Some(error);
+            Err(PlantEnding::Unopened)
+        }
+    }
 }
 
-/// The events that the script at the path asks of a plant of the system.
+/// The plant that a reader gives.
+fn plant_from<R: Read + Drop>(
+    alloc: Global,
+    reader: R,
+    text: &mut Vec<u8>,
+    failure: &mut Option<io::Error>,
+) -> Result<System, PlantEnding> {
+    let mut reader = Watched::new(reader);
+    let system = read_plant(alloc, &mut reader, text);
+    *failure = reader.failure();
+    system
+}
+
+/// The events that the script at the path asks of a plant of the system. A failure of its file is put into `failure`.
 fn script_at<R: Files<File = File> + Input + AllocGlobal>(
     rt: &R,
     system: &System,
     path: &str,
+    failure: &mut Option<io::Error>,
 ) -> Result<Vec<Event>, Ending> {
     if is_standard_input(path) {
-        return read_events(rt.alloc(), system, &mut rt.reader());
+        return script_from(rt.alloc(), system, rt.reader(), failure);
     }
-    let mut file = fs::open(rt, path).map_err(|_| Ending::ScriptUnread)?;
-    read_events(rt.alloc(), system, &mut file)
+    match fs::open(rt, path) {
+        Ok(file) => script_from(rt.alloc(), system, file, failure),
+        Err(error) => {
+            *failure = Some(error);
+            Err(Ending::ScriptUnread)
+        }
+    }
+}
+
+/// The events of the script that a reader gives.
+fn script_from<R: Read + Drop>(
+    alloc: Global,
+    system: &System,
+    reader: R,
+    failure: &mut Option<io::Error>,
+) -> Result<Vec<Event>, Ending> {
+    let mut reader = Watched::new(reader);
+    let events = read_events(alloc, system, &mut reader);
+    *failure = reader.failure();
+    events
 }
 
 /// The image that is at the path.
@@ -148,12 +201,22 @@ fn device_to_format<R: Files<File = File>>(
     }
 }
 
-/// Tells more of an ending than its line: of a plant's fault the line of the text, and of any other what it means.
-fn tell_more<R: Eprint + AllocGlobal>(rt: &R, text: &[u8], ending: Ending) {
-    if let Ending::OfPlant(PlantEnding::Plant(told)) = ending {
-        show_fault(rt, text, &told);
-    } else {
-        let _ = rt.eprint(More { ending });
+/// Tells more of an ending than its line: of a plant what [`tell_more`] tells, why a script could not be read or the output takes nothing, and
+/// of any other ending what it means.
+fn tell_all<R: Eprint + AllocGlobal>(
+    rt: &R,
+    ending: Ending,
+    plant: &str,
+    text: &[u8],
+    failure: Option<io::Error>,
+) {
+    match ending {
+        Ending::OfPlant(ending) => tell_more(rt, ending, plant, text, failure),
+        Ending::ScriptUnread => tell_file_failure(rt, failure),
+        Ending::Image(ImageEnding::Unwritten) => tell_output_failure(rt, failure),
+        Ending::Script(_) | Ending::ImageUnopened(_) | Ending::Image(_) => {
+            let _ = rt.eprint(More { ending });
+        }
     }
 }
 

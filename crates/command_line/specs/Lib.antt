@@ -1,5 +1,9 @@
-pub mod Formats
+pub mod Names
+pub mod Said
+pub mod Runs
 pub mod Picks
 pub mod Rings
 pub mod Inputs
 pub mod Pickings
+pub mod Asked
+pub mod Read

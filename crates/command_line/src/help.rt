@@ -3,6 +3,9 @@
 /// The version of the program, and the kit and the logic in which it is proved, as `rt version` names them.
 pub(crate) const VERSION: &str = "0.1.0 (proved with rattle-kit-13f logic dac8208d650f15bf)";
 
+pub(crate) const BRIEF: &str =
+    "Checks, draws and runs a plant, alone or on an image that lasts over any stop";
+
 pub(crate) const ABOUT: &str =
     "Reads the text of a plant, and says what stands in it, draws it or runs it.
 
@@ -33,7 +36,11 @@ pub(crate) const CHECK_BRIEF: &str = "Counts the parts of a plant";
 pub(crate) const CHECK_ABOUT: &str = "Counts the parts of a plant.
 
 Prints one line: how many atoms, connectors, interactions and priority rules the plant
-has. An interaction is a set of ports of one connector that may move together.";
+has. An interaction is a set of ports of one connector that may move together.
+
+With --warn there is a line more for each thing that is allowed and probably a mistake, as
+a port that no connector has, a place that is never marked, or a variable that nothing
+reads.";
 
 pub(crate) const CHECK_AFTER: &str = "Example:
   bip_run check examples/sample.plant
@@ -41,7 +48,7 @@ prints
   atoms 2 connectors 2 interactions 2 rules 0
 
 Exit status:
-  0  the counts are printed
+  0  the counts are printed, also where there are warnings
   1  the text is no plant; the standard error has 'plant line L: fault K NAME'
   2  the words of the command line were not understood
   3  a file ('file PATH'), the memory ('memory', or 'plant line 0: fault 15 Memory')
@@ -70,6 +77,25 @@ Exit status:
   3  a file ('file PATH'), the memory ('memory', or 'plant line 0: fault 15 Memory')
      or the standard output failed";
 
+pub(crate) const WHY_BRIEF: &str = "Tells why a connector can't be fired next";
+
+pub(crate) const WHY_ABOUT: &str =
+    "Tells why a connector can't be fired next, in the first state or after some picks.
+
+Fires the picks as 'trace' does. Then it prints, for each connector that has no choice, a
+line for each reason: a port that offers nothing, a guard that is 0, or a connector that
+has priority. Nothing is printed if each connector can be fired.";
+
+pub(crate) const WHY_AFTER: &str = "Example:
+  bip_run why examples/light.plant
+
+Exit status:
+  0  the reasons are printed, also where there is none to tell
+  1  the text is no plant; the standard error has 'plant line L: fault K NAME'
+  2  the words of the command line were not understood
+  3  a file ('file PATH'), the memory ('memory', or 'plant line 0: fault 15 Memory')
+     or the standard output failed";
+
 pub(crate) const TRACE_BRIEF: &str = "Runs a plant from its first state, and prints the run";
 
 pub(crate) const TRACE_ABOUT: &str = "Runs a plant from its first state, and prints the run.
@@ -83,7 +109,10 @@ atom: its marked places, and its variables with their values.
 
 With --format csv the run is a table, with a row for each of these and a first row that
 names the columns; with --format jsonl it is a JSON object on each line. Both tell the
-values that each firing delivered, too.";
+values that each firing delivered, too. With --states the state is printed at the start
+and after each firing, and not at the end alone: in a table it is a column for the places
+of each atom, and one for each variable. With --format vcd the run is a value change dump,
+which viewers of waves as GTKWave show over time.";
 
 pub(crate) const TRACE_AFTER: &str = "Example:
   bip_run trace examples/sample.plant 0 1
@@ -114,11 +143,17 @@ Prints the text of a directed graph. Each atom is a frame with its places, its p
 its transitions; a place that is marked at first is filled. Each connector is a rounded
 box with its tree, its guards and its transfers, joined to its ports: by an arrow to a
 trigger, and by a line that ends in a dot to any other. A priority is a dashed arrow from
-the lower connector to the higher.";
+the lower connector to the higher.
+
+With --after the state after some picks is drawn, and each connector that can then be
+fired is green. With --only some atoms are drawn, and the connectors that join them. With
+--outline there is one node for each atom and for each connector, for large plants.";
 
 pub(crate) const DRAW_AFTER: &str = "Example:
   bip_run draw examples/sample.plant | dot -Tsvg -o sample.svg
 makes a picture of the plant. The program dot is part of Graphviz.
+  bip_run draw examples/sample.plant --only A,B --after 0 1
+draws both atoms in the state after two picks.
 
 Exit status:
   0  the graph is printed

@@ -3,25 +3,34 @@
 //! `read_request` gives what the words ask for. Where `clap` has something to say in its place, it is printed here, so that no
 //! crate above needs to know of `clap`:
 //!
-//! - `words`: the commands, and how a request is read from the words. `help`: what is told of the commands.
-//! - `answer`: what `clap` says in place of a request, and how the program then ends.
-//! - `picking`: how the choices of a run are picked. `picks`: the words of a run's picks. `formats`: the words for the formats of a run. `ring`: the word for an image's room.
-//!   `input`: the word for the standard input.
-//! - `request`: what is asked for.
+//! - `words`: how a request is read from the words. `names`: the words that name commands and options. `commands`, `arguments`: the
+//!   commands, as `clap` takes them. `help`: what is told of them.
+//! - `said`: what `clap` found of a command, part by part. `asked`: what that asks for.
+//! - `picking`: how the choices of a run are picked. `picks`: the words of a run's picks. `runs`: the words for how a run is printed.
+//!   `ring`: the word for an image's room. `input`: the word for the standard input.
+//! - `answer`: what `clap` says in place of a request, and how the program then ends. `request`: what is asked for.
+//!
+//! `request_of` has the contract that its request is what the words of the command ask for that `clap` found; which words these are is
+//! `clap`'s to say, and tests show it.
 #![tactic(auto)]
 
 mod answer;
-mod formats;
+mod arguments;
+mod asked;
+mod commands;
 mod help;
 mod input;
+mod names;
 mod picking;
 mod picks;
 mod request;
 mod ring;
+mod runs;
+mod said;
 mod words;
 
 pub use answer::Answered;
 pub use input::is_standard_input;
-pub use request::{ImageTask, Picking, Request, Task, Work};
+pub use request::{Drawing, ImageTask, Picking, Request, Task, Work};
 pub use ring::RingLength;
 pub use words::read_request;

@@ -1,4 +1,5 @@
 pub mod Listing
-pub mod Seeking
-pub mod Telling
+pub mod Ordered
+pub mod Asking
+pub mod Breaking
 mod Rows

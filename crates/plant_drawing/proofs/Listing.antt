@@ -1,8 +1,11 @@
 -- Printing the elements of a list one by one.
-use Rattle.std.proofs.Common.{◌≡◌, ℕ, ◌+◌, ◌<◌, ◌∙◌, ap, sym, subst, List, map, length, drop, get_or}
+use Rattle.std.proofs.Common.{◌≡◌, ℕ, ◌+◌, ◌<◌, ◌∙◌, ap, sym, subst, List, ◌++◌, map, length, drop, get_or}
 use Rattle.std.specs.Prelude.{Option, flat_map}
 use Rattle.std.specs.Io.KnownBytes.{Appends}
-use Rattle.std.proofs.lemmas.List.{drop_more, get_or-map, length-map}
+use Rattle.std.proofs.lemmas.List.{drop_more, get_or-map, length-map, map-append}
+use Rattle.connector_tree.specs.Tokens.{children_tokens, node_tokens}
+use Rattle.connector_tree.specs.declared.token.Token.{Token}
+use Rattle.connector_tree.specs.declared.tree.Child.{Child}
 use Rattle.text_io.specs.Numbered.{numbered}
 use Rattle.text_io.proofs.Leading.{Leads, leads-element, leads-more, leads-same}
 
@@ -27,3 +30,12 @@ pub leads-mapped : {X D : Type 0} (f : X → D) (say : ℕ → D → List ℕ) (
 leads-mapped f say xs i x start now next all within here l p =
     let found : f x ≡ get_or (map f xs) i (f x) = ap f here ∙ sym (get_or-map f xs i x (f x) within) in
     leads-element say (map f xs) i (f x) start now next all (subst (λ n. i < n) (sym (length-map xs f)) within) found l p
+
+-- what is made of the tokens of a child comes before what is made of those of its siblings
+pub words-child : {Y : Type 0} (say : Token → Y) (children : List Child) (i : ℕ) (child : Child) → i < length children → child ≡ get_or children i child
+    → map say (children_tokens (drop i children)) ≡ map say (node_tokens child.node child.trigger) ++ map say (children_tokens (drop (i + 1) children))
+words-child say children i child within here =
+    let later = children_tokens (drop (i + 1) children) in
+    ap (λ cs. map say (children_tokens cs)) (drop_more children i child within)
+    ∙ ap (λ c. map say (node_tokens c.node c.trigger ++ later)) (sym here)
+    ∙ map-append say (node_tokens child.node child.trigger) later

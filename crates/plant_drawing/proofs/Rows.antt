@@ -1,28 +1,32 @@
 -- Worked lines of a drawing, as computed facts of the definitions.
-use Rattle.std.proofs.Common.{◌≡◌, ◌∷◌, [], ℕ, List, pos, negsuc, true, false, refl, codes}
+use Rattle.std.proofs.Common.{◌≡◌, ◌∷◌, [], ℕ, zero, suc, List, pos, negsuc, true, false, refl, codes}
 use Rattle.std.specs.Fmt.{digits}
+use Rattle.petri_atom.specs.Local.{Local}
 use Rattle.petri_atom.specs.Expression.{Tree, number, variable, negation, operation}
-use Rattle.petri_atom.specs.Definition.{AtomDefinition, variable_name}
+use Rattle.petri_atom.specs.Definition.{AtomDefinition}
 use Rattle.petri_atom.specs.declared.expression.Operator.TheVariants.{Add, LessOrEqual, And}
 use Rattle.petri_atom.specs.declared.parts.Variable.{Variable}
 use Rattle.connector_tree.specs.Tree as connectors
 use Rattle.connector_tree.specs.declared.tree.Port.{Port}
 use Rattle.priority_filter.specs.declared.rule.Side.TheVariants.{Whole, One}
 use Rattle.priority_filter.specs.declared.rule.Rule.TheVariants.{Under, Maximal}
-use Rattle.step_core.specs.Plant.{PlantDefinition}
-use Rattle.plant_drawing.specs.Expression.{expression_text}
-use Rattle.plant_drawing.specs.Atom.{atom_lines, place_line, port_line, transition_lines}
-use Rattle.plant_drawing.specs.Connector.{connector_lines, guard_line, transfer_line}
-use Rattle.plant_drawing.specs.Export.{export_name}
-use Rattle.plant_drawing.specs.Rule.{rule_line}
+use Rattle.step_core.specs.Plant.{PlantDefinition, WireDefinition}
+use Rattle.step_core.specs.Choice.{ChoiceDefinition}
+use Rattle.plant_drawing.specs.declared.filling.Filling.TheVariants.{Alike}
+use Rattle.plant_drawing.specs.Drawn.{has_choice}
+use Rattle.plant_drawing.specs.Wrapped.{wrapped}
+use Rattle.plant_drawing.specs.Atom.{atom_lines, guard_text, place_line, port_line, transition_lines}
+use Rattle.plant_drawing.specs.Connector.{connector_lines, drawn_connector, guard_line, transfer_line}
+use Rattle.plant_drawing.specs.Rule.{drawn_rule, rule_line}
 use Rattle.plant_drawing.specs.Drawing.{drawing_of}
+use Rattle.plant_drawing.specs.Outline.{connector_outline, outline_of}
 
--- places
-marked_place : place_line 0 3 (record { name = codes "p"; marked = true }) ≡ codes "    place_0_3 [shape=circle, margin=0.03, style=filled, label=\"p\"];\n"
+-- place 3 where places 0 and 3 are marked, and place 0 where place 1 alone is
+marked_place : place_line 9 0 3 (record { name = codes "p"; marked = false }) ≡ codes "    place_0_3 [shape=circle, margin=0.03, style=filled, label=\"p\"];\n"
 unfolding digits
 marked_place = refl
 
-unmarked_place : place_line 63 0 (record { name = codes "q"; marked = false }) ≡ codes "    place_63_0 [shape=circle, margin=0.03, label=\"q\"];\n"
+unmarked_place : place_line 2 63 0 (record { name = codes "q"; marked = true }) ≡ codes "    place_63_0 [shape=circle, margin=0.03, label=\"q\"];\n"
 unfolding digits
 unmarked_place = refl
 
@@ -40,6 +44,10 @@ sample = record {
   transitions = [];
 }
 
+-- a state in which n is 4 and m is -2
+abbrev later : Local
+later = record { marking = 0; values = pos 4 ∷ negsuc 1 ∷ [] }
+
 -- ports
 port_of_both : port_line 1 sample 2 (record { name = codes "t"; exports = 1 ∷ 0 ∷ [] }) ≡ codes "    port_1_2 [shape=ellipse, label=\"t m n\"];\n"
 unfolding sample digits
@@ -49,38 +57,43 @@ port_of_none : port_line 1 sample 0 (record { name = codes "t"; exports = [] }) 
 unfolding digits
 port_of_none = refl
 
--- an expression in prefix form
+-- a guard
 abbrev test : Tree ℕ
 test = operation And (operation LessOrEqual (variable 0) (number (negsuc 2))) (negation (variable 1))
 
-prefix_form : expression_text (variable_name sample) test ≡ codes "&& <= n -3 ! m"
-unfolding sample digits
-prefix_form = refl
-
 -- a transition of the atom from place 0 to places 0 and 1
 guarded : transition_lines 0 sample 4 (record { port = 0; sources = 0 ∷ []; targets = 0 ∷ 1 ∷ []; guard = test; updates = record { variable = 1; value = operation Add (variable 1) (number (pos 1)) } ∷ [] })
-    ≡ codes "    transition_0_4 [shape=box, label=\"t\\nwhen && <= n -3 ! m\\nm := + m 1\"];\n    port_0_0 -> transition_0_4 [style=dotted, arrowhead=none];\n    place_0_0 -> transition_0_4;\n    transition_0_4 -> place_0_0;\n    transition_0_4 -> place_0_1;\n"
+    ≡ codes "    transition_0_4 [shape=box, label=\"t/4\\nwhen && <= n -3 ! m\\nm := + m 1\"];\n    port_0_0 -> transition_0_4 [style=dotted, arrowhead=none];\n    place_0_0 -> transition_0_4;\n    transition_0_4 -> place_0_0;\n    transition_0_4 -> place_0_1;\n"
 unfolding sample digits
 guarded = refl
 
 -- a guard that is 1 is not told
 unguarded : transition_lines 0 sample 0 (record { port = 0; sources = 1 ∷ []; targets = 0 ∷ []; guard = number (pos 1); updates = [] })
-    ≡ codes "    transition_0_0 [shape=box, label=\"t\"];\n    port_0_0 -> transition_0_0 [style=dotted, arrowhead=none];\n    place_0_1 -> transition_0_0;\n    transition_0_0 -> place_0_0;\n"
+    ≡ codes "    transition_0_0 [shape=box, label=\"t/0\"];\n    port_0_0 -> transition_0_0 [style=dotted, arrowhead=none];\n    place_0_1 -> transition_0_0;\n    transition_0_0 -> place_0_0;\n"
 unfolding sample digits
 unguarded = refl
 
-cluster : atom_lines 2 sample ≡ codes "  subgraph cluster_2 {\n    label=\"A\\nn = 0\\nm = -2\";\n    port_2_0 [shape=ellipse, label=\"t\"];\n  }\n"
+cluster : atom_lines 2 sample later ≡ codes "  subgraph cluster_2 {\n    label=\"A\\nn = 4\\nm = -2\";\n    port_2_0 [shape=ellipse, label=\"t\"];\n  }\n"
 unfolding sample digits
 cluster = refl
 
--- the tree `A.t' [ A.t ]'`
+-- the connector c of the tree `A.t' [ A.t ]'`
 abbrev tree : connectors.Tree
 tree = connectors.child true (connectors.leaf 0 0) (connectors.child true (connectors.bracket (connectors.child false (connectors.leaf 0 0) connectors.no_child)) connectors.no_child)
 
-connector_with_a_bracket : connector_lines (sample ∷ []) 1 (record { name = codes "c"; connector = tree; guards = []; transfers = [] })
+abbrev wire : WireDefinition
+wire = record { name = codes "c"; connector = tree; guards = []; transfers = [] }
+
+connector_with_a_bracket : connector_lines (sample ∷ []) 1 false 1 wire
     ≡ codes "  connector_1 [shape=box, style=\"rounded,filled\", fillcolor=lightyellow, label=\"c\\n A.t' [ A.t ]' \"];\n  connector_1 -> port_0_0 [arrowhead=normal];\n  connector_1 -> port_0_0 [arrowhead=dot];\n"
 unfolding sample digits
 connector_with_a_bracket = refl
+
+-- the same in an outline
+outlined_connector : connector_outline 1 wire
+    ≡ codes "  connector_1 [shape=ellipse, style=filled, fillcolor=lightyellow, fontsize=10, margin=0.02, height=0.25, label=\"c\"];\n  connector_1 -> atom_0 [arrowhead=normal];\n  connector_1 -> atom_0 [arrowhead=dot];\n"
+unfolding digits
+outlined_connector = refl
 
 -- an atom B whose port u exports m and then n
 exporter : AtomDefinition
@@ -92,17 +105,32 @@ exporter = record {
   transitions = [];
 }
 
+-- the connector `A.t B.u`, where atom 1 alone is drawn, and it has a choice
+abbrev pair : WireDefinition
+pair = record { name = codes "d"; connector = connectors.child false (connectors.leaf 0 0) (connectors.child false (connectors.leaf 1 0) connectors.no_child); guards = []; transfers = [] }
+
+in_part : drawn_connector (sample ∷ exporter ∷ []) 2 (λ number. true) 0 pair
+    ≡ codes "  connector_0 [shape=box, style=\"rounded,filled\", fillcolor=palegreen, label=\"d\\n A.t B.u \"];\n  connector_0 -> port_1_0 [arrowhead=dot];\n"
+unfolding sample exporter digits
+in_part = refl
+
+-- where atom 1 alone is drawn, the connector of atom 0 is not
+not_drawn : drawn_connector (sample ∷ exporter ∷ []) 2 (λ number. true) 0 wire ≡ []
+not_drawn = refl
+
+-- the connectors of choices
+abbrev of_connector : ℕ → ChoiceDefinition
+of_connector k = record { connector = k; mask = 1; moves = [] }
+
+has_one : has_choice (of_connector 0 ∷ of_connector 2 ∷ of_connector 2 ∷ []) 2 ≡ true
+has_one = refl
+
+has_none : has_choice (of_connector 0 ∷ of_connector 2 ∷ of_connector 2 ∷ []) 1 ≡ false
+has_none = refl
+
 -- leaf 0 is a port of A, and leaf 1 is B.u
 abbrev leaf_ports : List Port
 leaf_ports = record { atom = 0; port = 0 } ∷ record { atom = 1; port = 0 } ∷ []
-
-first_export : export_name (sample ∷ exporter ∷ []) leaf_ports (record { leaf = 1; export = 0 }) ≡ codes "B.m"
-unfolding sample exporter
-first_export = refl
-
-second_export : export_name (sample ∷ exporter ∷ []) leaf_ports (record { leaf = 1; export = 1 }) ≡ codes "B.n"
-unfolding sample exporter
-second_export = refl
 
 -- a guard clause and a transfer
 clause : guard_line (sample ∷ exporter ∷ []) leaf_ports (operation LessOrEqual (variable (record { leaf = 1; export = 1 })) (number (pos 2))) ≡ codes "\\nguard <= B.n 2"
@@ -113,29 +141,61 @@ transfer : transfer_line (sample ∷ exporter ∷ []) leaf_ports (record { targe
 unfolding sample exporter digits
 transfer = refl
 
--- rules between the connectors low and high
-module _ (connector : connectors.Tree) where
-  abbrev plant : PlantDefinition
-  plant = record {
-    atoms = [];
-    wires = record { name = codes "low"; connector = connector; guards = []; transfers = [] } ∷ record { name = codes "high"; connector = connector; guards = []; transfers = [] } ∷ [];
-    rules = [];
-  }
+-- ten columns are left: a word of nine goes there, and a further line begins before one of ten
+fits_just : wrapped 10 (codes "123456789" ∷ codes "n" ∷ []) ≡ codes " 123456789\\n    n"
+fits_just = refl
 
-  whole_sides : rule_line plant (Under (Whole 0) (Whole 1)) ≡ codes "  connector_0 -> connector_1 [style=dashed, color=firebrick, fontcolor=firebrick, label=\" low < high \"];\n"
-  unfolding digits
-  whole_sides = refl
+passes : wrapped 10 (codes "1234567890" ∷ codes "n" ∷ []) ≡ codes "\\n    1234567890 n"
+passes = refl
 
-  sides_by_masks : rule_line plant (Under (One 1 3) (One 1 255)) ≡ codes "  connector_1 -> connector_1 [style=dashed, color=firebrick, fontcolor=firebrick, label=\" high:3 < high:255 \"];\n"
-  unfolding digits
-  sides_by_masks = refl
+-- where nothing stands on a line yet, a word of 48 goes there
+alone : wrapped 48 (codes "123456789012345678901234567890123456789012345678" ∷ codes "n" ∷ []) ≡ codes " 123456789012345678901234567890123456789012345678\\n    n"
+alone = refl
 
-  maximal : rule_line plant (Maximal 1) ≡ codes "  connector_1 -> connector_1 [style=dashed, color=firebrick, fontcolor=firebrick, label=\" maximal \"];\n"
-  unfolding digits
-  maximal = refl
+-- behind `when` 44 columns are left, and ` && n && n ..` takes them in fives
+abbrev long : ℕ → Tree ℕ
+long zero = variable 0
+long (suc k) = operation And (variable 0) (long k)
+
+long_guard : guard_text sample (long 10) ≡ codes "\\nwhen && n && n && n && n && n && n && n && n &&\\n    n && n n"
+unfolding sample
+long_guard = refl
+
+-- rules between the connectors low, of atom 0, and high, of atom 1
+abbrev plant : PlantDefinition
+plant = record {
+  atoms = [];
+  wires = record { name = codes "low"; connector = connectors.child false (connectors.leaf 0 0) connectors.no_child; guards = []; transfers = [] }
+      ∷ record { name = codes "high"; connector = connectors.child false (connectors.leaf 1 0) connectors.no_child; guards = []; transfers = [] } ∷ [];
+  rules = [];
+}
+
+whole_sides : rule_line plant (Under (Whole 0) (Whole 1)) ≡ codes "  connector_0 -> connector_1 [style=dashed, color=firebrick, fontcolor=firebrick, label=\" low < high \"];\n"
+unfolding digits
+whole_sides = refl
+
+sides_by_masks : rule_line plant (Under (One 1 3) (One 1 255)) ≡ codes "  connector_1 -> connector_1 [style=dashed, color=firebrick, fontcolor=firebrick, label=\" high:3 < high:255 \"];\n"
+unfolding digits
+sides_by_masks = refl
+
+maximal : rule_line plant (Maximal 1) ≡ codes "  connector_1 -> connector_1 [style=dashed, color=firebrick, fontcolor=firebrick, label=\" maximal \"];\n"
+unfolding digits
+maximal = refl
+
+-- a rule is drawn where both of its connectors are
+rule_of_one_drawn : drawn_rule 2 plant (Under (Whole 0) (Whole 1)) ≡ []
+rule_of_one_drawn = refl
+
+rule_of_both_drawn : drawn_rule 3 plant (Under (Whole 0) (Whole 1)) ≡ rule_line plant (Under (Whole 0) (Whole 1))
+rule_of_both_drawn = refl
 
 -- a plant of the atom alone
-without_connectors : drawing_of (record { atoms = sample ∷ []; wires = []; rules = [] })
-    ≡ codes "digraph plant {\n  fontname=\"Helvetica\";\n  labelloc=b;\n  nodesep=0.4;\n  ranksep=0.6;\n  node [fontname=\"Helvetica\"];\n  edge [fontname=\"Helvetica\", fontsize=11];\n  subgraph cluster_0 {\n    label=\"A\\nn = 0\\nm = -2\";\n    port_0_0 [shape=ellipse, label=\"t\"];\n  }\n}\n"
+without_connectors : drawing_of (record { atoms = sample ∷ []; wires = []; rules = [] }) (later ∷ []) 1 Alike
+    ≡ codes "digraph plant {\n  fontname=\"Helvetica\";\n  labelloc=b;\n  nodesep=0.4;\n  ranksep=0.6;\n  node [fontname=\"Helvetica\"];\n  edge [fontname=\"Helvetica\", fontsize=11];\n  subgraph cluster_0 {\n    label=\"A\\nn = 4\\nm = -2\";\n    port_0_0 [shape=ellipse, label=\"t\"];\n  }\n}\n"
 unfolding sample digits
 without_connectors = refl
+
+outline : outline_of (record { atoms = sample ∷ []; wires = []; rules = [] })
+    ≡ codes "digraph plant {\n  fontname=\"Helvetica\";\n  labelloc=b;\n  nodesep=0.4;\n  ranksep=0.6;\n  node [fontname=\"Helvetica\"];\n  edge [fontname=\"Helvetica\", fontsize=11];\n  atom_0 [shape=box, label=\"A\"];\n}\n"
+unfolding sample digits
+outline = refl

@@ -1,19 +1,21 @@
--- An atom as a cluster: its variables in the label, and a node for each place, port and transition.
-use Rattle.std.specs.Prelude.{ℕ, Bool, if◌then◌else◌, List, [], ◌++◌, codes, decimal, flat_map}
+-- An atom in a state as a cluster: its variables in the label, and a node for each place, port and transition.
+use Rattle.std.specs.Prelude.{ℕ, ℤ, Bool, if◌then◌else◌, List, [], ◌++◌, codes, decimal, flat_map}
 use Rattle.std.specs.Fmt.{signed_decimal}
 use Rattle.petri_atom.specs.Expression.{Tree}
+use Rattle.petri_atom.specs.Local.{Local, has, value_in}
 use Rattle.petri_atom.specs.Definition.{AtomDefinition, PortDefinition, TransitionDefinition, UpdateDefinition, port_name, variable_name}
 use Rattle.petri_atom.specs.declared.parts.Place.{Place}
 use Rattle.petri_atom.specs.declared.parts.Variable.{Variable}
 use Rattle.text_io.specs.Numbered.{numbered}
 use Rattle.plant_drawing.specs.Node.{part_node}
-use Rattle.plant_drawing.specs.Expression.{expression_text, is_one}
+use Rattle.part_text.specs.Expression.{is_one}
+use Rattle.plant_drawing.specs.Wrapped.{assigned_words, columns_past, expression_words, wrapped}
 
--- a variable with its first value, on a line of its own
-abbrev pub variable_text : Variable → List ℕ
-variable_text v = codes "\\n" ++ v.name ++ codes " = " ++ signed_decimal v.first
+-- the variable with number k and its value, on a line of its own
+abbrev pub variable_text : List ℤ → ℕ → Variable → List ℕ
+variable_text values k v = codes "\\n" ++ v.name ++ codes " = " ++ signed_decimal (value_in values k)
 
--- how a place is filled that is marked at first, or is not
+-- how a place is filled that is marked, or is not
 abbrev pub fill_of : Bool → List ℕ
 fill_of marked = if marked then codes "style=filled, " else []
 
@@ -21,11 +23,11 @@ fill_of marked = if marked then codes "style=filled, " else []
 abbrev pub named : List ℕ → List ℕ
 named name = codes "label=\"" ++ name ++ codes "\"];\n"
 
--- a place is a circle, and a filled one where it is marked at first
-abbrev pub place_line : ℕ → ℕ → Place → List ℕ
-place_line atom k place =
+-- the place with number k is a circle, and a filled one where it is marked
+abbrev pub place_line : ℕ → ℕ → ℕ → Place → List ℕ
+place_line marking atom k place =
     codes "    " ++ part_node (codes "place") atom k ++ codes " [shape=circle, margin=0.03, " ++
-    fill_of place.marked ++ named place.name
+    fill_of (has marking k) ++ named place.name
 
 -- a port with the variables that it exports
 abbrev pub port_line : ℕ → AtomDefinition → ℕ → PortDefinition → List ℕ
@@ -36,22 +38,22 @@ port_line atom a k port =
 -- a guard, on a line of its own; nothing of one that is 1
 abbrev pub guard_text : AtomDefinition → Tree ℕ → List ℕ
 guard_text a guard =
-    if is_one guard then [] else codes "\\nwhen " ++ expression_text (variable_name a) guard
+    if is_one guard then [] else codes "\\nwhen" ++ wrapped (columns_past (codes "when")) (expression_words (variable_name a) guard)
 
 -- an update, on a line of its own
 abbrev pub update_text : AtomDefinition → UpdateDefinition → List ℕ
 update_text a u =
-    codes "\\n" ++ variable_name a u.variable ++ codes " := " ++ expression_text (variable_name a) u.value
+    codes "\\n" ++ variable_name a u.variable ++ wrapped (columns_past (variable_name a u.variable)) (assigned_words (variable_name a) u.value)
 
--- the name of a transition's port, its guard and its updates
-abbrev pub transition_label : AtomDefinition → TransitionDefinition → List ℕ
-transition_label a t =
-    port_name a t.port ++ guard_text a t.guard ++ flat_map (update_text a) t.updates
+-- the name of a transition's port and its own number, its guard and its updates
+abbrev pub transition_label : AtomDefinition → ℕ → TransitionDefinition → List ℕ
+transition_label a k t =
+    port_name a t.port ++ codes "/" ++ decimal k ++ guard_text a t.guard ++ flat_map (update_text a) t.updates
 
--- a transition is a box with its label
+-- the transition with number k is a box with its label
 abbrev pub transition_line : ℕ → AtomDefinition → ℕ → TransitionDefinition → List ℕ
 transition_line atom a k t =
-    codes "    " ++ part_node (codes "transition") atom k ++ codes " [shape=box, label=\"" ++ transition_label a t ++ codes "\"];\n"
+    codes "    " ++ part_node (codes "transition") atom k ++ codes " [shape=box, label=\"" ++ transition_label a k t ++ codes "\"];\n"
 
 -- the line from a port to one of its transitions
 abbrev pub firing_edge : ℕ → ℕ → ℕ → List ℕ
@@ -78,21 +80,21 @@ transition_edges atom k t =
 abbrev pub transition_lines : ℕ → AtomDefinition → ℕ → TransitionDefinition → List ℕ
 transition_lines atom a k t = transition_line atom a k t ++ transition_edges atom k t
 
--- the name of an atom, and its variables
-abbrev pub atom_label : AtomDefinition → List ℕ
-atom_label a = a.name ++ flat_map variable_text a.variables
+-- the name of an atom, and its variables with their values
+abbrev pub atom_label : AtomDefinition → Local → List ℕ
+atom_label a state = a.name ++ numbered (variable_text state.values) 0 a.variables
 
 -- the begin of the cluster of the atom with a number
-abbrev pub cluster_head : ℕ → AtomDefinition → List ℕ
-cluster_head atom a =
-    codes "  subgraph cluster_" ++ decimal atom ++ codes " {\n    label=\"" ++ atom_label a ++ codes "\";\n"
+abbrev pub cluster_head : ℕ → AtomDefinition → Local → List ℕ
+cluster_head atom a state =
+    codes "  subgraph cluster_" ++ decimal atom ++ codes " {\n    label=\"" ++ atom_label a state ++ codes "\";\n"
 
 -- its places, ports and transitions, in order
-abbrev pub cluster_parts : ℕ → AtomDefinition → List ℕ
-cluster_parts atom a =
-    numbered (place_line atom) 0 a.places ++ numbered (port_line atom a) 0 a.ports ++
+abbrev pub cluster_parts : ℕ → AtomDefinition → Local → List ℕ
+cluster_parts atom a state =
+    numbered (place_line state.marking atom) 0 a.places ++ numbered (port_line atom a) 0 a.ports ++
     numbered (transition_lines atom a) 0 a.transitions
 
--- the cluster of the atom with a number
-abbrev pub atom_lines : ℕ → AtomDefinition → List ℕ
-atom_lines atom a = cluster_head atom a ++ cluster_parts atom a ++ codes "  }\n"
+-- the cluster of the atom with a number, in a state
+abbrev pub atom_lines : ℕ → AtomDefinition → Local → List ℕ
+atom_lines atom a state = cluster_head atom a state ++ cluster_parts atom a state ++ codes "  }\n"

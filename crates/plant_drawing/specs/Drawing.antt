@@ -1,22 +1,35 @@
--- The drawing of a plant.
-use Rattle.std.specs.Prelude.{ℕ, List, ◌++◌, codes, flat_map}
+-- The drawing of a plant in a state.
+use Rattle.std.specs.Prelude.{ℕ, if◌then◌else◌, List, [], ◌++◌, codes, flat_map, slice_get}
+use Rattle.std.specs.Option.{option_map_or}
+use Rattle.petri_atom.specs.Local.{Local, has}
+use Rattle.petri_atom.specs.Definition.{AtomDefinition}
 use Rattle.step_core.specs.Plant.{PlantDefinition}
 use Rattle.text_io.specs.Numbered.{numbered}
+use Rattle.plant_drawing.specs.declared.filling.Filling.{Filling}
+use Rattle.plant_drawing.specs.Drawn.{is_coloured}
 use Rattle.plant_drawing.specs.Atom.{atom_lines}
-use Rattle.plant_drawing.specs.Connector.{connector_lines}
-use Rattle.plant_drawing.specs.Rule.{rule_line}
+use Rattle.plant_drawing.specs.Connector.{drawn_connector}
+use Rattle.plant_drawing.specs.Rule.{drawn_rule}
 
--- the atoms, the connectors and the priority rules, each in written order
-abbrev pub parts_of : PlantDefinition → List ℕ
-parts_of plant =
-    numbered atom_lines 0 plant.atoms ++ numbered (connector_lines plant.atoms) 0 plant.wires ++
-    flat_map (rule_line plant) plant.rules
+-- the atom with a number in its state; nothing of one that is not drawn
+abbrev pub drawn_atom : ℕ → List Local → ℕ → AtomDefinition → List ℕ
+drawn_atom drawn states number a =
+    if has drawn number then option_map_or (atom_lines number a) (slice_get states number) [] else []
+
+-- the atoms, the connectors and the priority rules that are drawn, each in written order
+abbrev pub parts_of : PlantDefinition → List Local → ℕ → Filling → List ℕ
+parts_of plant states drawn filling =
+    numbered (drawn_atom drawn states) 0 plant.atoms ++
+    numbered (drawn_connector plant.atoms drawn (is_coloured filling plant states)) 0 plant.wires ++
+    flat_map (drawn_rule drawn plant) plant.rules
 
 -- how the graph is laid out: in one font, with some room between the nodes, and the label of an atom below its parts
 abbrev pub style : List ℕ
 style =
     codes "  fontname=\"Helvetica\";\n  labelloc=b;\n  nodesep=0.4;\n  ranksep=0.6;\n  node [fontname=\"Helvetica\"];\n  edge [fontname=\"Helvetica\", fontsize=11];\n"
 
--- a directed graph of them
-abbrev pub drawing_of : PlantDefinition → List ℕ
-drawing_of plant = codes "digraph plant {\n" ++ style ++ parts_of plant ++ codes "}\n"
+-- a directed graph of them: of the plant in a state, the atoms of a set and what stands on them, and the connectors filled alike or
+-- by their choices
+abbrev pub drawing_of : PlantDefinition → List Local → ℕ → Filling → List ℕ
+drawing_of plant states drawn filling =
+    codes "digraph plant {\n" ++ style ++ parts_of plant states drawn filling ++ codes "}\n"

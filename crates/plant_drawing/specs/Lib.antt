@@ -1,8 +1,10 @@
 pub mod Node
-pub mod Expression
+pub mod Drawn
+pub mod Place
+pub mod Edges
+pub mod Wrapped
 pub mod Atom
-pub mod Sought
-pub mod Export
 pub mod Connector
 pub mod Rule
 pub mod Drawing
+pub mod Outline

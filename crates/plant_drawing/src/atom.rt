@@ -1,115 +1,150 @@
-//! The cluster of an atom.
-ghost use Rattle.std.specs.Prelude.{◌++◌, codes, OnOk, flat_map};
+//! The cluster of an atom in a state.
+ghost use Rattle.std.specs.Prelude.{◌≡◌, ◌++◌, codes, OnOk, flat_map};
 ghost use Rattle.std.specs.Io.KnownBytes.{Appends};
 ghost use Rattle.petri_atom.specs.Atom.{definition_of};
 ghost use Rattle.petri_atom.specs.Definition.{variable_name};
+ghost use Rattle.petri_atom.specs.Local.{value_in};
 ghost use Rattle.petri_atom.specs.Parts.{port_of};
 ghost use Rattle.text_io.specs.Numbered.{numbered};
 ghost use Rattle.plant_drawing.specs.Atom.{atom_label, atom_lines, cluster_head, cluster_parts, fill_of, named, place_line, port_line, transition_lines, variable_text};
 
+use crate::drawn::has_number;
 use crate::node::print_part;
 use crate::transition::print_transition;
-use petri_atom::{Atom, Name, Place, Port, Variable};
+use petri_atom::{Atom, AtomState, Name, Place, Port, Variable};
 use std::io::Write;
 use text_io::{WriteFault, print_number, print_signed, print_text};
 
-/// Prints an atom as a cluster with its places, its ports and its transitions.
+/// Prints an atom in a state as a cluster with its places, its ports and its transitions.
 pub(crate) fn print_atom<W: Write>(
     number: u64,
     atom: &Atom,
+    state: &AtomState,
     output: &mut W,
 ) -> Result<(), WriteFault>
     ensures { OnOk result (Appends (W.contents output.old) (W.contents output.new)
-        (atom_lines number (definition_of atom.now))) }
+        (atom_lines number (definition_of atom.now) state.now)) }
 {
-    print_head(number, atom, output)?;
-    print_parts(number, atom, output)?;
+    print_head(number, atom, state, output)?;
+    print_parts(number, atom, state, output)?;
     print_text(output, b"  }\n")
 }
 
 /// Prints the begin of the cluster of an atom, with its label.
-fn print_head<W: Write>(number: u64, atom: &Atom, output: &mut W) -> Result<(), WriteFault>
+fn print_head<W: Write>(
+    number: u64,
+    atom: &Atom,
+    state: &AtomState,
+    output: &mut W,
+) -> Result<(), WriteFault>
     ensures { OnOk result (Appends (W.contents output.old) (W.contents output.new)
-        (cluster_head number (definition_of atom.now))) }
+        (cluster_head number (definition_of atom.now) state.now)) }
 {
     print_text(output, b"  subgraph cluster_")?;
     print_number(output, number)?;
     print_text(output, b" {\n    label=\"")?;
-    print_label(atom, output)?;
+    print_label(atom, state, output)?;
     print_text(output, b"\";\n")
 }
 
-/// Prints the name of an atom, and its variables.
-fn print_label<W: Write>(atom: &Atom, output: &mut W) -> Result<(), WriteFault>
+/// Prints the name of an atom, and its variables with their values.
+fn print_label<W: Write>(atom: &Atom, state: &AtomState, output: &mut W) -> Result<(), WriteFault>
     ensures { OnOk result (Appends (W.contents output.old) (W.contents output.new)
-        (atom_label (definition_of atom.now))) }
+        (atom_label (definition_of atom.now) state.now)) }
 {
     print_text(output, atom.name().as_bytes())?;
-    print_variables(atom.variables(), output)
+    print_variables(state.values(), atom.variables(), output)
 }
 
 /// Prints the places, the ports and the transitions of an atom.
-fn print_parts<W: Write>(number: u64, atom: &Atom, output: &mut W) -> Result<(), WriteFault>
+fn print_parts<W: Write>(
+    number: u64,
+    atom: &Atom,
+    state: &AtomState,
+    output: &mut W,
+) -> Result<(), WriteFault>
     ensures { OnOk result (Appends (W.contents output.old) (W.contents output.new)
-        (cluster_parts number (definition_of atom.now))) }
+        (cluster_parts number (definition_of atom.now) state.now)) }
 {
-    print_places(number, atom.places(), output)?;
+    print_places(state.places(), number, atom.places(), output)?;
     print_ports(number, atom, output)?;
     print_transitions(number, atom, output)
 }
 
-/// Prints variables with their first values, each on a line of its own.
-fn print_variables<W: Write>(variables: &[Variable], output: &mut W) -> Result<(), WriteFault>
+/// Prints variables with their values, each on a line of its own.
+fn print_variables<W: Write>(
+    values: &[i64],
+    variables: &[Variable],
+    output: &mut W,
+) -> Result<(), WriteFault>
     ensures { OnOk result (Appends (W.contents output.old) (W.contents output.new)
-        (flat_map variable_text variables.now)) }
+        (numbered (variable_text values.now) 0 variables.now)) }
 {
-    for variable in variables {
-        print_variable(variable, output)?;
+    for (number, variable) in variables.iter().enumerate() {
+        print_variable(values, number, variable, output)?;
     }
     Ok(())
 }
 
-/// Prints a variable with its first value on a line of its own.
-fn print_variable<W: Write>(variable: &Variable, output: &mut W) -> Result<(), WriteFault>
+/// Prints the variable with this number and its value on a line of its own.
+fn print_variable<W: Write>(
+    values: &[i64],
+    number: usize,
+    variable: &Variable,
+    output: &mut W,
+) -> Result<(), WriteFault>
     ensures { OnOk result (Appends (W.contents output.old) (W.contents output.new)
-        (variable_text variable.now)) }
+        (variable_text values.now number variable.now)) }
 {
     print_text(output, b"\\n")?;
     print_text(output, variable.name.as_bytes())?;
     print_text(output, b" = ")?;
-    print_signed(output, variable.first)
+    print_signed(output, value_at(values, number))
+}
+
+/// The value of the variable with this number; 0 where there is none.
+fn value_at(values: &[i64], variable: usize) -> i64
+    ensures { result ≡ value_in values.now variable }
+{
+    values.get(variable).copied().unwrap_or(0)
 }
 
 /// Prints the places of an atom.
-fn print_places<W: Write>(atom: u64, places: &[Place], output: &mut W) -> Result<(), WriteFault>
+fn print_places<W: Write>(
+    marking: u64,
+    atom: u64,
+    places: &[Place],
+    output: &mut W,
+) -> Result<(), WriteFault>
     ensures { OnOk result (Appends (W.contents output.old) (W.contents output.new)
-        (numbered (place_line atom) 0 places.now)) }
+        (numbered (place_line marking atom) 0 places.now)) }
 {
     for (number, place) in places.iter().enumerate() {
-        print_place(atom, number as u64, place, output)?;
+        print_place(marking, atom, number, place, output)?;
     }
     Ok(())
 }
 
-/// Prints a place as a circle, filled where it is marked at first.
+/// Prints a place as a circle, filled where it is marked.
 fn print_place<W: Write>(
+    marking: u64,
     atom: u64,
-    number: u64,
+    number: usize,
     place: &Place,
     output: &mut W,
 ) -> Result<(), WriteFault>
     ensures { OnOk result (Appends (W.contents output.old) (W.contents output.new)
-        (place_line atom number place.now)) }
+        (place_line marking atom number place.now)) }
 {
     print_text(output, b"    ")?;
-    print_part(b"place", atom, number, output)?;
+    print_part(b"place", atom, number as u64, output)?;
     print_text(output, b" [shape=circle, margin=0.03, ")?;
-    print_fill(place.marked, output)?;
+    print_fill(has_number(marking, number), output)?;
     print_named(&place.name, output)
 }
 
 /// Prints the end of a node whose label is a name.
-fn print_named<W: Write>(name: &Name, output: &mut W) -> Result<(), WriteFault>
+pub(crate) fn print_named<W: Write>(name: &Name, output: &mut W) -> Result<(), WriteFault>
     ensures { OnOk result (Appends (W.contents output.old) (W.contents output.new)
         (named name.now)) }
 {
@@ -118,7 +153,7 @@ fn print_named<W: Write>(name: &Name, output: &mut W) -> Result<(), WriteFault>
     print_text(output, b"\"];\n")
 }
 
-/// Prints how a place is filled that is marked at first; nothing for one that is not.
+/// Prints how a place is filled that is marked; nothing for one that is not.
 fn print_fill<W: Write>(marked: bool, output: &mut W) -> Result<(), WriteFault>
     ensures { OnOk result (Appends (W.contents output.old) (W.contents output.new)
         (fill_of marked)) }

@@ -7,8 +7,8 @@ ghost use Rattle.connector_tree.specs.Tree as connectors;
 ghost use Rattle.step_core.specs.Wire.{transfer_of};
 ghost use Rattle.plant_drawing.specs.Connector.{guard_line, transfer_line};
 
-use crate::expression::print_expression;
-use crate::names::{Exports, Names};
+use crate::wrapping::{columns_past, print_assigned, print_expression_words};
+use part_text::{Exports, Names};
 use petri_atom::Expression;
 use std::io::Write;
 use step_core::{Export, Transfer};
@@ -38,8 +38,9 @@ fn print_guard<W: Write>(
     ensures { OnOk result (Appends (W.contents output.old) (W.contents output.new)
         (guard_line (map definition_of exports.now.atoms.now) (connectors.leaves (connectors.tree_of exports.now.connector.now)) (tree_of guard.now))) }
 {
-    print_text(output, b"\\nguard ")?;
-    print_expression(guard, exports, output)
+    print_text(output, b"\\nguard")?;
+    print_expression_words(columns_past(5), guard, exports, output)?;
+    Ok(())
 }
 
 /// Prints transfers, each on a line of its own.
@@ -68,6 +69,7 @@ fn print_transfer<W: Write>(
 {
     print_text(output, b"\\n")?;
     exports.print_name(&transfer.target, output)?;
-    print_text(output, b" := ")?;
-    print_expression(&transfer.value, exports, output)
+    let left = columns_past(exports.name_length(&transfer.target));
+    print_assigned(left, &transfer.value, exports, output)?;
+    Ok(())
 }

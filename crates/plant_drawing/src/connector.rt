@@ -1,55 +1,106 @@
 //! The node of a connector, and its edges.
-ghost use Rattle.std.specs.Prelude.{◌++◌, codes, OnOk, flat_map, map};
+ghost use Rattle.std.specs.Prelude.{◌++◌, OnOk, flat_map, map};
 ghost use Rattle.std.specs.Io.KnownBytes.{Appends};
 ghost use Rattle.petri_atom.specs.Atom.{definition_of};
-ghost use Rattle.petri_atom.specs.Definition.{port_name};
-ghost use Rattle.connector_tree.specs.declared.token.Token.TheVariants.{Leaf};
-ghost use Rattle.connector_tree.specs.Tokens.{children_tokens, node_tokens};
 ghost use Rattle.connector_tree.specs.Tree.{leaves};
+ghost use Rattle.step_core.specs.Running.{plant_in, states_in};
 ghost use Rattle.step_core.specs.Wire.{wire_of};
-ghost use Rattle.plant_drawing.specs.Connector.{arrow_to, connector_label, connector_line, connector_lines, end_of_edge, guard_line, leaf_word, port_edge, spaced_word, transfer_line, tree_text, trigger_mark};
+ghost use Rattle.plant_drawing.specs.Drawn.{is_coloured};
+ghost use Rattle.plant_drawing.specs.Connector.{arrow_to, colour_of, connector_label, connector_line, connector_lines, connector_shape, drawn_connector, guard_line, port_edge, transfer_line, tree_text};
 
+use crate::choice::is_coloured;
 use crate::clauses::{print_guards, print_transfers};
-use crate::names::Exports;
+use crate::drawn::{has_number, is_drawn};
+use crate::edges::{LeafEdges, print_edges, print_end};
+use crate::filling::Filling;
 use crate::node::{print_connector, print_part};
-use connector_tree::{Child, Node, Port};
+use crate::tree::print_words;
+use crate::wrapping::COLUMNS;
+use connector_tree::Port;
+use part_text::Exports;
 use petri_atom::Atom;
 use std::io::Write;
-use step_core::Wire;
+use step_core::{Stepper, Wire};
 use text_io::{WriteFault, print_text};
 
-/// Prints a connector as a node with its name and its tree, and an edge to each of its ports.
-pub(crate) fn print_wire<W: Write>(
+/// Prints a connector where it is drawn; nothing of another.
+pub(crate) fn print_drawn_wire<W: Write>(
+    run: &Stepper<'_>,
+    drawn: u64,
+    filling: Filling,
+    number: usize,
+    wire: &Wire,
+    output: &mut W,
+) -> Result<(), WriteFault>
+    ensures { OnOk result (Appends (W.contents output.old) (W.contents output.new)
+        (drawn_connector (plant_in run.now).atoms drawn (is_coloured filling (plant_in run.now) (states_in run.now)) number (wire_of wire.now))) }
+{
+    if !is_drawn(drawn, wire) {
+        return Ok(());
+    }
+    let coloured = is_coloured(filling, run, number);
+    let atoms = run.system().atoms();
+    print_wire(atoms, drawn, coloured, number as u64, wire, output)
+}
+
+/// Prints a connector as a node with its name and its tree, and an edge to each of its ports whose atom is drawn.
+fn print_wire<W: Write>(
     atoms: &[Atom],
+    drawn: u64,
+    coloured: bool,
     number: u64,
     wire: &Wire,
     output: &mut W,
 ) -> Result<(), WriteFault>
     ensures { OnOk result (Appends (W.contents output.old) (W.contents output.new)
-        (connector_lines (map definition_of atoms.now) number (wire_of wire.now))) }
+        (connector_lines (map definition_of atoms.now) drawn coloured number (wire_of wire.now))) }
 {
-    print_connector_line(atoms, number, wire, output)?;
-    print_edges(number, &wire.connector.root, output)
+    print_connector_line(atoms, coloured, number, wire, output)?;
+    let edges = PortEdges {
+        drawn,
+        connector: number,
+    };
+    print_edges(&edges, &wire.connector.root, output)
 }
 
 /// Prints the node of a connector.
 fn print_connector_line<W: Write>(
     atoms: &[Atom],
+    coloured: bool,
     number: u64,
     wire: &Wire,
     output: &mut W,
 ) -> Result<(), WriteFault>
     ensures { OnOk result (Appends (W.contents output.old) (W.contents output.new)
-        (connector_line (map definition_of atoms.now) number (wire_of wire.now))) }
+        (connector_line (map definition_of atoms.now) coloured number (wire_of wire.now))) }
 {
     print_text(output, b"  ")?;
     print_connector(number, output)?;
-    print_text(
-        output,
-        b" [shape=box, style=\"rounded,filled\", fillcolor=lightyellow, label=\"",
-    )?;
+    print_shape(coloured, output)?;
     print_label(atoms, wire, output)?;
     print_text(output, b"\"];\n")
+}
+
+/// Prints the shape of a connector's node and its colour, and the begin of its label.
+fn print_shape<W: Write>(coloured: bool, output: &mut W) -> Result<(), WriteFault>
+    ensures { OnOk result (Appends (W.contents output.old) (W.contents output.new)
+        (connector_shape coloured)) }
+{
+    print_text(output, b" [shape=box, style=\"rounded,filled\", fillcolor=")?;
+    print_colour(coloured, output)?;
+    print_text(output, b", label=\"")
+}
+
+/// Prints the colour of a connector that is filled as one that has a choice, or of another.
+fn print_colour<W: Write>(coloured: bool, output: &mut W) -> Result<(), WriteFault>
+    ensures { OnOk result (Appends (W.contents output.old) (W.contents output.new)
+        (colour_of coloured)) }
+{
+    if coloured {
+        print_text(output, b"palegreen")
+    } else {
+        print_text(output, b"lightyellow")
+    }
 }
 
 /// Prints the name of a connector, and on lines of their own its tree, its guard clauses and its transfers.
@@ -68,7 +119,7 @@ fn print_tree<W: Write>(atoms: &[Atom], wire: &Wire, output: &mut W) -> Result<(
     ensures { OnOk result (Appends (W.contents output.old) (W.contents output.new)
         (tree_text (map definition_of atoms.now) (wire_of wire.now))) }
 {
-    print_words(atoms, &wire.connector.root, output)?;
+    print_words(COLUMNS, atoms, &wire.connector.root, output)?;
     print_text(output, b" ")
 }
 
@@ -86,150 +137,41 @@ fn print_clauses<W: Write>(atoms: &[Atom], wire: &Wire, output: &mut W) -> Resul
     print_transfers(&exports, &wire.transfers, output)
 }
 
-/// Prints the words of several children of a tree, each with a space before it.
-#[cycle(words)]
-fn print_words<W: Write>(
-    atoms: &[Atom],
-    children: &[Child],
-    output: &mut W,
-) -> Result<(), WriteFault>
-    ensures { OnOk result (Appends (W.contents output.old) (W.contents output.new)
-        (flat_map (spaced_word (map definition_of atoms.now)) (children_tokens children.now))) }
-{
-    for child in children {
-        print_node_words(atoms, &child.node, child.trigger, output)?;
-    }
-    Ok(())
+/// The edges of a connector to the ports of its leaves, where the port's atom is drawn.
+#[derive(Clone, Copy)]
+struct PortEdges {
+    drawn: u64,
+    connector: u64,
 }
 
-/// Prints the words of a node of a tree, each with a space before it.
-#[cycle(words)]
-fn print_node_words<W: Write>(
-    atoms: &[Atom],
-    node: &Node,
-    trigger: bool,
-    output: &mut W,
-) -> Result<(), WriteFault>
-    ensures { OnOk result (Appends (W.contents output.old) (W.contents output.new)
-        (flat_map (spaced_word (map definition_of atoms.now)) (node_tokens node.now trigger))) }
-{
-    match node {
-        Node::Leaf { atom, port } => {
-            let port = Port {
-                atom: *atom,
-                port: *port,
-            };
-            print_leaf(atoms, port, trigger, output)
+impl LeafEdges for PortEdges {
+    ghost use Rattle.plant_drawing.specs.Connector.{drawn_edge};
+
+    ghost edge_to = { λ edges port trigger. drawn_edge edges.drawn edges.connector port trigger };
+
+    fn print_edge<W: Write>(
+        &self,
+        port: Port,
+        trigger: bool,
+        output: &mut W,
+    ) -> Result<(), WriteFault> {
+        if has_number(self.drawn, usize::from(port.atom)) {
+            print_port_edge(self.connector, port, trigger, output)
+        } else {
+            Ok(())
         }
-        Node::Fusion(children) => {
-            print_text(output, b" [")?;
-            print_words(atoms, children, output)?;
-            print_close(trigger, output)
-        }
-    }
-}
-
-/// Prints the end of a bracket, with a space before it.
-fn print_close<W: Write>(trigger: bool, output: &mut W) -> Result<(), WriteFault>
-    ensures { OnOk result (Appends (W.contents output.old) (W.contents output.new)
-        (codes " ]" ++ trigger_mark trigger)) }
-{
-    print_text(output, b" ]")?;
-    print_mark(trigger, output)
-}
-
-/// Prints a port of a tree, with a space before it.
-fn print_leaf<W: Write>(
-    atoms: &[Atom],
-    port: Port,
-    trigger: bool,
-    output: &mut W,
-) -> Result<(), WriteFault>
-    ensures { OnOk result (Appends (W.contents output.old) (W.contents output.new)
-        (codes " " ++ leaf_word (map definition_of atoms.now) port ++ trigger_mark trigger)) }
-{
-    print_text(output, b" ")?;
-    print_port(atoms, port, output)?;
-    print_mark(trigger, output)
-}
-
-/// Prints a port by the names of its atom and its own; nothing where the atom is not there.
-fn print_port<W: Write>(atoms: &[Atom], port: Port, output: &mut W) -> Result<(), WriteFault>
-    ensures { OnOk result (Appends (W.contents output.old) (W.contents output.new)
-        (leaf_word (map definition_of atoms.now) port)) }
-{
-    match atoms.get(usize::from(port.atom)) {
-        Some(atom) => print_port_of(atom, port.port, output),
-        None => Ok(()),
-    }
-}
-
-/// Prints the name of an atom and that of its port.
-fn print_port_of<W: Write>(atom: &Atom, port: u16, output: &mut W) -> Result<(), WriteFault>
-    ensures { OnOk result (Appends (W.contents output.old) (W.contents output.new)
-        ((definition_of atom.now).name ++ codes "." ++ port_name (definition_of atom.now) port)) }
-{
-    print_text(output, atom.name().as_bytes())?;
-    print_text(output, b".")?;
-    print_text(output, atom.port_name(port))
-}
-
-/// Prints the mark of a trigger; nothing for a synchron.
-fn print_mark<W: Write>(trigger: bool, output: &mut W) -> Result<(), WriteFault>
-    ensures { OnOk result (Appends (W.contents output.old) (W.contents output.new)
-        (trigger_mark trigger)) }
-{
-    if trigger {
-        print_text(output, b"'")
-    } else {
-        Ok(())
-    }
-}
-
-/// Prints the edges of a connector to the ports of several children of its tree.
-#[cycle(edges)]
-fn print_edges<W: Write>(number: u64, children: &[Child], output: &mut W) -> Result<(), WriteFault>
-    ensures { OnOk result (Appends (W.contents output.old) (W.contents output.new)
-        (flat_map (port_edge number) (children_tokens children.now))) }
-{
-    for child in children {
-        print_node_edges(number, &child.node, child.trigger, output)?;
-    }
-    Ok(())
-}
-
-/// Prints the edges of a connector to the ports of a node of its tree.
-#[cycle(edges)]
-fn print_node_edges<W: Write>(
-    number: u64,
-    node: &Node,
-    trigger: bool,
-    output: &mut W,
-) -> Result<(), WriteFault>
-    ensures { OnOk result (Appends (W.contents output.old) (W.contents output.new)
-        (flat_map (port_edge number) (node_tokens node.now trigger))) }
-{
-    match node {
-        Node::Leaf { atom, port } => {
-            let port = Port {
-                atom: *atom,
-                port: *port,
-            };
-            print_edge(number, port, trigger, output)
-        }
-        Node::Fusion(children) => print_edges(number, children, output),
     }
 }
 
 /// Prints the edge of a connector to a port, which ends in a triangle at a trigger, and in a dot at a synchron.
-fn print_edge<W: Write>(
+fn print_port_edge<W: Write>(
     number: u64,
     port: Port,
     trigger: bool,
     output: &mut W,
 ) -> Result<(), WriteFault>
     ensures { OnOk result (Appends (W.contents output.old) (W.contents output.new)
-        (port_edge number (Leaf port trigger))) }
+        (port_edge number port trigger)) }
 {
     print_arrow_to(number, port, output)?;
     print_text(output, b" [arrowhead=")?;
@@ -259,16 +201,4 @@ fn print_arrow<W: Write>(
     print_connector(number, output)?;
     print_text(output, b" -> ")?;
     print_part(b"port", atom, port, output)
-}
-
-/// Prints how an edge ends at a trigger, or at a synchron.
-fn print_end<W: Write>(trigger: bool, output: &mut W) -> Result<(), WriteFault>
-    ensures { OnOk result (Appends (W.contents output.old) (W.contents output.new)
-        (end_of_edge trigger)) }
-{
-    if trigger {
-        print_text(output, b"normal")
-    } else {
-        print_text(output, b"dot")
-    }
 }

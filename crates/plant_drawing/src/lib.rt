@@ -1,36 +1,58 @@
-//! The drawing of a plant, as a text for Graphviz's `dot`.
+//! The drawings of a plant, as texts for Graphviz's `dot`.
 //!
-//! [`draw_to`] writes a directed graph. `specs/Drawing.antt` defines its text, and the contract says that exactly this text was
-//! appended to a writer, where its type says which bytes it took; it says nothing of when a writer fails.
+//! [`draw_to`] writes a directed graph of a plant in a state, and [`outline_to`] a smaller one of its atoms and connectors alone. Their
+//! texts are defined in `specs/Drawing.antt` and `specs/Outline.antt`, and the contracts say that exactly these texts were appended to a
+//! writer, where its type says which bytes it took; they say nothing of when a writer fails.
 //!
 //! | Part of the plant | Is drawn as |
 //! |---|---|
-//! | an atom | a cluster with its name below, and a line `n = 0` for each variable with its first value |
-//! | a place | a circle with its name, filled where it is marked at first |
+//! | an atom | a cluster with its name below, and a line `n = 4` for each variable with its value |
+//! | a place | a circle with its name, filled where it is marked |
 //! | a port | an ellipse with its name and the variables that it exports |
-//! | a transition | a box with the name of its port, its guard and its updates; a dotted line from its port, and arrows from its sources and to its targets |
+//! | a transition | a box with the name of its port and its number (`move/1`), its guard and its updates; a dotted line from its port, and arrows from its sources and to its targets |
 //! | a connector | a rounded box with its name and its tree, a line for each guard clause, and a line `A.n := EXPR` for each transfer; an edge to each of its ports, which ends in a triangle at a trigger and in a dot at a synchron |
 //! | a priority rule | a dashed edge from the lower connector to the higher, with the rule on it; a loop for a connector that is to be maximal |
+//!
+//! **Of a part of a plant.** A drawing is of the atoms of a set ([`ALL_ATOMS`] for the whole plant). A connector is drawn where it has a
+//! leaf of one of these; its label has its whole tree, and its edges go to the ports that are drawn. A rule is drawn where both of its
+//! connectors are.
+//!
+//! **Of a state.** Marked places and the values of variables are those of the present state of the plant that runs. With
+//! [`Filling::ByChoice`] each connector that has a choice in it is green, and the others are yellow; with [`Filling::Alike`] all are yellow.
+//!
+//! **The outline** has a box for each atom, a small oval for each connector with an edge to the atom of each of its leaves, and the
+//! priority rules.
+//!
+//! **Long lines.** A label's guard, update, tree, guard clause or transfer is broken into lines of 48 columns, between two words; each
+//! further line begins with four spaces. A longer word stands alone on its line.
 //!
 //! Nodes are named by numbers (`place_0_3`, `connector_1`), and all names of the plant stand in quoted labels. A name has
 //! letters, digits and `_` alone, so no label needs an escape but for its own line ends.
 //!
-//! - `plant`: the whole graph. `atom`, `transition`: a cluster. `connector`, `rule`: what joins the clusters. `clauses`: guards and
-//!   transfers of a connector. `expression`: expressions over named variables. `names`: how these are named. `leaf`: the leaf of a
-//!   connector with a number. `node`: names of nodes.
+//! - `plant`: the whole drawing. `atom`, `transition`: a cluster. `connector`, `rule`: what joins the clusters. `clauses`: guards and
+//!   transfers of a connector. `edges`: the edges of a connector, by its leaves. `outline`: the outline. `node`: names of nodes.
+//! - `wrapping`: words that are broken into lines, and those of an expression. `tree`: those of a connector's tree.
+//! - `drawn`: what is drawn where some atoms are. `filling`: how connectors are filled. `choice`: which connectors have a choice.
 //!
-//! Nothing here takes memory.
+//! The words are those of `part_text`. Nothing here takes memory.
 #![tactic(auto)]
 
 mod atom;
+mod choice;
 mod clauses;
 mod connector;
-mod expression;
-mod leaf;
-mod names;
+mod drawn;
+mod edges;
+mod filling;
 mod node;
+mod outline;
 mod plant;
 mod rule;
 mod transition;
+mod tree;
+mod wrapping;
 
+pub use drawn::ALL_ATOMS;
+pub use filling::Filling;
+pub use outline::outline_to;
 pub use plant::draw_to;

@@ -1,7 +1,7 @@
 //! The names of the drawing's nodes.
 ghost use Rattle.std.specs.Prelude.{OnOk};
 ghost use Rattle.std.specs.Io.KnownBytes.{Appends};
-ghost use Rattle.plant_drawing.specs.Node.{connector_node, part_node};
+ghost use Rattle.plant_drawing.specs.Node.{atom_node, connector_node, part_node};
 
 use std::io::Write;
 use text_io::{WriteFault, print_number, print_text};
@@ -29,5 +29,14 @@ pub(crate) fn print_connector<W: Write>(number: u64, output: &mut W) -> Result<(
         (connector_node number)) }
 {
     print_text(output, b"connector_")?;
+    print_number(output, number)
+}
+
+/// Prints the name of the atom with this number, where it is one node.
+pub(crate) fn print_atom_node<W: Write>(number: u64, output: &mut W) -> Result<(), WriteFault>
+    ensures { OnOk result (Appends (W.contents output.old) (W.contents output.new)
+        (atom_node number)) }
+{
+    print_text(output, b"atom_")?;
     print_number(output, number)
 }

@@ -1,35 +1,42 @@
-//! The drawing of a whole plant.
-ghost use Rattle.std.specs.Prelude.{OnOk, map};
+//! The drawing of a plant in a state.
+ghost use Rattle.std.specs.Prelude.{◌≡◌, OnOk, slice_get, Some};
 ghost use Rattle.std.specs.Io.KnownBytes.{Appends};
 ghost use Rattle.petri_atom.specs.Atom.{definition_of};
-ghost use Rattle.step_core.specs.System.{plant_of};
-ghost use Rattle.step_core.specs.Wire.{wire_of};
+ghost use Rattle.step_core.specs.Running.{plant_in, states_in};
 ghost use Rattle.text_io.specs.Numbered.{numbered};
-ghost use Rattle.plant_drawing.specs.Atom.{atom_lines};
-ghost use Rattle.plant_drawing.specs.Connector.{connector_lines};
-ghost use Rattle.plant_drawing.specs.Drawing.{drawing_of, parts_of, style};
+ghost use Rattle.plant_drawing.specs.Connector.{drawn_connector};
+ghost use Rattle.plant_drawing.specs.Drawn.{is_coloured};
+ghost use Rattle.plant_drawing.specs.Drawing.{drawing_of, drawn_atom, parts_of, style};
 
 use crate::atom::print_atom;
-use crate::connector::print_wire;
-use crate::rule::print_rules;
+use crate::connector::print_drawn_wire;
+use crate::drawn::has_number;
+use crate::filling::Filling;
+use crate::rule::print_drawn_rules;
 use petri_atom::Atom;
 use std::io::Write;
-use step_core::{System, Wire};
+use step_core::Stepper;
 use text_io::{WriteFault, print_text};
 
-/// Writes the drawing of a plant: its atoms, then its connectors, and then its priority rules.
-pub fn draw_to<W: Write>(system: &System, output: &mut W) -> Result<(), WriteFault>
+/// Writes the drawing of a plant in its present state: the atoms of the set `drawn`, bit k for atom k, then the connectors with a leaf
+/// of one of these, and then the priority rules between such connectors.
+pub fn draw_to<W: Write>(
+    run: &Stepper<'_>,
+    drawn: u64,
+    filling: Filling,
+    output: &mut W,
+) -> Result<(), WriteFault>
     ensures { OnOk result (Appends (W.contents output.old) (W.contents output.new)
-        (drawing_of (plant_of system.now))) }
+        (drawing_of (plant_in run.now) (states_in run.now) drawn filling)) }
 {
     print_text(output, b"digraph plant {\n")?;
     print_style(output)?;
-    print_parts(system, output)?;
+    print_parts(run, drawn, filling, output)?;
     print_text(output, b"}\n")
 }
 
 /// Prints how the graph is laid out: in one font, with some room between the nodes, and the label of an atom below its parts.
-fn print_style<W: Write>(output: &mut W) -> Result<(), WriteFault>
+pub(crate) fn print_style<W: Write>(output: &mut W) -> Result<(), WriteFault>
     ensures { OnOk result (Appends (W.contents output.old) (W.contents output.new) style) }
 {
     print_text(
@@ -44,34 +51,66 @@ fn print_style<W: Write>(output: &mut W) -> Result<(), WriteFault>
     )
 }
 
-/// Prints the atoms, the connectors and the priority rules of a plant.
-fn print_parts<W: Write>(system: &System, output: &mut W) -> Result<(), WriteFault>
+/// Prints the atoms, the connectors and the priority rules that are drawn.
+fn print_parts<W: Write>(
+    run: &Stepper<'_>,
+    drawn: u64,
+    filling: Filling,
+    output: &mut W,
+) -> Result<(), WriteFault>
     ensures { OnOk result (Appends (W.contents output.old) (W.contents output.new)
-        (parts_of (plant_of system.now))) }
+        (parts_of (plant_in run.now) (states_in run.now) drawn filling)) }
 {
-    print_atoms(system.atoms(), output)?;
-    print_wires(system.atoms(), system.wires(), output)?;
-    print_rules(system, system.rules(), output)
+    print_atoms(run, drawn, output)?;
+    print_wires(run, drawn, filling, output)?;
+    let system = run.system();
+    print_drawn_rules(system, system.rules(), drawn, output)
 }
 
-/// Prints atoms, in the order of their numbers.
-fn print_atoms<W: Write>(atoms: &[Atom], output: &mut W) -> Result<(), WriteFault>
+/// Prints the atoms that are drawn, in the order of their numbers.
+fn print_atoms<W: Write>(run: &Stepper<'_>, drawn: u64, output: &mut W) -> Result<(), WriteFault>
     ensures { OnOk result (Appends (W.contents output.old) (W.contents output.new)
-        (numbered atom_lines 0 (map definition_of atoms.now))) }
+        (numbered (drawn_atom drawn (states_in run.now)) 0 (plant_in run.now).atoms)) }
 {
-    for (number, atom) in atoms.iter().enumerate() {
-        print_atom(number as u64, atom, output)?;
+    let system = run.system();
+    for (number, atom) in system.atoms().iter().enumerate() {
+        print_drawn_atom(run, drawn, number, atom, output)?;
     }
     Ok(())
 }
 
-/// Prints connectors, in the order of their numbers.
-fn print_wires<W: Write>(atoms: &[Atom], wires: &[Wire], output: &mut W) -> Result<(), WriteFault>
+/// Prints the atom in its present state where it is drawn; nothing of another.
+fn print_drawn_atom<W: Write>(
+    run: &Stepper<'_>,
+    drawn: u64,
+    number: usize,
+    atom: &Atom,
+    output: &mut W,
+) -> Result<(), WriteFault>
+    requires { slice_get (plant_in run.now).atoms number ≡ Some (definition_of atom.now) }
     ensures { OnOk result (Appends (W.contents output.old) (W.contents output.new)
-        (numbered (connector_lines (map definition_of atoms.now)) 0 (map wire_of wires.now))) }
+        (drawn_atom drawn (states_in run.now) number (definition_of atom.now))) }
 {
-    for (number, wire) in wires.iter().enumerate() {
-        print_wire(atoms, number as u64, wire, output)?;
+    if !has_number(drawn, number) {
+        return Ok(());
+    }
+    let state = run.states().state(number as u16);
+    print_atom(number as u64, atom, state, output)
+}
+
+/// Prints the connectors that are drawn, in the order of their numbers.
+fn print_wires<W: Write>(
+    run: &Stepper<'_>,
+    drawn: u64,
+    filling: Filling,
+    output: &mut W,
+) -> Result<(), WriteFault>
+    ensures { OnOk result (Appends (W.contents output.old) (W.contents output.new)
+        (numbered (drawn_connector (plant_in run.now).atoms drawn (is_coloured filling (plant_in run.now) (states_in run.now))) 0 (plant_in run.now).wires)) }
+{
+    let system = run.system();
+    for (number, wire) in system.wires().iter().enumerate() {
+        print_drawn_wire(run, drawn, filling, number, wire, output)?;
     }
     Ok(())
 }

@@ -1,15 +1,51 @@
 //! The edges of the priority rules.
-ghost use Rattle.std.specs.Prelude.{◌≡◌, OnOk, flat_map};
+ghost use Rattle.std.specs.Prelude.{OnOk, flat_map};
 ghost use Rattle.std.specs.Io.KnownBytes.{Appends};
 ghost use Rattle.step_core.specs.System.{plant_of};
 ghost use Rattle.priority_filter.specs.declared.rule.Rule.TheVariants.{Under};
-ghost use Rattle.plant_drawing.specs.Rule.{arrow, maximal_line, rule_line, rule_style, side_connector, side_word, sides_text};
+ghost use Rattle.plant_drawing.specs.Drawn.{side_connector};
+ghost use Rattle.plant_drawing.specs.Rule.{arrow, drawn_rule, maximal_line, rule_line, rule_style};
 
+use crate::drawn::{is_drawn_rule, side_connector};
 use crate::node::print_connector;
+use part_text::print_sides;
 use priority_filter::{Rule, Side};
 use std::io::Write;
 use step_core::System;
-use text_io::{WriteFault, print_number, print_text};
+use text_io::{WriteFault, print_text};
+
+/// Prints the edge of each rule that is drawn.
+pub(crate) fn print_drawn_rules<W: Write>(
+    system: &System,
+    rules: &[Rule],
+    drawn: u64,
+    output: &mut W,
+) -> Result<(), WriteFault>
+    ensures { OnOk result (Appends (W.contents output.old) (W.contents output.new)
+        (flat_map (drawn_rule drawn (plant_of system.now)) rules.now)) }
+{
+    for rule in rules {
+        print_drawn_rule(system, *rule, drawn, output)?;
+    }
+    Ok(())
+}
+
+/// Prints the edge of a rule where it is drawn; nothing of another.
+fn print_drawn_rule<W: Write>(
+    system: &System,
+    rule: Rule,
+    drawn: u64,
+    output: &mut W,
+) -> Result<(), WriteFault>
+    ensures { OnOk result (Appends (W.contents output.old) (W.contents output.new)
+        (drawn_rule drawn (plant_of system.now) rule)) }
+{
+    if is_drawn_rule(drawn, system, rule) {
+        print_rule(system, rule, output)
+    } else {
+        Ok(())
+    }
+}
 
 /// Prints the edge of each rule.
 pub(crate) fn print_rules<W: Write>(
@@ -53,21 +89,6 @@ fn print_under<W: Write>(
     print_text(output, b" \"];\n")
 }
 
-/// Prints the sides of a rule, the lower first.
-fn print_sides<W: Write>(
-    system: &System,
-    left: Side,
-    right: Side,
-    output: &mut W,
-) -> Result<(), WriteFault>
-    ensures { OnOk result (Appends (W.contents output.old) (W.contents output.new)
-        (sides_text (plant_of system.now) left right)) }
-{
-    print_side(system, left, output)?;
-    print_text(output, b" < ")?;
-    print_side(system, right, output)
-}
-
 /// Prints the dashed loop of a connector that is to be maximal.
 fn print_maximal<W: Write>(connector: u64, output: &mut W) -> Result<(), WriteFault>
     ensures { OnOk result (Appends (W.contents output.old) (W.contents output.new)
@@ -93,7 +114,11 @@ fn print_between<W: Write>(left: Side, right: Side, output: &mut W) -> Result<()
     ensures { OnOk result (Appends (W.contents output.old) (W.contents output.new)
         (arrow (side_connector left) (side_connector right))) }
 {
-    print_arrow(side_connector(left), side_connector(right), output)
+    print_arrow(
+        u64::from(side_connector(left)),
+        u64::from(side_connector(right)),
+        output,
+    )
 }
 
 /// Prints the begin of the edge between two connectors.
@@ -105,29 +130,4 @@ fn print_arrow<W: Write>(from: u64, to: u64, output: &mut W) -> Result<(), Write
     print_connector(from, output)?;
     print_text(output, b" -> ")?;
     print_connector(to, output)
-}
-
-/// The number of the connector of a side.
-fn side_connector(side: Side) -> u64
-    ensures { result ≡ side_connector side }
-{
-    match side {
-        Side::Whole(connector) => u64::from(connector),
-        Side::One(connector, _) => u64::from(connector),
-    }
-}
-
-/// Prints a side as the plant text writes it: `NAME` or `NAME:MASK`.
-fn print_side<W: Write>(system: &System, side: Side, output: &mut W) -> Result<(), WriteFault>
-    ensures { OnOk result (Appends (W.contents output.old) (W.contents output.new)
-        (side_word (plant_of system.now) side)) }
-{
-    match side {
-        Side::Whole(connector) => print_text(output, system.wire_name(connector)),
-        Side::One(connector, mask) => {
-            print_text(output, system.wire_name(connector))?;
-            print_text(output, b":")?;
-            print_number(output, u64::from(mask))
-        }
-    }
 }

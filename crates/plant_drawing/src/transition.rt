@@ -7,12 +7,12 @@ ghost use Rattle.petri_atom.specs.Transition.{transition_of};
 ghost use Rattle.petri_atom.specs.Update.{update_of};
 ghost use Rattle.plant_drawing.specs.Atom.{firing_edge, guard_text, source_edge, target_edge, transition_edges, transition_label, transition_line, transition_lines, update_text};
 
-use crate::expression::{is_one, print_expression};
-use crate::names::Variables;
 use crate::node::print_part;
+use crate::wrapping::{columns_past, print_assigned, print_expression_words};
+use part_text::{Variables, is_one};
 use petri_atom::{Atom, Expression, Transition, Update};
 use std::io::Write;
-use text_io::{WriteFault, print_text};
+use text_io::{WriteFault, print_number, print_text};
 
 /// Prints a transition as a box, the dotted line from its port, and the arrows from its sources and to its targets.
 pub(crate) fn print_transition<W: Write>(
@@ -58,16 +58,23 @@ fn print_box<W: Write>(
     print_text(output, b"    ")?;
     print_part(b"transition", number, transition, output)?;
     print_text(output, b" [shape=box, label=\"")?;
-    print_label(atom, made, output)?;
+    print_label(atom, transition, made, output)?;
     print_text(output, b"\"];\n")
 }
 
-/// Prints the name of a transition's port, its guard and its updates.
-fn print_label<W: Write>(atom: &Atom, made: &Transition, output: &mut W) -> Result<(), WriteFault>
+/// Prints the name of a transition's port and its own number, its guard and its updates.
+fn print_label<W: Write>(
+    atom: &Atom,
+    transition: u64,
+    made: &Transition,
+    output: &mut W,
+) -> Result<(), WriteFault>
     ensures { OnOk result (Appends (W.contents output.old) (W.contents output.new)
-        (transition_label (definition_of atom.now) (transition_of made.now))) }
+        (transition_label (definition_of atom.now) transition (transition_of made.now))) }
 {
     print_text(output, atom.port_name(made.port()))?;
+    print_text(output, b"/")?;
+    print_number(output, transition)?;
     print_guard(atom, made.guard(), output)?;
     print_updates(atom, made.updates(), output)
 }
@@ -84,8 +91,9 @@ fn print_guard<W: Write>(
     if is_one(guard) {
         return Ok(());
     }
-    print_text(output, b"\\nwhen ")?;
-    print_expression(guard, &Variables { atom }, output)
+    print_text(output, b"\\nwhen")?;
+    print_expression_words(columns_past(4), guard, &Variables { atom }, output)?;
+    Ok(())
 }
 
 /// Prints updates, each on a line of its own.
@@ -109,9 +117,11 @@ fn print_update<W: Write>(atom: &Atom, update: &Update, output: &mut W) -> Resul
         (update_text (definition_of atom.now) (update_of update.now))) }
 {
     print_text(output, b"\\n")?;
-    print_text(output, atom.variable_name(update.variable))?;
-    print_text(output, b" := ")?;
-    print_expression(&update.value, &Variables { atom }, output)
+    let name = atom.variable_name(update.variable);
+    print_text(output, name)?;
+    let left = columns_past(name.len());
+    print_assigned(left, &update.value, &Variables { atom }, output)?;
+    Ok(())
 }
 
 /// Prints the dotted line from a port to one of its transitions.

@@ -9,7 +9,7 @@ use Rattle.plant_tasks.specs.Printed.{counted, printed_of, Prints}
 use Rattle.plant_tasks.specs.Ending.{Tells, IsOfOutput}
 use Rattle.command_line.specs.declared.request.Task.{Task}
 use Rattle.plant_tasks.specs.declared.ending.PlantEnding.{PlantEnding}
-use Rattle.plant_tasks.specs.declared.ending.PlantEnding.TheVariants.{Usage, Plant, Unopened, Memory, Unwritten}
+use Rattle.plant_tasks.specs.declared.ending.PlantEnding.TheVariants.{Usage, Plant, Unopened, NoAtom, Memory, Unwritten}
 
 -- what was appended stays so where the bytes are kept
 pub appended_and_kept : (a b c : Option (List ℕ)) (text : List ℕ) → Appends a b text → Keeps b c → Appends a c text
@@ -18,12 +18,13 @@ appended_and_kept (Some xs) None c text appended kept = absurd appended
 appended_and_kept (Some xs) (Some ys) None text appended kept = absurd kept
 appended_and_kept (Some xs) (Some ys) (Some zs) text appended kept = kept ∙ appended
 
--- what is said of the plant that the known bytes mean is what the task prints of them
-pub prints_of_plant : (known a b : Option (List ℕ)) (task : Task) (plant : PlantDefinition) →
-    IfSome known (λ bytes. meaning bytes ≡ Ok (text_of plant)) → Appends a b (printed_of task plant) →
-    IfSome known (λ bytes. Prints task bytes a b)
-prints_of_plant None a b task plant means appended = tt
-prints_of_plant (Some bytes) a b task plant means appended = (plant, means, appended)
+-- what is said of the plant that the known bytes mean, where the text is these, is what the task prints of them
+pub prints_of_plant : (known a b : Option (List ℕ)) (task : Task) (path text : List ℕ) (plant : PlantDefinition) →
+    IfSome known (λ bytes. text ≡ bytes) → IfSome known (λ bytes. meaning bytes ≡ Ok (text_of plant)) → Appends a b (printed_of task path text plant) →
+    IfSome known (λ bytes. Prints task path bytes a b)
+prints_of_plant None a b task path text plant same means appended = tt
+prints_of_plant (Some bytes) a b task path text plant same means appended =
+    (plant, means, subst (λ bytes. Appends a b (printed_of task path bytes plant)) same appended)
 
 -- what was appended one after the other was appended as one
 pub appended_then : (a b c : Option (List ℕ)) (first second : List ℕ) → Appends a b first → Appends b c second → Appends a c (first ++ second)
@@ -46,6 +47,7 @@ pub output_tells : (ending : PlantEnding) (bytes : List ℕ) (plant : PlantText)
 output_tells (Plant told) bytes plant means of = absurd of
 output_tells Usage bytes plant means of = absurd of
 output_tells Unopened bytes plant means of = absurd of
+output_tells (NoAtom place) bytes plant means of = (plant, means)
 output_tells Memory bytes plant means of = tt
 output_tells Unwritten bytes plant means of = (plant, means)
 

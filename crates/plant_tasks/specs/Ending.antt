@@ -11,7 +11,7 @@ use Rattle.run_text.specs.declared.fault.TraceFault.TheVariants as trace
 use Rattle.command_line.specs.declared.answer.Answered.{Answered}
 use Rattle.command_line.specs.declared.answer.Answered.TheVariants as answered
 use Rattle.plant_tasks.specs.declared.ending.PlantEnding.{PlantEnding}
-use Rattle.plant_tasks.specs.declared.ending.PlantEnding.TheVariants.{Usage, Plant, Unopened, Memory, Unwritten}
+use Rattle.plant_tasks.specs.declared.ending.PlantEnding.TheVariants.{Usage, Plant, Unopened, NoAtom, Memory, Unwritten}
 
 -- the exit status at a fault of a plant: a refused plant is 1; want of memory, and a text that can't be read, are 3
 abbrev pub fault_status : Fault → ℕ
@@ -24,6 +24,7 @@ abbrev pub status_at : PlantEnding → ℕ
 status_at Usage = 2
 status_at (Plant told) = fault_status told.fault
 status_at Unopened = 3
+status_at (NoAtom place) = 2
 status_at Memory = 3
 status_at Unwritten = 3
 
@@ -54,12 +55,13 @@ abbrev pub plant_text : List ℕ → Fault → PlantFault → List ℕ
 plant_text path fault.Read told = file_line path
 plant_text path fault told = fault_line told
 
--- What is told of an ending, where the plant's text is at the path. Of the words of the command line clap tells, and of an output that takes nothing
--- there is nothing to tell.
+-- What is told of an ending, where the plant's text is at the path. What is wrong with the words of the command line is told before, and of an output
+-- that takes nothing there is nothing to tell.
 abbrev pub told_text : List ℕ → PlantEnding → List ℕ
 told_text path Usage = []
 told_text path (Plant told) = plant_text path told.fault told
 told_text path Unopened = file_line path
+told_text path (NoAtom place) = []
 told_text path Memory = codes "memory\n"
 told_text path Unwritten = []
 
@@ -69,18 +71,20 @@ of_trace trace.Memory = Memory
 of_trace trace.Write = Unwritten
 
 -- An ending behind these bytes of a plant text: a fault that is told is theirs, but for want of memory and a reader that failed; the output fails
--- only behind a plant; memory may always be wanting; and words and files have no part in it.
+-- only behind a plant, and no atom has a name only of one; memory may always be wanting; and words and files have no part in it.
 abbrev pub Tells : PlantEnding → List ℕ → Type 0
 Tells (Plant told) bytes = told ≢ of_no_line fault.Memory → told ≢ of_no_line fault.Read → meaning bytes ≡ Err told
 Tells Usage bytes = ⊥
 Tells Unopened bytes = ⊥
+Tells (NoAtom place) bytes = (plant : PlantText) × (meaning bytes ≡ Ok plant)
 Tells Memory bytes = Unit {0}
 Tells Unwritten bytes = (plant : PlantText) × (meaning bytes ≡ Ok plant)
 
--- an ending of what is printed: memory is wanting, or the output fails
+-- an ending of what is printed: memory is wanting, no atom has a name, or the output fails
 abbrev pub IsOfOutput : PlantEnding → Type 0
 IsOfOutput (Plant told) = ⊥
 IsOfOutput Usage = ⊥
 IsOfOutput Unopened = ⊥
+IsOfOutput (NoAtom place) = Unit {0}
 IsOfOutput Memory = Unit {0}
 IsOfOutput Unwritten = Unit {0}

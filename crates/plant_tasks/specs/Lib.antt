@@ -1,3 +1,3 @@
-pub mod Explanation
+pub mod Drawn
 pub mod Printed
 pub mod Ending

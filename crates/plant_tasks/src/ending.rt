@@ -5,6 +5,7 @@ ghost use Rattle.plant_tasks.specs.Ending.{ended_by};
 use command_line::Answered;
 use plant_text::{Fault, PlantFault};
 use run_text::TraceFault;
+use std::alloc::AllocError;
 use std::fmt;
 use text_io::WriteFault;
 
@@ -17,6 +18,8 @@ pub enum PlantEnding {
     Plant(PlantFault),
     /// The plant's file could not be opened.
     Unopened,
+    /// Of the names of atoms in the words of the command line, the one with this number, from 0, is of no atom of the plant.
+    NoAtom(usize),
     /// Memory ran out.
     Memory,
     /// The standard output could not be written.
@@ -39,6 +42,7 @@ impl PlantEnding {
                 _ => 1,
             },
             PlantEnding::Unopened => 3,
+            PlantEnding::NoAtom(_) => 2,
             PlantEnding::Memory => 3,
             PlantEnding::Unwritten => 3,
         }
@@ -57,7 +61,7 @@ pub fn ended(answered: Answered) -> Result<(), PlantEnding>
     }
 }
 
-/// What is told of an ending: a line, or nothing where `clap` told it, and where the output failed.
+/// What is told of an ending: a line, or nothing where it was told already what is wrong with the words, and where the output failed.
 #[derive(Clone, Copy)]
 pub struct PlantTold<'a> {
     /// Why the program ends early.
@@ -93,6 +97,7 @@ impl<'a> fmt::Display for PlantTold<'a> {
                 ),
             },
             PlantEnding::Unopened => writeln!(f, "file {}", self.path),
+            PlantEnding::NoAtom(_) => Ok(()),
             PlantEnding::Memory => f.write_str("memory\n"),
             PlantEnding::Unwritten => Ok(()),
         }
@@ -106,6 +111,16 @@ impl From<PlantFault> for PlantEnding {
 
     fn from(fault: PlantFault) -> Self {
         PlantEnding::Plant(fault)
+    }
+}
+
+impl From<AllocError> for PlantEnding {
+    ghost use Rattle.plant_tasks.specs.declared.ending.PlantEnding.TheVariants.{Memory};
+
+    ghost from_gives = { λ _ ending. ending ≡ Memory };
+
+    fn from(_: AllocError) -> Self {
+        PlantEnding::Memory
     }
 }
 

@@ -4,18 +4,22 @@
 //! that ends early, a [`PlantEnding`] says why, [`PlantTold`] is its line, and it knows the exit status of a program that ends so. What is
 //! printed and told are definitions of `specs/`, to which contracts tie the functions that do it. No file is opened here.
 //!
-//! - `task`: what is done with a plant text. `counts`: how many parts a plant has.
+//! - `task`: what is done with a plant text. `counts`: how many parts a plant has. `drawing`: what is drawn of it.
 //! - `ending`: why a program ends early at the words, the plant's text, the memory or the output.
-//! - `explanation`: the line of a fault, with a mark under what is at fault.
-//! - `process`: the words of the command line, and a fault that is shown on the standard error.
+//! - `process`: the words of the command line, and what more is told of an ending on the standard error. `watched`: readers and writers that
+//!   remember why they failed. `paths`: paths as they are shown.
 #![tactic(auto)]
 
 mod counts;
+mod drawing;
 mod ending;
-mod explanation;
+mod paths;
 mod process;
 mod task;
+mod watched;
 
 pub use ending::{PlantEnding, PlantTold, ended};
-pub use process::{show_fault, words_of_process};
+pub use paths::shown_path;
+pub use process::{tell_file_failure, tell_more, tell_output_failure, words_of_process};
 pub use task::{perform, read_plant};
+pub use watched::Watched;

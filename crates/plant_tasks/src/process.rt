@@ -1,10 +1,10 @@
-//! What both programs do in their process: words, and a fault that is shown.
+//! What both programs do in their process: words, and what is told behind the line of an ending.
 use crate::ending::PlantEnding;
-use crate::explanation::explanation_in;
-use plant_text::PlantFault;
+use plant_text::{Fault, PlantFault};
+use shown_fault::explain;
 use std::alloc::{AllocError, Global};
 use std::env::Args;
-use std::io::ErrorKind as IoErrorKind;
+use std::io::{self, ErrorKind};
 use std::rt::Env;
 use std::{env, str};
 
@@ -15,7 +15,7 @@ const LAUNCHER: &str = "bip_run";
 pub fn words_of_process<R: Env + Eprint + AllocGlobal>(rt: &R) -> Result<Vec<String>, PlantEnding> {
     match env::args(rt) {
         Ok(words) => renamed(rt.alloc(), words).map_err(|_| PlantEnding::Memory),
-        Err(error) if error.kind() == IoErrorKind::OutOfMemory => Err(PlantEnding::Memory),
+        Err(error) if error.kind() == ErrorKind::OutOfMemory => Err(PlantEnding::Memory),
         Err(_) => {
             let _ = eprintln!(rt; "error: a word of the command line is no UTF-8 text");
             Err(PlantEnding::Usage)
@@ -32,19 +32,60 @@ fn renamed(alloc: Global, given: Args) -> Result<Vec<String>, AllocError> {
     Ok(words)
 }
 
-/// Shows the line of the text that has the fault, if it is one of a line, with a mark under what is at fault.
-pub fn show_fault<R: Eprint + AllocGlobal>(rt: &R, text: &[u8], told: &PlantFault) {
-    // What can't be shown for want of memory has been told by its line.
-    let _ = show_line(rt, text, told);
+/// Tells more of an ending than its line: of a fault of the plant at the path where it is and what can be done, and of a file or an output
+/// that failed the reason, if it is known.
+pub fn tell_more<R: Eprint + AllocGlobal>(
+    rt: &R,
+    ending: PlantEnding,
+    path: &str,
+    text: &[u8],
+    failure: Option<io::Error>,
+) {
+    match ending {
+        PlantEnding::Plant(told) if told.fault != Fault::Read => show_fault(rt, path, text, &told),
+        PlantEnding::Plant(_) | PlantEnding::Unopened => tell_file_failure(rt, failure),
+        PlantEnding::Unwritten => tell_output_failure(rt, failure),
+        PlantEnding::Usage | PlantEnding::NoAtom(_) | PlantEnding::Memory => {}
+    }
 }
 
-/// Shows the line, where there is memory for it.
-fn show_line<R: Eprint + AllocGlobal>(
+/// Tells why a file could not be opened or read.
+pub fn tell_file_failure<R: Eprint>(rt: &R, failure: Option<io::Error>) {
+    let Some(failure) = failure else {
+        return;
+    };
+    let _ = match failure.kind() {
+        ErrorKind::NotFound => eprintln!(rt; "  no such file or folder"),
+        ErrorKind::PermissionDenied => eprintln!(rt; "  no right to read it"),
+        ErrorKind::IsADirectory => eprintln!(rt; "  a folder, and no file"),
+        _ => eprintln!(rt; "  {failure}"),
+    };
+}
+
+/// Tells why the standard output takes nothing. Where a reader of it has gone, as `head` does when it has enough, there is nothing to tell.
+pub fn tell_output_failure<R: Eprint>(rt: &R, failure: Option<io::Error>) {
+    let Some(failure) = failure else {
+        return;
+    };
+    if failure.kind() != ErrorKind::BrokenPipe {
+        let _ = eprintln!(rt; "error: the standard output failed: {failure}");
+    }
+}
+
+/// Shows where the fault of the text is, and what can be done about it.
+fn show_fault<R: Eprint + AllocGlobal>(rt: &R, path: &str, text: &[u8], told: &PlantFault) {
+    // What can't be shown for want of memory has been told by its line.
+    let _ = show_explained(rt, path, text, told);
+}
+
+/// Shows the same, where there is memory for it.
+fn show_explained<R: Eprint + AllocGlobal>(
     rt: &R,
+    path: &str,
     text: &[u8],
     told: &PlantFault,
 ) -> Result<(), AllocError> {
-    let shown = explanation_in(rt.alloc(), text, told)?;
+    let shown = explain(rt.alloc(), path.as_bytes(), text, told)?;
     let _ = rt.eprint(str::from_utf8(&shown).unwrap_or(""));
     Ok(())
 }

@@ -1,12 +1,12 @@
 //! Printing to a writer that fails.
-use plant_drawing::draw_to;
+use plant_drawing::{ALL_ATOMS, Filling, draw_to};
 use plant_text::plant_of_text;
 use run_text::{TraceFault, trace_as};
 use std::alloc::Global;
 use std::io;
 use std::io::{ErrorKind, Write};
 use std::test::Fail;
-use step_core::System;
+use step_core::{Stepper, System};
 use text_io::Format;
 
 /// How many bytes a page has room for.
@@ -84,7 +84,7 @@ const DRAWING: &str = "digraph plant {
     label=\"A\\nn = 0\";
     place_0_0 [shape=circle, margin=0.03, style=filled, label=\"s\"];
     port_0_0 [shape=ellipse, label=\"p n\"];
-    transition_0_0 [shape=box, label=\"p\"];
+    transition_0_0 [shape=box, label=\"p/0\"];
     port_0_0 -> transition_0_0 [style=dotted, arrowhead=none];
     place_0_0 -> transition_0_0;
     transition_0_0 -> place_0_0;
@@ -103,8 +103,9 @@ const PRINTED: [(Option<Format>, &str); 4] = [
 ];
 
 /// Prints the drawing of the plant.
-fn draw(system: &System, page: &mut Page) -> Result<(), TraceFault> {
-    Ok(draw_to(system, page)?)
+fn draw(alloc: Global, system: &System, page: &mut Page) -> Result<(), TraceFault> {
+    let run = Stepper::first(alloc, system)?;
+    Ok(draw_to(&run, ALL_ATOMS, Filling::Alike, page)?)
 }
 
 /// Prints the run of the plant in the format, or its drawing.
@@ -116,7 +117,7 @@ fn print(
 ) -> Result<(), TraceFault> {
     match format {
         Some(format) => trace_as(alloc, system, &[0, 1], format, page),
-        None => draw(system, page),
+        None => draw(alloc, system, page),
     }
 }
 

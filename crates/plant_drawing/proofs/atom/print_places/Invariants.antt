@@ -8,5 +8,5 @@ use Rattle.plant_drawing.proofs.atom.print_places.Given as goal
 abbrev pub invariant-loop-number : goal.invariant-loop-number
 invariant-loop-number g l =
     Leads (g.W.Write.contents l.initial.output) (g.W.Write.contents l.output)
-    (numbered (place_line l.atom) l.number (drop l.number l.places))
-    (numbered (place_line l.atom) 0 l.places)
+    (numbered (place_line l.marking l.atom) l.number (drop l.number l.places))
+    (numbered (place_line l.marking l.atom) 0 l.places)

@@ -1,12 +1,12 @@
--- The variables from this one on are left.
+-- The variables from this number on are left.
 use Rattle.std.proofs.Common.{drop}
-use Rattle.std.specs.Prelude.{flat_map}
+use Rattle.text_io.specs.Numbered.{numbered}
 use Rattle.text_io.proofs.Leading.{Leads}
 use Rattle.plant_drawing.specs.Atom.{variable_text}
 use Rattle.plant_drawing.proofs.atom.print_variables.Given as goal
 
-abbrev pub invariant-loop-variable : goal.invariant-loop-variable
-invariant-loop-variable g l =
+abbrev pub invariant-loop-number : goal.invariant-loop-number
+invariant-loop-number g l =
     Leads (g.W.Write.contents l.initial.output) (g.W.Write.contents l.output)
-    (flat_map variable_text (drop l.variable-index l.variables))
-    (flat_map variable_text l.variables)
+    (numbered (variable_text l.values) l.number (drop l.number l.variables))
+    (numbered (variable_text l.values) 0 l.variables)

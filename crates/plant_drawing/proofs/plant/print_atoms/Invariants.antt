@@ -1,13 +1,13 @@
 -- The atoms from this number on are left.
-use Rattle.std.proofs.Common.{drop, map}
-use Rattle.petri_atom.specs.Atom.{definition_of}
+use Rattle.std.proofs.Common.{drop}
+use Rattle.step_core.specs.Running.{plant_in, states_in}
 use Rattle.text_io.specs.Numbered.{numbered}
 use Rattle.text_io.proofs.Leading.{Leads}
-use Rattle.plant_drawing.specs.Atom.{atom_lines}
+use Rattle.plant_drawing.specs.Drawing.{drawn_atom}
 use Rattle.plant_drawing.proofs.plant.print_atoms.Given as goal
 
 abbrev pub invariant-loop-number : goal.invariant-loop-number
 invariant-loop-number g l =
     Leads (g.W.Write.contents l.initial.output) (g.W.Write.contents l.output)
-    (numbered atom_lines l.number (drop l.number (map definition_of l.atoms)))
-    (numbered atom_lines 0 (map definition_of l.atoms))
+    (numbered (drawn_atom l.drawn (states_in l.run)) l.number (drop l.number (plant_in l.run).atoms))
+    (numbered (drawn_atom l.drawn (states_in l.run)) 0 (plant_in l.run).atoms)

@@ -1,0 +1,11 @@
+use Rattle.std.proofs.Common.{◌<◌, ◌≤◌, ◌^◌, ◌==◌, ◌∙◌, sym, ap, arith}
+use Rattle.std.proofs.lemmas.Bool.{le-ltb}
+use Rattle.std.proofs.lemmas.Nat.Bits.{bit_at_above}
+use Rattle.blocked_text.proofs.hindrance.is_marked.Goals as goal
+
+pub returns-else-from-lt-MAX_PLACES : goal.returns-else-from-lt-MAX_PLACES
+returns-else-from-lt-MAX_PLACES c =
+    let small : c.args.marking < 2 ^ 64 = omega arith in
+    let past : 64 ≤ c.args.place = omega arith in
+    le-ltb c.from.result 64 c.if-from-lt-MAX_PLACES.false ∙
+    sym (ap (λ bit. bit == 1) (bit_at_above c.args.marking 64 c.args.place small past))

@@ -1,0 +1,9 @@
+use Rattle.blocked_text.proofs.Reasoning.{none-of, right}
+use Rattle.step_core.specs.Choice.{plant_interactions}
+use Rattle.blocked_text.proofs.laws.a_reason_is_right.Goals as goal
+
+pub returns : goal.returns
+returns c = record {
+  right = λ plant states n i r there told. right plant states n i there r told;
+  none = λ plant states n i there. none-of plant states (plant_interactions plant) n i there;
+}

@@ -1,0 +1,12 @@
+pub mod Separated
+pub mod Hindrance
+pub mod Variables
+pub mod Zero
+pub mod Idle
+pub mod Reason
+pub mod SameReason
+pub mod Way
+pub mod Told
+pub mod Blocked
+pub mod Asked
+pub mod Laws

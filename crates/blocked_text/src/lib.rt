@@ -1,0 +1,43 @@
+//! Why a connector can't be fired.
+//!
+//! A state allows an interaction where each of its ports is offered, each guard clause that applies is not 0, and no possible
+//! interaction is above it. [`Reasons::reason_of`] tells the first of these that fails, as a [`Reason`] (`specs/Reason.antt`);
+//! `laws` says that a reason is one, and that an interaction has none exactly where it is allowed.
+//!
+//! [`Reasons::print_blocked`] prints a line for each different reason of each connector that a state has no choice of:
+//!
+//! ```text
+//! lower: Gate.lower offers nothing: place open is not marked
+//! enter: guard '< Counter.pushes 3' is 0 (Counter.pushes=3)
+//! leave: possible, gives way to lower (line 41: prio leave < lower)
+//! ```
+//!
+//! [`Reasons::print_blocked_of`] prints the same of one connector. `specs/Blocked.antt` defines the text. Contracts say that exactly
+//! it was appended to a writer, where its type says which bytes it took; they say nothing of when a writer fails.
+//!
+//! - `reasons`: the plant that is asked, with its order: made once, which alone takes memory. `reason`: a reason, as data.
+//! - `offering`, `clauses`, `overruling`: the three kinds of reason, found. `hindrance`: why a transition is not offered.
+//! - `blocked`: the lines of a state, and of a connector. `told`: what is said of a reason; `idle` of a port, `zero` of a guard with
+//!   its values, `way` of an interaction that gives way.
+//! - `variables`: the variables of an expression in their order. `rules`: what one rule puts below what.
+//! - `laws`: what a reason says.
+#![tactic(auto)]
+
+mod blocked;
+mod clauses;
+mod hindrance;
+mod idle;
+pub mod laws;
+mod offering;
+mod overruling;
+mod reason;
+mod reasons;
+mod rules;
+mod told;
+mod variables;
+mod way;
+mod zero;
+
+pub use hindrance::{Hindrance, hindrance_of};
+pub use reason::Reason;
+pub use reasons::Reasons;

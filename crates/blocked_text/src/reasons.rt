@@ -1,0 +1,113 @@
+//! A plant that is asked for reasons.
+ghost use Rattle.std.specs.Prelude.{◌≡◌, ◌≤◌, IfOk, length, map};
+ghost use Rattle.priority_filter.specs.declared.interaction_set.TheConstants.{INTERACTION_LIMIT};
+ghost use Rattle.step_core.specs.Choice.{named, plant_interactions};
+ghost use Rattle.step_core.specs.Interaction.{interaction_of};
+ghost use Rattle.step_core.specs.System.{plant_of};
+
+use crate::clauses::{ExportValues, first_zero};
+use crate::offering::first_idle;
+use crate::reason::Reason;
+use priority_filter::Order;
+use std::alloc::{AllocError, Global};
+use step_core::{Interaction, PlantState, System};
+
+/// A plant that is asked for reasons: its system, and the order that its priority rules put on its interactions.
+#[derive(Drop)]
+pub struct Reasons<'s> {
+    pub(crate) system: &'s System,
+    pub(crate) order: Order,
+    ghost rules: { order.rules ≡ (plant_of system.now).rules },
+    ghost interactions: { order.interactions ≡ map named (plant_interactions (plant_of system.now)) },
+}
+
+impl<'s> Reasons<'s> {
+    ghost use Rattle.blocked_text.specs.Asked.{plant_asked};
+
+    /// The plant of this system. The order takes memory; what is asked takes none.
+    pub fn new(alloc: Global, system: &'s System) -> Result<Self, AllocError>
+        ensures { IfOk result (λ reasons. plant_asked reasons ≡ plant_of system.now) }
+    {
+        let order = order_of(alloc, system)?;
+        Ok(Reasons { system, order })
+    }
+}
+
+impl Reasons<'_> {
+    ghost use Rattle.blocked_text.specs.Asked.{plant_asked};
+    ghost use Rattle.blocked_text.specs.Reason.{reason_by, reason_of, zero_of};
+
+    /// Why the states do not allow the interaction with this number; `None` where they allow it, and of a number that no
+    /// interaction has.
+    pub fn reason_of(&self, states: &PlantState, number: u16) -> Option<Reason>
+        ensures { result ≡ reason_of (plant_asked self.now) states.now number }
+    {
+        match self.system.interactions().get(usize::from(number)) {
+            Some(interaction) => self.reason_by(states, number, interaction),
+            None => None,
+        }
+    }
+
+    /// Why the states do not allow the interaction, which has this number.
+    fn reason_by(
+        &self,
+        states: &PlantState,
+        number: u16,
+        interaction: &Interaction,
+    ) -> Option<Reason>
+        ensures { result ≡ reason_by (plant_asked self.now) states.now (plant_interactions (plant_asked self.now)) number (interaction_of interaction.now) }
+    {
+        if let Some(port) = first_idle(self.system.atoms(), states, &interaction.ports) {
+            return Some(Reason::NotOffered(port));
+        }
+        if let Some(clause) = self.zero_of(states, interaction) {
+            return Some(Reason::GuardIsZero(clause));
+        }
+        match self.first_over(states, number) {
+            Some(above) => Some(Reason::GivesWay(above)),
+            None => None,
+        }
+    }
+
+    /// The number of the first guard clause of the interaction's connector that applies to it, and is 0.
+    pub(crate) fn zero_of(&self, states: &PlantState, interaction: &Interaction) -> Option<usize>
+        ensures { result ≡ zero_of (plant_asked self.now).atoms (plant_asked self.now).wires states.now (interaction_of interaction.now) }
+    {
+        match self.system.wires().get(usize::from(interaction.connector)) {
+            Some(wire) => {
+                let values = ExportValues {
+                    atoms: self.system.atoms(),
+                    connector: &wire.connector,
+                    states,
+                };
+                first_zero(&values, interaction.mask, &wire.guards)
+            }
+            None => None,
+        }
+    }
+}
+
+/// The order that the priority rules of the system's plant put on its interactions.
+fn order_of(alloc: Global, system: &System) -> Result<Order, AllocError>
+    ensures rules { IfOk result (λ order. order.rules ≡ (plant_of system.now).rules) }
+    ensures interactions { IfOk result (λ order. order.interactions ≡ map named (plant_interactions (plant_of system.now))) }
+{
+    system.keeps_its_rules();
+    let names = names_of(alloc, system.interactions())?;
+    match Order::new(alloc, system.rules(), &names) {
+        Ok(order) => Ok(order),
+        // A system keeps the rules of a plant, so that only memory can be wanting.
+        Err(_) => Err(AllocError),
+    }
+}
+
+/// The interactions as priority rules name them: each by its connector and its mask.
+fn names_of(alloc: Global, interactions: &[Interaction]) -> Result<Vec<(u16, u16)>, AllocError>
+    ensures { IfOk result (λ names. names.items ≡ map named (map interaction_of interactions.now)) }
+{
+    let mut names = Vec::with_capacity(alloc, interactions.len())?;
+    for interaction in interactions {
+        names.push((interaction.connector, interaction.mask))?;
+    }
+    Ok(names)
+}

@@ -1,0 +1,33 @@
+-- Which request was read of what `clap` found.
+use Rattle.std.specs.Prelude.{◌≡◌, ℕ, List, codes, Some}
+use Rattle.clap.specs.Matches.{first_value, subcommand_name_of}
+use Rattle.clap.specs.declared.parser.matches.ArgMatches.{ArgMatches}
+use Rattle.clap.specs.declared.parser.matches.Found.{Found}
+use Rattle.command_line.specs.Asked.{IsAsked}
+use Rattle.command_line.specs.Names.{command_in}
+use Rattle.command_line.specs.Said.{IsFlag, are_found, word_of, words_of}
+use Rattle.command_line.specs.declared.request.Request.{Request}
+use Rattle.command_line.specs.declared.said.Said.{Said}
+
+-- these words were found of a command
+pub record AreFound (said : Said) (found : Found) : Type 0 where
+  pub plant : word_of said.plant ≡ first_value found (codes "PLANT")
+  pub image : word_of said.image ≡ first_value found (codes "IMAGE")
+  pub script : word_of said.script ≡ first_value found (codes "SCRIPT")
+  pub picks : words_of said.picks ≡ are_found found (codes "PICK")
+  pub random : word_of said.random ≡ first_value found (codes "random")
+  pub seed : word_of said.seed ≡ first_value found (codes "seed")
+  pub format : word_of said.format ≡ first_value found (codes "format")
+  pub ring : word_of said.ring ≡ first_value found (codes "ring")
+  pub after : words_of said.after ≡ are_found found (codes "after")
+  pub only : words_of said.only ≡ are_found found (codes "only")
+  pub outline : IsFlag found (codes "outline") said.outline
+  pub states : IsFlag found (codes "states") said.states
+  pub warn : IsFlag found (codes "warn") said.warn
+  pub explain : IsFlag found (codes "explain") said.explain
+
+-- the request is what the words of the command ask for that was found
+abbrev pub IsRead : Request → ArgMatches → Type 0
+IsRead request matches =
+    (name : List ℕ) × (found : Found) × (said : Said) × (subcommand_name_of matches ≡ Some name) × (command_in name ≡ Some said.command) ×
+    AreFound said found × IsAsked request said

@@ -1,0 +1,23 @@
+-- What the words of a command say, as `clap` found them.
+use Rattle.std.specs.Prelude.{◌≡◌, ℕ, List, map, Bool, true, false, codes, Option, None, Some, option_map}
+use Rattle.std.specs.Borrow.{Bor}
+use Rattle.clap.specs.Matches.{matched_of, one_text, raw_values}
+use Rattle.clap.specs.declared.parser.matches.Found.{Found}
+
+-- the text of a word that may be there
+abbrev pub word_of : Option (Bor (List ℕ)) → Option (List ℕ)
+word_of word = option_map (λ w. w.now) word
+
+-- the texts of words that may be there
+abbrev pub words_of : Option (Bor (List (Bor (List ℕ)))) → Option (List (List ℕ))
+words_of words = option_map (λ ws. map (λ w. w.now) ws.now) words
+
+-- the words that were found by a name
+abbrev pub are_found : Found → List ℕ → Option (List (List ℕ))
+are_found found name = option_map raw_values (matched_of found name)
+
+-- an option without a value is set where it was found set, and is not where it was found otherwise
+abbrev pub IsFlag : Found → List ℕ → Bool → Type 0
+IsFlag found name flag =
+    (one_text found name ≡ Some (codes "true") → flag ≡ true) ×
+    (one_text found name ≡ Some (codes "false") → flag ≡ false) × (one_text found name ≡ None → flag ≡ false)

@@ -1,0 +1,123 @@
+//! The arguments and the options of the commands.
+use crate::names::{
+    AFTER, EXPLAIN, FORMATS, IMAGE, LINES, ONLY, OUTLINE, PICK, PLANT, RANDOM, RING, RUN_FORMAT,
+    SCRIPT, SEED, STATES, USUAL_RING, WARN,
+};
+use clap::builder::ValueParser;
+use clap::{Arg, ArgAction};
+use std::alloc::Global;
+
+/// The argument that says where the plant text stands.
+pub(crate) fn plant_argument<'a>(alloc: Global) -> Arg<'a> {
+    Arg::new(alloc, PLANT).required(true).help(
+        "The file with the text of the plant, or - for the standard input",
+    )
+}
+
+/// The argument that names the image.
+pub(crate) fn image_argument<'a>(alloc: Global) -> Arg<'a> {
+    Arg::new(alloc, IMAGE)
+        .required(true)
+        .help("The file in which the plant is kept")
+}
+
+/// The argument that says where the script stands.
+pub(crate) fn script_argument<'a>(alloc: Global) -> Arg<'a> {
+    Arg::new(alloc, SCRIPT).required(true).help(
+        "The file with the events, or - for the standard input, where that is not the plant",
+    )
+}
+
+/// The option that says for how many records there is room.
+pub(crate) fn ring_argument<'a>(alloc: Global) -> Arg<'a> {
+    Arg::new(alloc, RING)
+        .long(RING)
+        .value_name("N")
+        .default_value(USUAL_RING)
+        .help("For how many records the image has room")
+}
+
+/// The option that has more told of a fault.
+pub(crate) fn explain_argument<'a>(alloc: Global) -> Arg<'a> {
+    Arg::new(alloc, EXPLAIN)
+        .long(EXPLAIN)
+        .action(ArgAction::SetTrue)
+        .help("Tells more of a fault below its line, as it is done on a terminal")
+}
+
+/// The option that says in which format a run is printed.
+pub(crate) fn run_format_argument<'a>(alloc: Global) -> Arg<'a> {
+    Arg::new(alloc, RUN_FORMAT)
+        .long(RUN_FORMAT)
+        .value_name("FORMAT")
+        .value_parser(ValueParser::Names(FORMATS))
+        .default_value(LINES)
+        .help("How the run is printed")
+}
+
+/// The option that asks for random picks.
+pub(crate) fn random_argument<'a>(alloc: Global) -> Arg<'a> {
+    Arg::new(alloc, RANDOM)
+        .long(RANDOM)
+        .value_name("N")
+        .help("Picks at random, N times")
+}
+
+/// The option that says which random picks they are.
+pub(crate) fn seed_argument<'a>(alloc: Global) -> Arg<'a> {
+    Arg::new(alloc, SEED).long(SEED).value_name("S").help(
+        "Which random picks: the same seed gives the same ones; without it the seed is 1",
+    )
+}
+
+/// The argument of the picks.
+pub(crate) fn pick_argument<'a>(alloc: Global) -> Arg<'a> {
+    Arg::new(alloc, PICK)
+        .action(ArgAction::Append)
+        .num_args(0..)
+        .allow_negative_numbers(true)
+        .help("Which of the state's choices is fired, from 0")
+}
+
+/// The option that has the states of a run printed.
+pub(crate) fn states_argument<'a>(alloc: Global) -> Arg<'a> {
+    Arg::new(alloc, STATES)
+        .long(STATES)
+        .action(ArgAction::SetTrue)
+        .help("Prints the state at the start and after each firing, too")
+}
+
+/// The option that has likely mistakes told.
+pub(crate) fn warn_argument<'a>(alloc: Global) -> Arg<'a> {
+    Arg::new(alloc, WARN)
+        .long(WARN)
+        .action(ArgAction::SetTrue)
+        .help("Tells what is probably a mistake, too")
+}
+
+/// The option that asks for an outline.
+pub(crate) fn outline_argument<'a>(alloc: Global) -> Arg<'a> {
+    Arg::new(alloc, OUTLINE)
+        .long(OUTLINE)
+        .action(ArgAction::SetTrue)
+        .help("Draws a node for each atom and each connector alone")
+}
+
+/// The option that names the atoms that are drawn.
+pub(crate) fn only_argument<'a>(alloc: Global) -> Arg<'a> {
+    Arg::new(alloc, ONLY)
+        .long(ONLY)
+        .value_name("ATOM,..")
+        .action(ArgAction::Append)
+        .value_delimiter(',')
+        .help("Draws these atoms alone, and the connectors that join them")
+}
+
+/// The option that has the state after some picks drawn.
+pub(crate) fn after_argument<'a>(alloc: Global) -> Arg<'a> {
+    Arg::new(alloc, AFTER)
+        .long(AFTER)
+        .value_name("PICK")
+        .num_args(1..)
+        .help("Draws the state after these picks, and in colour what can be fired then")
+}

@@ -1,0 +1,160 @@
+//! The commands of the program, with their arguments and options.
+use crate::arguments::{
+    after_argument, explain_argument, image_argument, only_argument, outline_argument,
+    pick_argument, plant_argument, random_argument, ring_argument, run_format_argument,
+    script_argument, seed_argument, states_argument, warn_argument,
+};
+use crate::help::{
+    ABOUT, AFTER, BRIEF, CHECK_ABOUT, CHECK_AFTER, CHECK_BRIEF, CHOICES_ABOUT, CHOICES_AFTER,
+    CHOICES_BRIEF, DRAW_ABOUT, DRAW_AFTER, DRAW_BRIEF, FORMAT_ABOUT, FORMAT_AFTER, FORMAT_BRIEF,
+    RECOVER_ABOUT, RECOVER_AFTER, RECOVER_BRIEF, RUN_ABOUT, RUN_AFTER, RUN_BRIEF, TRACE_ABOUT,
+    TRACE_AFTER, TRACE_BRIEF, VERSION, WHY_ABOUT, WHY_AFTER, WHY_BRIEF,
+};
+use crate::names::{CHECK, CHOICES, CommandName, DRAW, FORMAT, RECOVER, RUN, TRACE, WHY};
+use clap::{Arg, Command};
+use std::alloc::{AllocError, Global};
+
+/// The program with its commands.
+pub(crate) fn program<'a>(alloc: Global) -> Result<Command<'a>, AllocError> {
+    let program = Command::new(alloc, "bip_run")
+        .version(VERSION)
+        .about(BRIEF)
+        .long_about(ABOUT)
+        .after_long_help(AFTER)
+        .subcommand_required(true)
+        .arg_required_else_help(true);
+    let program = with_command(Ok(program), check_command(alloc));
+    let program = with_command(program, choices_command(alloc));
+    let program = with_command(program, why_command(alloc));
+    let program = with_command(program, trace_command(alloc));
+    let program = with_command(program, draw_command(alloc));
+    let program = with_command(program, format_command(alloc));
+    let program = with_command(program, run_command(alloc));
+    with_command(program, recover_command(alloc))
+}
+
+/// The command with this name alone, as a part of the program: what it answers shows how it is used.
+pub(crate) fn command_alone<'a>(
+    alloc: Global,
+    name: CommandName,
+) -> Result<Command<'a>, AllocError> {
+    match name {
+        CommandName::Check => check_command(alloc)?.bin_name("bip_run check"),
+        CommandName::Choices => choices_command(alloc)?.bin_name("bip_run choices"),
+        CommandName::Why => why_command(alloc)?.bin_name("bip_run why"),
+        CommandName::Trace => trace_command(alloc)?.bin_name("bip_run trace"),
+        CommandName::Draw => draw_command(alloc)?.bin_name("bip_run draw"),
+        CommandName::Format => format_command(alloc)?.bin_name("bip_run format"),
+        CommandName::Run => run_command(alloc)?.bin_name("bip_run run"),
+        CommandName::Recover => recover_command(alloc)?.bin_name("bip_run recover"),
+    }
+}
+
+/// The program with one more command, where there was memory for both.
+//
+// The parts of the program are put together by calls that hand want of memory on: a function with a `?` at each part takes the
+// prover as long as all else of this crate.
+fn with_command<'a>(
+    program: Result<Command<'a>, AllocError>,
+    command: Result<Command<'a>, AllocError>,
+) -> Result<Command<'a>, AllocError> {
+    program?.subcommand(command?)
+}
+
+/// The command with one more argument, where there was memory for it.
+fn with_argument<'a>(
+    command: Result<Command<'a>, AllocError>,
+    argument: Arg<'a>,
+) -> Result<Command<'a>, AllocError> {
+    command?.arg(argument)
+}
+
+/// A command with what its help says.
+fn described<'a>(
+    alloc: Global,
+    name: &'a str,
+    brief: &'a str,
+    about: &'a str,
+    after: &'a str,
+) -> Command<'a> {
+    Command::new(alloc, name)
+        .about(brief)
+        .long_about(about)
+        .after_long_help(after)
+}
+
+/// The command that counts the parts of a plant.
+fn check_command<'a>(alloc: Global) -> Result<Command<'a>, AllocError> {
+    let command = described(alloc, CHECK, CHECK_BRIEF, CHECK_ABOUT, CHECK_AFTER);
+    let command = with_argument(Ok(command), warn_argument(alloc));
+    let command = with_argument(command, explain_argument(alloc));
+    with_argument(command, plant_argument(alloc))
+}
+
+/// The command that lists what can be fired next.
+fn choices_command<'a>(alloc: Global) -> Result<Command<'a>, AllocError> {
+    let command = described(alloc, CHOICES, CHOICES_BRIEF, CHOICES_ABOUT, CHOICES_AFTER);
+    let command = with_argument(Ok(command), random_argument(alloc));
+    let command = with_argument(command, seed_argument(alloc));
+    let command = with_argument(command, explain_argument(alloc));
+    let command = with_argument(command, plant_argument(alloc));
+    with_argument(command, pick_argument(alloc))
+}
+
+/// The command that tells why a connector can't be fired next.
+fn why_command<'a>(alloc: Global) -> Result<Command<'a>, AllocError> {
+    let command = described(alloc, WHY, WHY_BRIEF, WHY_ABOUT, WHY_AFTER);
+    let command = with_argument(Ok(command), random_argument(alloc));
+    let command = with_argument(command, seed_argument(alloc));
+    let command = with_argument(command, explain_argument(alloc));
+    let command = with_argument(command, plant_argument(alloc));
+    with_argument(command, pick_argument(alloc))
+}
+
+/// The command that runs a plant.
+fn trace_command<'a>(alloc: Global) -> Result<Command<'a>, AllocError> {
+    let command = described(alloc, TRACE, TRACE_BRIEF, TRACE_ABOUT, TRACE_AFTER);
+    let command = with_argument(Ok(command), run_format_argument(alloc));
+    let command = with_argument(command, states_argument(alloc));
+    let command = with_argument(command, random_argument(alloc));
+    let command = with_argument(command, seed_argument(alloc));
+    let command = with_argument(command, explain_argument(alloc));
+    let command = with_argument(command, plant_argument(alloc));
+    with_argument(command, pick_argument(alloc))
+}
+
+/// The command that draws a plant.
+fn draw_command<'a>(alloc: Global) -> Result<Command<'a>, AllocError> {
+    let command = described(alloc, DRAW, DRAW_BRIEF, DRAW_ABOUT, DRAW_AFTER);
+    let command = with_argument(Ok(command), outline_argument(alloc));
+    let command = with_argument(command, only_argument(alloc));
+    let command = with_argument(command, after_argument(alloc));
+    let command = with_argument(command, explain_argument(alloc));
+    with_argument(command, plant_argument(alloc))
+}
+
+/// The command that makes an image of a plant.
+fn format_command<'a>(alloc: Global) -> Result<Command<'a>, AllocError> {
+    let command = described(alloc, FORMAT, FORMAT_BRIEF, FORMAT_ABOUT, FORMAT_AFTER);
+    let command = with_argument(Ok(command), ring_argument(alloc));
+    let command = with_argument(command, explain_argument(alloc));
+    let command = with_argument(command, plant_argument(alloc));
+    with_argument(command, image_argument(alloc))
+}
+
+/// The command that runs a plant on its image.
+fn run_command<'a>(alloc: Global) -> Result<Command<'a>, AllocError> {
+    let command = described(alloc, RUN, RUN_BRIEF, RUN_ABOUT, RUN_AFTER);
+    let command = with_argument(Ok(command), explain_argument(alloc));
+    let command = with_argument(command, plant_argument(alloc));
+    let command = with_argument(command, image_argument(alloc));
+    with_argument(command, script_argument(alloc))
+}
+
+/// The command that tells where a plant stands.
+fn recover_command<'a>(alloc: Global) -> Result<Command<'a>, AllocError> {
+    let command = described(alloc, RECOVER, RECOVER_BRIEF, RECOVER_ABOUT, RECOVER_AFTER);
+    let command = with_argument(Ok(command), explain_argument(alloc));
+    let command = with_argument(command, plant_argument(alloc));
+    with_argument(command, image_argument(alloc))
+}

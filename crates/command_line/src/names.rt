@@ -1,0 +1,103 @@
+//! The words that name the commands, their arguments and their options.
+ghost use Rattle.std.specs.Prelude.{◌≡◌};
+ghost use Rattle.command_line.specs.Names.{command_in};
+
+pub(crate) const CHECK: &str = "check";
+
+pub(crate) const CHOICES: &str = "choices";
+
+pub(crate) const WHY: &str = "why";
+
+pub(crate) const TRACE: &str = "trace";
+
+pub(crate) const DRAW: &str = "draw";
+
+pub(crate) const FORMAT: &str = "format";
+
+pub(crate) const RUN: &str = "run";
+
+pub(crate) const RECOVER: &str = "recover";
+
+pub(crate) const PLANT: &str = "PLANT";
+
+pub(crate) const PICK: &str = "PICK";
+
+pub(crate) const IMAGE: &str = "IMAGE";
+
+pub(crate) const SCRIPT: &str = "SCRIPT";
+
+pub(crate) const EXPLAIN: &str = "explain";
+
+pub(crate) const WARN: &str = "warn";
+
+pub(crate) const RUN_FORMAT: &str = "format";
+
+pub(crate) const STATES: &str = "states";
+
+pub(crate) const RANDOM: &str = "random";
+
+pub(crate) const SEED: &str = "seed";
+
+pub(crate) const OUTLINE: &str = "outline";
+
+pub(crate) const ONLY: &str = "only";
+
+pub(crate) const AFTER: &str = "after";
+
+pub(crate) const RING: &str = "ring";
+
+/// The format in which a run is printed if none is named.
+pub(crate) const LINES: &str = "lines";
+
+/// The formats of a run, as `run_task` knows them.
+pub(crate) const FORMATS: &[&str] = &[LINES, "csv", "jsonl", "vcd"];
+
+/// The length of a ring if none is named.
+pub(crate) const USUAL_RING: &str = "64";
+
+/// The commands.
+#[derive(Clone, Copy, Debug, PartialEq, Eq)]
+pub(crate) enum CommandName {
+    /// Counts the parts of a plant.
+    Check,
+    /// Lists what can be fired next.
+    Choices,
+    /// Tells why a connector can't be fired next.
+    Why,
+    /// Runs a plant from its first state.
+    Trace,
+    /// Draws a plant.
+    Draw,
+    /// Makes an image.
+    Format,
+    /// Runs a plant on its image.
+    Run,
+    /// Tells where a plant stands by its image.
+    Recover,
+}
+
+/// The command that the word names.
+pub(crate) fn command_named(word: &str) -> Option<CommandName>
+    ensures { result ≡ command_in word.now }
+{
+    let word = word.as_bytes();
+    if word == CHECK.as_bytes() {
+        Some(CommandName::Check)
+    } else if word == CHOICES.as_bytes() {
+        Some(CommandName::Choices)
+    } else if word == WHY.as_bytes() {
+        Some(CommandName::Why)
+    } else if word == TRACE.as_bytes() {
+        Some(CommandName::Trace)
+    } else if word == DRAW.as_bytes() {
+        Some(CommandName::Draw)
+    } else if word == FORMAT.as_bytes() {
+        Some(CommandName::Format)
+    } else if word == RUN.as_bytes() {
+        Some(CommandName::Run)
+    } else if word == RECOVER.as_bytes() {
+        Some(CommandName::Recover)
+    } else {
+        None
+    }
+}

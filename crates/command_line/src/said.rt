@@ -1,0 +1,69 @@
+//! What the words of a command say, part by part.
+ghost use Rattle.std.specs.Prelude.{◌≡◌};
+ghost use Rattle.clap.specs.Matches.{found_of};
+ghost use Rattle.command_line.specs.Read.{AreFound};
+
+use crate::names::{
+    AFTER, CommandName, EXPLAIN, IMAGE, ONLY, OUTLINE, PICK, PLANT, RANDOM, RING, RUN_FORMAT,
+    SCRIPT, SEED, STATES, WARN,
+};
+use clap::ArgMatches;
+
+/// What the words of a command say: each argument and each option as it is written, if it is there.
+#[derive(Clone, Copy)]
+pub(crate) struct Said<'m, 'a> {
+    /// Which command it is.
+    pub(crate) command: CommandName,
+    /// Where the plant text is.
+    pub(crate) plant: Option<&'a str>,
+    /// Where the image is.
+    pub(crate) image: Option<&'a str>,
+    /// Where the script is.
+    pub(crate) script: Option<&'a str>,
+    /// The picks of a run.
+    pub(crate) picks: Option<&'m [&'a str]>,
+    /// How many random picks there are.
+    pub(crate) random: Option<&'a str>,
+    /// The seed of random picks.
+    pub(crate) seed: Option<&'a str>,
+    /// The format of a run.
+    pub(crate) format: Option<&'a str>,
+    /// The length of a ring.
+    pub(crate) ring: Option<&'a str>,
+    /// The picks behind which a plant is drawn.
+    pub(crate) after: Option<&'m [&'a str]>,
+    /// The atoms that are drawn.
+    pub(crate) only: Option<&'m [&'a str]>,
+    /// Whether a drawing is an outline.
+    pub(crate) outline: bool,
+    /// Whether the states of a run are printed.
+    pub(crate) states: bool,
+    /// Whether what is probably a mistake is told.
+    pub(crate) warn: bool,
+    /// Whether more is told of a fault.
+    pub(crate) explain: bool,
+}
+
+/// What was found behind the word of a command.
+pub(crate) fn said_in<'m, 'a>(command: CommandName, found: &'m ArgMatches<'a>) -> Said<'m, 'a>
+    ensures command { result.command ≡ command }
+    ensures found { AreFound result (found_of found.now) }
+{
+    Said {
+        command,
+        plant: found.get_str(PLANT),
+        image: found.get_str(IMAGE),
+        script: found.get_str(SCRIPT),
+        picks: found.get_strs(PICK),
+        random: found.get_str(RANDOM),
+        seed: found.get_str(SEED),
+        format: found.get_str(RUN_FORMAT),
+        ring: found.get_str(RING),
+        after: found.get_strs(AFTER),
+        only: found.get_strs(ONLY),
+        outline: found.get_flag(OUTLINE),
+        states: found.get_flag(STATES),
+        warn: found.get_flag(WARN),
+        explain: found.get_flag(EXPLAIN),
+    }
+}

@@ -1,0 +1,5 @@
+pub mod Expression
+pub mod Sought
+pub mod Export
+pub mod Words
+pub mod Rule

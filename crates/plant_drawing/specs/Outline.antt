@@ -1,0 +1,44 @@
+-- The outline of a plant: a node for each atom and for each connector, and no parts of atoms.
+use Rattle.std.specs.Prelude.{ℕ, Bool, List, ◌++◌, codes, flat_map}
+use Rattle.petri_atom.specs.Definition.{AtomDefinition}
+use Rattle.connector_tree.specs.Tokens.{tokens_of}
+use Rattle.connector_tree.specs.declared.tree.Port.{Port}
+use Rattle.step_core.specs.Plant.{PlantDefinition, WireDefinition}
+use Rattle.text_io.specs.Numbered.{numbered}
+use Rattle.plant_drawing.specs.Node.{atom_node, connector_node}
+use Rattle.plant_drawing.specs.Atom.{named}
+use Rattle.plant_drawing.specs.Edges.{end_of_edge, token_edge}
+use Rattle.plant_drawing.specs.Rule.{rule_line}
+use Rattle.plant_drawing.specs.Drawing.{style}
+
+-- an atom is a box with its name
+abbrev pub atom_box : ℕ → AtomDefinition → List ℕ
+atom_box number a = codes "  " ++ atom_node number ++ codes " [shape=box, " ++ named a.name
+
+-- a connector is a small node with its name
+abbrev pub connector_oval : ℕ → WireDefinition → List ℕ
+connector_oval number wire =
+    codes "  " ++ connector_node number ++
+    codes " [shape=ellipse, style=filled, fillcolor=lightyellow, fontsize=10, margin=0.02, height=0.25, " ++ named wire.name
+
+-- the begin of the edge of a connector to an atom
+abbrev pub arrow_to_atom : ℕ → ℕ → List ℕ
+arrow_to_atom number atom = codes "  " ++ connector_node number ++ codes " -> " ++ atom_node atom
+
+-- the edge of a connector to the atom of one of its leaves
+abbrev pub atom_edge : ℕ → Port → Bool → List ℕ
+atom_edge number port trigger =
+    arrow_to_atom number port.atom ++ codes " [arrowhead=" ++ end_of_edge trigger ++ codes "];\n"
+
+-- the connector with a number, and its edges
+abbrev pub connector_outline : ℕ → WireDefinition → List ℕ
+connector_outline number wire = connector_oval number wire ++ flat_map (token_edge (atom_edge number)) (tokens_of wire.connector)
+
+-- the atoms, the connectors and the priority rules, each in written order
+abbrev pub outline_parts : PlantDefinition → List ℕ
+outline_parts plant =
+    numbered atom_box 0 plant.atoms ++ numbered connector_outline 0 plant.wires ++ flat_map (rule_line plant) plant.rules
+
+-- a directed graph of them
+abbrev pub outline_of : PlantDefinition → List ℕ
+outline_of plant = codes "digraph plant {\n" ++ style ++ outline_parts plant ++ codes "}\n"

@@ -1,0 +1,75 @@
+//! The edges of a connector, by the leaves of its tree.
+ghost use Rattle.std.specs.Prelude.{Bool, List, ℕ, OnOk, flat_map};
+ghost use Rattle.std.specs.Io.KnownBytes.{Appends};
+ghost use Rattle.connector_tree.specs.declared.tree.Port as tree;
+ghost use Rattle.connector_tree.specs.Tokens.{children_tokens, node_tokens};
+ghost use Rattle.plant_drawing.specs.Edges.{end_of_edge, token_edge};
+
+use connector_tree::{Child, Node, Port};
+use std::io::Write;
+use text_io::{WriteFault, print_text};
+
+/// What is drawn for a leaf of a connector.
+pub(crate) trait LeafEdges {
+    ghost edge_to: { Self → tree.Port → Bool → List ℕ };
+
+    /// Prints what is drawn for one leaf, which is a trigger or is none.
+    fn print_edge<W: Write>(
+        &self,
+        port: Port,
+        trigger: bool,
+        output: &mut W,
+    ) -> Result<(), WriteFault>
+        ensures { OnOk result (Appends (W.contents output.old) (W.contents output.new) (edge_to self.now port trigger)) };
+}
+
+/// Prints what is drawn for the leaves of several children of a tree.
+#[cycle(edges)]
+pub(crate) fn print_edges<E: LeafEdges, W: Write>(
+    edges: &E,
+    children: &[Child],
+    output: &mut W,
+) -> Result<(), WriteFault>
+    ensures { OnOk result (Appends (W.contents output.old) (W.contents output.new)
+        (flat_map (token_edge (E.edge_to edges.now)) (children_tokens children.now))) }
+{
+    for child in children {
+        print_node_edges(edges, &child.node, child.trigger, output)?;
+    }
+    Ok(())
+}
+
+/// Prints what is drawn for the leaves of a node of a tree.
+#[cycle(edges)]
+fn print_node_edges<E: LeafEdges, W: Write>(
+    edges: &E,
+    node: &Node,
+    trigger: bool,
+    output: &mut W,
+) -> Result<(), WriteFault>
+    ensures { OnOk result (Appends (W.contents output.old) (W.contents output.new)
+        (flat_map (token_edge (E.edge_to edges.now)) (node_tokens node.now trigger))) }
+{
+    match node {
+        Node::Leaf { atom, port } => {
+            let port = Port {
+                atom: *atom,
+                port: *port,
+            };
+            edges.print_edge(port, trigger, output)
+        }
+        Node::Fusion(children) => print_edges(edges, children, output),
+    }
+}
+
+/// Prints how an edge ends: in a triangle at a trigger, and in a dot at a synchron.
+pub(crate) fn print_end<W: Write>(trigger: bool, output: &mut W) -> Result<(), WriteFault>
+    ensures { OnOk result (Appends (W.contents output.old) (W.contents output.new)
+        (end_of_edge trigger)) }
+{
+    if trigger {
+        print_text(output, b"normal")
+    } else {
+        print_text(output, b"dot")
+    }
+}

@@ -1,0 +1,146 @@
+//! The outline of a plant: its atoms and its connectors, each as one node.
+ghost use Rattle.std.specs.Prelude.{OnOk, map};
+ghost use Rattle.std.specs.Io.KnownBytes.{Appends};
+ghost use Rattle.petri_atom.specs.Atom.{definition_of};
+ghost use Rattle.step_core.specs.System.{plant_of};
+ghost use Rattle.step_core.specs.Wire.{wire_of};
+ghost use Rattle.text_io.specs.Numbered.{numbered};
+ghost use Rattle.plant_drawing.specs.Outline.{arrow_to_atom, atom_box, atom_edge, connector_outline, connector_oval, outline_of, outline_parts};
+
+use crate::atom::print_named;
+use crate::edges::{LeafEdges, print_edges, print_end};
+use crate::node::{print_atom_node, print_connector};
+use crate::plant::print_style;
+use crate::rule::print_rules;
+use connector_tree::Port;
+use petri_atom::Atom;
+use std::io::Write;
+use step_core::{System, Wire};
+use text_io::{WriteFault, print_text};
+
+/// Writes the outline of a plant: a node for each atom, then one for each connector with an edge to the atom of each of its leaves, and
+/// then the priority rules.
+pub fn outline_to<W: Write>(system: &System, output: &mut W) -> Result<(), WriteFault>
+    ensures { OnOk result (Appends (W.contents output.old) (W.contents output.new)
+        (outline_of (plant_of system.now))) }
+{
+    print_text(output, b"digraph plant {\n")?;
+    print_style(output)?;
+    print_parts(system, output)?;
+    print_text(output, b"}\n")
+}
+
+/// Prints the atoms, the connectors and the priority rules.
+fn print_parts<W: Write>(system: &System, output: &mut W) -> Result<(), WriteFault>
+    ensures { OnOk result (Appends (W.contents output.old) (W.contents output.new)
+        (outline_parts (plant_of system.now))) }
+{
+    print_atoms(system.atoms(), output)?;
+    print_wires(system.wires(), output)?;
+    print_rules(system, system.rules(), output)
+}
+
+/// Prints atoms as boxes, in the order of their numbers.
+fn print_atoms<W: Write>(atoms: &[Atom], output: &mut W) -> Result<(), WriteFault>
+    ensures { OnOk result (Appends (W.contents output.old) (W.contents output.new)
+        (numbered atom_box 0 (map definition_of atoms.now))) }
+{
+    for (number, atom) in atoms.iter().enumerate() {
+        print_box(number as u64, atom, output)?;
+    }
+    Ok(())
+}
+
+/// Prints an atom as a box with its name.
+fn print_box<W: Write>(number: u64, atom: &Atom, output: &mut W) -> Result<(), WriteFault>
+    ensures { OnOk result (Appends (W.contents output.old) (W.contents output.new)
+        (atom_box number (definition_of atom.now))) }
+{
+    print_text(output, b"  ")?;
+    print_atom_node(number, output)?;
+    print_text(output, b" [shape=box, ")?;
+    print_named(atom.name(), output)
+}
+
+/// Prints connectors with their edges, in the order of their numbers.
+fn print_wires<W: Write>(wires: &[Wire], output: &mut W) -> Result<(), WriteFault>
+    ensures { OnOk result (Appends (W.contents output.old) (W.contents output.new)
+        (numbered connector_outline 0 (map wire_of wires.now))) }
+{
+    for (number, wire) in wires.iter().enumerate() {
+        print_wire(number as u64, wire, output)?;
+    }
+    Ok(())
+}
+
+/// Prints a connector as a small node, and an edge to the atom of each of its leaves.
+fn print_wire<W: Write>(number: u64, wire: &Wire, output: &mut W) -> Result<(), WriteFault>
+    ensures { OnOk result (Appends (W.contents output.old) (W.contents output.new)
+        (connector_outline number (wire_of wire.now))) }
+{
+    print_oval(number, wire, output)?;
+    let edges = AtomEdges { connector: number };
+    print_edges(&edges, &wire.connector.root, output)
+}
+
+/// Prints a connector as a small node with its name.
+fn print_oval<W: Write>(number: u64, wire: &Wire, output: &mut W) -> Result<(), WriteFault>
+    ensures { OnOk result (Appends (W.contents output.old) (W.contents output.new)
+        (connector_oval number (wire_of wire.now))) }
+{
+    print_text(output, b"  ")?;
+    print_connector(number, output)?;
+    print_text(
+        output,
+        b" [shape=ellipse, style=filled, fillcolor=lightyellow, fontsize=10, margin=0.02, height=0.25, ",
+    )?;
+    print_named(&wire.name, output)
+}
+
+/// The edges of a connector to the atoms of its leaves.
+#[derive(Clone, Copy)]
+struct AtomEdges {
+    connector: u64,
+}
+
+impl LeafEdges for AtomEdges {
+    ghost use Rattle.plant_drawing.specs.Outline.{atom_edge};
+
+    ghost edge_to = { λ edges port trigger. atom_edge edges.connector port trigger };
+
+    fn print_edge<W: Write>(
+        &self,
+        port: Port,
+        trigger: bool,
+        output: &mut W,
+    ) -> Result<(), WriteFault> {
+        print_atom_edge(self.connector, port, trigger, output)
+    }
+}
+
+/// Prints the edge of a connector to the atom of a leaf, which ends in a triangle at a trigger, and in a dot at a synchron.
+fn print_atom_edge<W: Write>(
+    number: u64,
+    port: Port,
+    trigger: bool,
+    output: &mut W,
+) -> Result<(), WriteFault>
+    ensures { OnOk result (Appends (W.contents output.old) (W.contents output.new)
+        (atom_edge number port trigger)) }
+{
+    print_arrow(number, u64::from(port.atom), output)?;
+    print_text(output, b" [arrowhead=")?;
+    print_end(trigger, output)?;
+    print_text(output, b"];\n")
+}
+
+/// Prints the begin of the edge of a connector to an atom.
+fn print_arrow<W: Write>(number: u64, atom: u64, output: &mut W) -> Result<(), WriteFault>
+    ensures { OnOk result (Appends (W.contents output.old) (W.contents output.new)
+        (arrow_to_atom number atom)) }
+{
+    print_text(output, b"  ")?;
+    print_connector(number, output)?;
+    print_text(output, b" -> ")?;
+    print_atom_node(atom, output)
+}

@@ -1,0 +1,6 @@
+mod Before
+mod Circling
+mod Explaining
+mod Lacking
+mod Rowing
+mod Rows

@@ -1,0 +1,8 @@
+-- The names of the lines that are left stand behind those so far.
+use Rattle.std.proofs.Common.{◌≡◌, ◌++◌, drop}
+use Rattle.shown_fault.specs.Lent.{lists_of}
+use Rattle.shown_fault.specs.Names.{part_names_from, part_names_in}
+use Rattle.shown_fault.proofs.names.part_names_in.Given as goal
+
+abbrev pub invariant-loop-line : goal.invariant-loop-line
+invariant-loop-line l = lists_of l.names.items ++ part_names_from l.is_inside l.atom l.first (lists_of (drop l.line-index l.lines)) ≡ part_names_in l.atom l.first (lists_of l.lines)

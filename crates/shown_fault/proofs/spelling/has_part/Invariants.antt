@@ -1,0 +1,10 @@
+-- The part stands in the rest of the word, if it stands in the word.
+use Rattle.std.proofs.Common.{◌≡◌, length}
+use Rattle.shown_fault.specs.Spelling.{has_part}
+use Rattle.shown_fault.proofs.spelling.has_part.Given as goal
+
+abbrev pub invariant-loop-behind : goal.invariant-loop-behind
+invariant-loop-behind l = has_part l.rest l.part ≡ has_part l.word l.part
+
+abbrev pub decreases-loop-behind : goal.decreases-loop-behind
+decreases-loop-behind l = length l.rest

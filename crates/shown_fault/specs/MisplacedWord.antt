@@ -1,0 +1,64 @@
+-- A word that stands where another must, is missing, or is left over.
+use Rattle.std.specs.Prelude.{ℕ, Bool, ◌||◌, ◌&&◌, ◌==◌, if◌then◌else◌, List, [], ◌∷◌, nat_lt, codes}
+use Rattle.petri_atom.specs.Name.{is_same_text}
+use Rattle.plant_words.specs.Words.{is_filled}
+use Rattle.shown_fault.specs.Shown.{quoted, advice_line}
+use Rattle.shown_fault.specs.Spelling.{slip_text, word_text, either_text}
+use Rattle.shown_fault.specs.Operands.{operands_of}
+use Rattle.shown_fault.specs.Wanted.{wanted_in, is_of_expression, expected_text}
+use Rattle.shown_fault.specs.declared.wanted.Wanted.{Wanted}
+use Rattle.shown_fault.specs.declared.wanted.Wanted.TheVariants.{Guard, Value, Clause, Leaf}
+
+-- the word ends a bracket
+unfoldable pub is_close : List ℕ → Bool
+is_close word = is_same_text word (codes "]") || is_same_text word (codes "]'")
+
+-- what is wrong with a bracket of a tree, or with the end of its line
+abbrev pub bracket_text : List ℕ → List ℕ
+bracket_text word =
+    if is_close word then codes "no '[' is open before this ']'"
+    else if is_filled word then codes "" else codes "expected ']', and the line ends"
+
+-- what is wrong with an operator of other languages, or with a bracket
+abbrev pub sign_text : Wanted → List ℕ → List ℕ
+sign_text Guard word = slip_text word
+sign_text Value word = slip_text word
+sign_text Clause word = slip_text word
+sign_text Leaf word = bracket_text word
+sign_text wanted word = codes ""
+
+-- what is wrong with a word by itself, where this has to stand; empty where that is not known
+abbrev pub misplaced_text : Wanted → List ℕ → List ℕ
+misplaced_text wanted word = either_text (word_text word) (sign_text wanted word)
+
+-- what is expected in the place of a word, or of the end of the line
+abbrev pub instead_advice : List ℕ → List ℕ → List ℕ
+instead_advice expected word =
+    if is_filled word then advice_line (codes "expected " ∷ expected ∷ codes ", found " ∷ quoted word ∷ [])
+    else advice_line (codes "expected " ∷ expected ∷ codes ", and the line ends" ∷ [])
+
+-- which word has to stand there, or that none may
+abbrev pub expected_advice : Wanted → List ℕ → List ℕ
+expected_advice wanted word =
+    if is_filled (expected_text wanted) then instead_advice (expected_text wanted) word
+    else advice_line (codes "nothing more may follow" ∷ [])
+
+-- that an operator which is left over has to stand before its operands
+abbrev pub operator_advice : List ℕ → List ℕ
+operator_advice word =
+    if operands_of word == 1 then advice_line (codes "an operator stands before its operands: write '" ∷ word ∷ codes " a'" ∷ [])
+    else advice_line (codes "an operator stands before its operands: write '" ∷ word ∷ codes " a b'" ∷ [])
+
+-- that an operator has to stand before its operands, or which word has to stand there
+abbrev pub order_advice : Wanted → List ℕ → List ℕ
+order_advice wanted word =
+    if is_of_expression wanted && nat_lt 0 (operands_of word) then operator_advice word else expected_advice wanted word
+
+-- what is wrong with a word that stands where this has to: it is left over, it is no sign by itself, or another must stand there
+abbrev pub shape_advice_at : Wanted → List ℕ → List ℕ
+shape_advice_at wanted word =
+    if is_filled (misplaced_text wanted word) then advice_line (misplaced_text wanted word ∷ []) else order_advice wanted word
+
+-- the same of a word that stands behind these
+abbrev pub shape_advice : List (List ℕ) → List ℕ → List ℕ
+shape_advice words word = shape_advice_at (wanted_in words) word

@@ -1,0 +1,95 @@
+-- What has to stand at a place of a line, behind words without a fault.
+use Rattle.std.specs.Prelude.{ℕ, ◌-◌, Bool, true, false, ◌||◌, ◌==◌, if◌then◌else◌, List, [], ◌∷◌, length, codes}
+use Rattle.std.specs.Option.{option_map_or}
+use Rattle.shown_fault.specs.Kinds.{kind_in}
+use Rattle.shown_fault.specs.declared.kinds.Kind.{Kind}
+use Rattle.shown_fault.specs.declared.kinds.Kind.TheVariants as kind
+use Rattle.shown_fault.specs.Front.{is_word_at, has_word}
+use Rattle.shown_fault.specs.declared.wanted.Wanted.{Wanted}
+use Rattle.shown_fault.specs.declared.wanted.Wanted.TheVariants.{First, NewName, Mark, Number, Export, Port, From, Place, Source, Target, Guard, Variable, Assign, Value, Tree, Leaf, Transfer, Clause, Side, Below, Whole, End}
+
+-- what has to stand behind one word, behind two, and behind more
+abbrev pub by_place : ℕ → Wanted → Wanted → Wanted → Wanted
+by_place count one two more = if count == 1 then one else if count == 2 then two else more
+
+-- what has to stand behind the sign of a rule, or further behind
+abbrev pub in_rule : ℕ → Wanted
+in_rule count = if count == 3 then Side else End
+
+-- what has to stand in a list of places: a first one, or what may stand behind it
+abbrev pub in_places : Bool → Wanted → Wanted
+in_places is_first behind = if is_first then Place else behind
+
+-- the word with this number, counted from the last as 1, is this one
+abbrev pub is_last : List (List ℕ) → ℕ → List ℕ → Bool
+is_last words number word = is_word_at words (length words - number) word
+
+-- an update begins behind the word with this number, counted from the last as 1
+abbrev pub begins_update : List (List ℕ) → ℕ → Bool
+begins_update words number = is_last words number (codes "do") || is_last words number (codes ";")
+
+-- what has to stand behind the `do` of a transition
+abbrev pub in_updates : List (List ℕ) → Wanted
+in_updates words = if begins_update words 1 then Variable else if begins_update words 2 then Assign else Value
+
+-- what has to stand behind the `from` of a transition: the last of its keywords says where that is
+abbrev pub in_transition : List (List ℕ) → Wanted
+in_transition words =
+    if has_word words (codes "do") then in_updates words
+    else if has_word words (codes "when") then Guard
+    else if has_word words (codes "to") then in_places (is_last words 1 (codes "to")) Target
+    else in_places (is_last words 1 (codes "from")) Source
+
+-- what has to stand behind words of a line of the kind
+abbrev pub behind_kind : Kind → List (List ℕ) → Wanted
+behind_kind kind.Atom words = by_place (length words) NewName End End
+behind_kind kind.Place words = by_place (length words) NewName Mark End
+behind_kind kind.Variable words = by_place (length words) NewName Number End
+behind_kind kind.Port words = by_place (length words) NewName Export Export
+behind_kind kind.Transition words = by_place (length words) Port From (in_transition words)
+behind_kind kind.Connector words = by_place (length words) NewName Tree Leaf
+behind_kind kind.Guard words = Clause
+behind_kind kind.Transfer words = by_place (length words) Transfer Assign Clause
+behind_kind kind.Priority words = by_place (length words) Side Below (in_rule (length words))
+behind_kind kind.Maximal words = by_place (length words) Whole End End
+
+-- what has to stand behind words of a line, of which this is the first
+abbrev pub behind_first : List ℕ → List (List ℕ) → Wanted
+behind_first first words = option_map_or (λ kind. behind_kind kind words) (kind_in first) End
+
+-- what has to stand behind words of a line
+unfoldable pub wanted_in : List (List ℕ) → Wanted
+wanted_in [] = First
+wanted_in (first ∷ words) = behind_first first (first ∷ words)
+
+-- a word of an expression may stand there
+abbrev pub is_of_expression : Wanted → Bool
+is_of_expression Guard = true
+is_of_expression Value = true
+is_of_expression Clause = true
+is_of_expression wanted = false
+
+-- what has to stand there, to a person; empty where a word too many stands there
+abbrev pub expected_text : Wanted → List ℕ
+expected_text First = codes "a kind of line"
+expected_text NewName = codes "a name"
+expected_text Mark = codes "'init'"
+expected_text Number = codes "a number"
+expected_text Export = codes "a variable"
+expected_text Port = codes "a port"
+expected_text From = codes "'from'"
+expected_text Place = codes "a place"
+expected_text Source = codes "'to'"
+expected_text Target = codes "'when' or 'do'"
+expected_text Guard = codes "'do'"
+expected_text Variable = codes "a variable"
+expected_text Assign = codes "':='"
+expected_text Value = codes "';'"
+expected_text Tree = codes "a port as ATOM.PORT"
+expected_text Leaf = codes "a port as ATOM.PORT"
+expected_text Transfer = codes "a variable as ATOM.VAR"
+expected_text Clause = codes ""
+expected_text Side = codes "a connector"
+expected_text Below = codes "'<'"
+expected_text Whole = codes "a connector"
+expected_text End = codes ""

@@ -1,0 +1,75 @@
+//! A fault as it is shown: where it is, what is wrong there, and what can be done.
+ghost use Rattle.std.specs.Prelude.{◌≡◌, ◌<◌, ◌-◌, IfOk, Err, take, slice_get};
+ghost use Rattle.plant_words.specs.Lines.{lines_of};
+ghost use Rattle.plant_text.specs.Meaning.{meaning};
+ghost use Rattle.shown_fault.specs.Lent.{lists_of};
+ghost use Rattle.shown_fault.specs.Explanation.{explanation_of, Explains};
+ghost use Rattle.shown_fault.specs.Whole.{whole_advice};
+
+use crate::advice::advice;
+use crate::message::message;
+use crate::shown::joined;
+use crate::whole::whole_advice;
+use crate::window::{location_line, part_of, window_lines};
+use plant_text::{Mark, PlantFault, find_mark};
+use plant_words::Lines;
+use std::alloc::{AllocError, Global};
+
+/// What is shown of the fault of a text behind the line that tells it. Of a fault of a line: where to jump, the line with a mark under
+/// the part at fault, what is wrong there, and what can be done. Of a fault of no line: what can be done. `path` is the text's name.
+#[tactic(auto, using(crate::proofs::Explaining::line_explained, crate::proofs::Explaining::no_line_explained))]
+pub fn explain(
+    alloc: Global,
+    path: &[u8],
+    text: &[u8],
+    told: &PlantFault,
+) -> Result<Vec<u8>, AllocError>
+    ensures shown { IfOk result (λ shown. meaning text.now ≡ Err told.now → 0 < told.now.line →
+        Explains path.now (lines_of text.now) told.now (slice_get (lines_of text.now) (told.now.line - 1)) shown.items) }
+    ensures whole { IfOk result (λ shown. told.now.line ≡ 0 → shown.items ≡ whole_advice (lines_of text.now) told.now.fault) }
+{
+    if told.line == 0 {
+        return whole_advice(alloc, text, &told.fault);
+    }
+    match find_mark(alloc, text)? {
+        Some(mark) => Ok(explanation(alloc, path, text, told, &mark)?),
+        None => Ok(Vec::new(alloc)),
+    }
+}
+
+/// What is shown of a fault of a line, with a mark at this part of it.
+fn explanation(
+    alloc: Global,
+    path: &[u8],
+    text: &[u8],
+    told: &PlantFault,
+    mark: &Mark<'_>,
+) -> Result<Vec<u8>, AllocError>
+    ensures { IfOk result (λ shown. shown.items ≡ explanation_of path.now (take (told.now.line - 1) (lines_of text.now)) told.now mark.now.line.now mark.now.start mark.now.len) }
+{
+    let line = mark.line;
+    let (front, word) = part_of(line, mark.start, mark.len);
+    let lines = lines_before(alloc, text, told.line)?;
+    let location = location_line(alloc, path, told.line, front.len() + 1)?;
+    let window = window_lines(alloc, line, mark.start, mark.len)?;
+    let message = message(alloc, &told.fault, told.line, line, front, word)?;
+    let advice = advice(alloc, &told.fault, &lines, front, word)?;
+    joined(alloc, &[&location, &window, &message, b"\n", &advice])
+}
+
+/// The lines of a text before the one with this number.
+fn lines_before<'t>(alloc: Global, text: &'t [u8], number: u32) -> Result<Vec<&'t [u8]>, AllocError>
+    ensures { IfOk result (λ lines. lists_of lines.items ≡ take (number - 1) (lines_of text.now)) }
+{
+    let mut before = Vec::new(alloc);
+    let mut lines = Lines::new(text);
+    let mut left = number.saturating_sub(1);
+    while let Some(line) = lines.next_line() {
+        if left == 0 {
+            return Ok(before);
+        }
+        before.push(line)?;
+        left -= 1;
+    }
+    Ok(before)
+}

@@ -1,0 +1,52 @@
+//! The fault of a plant text, shown in its line, with advice.
+//!
+//! A program tells the fault of a text by a fixed line, for programs. What [`explain`] gives stands behind it, for a person:
+//!
+//! ```text
+//!   conveyor.plant:4:19
+//!   trans p from s to q
+//!                     ^ a name is not known here
+//!   atom A has no place 'q'; it has: s
+//! ```
+//!
+//! - Where to jump: the text's name, the line's number and the column at which the part at fault begins, counted in bytes from 1.
+//! - The line with a mark under the part, which `plant_text` finds. Of a line with more than 100 characters a window is shown.
+//! - What is wrong, and each piece of advice as a line of its own.
+//! - A fault of no line has advice alone: of a cycle the interaction, and the rules that lead round.
+//!
+//! Each byte is shown so that no terminal takes it for a command ([`shown_name`]).
+//!
+//! In contracts a text is the list of its lines. What is shown is one definition, `explanation_of` (`specs/Explanation.antt`), for
+//! the line that is told and a part of it. The advice is a function of the fault, the lines before, the words of the line before
+//! the part, and the part itself (`specs/Advice.antt`). It says nothing of memory: where there is none, nothing is shown.
+//!
+//! - `explanation`: the whole. `whole`: a fault of no line. `window`: where to jump, the line and the mark. `message`: what is wrong.
+//! - `advice`: what can be done, by the fault. `spelling`: a word by itself. `misplaced_word`: a word at the wrong place. `operands`: a
+//!   word of no expression. `unknown`: a name that is not there. `limits`: which limit. `kinds`: a line of no kind.
+//! - `front`: the words before. `wanted`: what has to stand behind them. `names`: what earlier lines declare. `near`: a name that was
+//!   perhaps meant. `missing`: the names that are there.
+//! - `interaction`: the interaction with a number. `circle`: the rules that lead round. `shown`: bytes, and parts put together.
+#![tactic(auto)]
+
+mod advice;
+mod circle;
+mod explanation;
+mod front;
+mod interaction;
+mod kinds;
+mod limits;
+mod message;
+mod misplaced_word;
+mod missing;
+mod names;
+mod near;
+mod operands;
+mod shown;
+mod spelling;
+mod unknown;
+mod wanted;
+mod whole;
+mod window;
+
+pub use explanation::explain;
+pub use shown::shown_name;

@@ -1,0 +1,111 @@
+//! A word that stands where another must, is missing, or is left over.
+ghost use Rattle.std.specs.Prelude.{◌≡◌, IfOk};
+ghost use Rattle.plant_words.specs.Words.{words_of};
+ghost use Rattle.shown_fault.specs.MisplacedWord.{is_close, bracket_text, sign_text, misplaced_text, instead_advice, expected_advice, operator_advice, order_advice, shape_advice};
+
+use crate::operands::operands_of;
+use crate::shown::{advice_line, quoted};
+use crate::spelling::{either_text, slip_text, word_text};
+use crate::wanted::{Wanted, wanted_behind};
+use std::alloc::{AllocError, Global};
+
+/// What is wrong with a word that stands behind these: it is left over, it is no sign by itself, or another must stand there.
+pub(crate) fn shape_advice(alloc: Global, front: &[u8], word: &[u8]) -> Result<Vec<u8>, AllocError>
+    ensures { IfOk result (λ text. text.items ≡ shape_advice (words_of front.now) word.now) }
+{
+    let wanted = wanted_behind(front);
+    let text = misplaced_text(wanted, word);
+    if text.is_empty() {
+        order_advice(alloc, wanted, word)
+    } else {
+        advice_line(alloc, &[text.as_bytes()])
+    }
+}
+
+/// That an operator has to stand before its operands, or which word has to stand there.
+fn order_advice(alloc: Global, wanted: Wanted, word: &[u8]) -> Result<Vec<u8>, AllocError>
+    ensures { IfOk result (λ text. text.items ≡ order_advice wanted word.now) }
+{
+    if wanted.is_of_expression() && operands_of(word) > 0 {
+        operator_advice(alloc, word)
+    } else {
+        expected_advice(alloc, wanted, word)
+    }
+}
+
+/// What is wrong with a word by itself, where this has to stand; empty where that is not known.
+fn misplaced_text(wanted: Wanted, word: &[u8]) -> &'static str
+    ensures { result.now ≡ misplaced_text wanted word.now }
+{
+    either_text(word_text(word), sign_text(wanted, word))
+}
+
+/// What is wrong with an operator of other languages, or with a bracket; empty where the word is something else.
+fn sign_text(wanted: Wanted, word: &[u8]) -> &'static str
+    ensures { result.now ≡ sign_text wanted word.now }
+{
+    match wanted {
+        Wanted::Guard | Wanted::Value | Wanted::Clause => slip_text(word),
+        Wanted::Leaf => bracket_text(word),
+        _ => "",
+    }
+}
+
+/// What is wrong with a bracket of a tree, or with the end of its line; empty where the word is something else.
+fn bracket_text(word: &[u8]) -> &'static str
+    ensures { result.now ≡ bracket_text word.now }
+{
+    if is_close(word) {
+        "no '[' is open before this ']'"
+    } else if word.is_empty() {
+        "expected ']', and the line ends"
+    } else {
+        ""
+    }
+}
+
+/// Whether the word ends a bracket.
+#[tactic(auto, unfolding(crate::specs::MisplacedWord::is_close))]
+fn is_close(word: &[u8]) -> bool
+    ensures { result ≡ is_close word.now }
+{
+    match word {
+        b"]" | b"]'" => true,
+        _ => false,
+    }
+}
+
+/// Which word has to stand there, or that none may.
+fn expected_advice(alloc: Global, wanted: Wanted, word: &[u8]) -> Result<Vec<u8>, AllocError>
+    ensures { IfOk result (λ text. text.items ≡ expected_advice wanted word.now) }
+{
+    let expected = wanted.expected_text();
+    if expected.is_empty() {
+        advice_line(alloc, &[b"nothing more may follow"])
+    } else {
+        instead_advice(alloc, expected.as_bytes(), word)
+    }
+}
+
+/// What is expected in the place of the word, or of the end of the line.
+fn instead_advice(alloc: Global, expected: &[u8], word: &[u8]) -> Result<Vec<u8>, AllocError>
+    ensures { IfOk result (λ text. text.items ≡ instead_advice expected.now word.now) }
+{
+    if word.is_empty() {
+        return advice_line(alloc, &[b"expected ", expected, b", and the line ends"]);
+    }
+    let word = quoted(alloc, word)?;
+    advice_line(alloc, &[b"expected ", expected, b", found ", &word])
+}
+
+/// That an operator which is left over has to stand before its operands.
+fn operator_advice(alloc: Global, word: &[u8]) -> Result<Vec<u8>, AllocError>
+    ensures { IfOk result (λ text. text.items ≡ operator_advice word.now) }
+{
+    let lead = b"an operator stands before its operands: write '";
+    if operands_of(word) == 1 {
+        advice_line(alloc, &[lead, word, b" a'"])
+    } else {
+        advice_line(alloc, &[lead, word, b" a b'"])
+    }
+}

@@ -1,0 +1,140 @@
+//! What is wrong with a word by itself.
+ghost use Rattle.std.specs.Prelude.{◌≡◌};
+ghost use Rattle.shown_fault.specs.Spelling.{is_sign, has_part, stuck_text, logic_text, slip_text, word_text, begins_as_name, name_text, either_text};
+ghost use Rattle.petri_atom.specs.Name.{is_reserved};
+
+use petri_atom::{MAX_NAME, is_name};
+
+/// What is wrong with the word wherever it stands: that it begins a comment, or that a sign is stuck to it.
+#[tactic(auto, unfolding(crate::specs::Spelling::word_text))]
+pub(crate) fn word_text(word: &[u8]) -> &'static str
+    ensures { result.now ≡ word_text word.now }
+{
+    if word.first() == Some(&b'#') {
+        "nothing more may follow; a comment needs a line of its own"
+    } else if is_sign(word) {
+        ""
+    } else {
+        stuck_text(word)
+    }
+}
+
+/// Whether the word is an operator or another sign of the plant text.
+fn is_sign(word: &[u8]) -> bool
+    ensures { result ≡ is_sign word.now }
+{
+    match word {
+        b"+" | b"-" | b"*" | b"<" | b"<=" | b"==" | b"!=" | b"&&" | b"||" | b"!" => true,
+        b":=" | b";" | b"[" | b"]" | b"]'" => true,
+        _ => false,
+    }
+}
+
+/// Which sign the word has a part of it stuck to.
+#[tactic(auto, unfolding(crate::specs::Spelling::stuck_text))]
+fn stuck_text(word: &[u8]) -> &'static str
+    ensures { result.now ≡ stuck_text word.now }
+{
+    if has_part(word, b":=") {
+        "put spaces round ':='"
+    } else if has_part(word, b";") {
+        "put spaces round ';'"
+    } else if has_part(word, b"[") {
+        "put spaces round '['"
+    } else if has_part(word, b"]") {
+        "put spaces round ']'"
+    } else if has_part(word, b"<=") {
+        "put spaces round '<='"
+    } else if has_part(word, b"<") {
+        "put spaces round '<'"
+    } else {
+        ""
+    }
+}
+
+/// Whether the part stands in the word.
+fn has_part(word: &[u8], part: &[u8]) -> bool
+    ensures { result ≡ has_part word.now part.now }
+{
+    let mut rest = word;
+    while let Some((_, behind)) = rest.split_first() {
+        if rest.starts_with(part) {
+            return true;
+        }
+        rest = behind;
+    }
+    false
+}
+
+/// What to write in the place of an operator of other languages; empty where the word is none.
+#[tactic(auto, unfolding(crate::specs::Spelling::slip_text))]
+pub(crate) fn slip_text(word: &[u8]) -> &'static str
+    ensures { result.now ≡ slip_text word.now }
+{
+    match word {
+        b">" => "there is no operator '>': write '< b a'",
+        b">=" => "there is no operator '>=': write '<= b a'",
+        b"/" => "there is no division",
+        b"%" => "there is no division",
+        b"=" => "write '=='",
+        b"===" => "write '=='",
+        b"<>" => "write '!='",
+        _ => logic_text(word),
+    }
+}
+
+/// What to write in the place of an operator on truth values of other languages; empty where the word is none.
+#[tactic(auto, unfolding(crate::specs::Spelling::logic_text))]
+fn logic_text(word: &[u8]) -> &'static str
+    ensures { result.now ≡ logic_text word.now }
+{
+    match word {
+        b"and" => "write '&&'",
+        b"or" => "write '||'",
+        b"not" => "write '!'",
+        b"&" => "write '&&'",
+        b"|" => "write '||'",
+        _ => "",
+    }
+}
+
+/// Why the word is no name.
+#[tactic(auto, unfolding(crate::specs::Spelling::name_text))]
+pub(crate) fn name_text(word: &[u8]) -> &'static str
+    ensures { result.now ≡ name_text word.now }
+{
+    if is_reserved(word) {
+        "the word is reserved"
+    } else if word.len() > MAX_NAME {
+        "a name has at most 32 bytes"
+    } else if !begins_as_name(word) {
+        "a name begins with a letter"
+    } else {
+        "a name has letters, digits and '_' alone"
+    }
+}
+
+/// Whether the word is one that the plant text reserves.
+fn is_reserved(word: &[u8]) -> bool
+    ensures { result ≡ is_reserved word.now }
+{
+    match word {
+        b"from" | b"to" | b"when" | b"do" | b"init" | b"at" | b"min" | b"max" => true,
+        _ => false,
+    }
+}
+
+/// Whether the first byte of the word alone is a name.
+fn begins_as_name(word: &[u8]) -> bool
+    ensures { result ≡ begins_as_name word.now }
+{
+    let (first, _) = word.split_at(word.len().min(1));
+    is_name(first)
+}
+
+/// The text, or the other one where it is empty.
+pub(crate) fn either_text(text: &'static str, other: &'static str) -> &'static str
+    ensures { result.now ≡ either_text text.now other.now }
+{
+    if text.is_empty() { other } else { text }
+}

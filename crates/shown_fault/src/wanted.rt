@@ -1,0 +1,208 @@
+//! What has to stand at a place of a line, behind words without a fault.
+ghost use Rattle.std.specs.Prelude.{◌≡◌};
+ghost use Rattle.plant_words.specs.Words.{words_of};
+ghost use Rattle.shown_fault.specs.Wanted.{by_place, in_rule, in_places, in_transition, in_updates, begins_update, is_last, behind_kind, behind_first, wanted_in};
+
+use crate::front::{count_words, has_word, is_word_at, word_at};
+use crate::kinds::{Kind, kind_of};
+
+/// What has to stand at a place of a line.
+#[derive(Clone, Copy, Debug, PartialEq, Eq)]
+pub(crate) enum Wanted {
+    /// The word that says what kind of line it is.
+    First,
+    /// A name that the line declares.
+    NewName,
+    /// `init`, or nothing.
+    Mark,
+    /// The first value of a variable.
+    Number,
+    /// A variable that a port exports.
+    Export,
+    /// The port of a transition.
+    Port,
+    /// `from`
+    From,
+    /// The first place of a list.
+    Place,
+    /// A further source, or `to`.
+    Source,
+    /// A further target, or what stands behind the targets.
+    Target,
+    /// A word of a transition's guard, or `do` behind it.
+    Guard,
+    /// The variable of an update.
+    Variable,
+    /// `:=`
+    Assign,
+    /// A word of an update's value, or `;` behind it.
+    Value,
+    /// The first word of a connector's tree.
+    Tree,
+    /// A further word of it.
+    Leaf,
+    /// The variable that a transfer sets.
+    Transfer,
+    /// A word of an expression over a connector's variables.
+    Clause,
+    /// A side of a rule.
+    Side,
+    /// `<`
+    Below,
+    /// The connector of a line `maximal`.
+    Whole,
+    /// Nothing more.
+    End,
+}
+
+/// What has to stand behind these words of a line.
+#[tactic(auto, unfolding(crate::specs::Wanted::wanted_in))]
+pub(crate) fn wanted_behind(front: &[u8]) -> Wanted
+    ensures { result ≡ wanted_in (words_of front.now) }
+{
+    match word_at(front, 0) {
+        Some(first) => behind_first(first, front),
+        None => Wanted::First,
+    }
+}
+
+/// What has to stand behind these words, of which this is the first.
+fn behind_first(first: &[u8], front: &[u8]) -> Wanted
+    ensures { result ≡ behind_first first.now (words_of front.now) }
+{
+    match kind_of(first) {
+        Some(kind) => behind_kind(kind, front),
+        None => Wanted::End,
+    }
+}
+
+/// What has to stand behind these words of a line of the kind.
+fn behind_kind(kind: Kind, front: &[u8]) -> Wanted
+    ensures { result ≡ behind_kind kind (words_of front.now) }
+{
+    let count = count_words(front);
+    match kind {
+        Kind::Atom => by_place(count, Wanted::NewName, Wanted::End, Wanted::End),
+        Kind::Place => by_place(count, Wanted::NewName, Wanted::Mark, Wanted::End),
+        Kind::Variable => by_place(count, Wanted::NewName, Wanted::Number, Wanted::End),
+        Kind::Port => by_place(count, Wanted::NewName, Wanted::Export, Wanted::Export),
+        Kind::Transition => by_place(count, Wanted::Port, Wanted::From, in_transition(front)),
+        Kind::Connector => by_place(count, Wanted::NewName, Wanted::Tree, Wanted::Leaf),
+        Kind::Guard => Wanted::Clause,
+        Kind::Transfer => by_place(count, Wanted::Transfer, Wanted::Assign, Wanted::Clause),
+        Kind::Priority => by_place(count, Wanted::Side, Wanted::Below, in_rule(count)),
+        Kind::Maximal => by_place(count, Wanted::Whole, Wanted::End, Wanted::End),
+    }
+}
+
+/// What has to stand behind one word, behind two, and behind more.
+fn by_place(count: usize, one: Wanted, two: Wanted, more: Wanted) -> Wanted
+    ensures { result ≡ by_place count one two more }
+{
+    match count {
+        1 => one,
+        2 => two,
+        _ => more,
+    }
+}
+
+/// What has to stand behind the sign of a rule, or further behind.
+fn in_rule(count: usize) -> Wanted
+    ensures { result ≡ in_rule count }
+{
+    if count == 3 {
+        Wanted::Side
+    } else {
+        Wanted::End
+    }
+}
+
+/// What has to stand behind the `from` of a transition: the last of its keywords says where that is.
+fn in_transition(front: &[u8]) -> Wanted
+    ensures { result ≡ in_transition (words_of front.now) }
+{
+    if has_word(front, b"do") {
+        in_updates(front)
+    } else if has_word(front, b"when") {
+        Wanted::Guard
+    } else if has_word(front, b"to") {
+        in_places(is_last(front, 1, b"to"), Wanted::Target)
+    } else {
+        in_places(is_last(front, 1, b"from"), Wanted::Source)
+    }
+}
+
+/// What has to stand in a list of places: a first one, or what may stand behind it.
+fn in_places(is_first: bool, behind: Wanted) -> Wanted
+    ensures { result ≡ in_places is_first behind }
+{
+    if is_first { Wanted::Place } else { behind }
+}
+
+/// What has to stand behind the `do` of a transition.
+fn in_updates(front: &[u8]) -> Wanted
+    ensures { result ≡ in_updates (words_of front.now) }
+{
+    if begins_update(front, 1) {
+        Wanted::Variable
+    } else if begins_update(front, 2) {
+        Wanted::Assign
+    } else {
+        Wanted::Value
+    }
+}
+
+/// Whether an update begins behind the word with this number, counted from the last as 1.
+fn begins_update(front: &[u8], number: usize) -> bool
+    ensures { result ≡ begins_update (words_of front.now) number }
+{
+    is_last(front, number, b"do") || is_last(front, number, b";")
+}
+
+/// Whether the word with this number, counted from the last as 1, is this one.
+fn is_last(front: &[u8], number: usize, word: &[u8]) -> bool
+    ensures { result ≡ is_last (words_of front.now) number word.now }
+{
+    is_word_at(front, count_words(front).saturating_sub(number), word)
+}
+
+impl Wanted {
+    ghost use Rattle.shown_fault.specs.Wanted.{is_of_expression, expected_text};
+
+    /// Whether a word of an expression may stand there.
+    pub(crate) fn is_of_expression(self) -> bool
+        ensures { result ≡ is_of_expression self }
+    {
+        matches!(self, Wanted::Guard | Wanted::Value | Wanted::Clause)
+    }
+
+    /// What has to stand there, to a person; empty where a word too many stands there.
+    pub(crate) fn expected_text(self) -> &'static str
+        ensures { result.now ≡ expected_text self }
+    {
+        match self {
+            Wanted::First => "a kind of line",
+            Wanted::NewName => "a name",
+            Wanted::Mark => "'init'",
+            Wanted::Number => "a number",
+            Wanted::Export => "a variable",
+            Wanted::Port => "a port",
+            Wanted::From => "'from'",
+            Wanted::Place => "a place",
+            Wanted::Source => "'to'",
+            Wanted::Target => "'when' or 'do'",
+            Wanted::Guard => "'do'",
+            Wanted::Variable => "a variable",
+            Wanted::Assign => "':='",
+            Wanted::Value => "';'",
+            Wanted::Tree => "a port as ATOM.PORT",
+            Wanted::Leaf => "a port as ATOM.PORT",
+            Wanted::Transfer => "a variable as ATOM.VAR",
+            Wanted::Clause => "",
+            Wanted::Side => "a connector",
+            Wanted::Below => "'<'",
+            Wanted::Whole => "a connector",
+            Wanted::End => "",
+        }
+    }
+}
