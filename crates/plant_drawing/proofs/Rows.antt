@@ -196,6 +196,6 @@ unfolding sample digits
 without_connectors = refl
 
 outline : outline_of (record { atoms = sample ∷ []; wires = []; rules = [] })
-    ≡ codes "digraph plant {\n  fontname=\"Helvetica\";\n  labelloc=b;\n  nodesep=0.4;\n  ranksep=0.6;\n  node [fontname=\"Helvetica\"];\n  edge [fontname=\"Helvetica\", fontsize=11];\n  atom_0 [shape=box, label=\"A\"];\n}\n"
+    ≡ codes "digraph plant {\n  fontname=\"Helvetica\";\n  labelloc=b;\n  nodesep=0.4;\n  ranksep=0.6;\n  node [fontname=\"Helvetica\"];\n  edge [fontname=\"Helvetica\", fontsize=11];\n  splines=line;\n  mclimit=0.1;\n  nslimit=1;\n  nslimit1=1;\n  atom_0 [shape=box, label=\"A\"];\n}\n"
 unfolding sample digits
 outline = refl

@@ -39,6 +39,10 @@ abbrev pub outline_parts : PlantDefinition → List ℕ
 outline_parts plant =
     numbered atom_box 0 plant.atoms ++ numbered connector_outline 0 plant.wires ++ flat_map (rule_line plant) plant.rules
 
+-- how the graph is laid out: as a drawing is, with straight lines and a short search for places, since an outline is asked for where a plant is large
+abbrev pub outline_style : List ℕ
+outline_style = style ++ codes "  splines=line;\n  mclimit=0.1;\n  nslimit=1;\n  nslimit1=1;\n"
+
 -- a directed graph of them
 abbrev pub outline_of : PlantDefinition → List ℕ
-outline_of plant = codes "digraph plant {\n" ++ style ++ outline_parts plant ++ codes "}\n"
+outline_of plant = codes "digraph plant {\n" ++ outline_style ++ outline_parts plant ++ codes "}\n"

@@ -5,7 +5,7 @@ ghost use Rattle.petri_atom.specs.Atom.{definition_of};
 ghost use Rattle.step_core.specs.System.{plant_of};
 ghost use Rattle.step_core.specs.Wire.{wire_of};
 ghost use Rattle.text_io.specs.Numbered.{numbered};
-ghost use Rattle.plant_drawing.specs.Outline.{arrow_to_atom, atom_box, atom_edge, connector_outline, connector_oval, outline_of, outline_parts};
+ghost use Rattle.plant_drawing.specs.Outline.{arrow_to_atom, atom_box, atom_edge, connector_outline, connector_oval, outline_of, outline_parts, outline_style};
 
 use crate::atom::print_named;
 use crate::edges::{LeafEdges, print_edges, print_end};
@@ -25,9 +25,24 @@ pub fn outline_to<W: Write>(system: &System, output: &mut W) -> Result<(), Write
         (outline_of (plant_of system.now))) }
 {
     print_text(output, b"digraph plant {\n")?;
-    print_style(output)?;
+    print_outline_style(output)?;
     print_parts(system, output)?;
     print_text(output, b"}\n")
+}
+
+/// Prints how the graph is laid out: as a drawing is, and so that `dot` takes seconds over hundreds of edges.
+fn print_outline_style<W: Write>(output: &mut W) -> Result<(), WriteFault>
+    ensures { OnOk result (Appends (W.contents output.old) (W.contents output.new) outline_style) }
+{
+    print_style(output)?;
+    print_text(
+        output,
+        b"  splines=line;
+  mclimit=0.1;
+  nslimit=1;
+  nslimit1=1;
+",
+    )
 }
 
 /// Prints the atoms, the connectors and the priority rules.
