@@ -1,7 +1,7 @@
 #!/usr/bin/env python3
 """Acceptance tests of the program: runs each case of tests/, and prints 'N passed, M failed' as its last line.
 
-A case is a folder tests/COMMAND/CASE. The program runs in a fresh copy of it, in which `examples` leads to the plants of examples/.
+A case is a folder tests/COMMAND/CASE. The program runs in a fresh copy of it, in which `examples` leads to the plants of examples/, and on a small stack.
 
     before        runs of the program that are made first, in the same folder: the words of each on a line; each ends with status 0
     args          the words of the command line, one a line
@@ -11,9 +11,15 @@ A case is a folder tests/COMMAND/CASE. The program runs in a fresh copy of it, i
     stdout-has    in place of stdout: each line of it stands in what is printed
     stderr-has    in place of stderr: each line of it stands in what is told
     status        the exit status; without the file 0
+    after         runs of the program that are made behind it, as those of `before`
+    after-stdout  what these print
     setting       lines that say what else is so:
+                      standard input closed               the program has no standard input
                       standard output closed              the program has no standard output
                       standard output full                the standard output takes nothing
+                      standard output of no reader        the standard output is the file `pipe`, a pipe that nobody reads
+                      standard error closed               the program has no standard error
+                      standard error full                 the standard error takes nothing
                       standard error on a terminal        what is told goes to a terminal
                       memory of COUNT KiB                 the program gets no more memory for its data
                       FILE begins with COUNT line feeds   the file, too long to be stored, has these before; or `spaces`, or `zeros`
@@ -21,13 +27,18 @@ A case is a folder tests/COMMAND/CASE. The program runs in a fresh copy of it, i
                       FILE is EXAMPLE without LINE        the file is made: an example, but for one line
                       FILE has BYTES at PLACE             these bytes, to the base 16, go into the file behind the runs of `before`
                       FILE is in use                      another program has the file open and locked
+                      FILE has the rights MODE            as `chmod` says them, also of a folder; they bind the superuser too
                       FILE is COUNT bytes long            the file is cut or gets zeros at its end, behind the runs of `before`
                       FILE is a pipe                      the file is made, a pipe with a name
+                      FILE is a folder                    the folder is made
+                      FILE leads to PATH                  the file is made, a link
     any other     a file that the words may name; `about`, if there, says what the case shows
 
 Each run that examples/README.md shows is a case too, shown/WORDS, and so is each stop of tests/stops.py, stops/MOMENT, each round of
-tests/images.py, texts.py and scripts.py, images/ROUND, texts/ROUND and scripts/ROUND, and usage/version_of_the_kit, by which the version of the program names the kit as
-`rt version` does.
+tests/images.py, texts.py and scripts.py, images/ROUND, texts/ROUND and scripts/ROUND, each test of tests/faults.py, failures.py, limits.py and power.py,
+faults/NAME, failures/NAME, limits/NAME and power/NAME, and usage/version_of_the_kit, by which the version of the program names the kit as `rt version` does.
+
+What the system does not let be tested is skipped: each such test is told with the reason in a line, and is counted neither as passed nor as failed.
 
 Words on the command line choose cases: `tests/run.py check` runs those whose COMMAND/CASE has `check` in it.
 """
@@ -45,7 +56,11 @@ import tty
 import unittest
 from pathlib import Path
 
+import failures
+import faults
 import images
+import limits
+import power
 import scripts
 import stops
 import texts
@@ -56,16 +71,28 @@ LAUNCHER = ROOT / "bip_run"
 # The words with which the launcher runs bip_image, and not bip_run.
 IMAGE_TASKS = re.search(r"^ +(.+)\) chosen=bip_image ;;$", LAUNCHER.read_text(), re.M)[1].split(" | ")
 SECONDS = 60
-# Where a setting leads the standard output.
-OUTPUTS = {"standard output closed": ">&-", "standard output full": ">/dev/full"}
+# Where a setting leads a standard stream.
+STREAMS = {
+    "standard input closed": "<&-",
+    "standard output closed": ">&-",
+    "standard output full": ">/dev/full",
+    # The end to read is opened first, since the other is not opened without, and then closed.
+    "standard output of no reader": "3<>pipe 1>pipe 3>&-",
+    "standard error closed": "2>&-",
+    "standard error full": "2>/dev/full",
+}
+# The stack of each run, in KiB. No plant and no script makes the program nest deeper than others do: it takes some 210 KiB at most.
+STACK = 512
 # The setting that gives the program a terminal.
 TERMINAL = "standard error on a terminal"
 # What a setting may grow a file by.
 BYTES = {"line feeds": b"\n", "spaces": b" ", "zeros": b"\0"}
-# The settings that are made behind the runs of `before`: FILE has BYTES at PLACE, and FILE is in use.
+# The settings that are made behind the runs of `before`.
 PATCH = re.compile(r"(\S+) has ([0-9a-f]+) at (\d+)")
 IN_USE = re.compile(r"(\S+) is in use")
 LONG = re.compile(r"(\S+) is (\d+) bytes long")
+RIGHTS = re.compile(r"(\S+) has the rights ([0-7]{3})")
+LATER = (PATCH, IN_USE, LONG, RIGHTS)
 
 
 def built_program(words):
@@ -91,6 +118,23 @@ def grow(file, end, more):
     """Puts more bytes before what the file holds, or behind it."""
     own = file.read_bytes() if file.exists() else b""
     file.write_bytes(more + own if end == "begins" else own + more)
+
+
+def make_file(place, line):
+    """Makes the file that the setting is about, in the folder, and says whether it is about one."""
+    if grown := re.fullmatch(r"(\S+) (begins|ends) with (\d+) (line feeds|spaces|zeros)", line):
+        grow(place / grown[1], grown[2], int(grown[3]) * BYTES[grown[4]])
+    elif made := re.fullmatch(r"(\S+) is (examples/\S+) without (.+)", line):
+        (place / made[1]).write_text(without_line((ROOT / made[2]).read_text(), made[3]))
+    elif piped := re.fullmatch(r"(\S+) is a pipe", line):
+        os.mkfifo(place / piped[1])
+    elif folder := re.fullmatch(r"(\S+) is a folder", line):
+        (place / folder[1]).mkdir()
+    elif link := re.fullmatch(r"(\S+) leads to (\S+)", line):
+        (place / link[1]).symlink_to(link[2])
+    else:
+        return False
+    return True
 
 
 def patch(file, place, new):
@@ -134,6 +178,10 @@ class Case:
     def status(self):
         return int((self.bytes_of("status") or b"0").decode())
 
+    def has_rights(self):
+        """The case is about the rights of a file."""
+        return any(RIGHTS.fullmatch(line) for line in self.lines_of("setting"))
+
     def copy_files(self, place):
         shutil.copytree(self.folder, place, dirs_exist_ok=True)
 
@@ -141,27 +189,27 @@ class Case:
         """Fills the folder that the program runs in, and says by which command of the shell it runs."""
         self.copy_files(place)
         os.symlink(ROOT / "examples", place / "examples")
-        command = 'exec "$0" "$@"'
+        command = f'ulimit -s {STACK} && exec "$0" "$@"'
         for line in self.lines_of("setting"):
-            if grown := re.fullmatch(r"(\S+) (begins|ends) with (\d+) (line feeds|spaces|zeros)", line):
-                grow(place / grown[1], grown[2], int(grown[3]) * BYTES[grown[4]])
-            elif made := re.fullmatch(r"(\S+) is (examples/\S+) without (.+)", line):
-                (place / made[1]).write_text(without_line((ROOT / made[2]).read_text(), made[3]))
-            elif given := re.fullmatch(r"memory of (\d+) KiB", line):
+            if given := re.fullmatch(r"memory of (\d+) KiB", line):
                 command = f"ulimit -d {given[1]} && {command}"
-            elif piped := re.fullmatch(r"(\S+) is a pipe", line):
-                os.mkfifo(place / piped[1])
-            elif line in OUTPUTS:
-                command = f"{command} {OUTPUTS[line]}"
-            elif line != TERMINAL and not any(later.fullmatch(line) for later in (PATCH, IN_USE, LONG)):
+            elif line in STREAMS:
+                command = f"{command} {STREAMS[line]}"
+            elif not make_file(place, line) and line != TERMINAL and not any(later.fullmatch(line) for later in LATER):
                 raise ValueError(f"{self.name}: no such setting: {line}")
         return command
 
+    def run_aside(self, name, place):
+        """Makes the runs of `before` or of `after`, and gives what they print."""
+        printed = b""
+        for line in self.lines_of(name):
+            words = line.split()
+            printed += subprocess.run([str(built_program(words)), *words], cwd=place, stdout=subprocess.PIPE, timeout=SECONDS, check=True).stdout
+        return printed
+
     def run_before(self, place):
         """Makes the runs of `before`, and then the settings that touch the files that these leave."""
-        for line in self.lines_of("before"):
-            words = line.split()
-            subprocess.run([str(built_program(words)), *words], cwd=place, stdout=subprocess.DEVNULL, timeout=SECONDS, check=True)
+        self.run_aside("before", place)
         for line in self.lines_of("setting"):
             if patched := PATCH.fullmatch(line):
                 patch(place / patched[1], int(patched[3]), bytes.fromhex(patched[2]))
@@ -170,24 +218,31 @@ class Case:
 
     @contextlib.contextmanager
     def files_in_use(self, place):
-        """Keeps the files open and locked that the settings say are in use."""
+        """While the program runs, files are open and locked, or have other rights, where the settings say so."""
         with contextlib.ExitStack() as held:
             for line in self.lines_of("setting"):
                 if used := IN_USE.fullmatch(line):
                     fcntl.flock(held.enter_context(open(place / used[1], "rb")), fcntl.LOCK_EX)
+                elif rights := RIGHTS.fullmatch(line):
+                    file = place / rights[1]
+                    held.callback(file.chmod, file.stat().st_mode)
+                    file.chmod(int(rights[2], 8))
             yield
 
     def run(self):
-        """Runs the program, and gives its status, standard output and standard error."""
+        """Runs the program, and gives its status, its standard output and standard error, and what is printed behind it."""
         words = self.lines_of("args")
         with tempfile.TemporaryDirectory() as folder:
             command = ["sh", "-c", self.make_files(Path(folder)), str(built_program(words)), *words]
             self.run_before(Path(folder))
             with self.files_in_use(Path(folder)):
-                return self.run_in(folder, command)
+                ran = self.run_in(folder, command)
+            return *ran, self.run_aside("after", folder)
 
     def run_in(self, folder, command):
         how = {"input": self.bytes_of("stdin") or b"", "stdout": subprocess.PIPE, "cwd": folder, "timeout": SECONDS}
+        if self.has_rights():
+            how["preexec_fn"] = limits.obey_rights
         if TERMINAL in self.lines_of("setting"):
             return run_on_terminal(command, how)
         ran = subprocess.run(command, stderr=subprocess.PIPE, **how)
@@ -227,10 +282,13 @@ class Answers(unittest.TestCase):
     maxDiff = None
 
     def check_case(self, case):
-        status, printed, told = case.run()
+        if case.has_rights() and (reason := limits.why_rights_bind_nothing()):
+            self.skipTest(reason)
+        status, printed, told, after = case.run()
         self.check_stream(case, "stderr", told)
         self.check_stream(case, "stdout", printed)
         self.assertEqual(case.status(), status, f"{case.name}: status")
+        self.check_stream(case, "after-stdout", after)
 
     def check_stream(self, case, name, found):
         text = found.decode(errors="replace")
@@ -248,10 +306,9 @@ def cases(words):
 
 
 def suite(chosen, words):
-    tests = stops.suite(built_program, words)
-    tests.addTests(images.suite(built_program, words))
-    tests.addTests(texts.suite(built_program, words))
-    tests.addTests(scripts.suite(built_program, words))
+    tests = unittest.TestSuite()
+    for kind in (stops, faults, failures, limits, power, images, texts, scripts):
+        tests.addTests(kind.suite(built_program, words))
     for case in chosen:
         setattr(Answers, f"test {case.name}", lambda self, case=case: self.check_case(case))
         tests.addTest(Answers(f"test {case.name}"))
@@ -261,9 +318,11 @@ def suite(chosen, words):
 def main():
     chosen = cases(sys.argv[1:])
     result = unittest.TextTestRunner(stream=sys.stdout, verbosity=1).run(suite(chosen, sys.argv[1:]))
-    failed = len(result.failures) + len(result.errors)
-    print(f"{result.testsRun - failed} passed, {failed} failed")
-    return 0 if result.testsRun and failed == 0 else 1
+    failed, skipped = len(result.failures) + len(result.errors), len(result.skipped)
+    for test, reason in result.skipped:
+        print(f"skipped, neither passed nor failed: {test.id().partition(' ')[2]}: {reason}")
+    print(f"{result.testsRun - failed - skipped} passed, {failed} failed")
+    return 0 if result.testsRun > skipped and failed == 0 else 1
 
 
 if __name__ == "__main__":

@@ -9,9 +9,10 @@ import os
 import random
 import re
 import subprocess
-import tempfile
 import unittest
 from pathlib import Path
+
+from folders import folder_in_memory
 
 ROOT = Path(__file__).resolve().parent.parent
 PLANT = ROOT / "examples" / "sample.plant"
@@ -130,9 +131,7 @@ class Scripts(unittest.TestCase):
         return ran.returncode, ran.stdout.decode(), ran.stderr.decode()
 
     def check_round(self, number):
-        # In memory, where there is such a folder: a sync of a disk would take most of the time.
-        room = "/dev/shm" if os.path.isdir("/dev/shm") else None
-        with tempfile.TemporaryDirectory(dir=room) as folder:
+        with folder_in_memory() as folder:
             image = Path(folder) / "image"
             self.assertEqual(self.ran("format", PLANT, image, "--ring", RING)[0], 0)
             formatted = image.read_bytes()
