@@ -1,20 +1,21 @@
 //! How a run is printed, as words of the command line.
 ghost use Rattle.std.specs.Prelude.{◌≡◌};
-ghost use Rattle.command_line.specs.Runs.{format_in, shape_in};
+ghost use Rattle.command_line.specs.Runs.{format_in, run_in};
 
-use crate::request::Shape;
+use crate::request::{Picking, Task};
 use text_io::Format;
 
-/// What is printed of a run, as the word for its format and the option `--states` say: a dump of waves has all states in any case.
-pub(crate) fn shape_named(word: &str, states: bool) -> Shape
-    ensures { result ≡ shape_in word.now states }
+/// The task to run a plant by these picks, and to print the run as the word and the option `--states` say: a dump of waves has all states
+/// in any case.
+pub(crate) fn run_named<'a>(picking: Picking, word: &str, states: bool) -> Task<'a>
+    ensures { result ≡ run_in picking word.now states }
 {
     if word.as_bytes() == b"vcd".as_slice() {
-        Shape::Waves
+        Task::Waves(picking)
     } else if states {
-        Shape::States(format_named(word))
+        Task::States(picking, format_named(word))
     } else {
-        Shape::Steps(format_named(word))
+        Task::Trace(picking, format_named(word))
     }
 }
 

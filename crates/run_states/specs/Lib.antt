@@ -1,3 +1,4 @@
+pub mod Steps
 pub mod OfAtoms
 pub mod Columns
 pub mod Objects

@@ -1,9 +1,8 @@
 pub mod Separating
-pub mod Among
-pub mod Takes
-pub mod GoingOn
+pub mod Running
 pub mod Chosen
-pub mod ToldRows
+pub mod Telling
 pub mod Listed
+pub mod Random
 mod Rows
 pub mod RunRows

@@ -1,7 +1,0 @@
-pub mod Names
-pub mod Moves
-pub mod Choices
-pub mod Lines
-pub mod Files
-pub mod KeptLines
-pub mod Laws

@@ -1,0 +1,16 @@
+-- The run from the present states on, by the picks that are left, is left.
+use Rattle.std.proofs.Common.{◌≡◌, ◌+◌, length}
+use Rattle.step_core.specs.Running.{plant_in, states_in}
+use Rattle.text_io.proofs.Leading.{Leads}
+use Rattle.run_states.specs.Waves.{waves_from}
+use Rattle.run_states.proofs.waves.print_steps.Given as goal
+
+abbrev pub invariant-loop-fired : goal.invariant-loop-fired
+invariant-loop-fired g l = record {
+  plant : plant_in l.run ≡ plant_in l.initial.run;
+  present : l.before ≡ states_in l.run;
+  few : l.fired + length (g.P.Picks.left l.picks) ≡ length (g.P.Picks.left l.initial.picks);
+  left : Leads (g.W.Write.contents l.initial.output) (g.W.Write.contents l.output)
+      (waves_from (plant_in l.run) (states_in l.run) (l.fired + 1) (g.P.Picks.left l.picks))
+      (waves_from (plant_in l.initial.run) (states_in l.initial.run) 1 (g.P.Picks.left l.initial.picks));
+}
