@@ -13,6 +13,8 @@ A case is a folder tests/COMMAND/CASE. The program runs in a fresh copy of it, i
     status        the exit status; without the file 0
     after         runs of the program that are made behind it, as those of `before`
     after-stdout  what these print
+    left          a folder: each file in it stands where the program ran, and holds what that one holds
+    absent        names of files, one a line, that do not stand there
     setting       lines that say what else is so:
                       standard input closed               the program has no standard input
                       standard output closed              the program has no standard output
@@ -21,6 +23,7 @@ A case is a folder tests/COMMAND/CASE. The program runs in a fresh copy of it, i
                       standard error closed               the program has no standard error
                       standard error full                 the standard error takes nothing
                       standard error on a terminal        what is told goes to a terminal
+                      standard input and output on a terminal   a terminal gives the one and shows the other
                       memory of COUNT KiB                 the program gets no more memory for its data
                       FILE begins with COUNT line feeds   the file, too long to be stored, has these before; or `spaces`, or `zeros`
                       FILE ends with COUNT line feeds     the file has these behind, or is made of them
@@ -83,8 +86,9 @@ STREAMS = {
 }
 # The stack of each run, in KiB. No plant and no script makes the program nest deeper than others do: it takes some 210 KiB at most.
 STACK = 512
-# The setting that gives the program a terminal.
+# The settings that give the program a terminal.
 TERMINAL = "standard error on a terminal"
+TYPED = "standard input and output on a terminal"
 # What a setting may grow a file by.
 BYTES = {"line feeds": b"\n", "spaces": b" ", "zeros": b"\0"}
 # The settings that are made behind the runs of `before`.
@@ -137,6 +141,11 @@ def make_file(place, line):
     return True
 
 
+def bytes_in(file):
+    """What a file holds; None where it is not there."""
+    return file.read_bytes() if file.exists() else None
+
+
 def patch(file, place, new):
     """Writes new bytes over those of a file from a place on."""
     with open(file, "r+b") as opened:
@@ -144,21 +153,42 @@ def patch(file, place, new):
         opened.write(new)
 
 
-def run_on_terminal(command, how):
-    """Runs a command with a terminal as its standard error, and gives its status, standard output and what was told."""
+@contextlib.contextmanager
+def terminal():
+    """A terminal: what the test holds of it, and what the program gets."""
     ours, theirs = pty.openpty()
-    # A terminal turns line feeds into something else, unless it is told not to.
+    # A terminal turns line feeds into something else, and shows what is typed, unless it is told not to.
     tty.setraw(theirs)
     try:
-        ran = subprocess.run(command, stderr=theirs, **how)
-        os.set_blocking(ours, False)
-        told = os.read(ours, 1 << 16)
-    except BlockingIOError:
-        told = b""
+        yield ours, theirs
     finally:
         os.close(theirs)
         os.close(ours)
-    return ran.returncode, ran.stdout, told
+
+
+def shown_on(ours):
+    """What stands on a terminal that nobody writes to any more."""
+    os.set_blocking(ours, False)
+    try:
+        return os.read(ours, 1 << 16)
+    except BlockingIOError:
+        return b""
+
+
+def run_on_terminal(command, how):
+    """Runs a command with a terminal as its standard error, and gives its status, standard output and what was told."""
+    with terminal() as (ours, theirs):
+        ran = subprocess.run(command, stderr=theirs, **how)
+        return ran.returncode, ran.stdout, shown_on(ours)
+
+
+def run_typed(command, how):
+    """Runs a command whose standard input is typed on a terminal that shows its standard output, and gives the same."""
+    typed = {name: it for name, it in how.items() if name not in ("input", "stdout")}
+    with terminal() as (ours, theirs):
+        os.write(ours, how["input"])
+        ran = subprocess.run(command, stdin=theirs, stdout=theirs, stderr=subprocess.PIPE, **typed)
+        return ran.returncode, shown_on(ours), ran.stderr
 
 
 class Case:
@@ -182,6 +212,11 @@ class Case:
         """The case is about the rights of a file."""
         return any(RIGHTS.fullmatch(line) for line in self.lines_of("setting"))
 
+    def files_left(self):
+        """What files hold where the program ran, by their names; None for one that is not there."""
+        left = {file.name: file.read_bytes() for file in sorted((self.folder / "left").glob("*"))}
+        return left | {name: None for name in self.lines_of("absent")}
+
     def copy_files(self, place):
         shutil.copytree(self.folder, place, dirs_exist_ok=True)
 
@@ -195,7 +230,7 @@ class Case:
                 command = f"ulimit -d {given[1]} && {command}"
             elif line in STREAMS:
                 command = f"{command} {STREAMS[line]}"
-            elif not make_file(place, line) and line != TERMINAL and not any(later.fullmatch(line) for later in LATER):
+            elif not make_file(place, line) and line not in (TERMINAL, TYPED) and not any(later.fullmatch(line) for later in LATER):
                 raise ValueError(f"{self.name}: no such setting: {line}")
         return command
 
@@ -230,14 +265,16 @@ class Case:
             yield
 
     def run(self):
-        """Runs the program, and gives its status, its standard output and standard error, and what is printed behind it."""
+        """Runs the program, and gives its status, its standard output and standard error, what is printed behind it, and what the files hold that
+        are told of."""
         words = self.lines_of("args")
         with tempfile.TemporaryDirectory() as folder:
-            command = ["sh", "-c", self.make_files(Path(folder)), str(built_program(words)), *words]
-            self.run_before(Path(folder))
-            with self.files_in_use(Path(folder)):
+            place = Path(folder)
+            command = ["sh", "-c", self.make_files(place), str(built_program(words)), *words]
+            self.run_before(place)
+            with self.files_in_use(place):
                 ran = self.run_in(folder, command)
-            return *ran, self.run_aside("after", folder)
+            return *ran, self.run_aside("after", folder), {name: bytes_in(place / name) for name in self.files_left()}
 
     def run_in(self, folder, command):
         how = {"input": self.bytes_of("stdin") or b"", "stdout": subprocess.PIPE, "cwd": folder, "timeout": SECONDS}
@@ -245,6 +282,8 @@ class Case:
             how["preexec_fn"] = limits.obey_rights
         if TERMINAL in self.lines_of("setting"):
             return run_on_terminal(command, how)
+        if TYPED in self.lines_of("setting"):
+            return run_typed(command, how)
         ran = subprocess.run(command, stderr=subprocess.PIPE, **how)
         return ran.returncode, ran.stdout, ran.stderr
 
@@ -262,12 +301,17 @@ class Made(Case):
     def copy_files(self, place):
         pass
 
+    def files_left(self):
+        return {}
+
 
 def shown_runs():
-    """The runs that examples/README.md shows: a block with the command, an empty line, and what is printed."""
+    """The runs that examples/README.md shows: a block with the command, what `printf` gives it if it does, an empty line, and what is printed."""
     page = (ROOT / "examples" / "README.md").read_text()
-    runs = re.findall(r"^```\n\./bip_run (.+)\n\n((?:.+\n)*)```$", page, re.M)
-    return [Made(f"shown/{words}", words, {"stdout": printed.encode()}) for words, printed in runs]
+    runs = re.findall(r"^```\n(?:printf '(.+)' \| )?\./bip_run (.+)\n\n((?:.+\n)*)```$", page, re.M)
+    return [
+        Made(f"shown/{words}", words, {"stdin": typed.replace("\\n", "\n").encode(), "stdout": printed.encode()}) for typed, words, printed in runs
+    ]
 
 
 def version_of_the_kit():
@@ -284,11 +328,12 @@ class Answers(unittest.TestCase):
     def check_case(self, case):
         if case.has_rights() and (reason := limits.why_rights_bind_nothing()):
             self.skipTest(reason)
-        status, printed, told, after = case.run()
+        status, printed, told, after, left = case.run()
         self.check_stream(case, "stderr", told)
         self.check_stream(case, "stdout", printed)
         self.assertEqual(case.status(), status, f"{case.name}: status")
         self.check_stream(case, "after-stdout", after)
+        self.assertEqual(case.files_left(), left, f"{case.name}: files")
 
     def check_stream(self, case, name, found):
         text = found.decode(errors="replace")

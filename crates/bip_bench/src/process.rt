@@ -100,7 +100,7 @@ fn print_run<R: Clock + Print + AllocGlobal>(
     let mut run = Stepper::first(rt.alloc(), system).map_err(|_| Ending::System)?;
     let mut picks = RandomPicks::new(seed, steps);
     let start = Instant::now(rt).map_err(|_| Ending::System)?;
-    let fired = fire_steps(&mut run, &mut picks);
+    let fired = fire_steps(&mut run, &mut picks, steps);
     let time = start.elapsed(rt).map_err(|_| Ending::System)?;
     let hash = hash_of_states(&run);
     let printed = if timed {

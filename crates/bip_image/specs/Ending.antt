@@ -9,6 +9,7 @@ use Rattle.image_commands.specs.Endings.{status_at}
 use Rattle.image_commands.specs.declared.ending.ImageEnding.{ImageEnding}
 use Rattle.image_commands.specs.declared.ending.ImageEnding.TheVariants as image
 use Rattle.plant_tasks.specs.Ending as plant
+use Rattle.plant_tasks.specs.Paths.{plant_alone}
 use Rattle.bip_image.specs.declared.ending.Paths.{Paths}
 use Rattle.bip_image.specs.declared.ending.Ending.{Ending}
 use Rattle.bip_image.specs.declared.ending.Ending.TheVariants.{OfPlant, Script, ScriptUnread, ImageUnopened, Image}
@@ -35,7 +36,7 @@ image_text image.Unwritten = []
 
 -- what is told of an ending, where the texts and the image are at these paths
 abbrev pub told_text : Paths → Ending → List ℕ
-told_text paths (OfPlant ending) = plant.told_text paths.plant.now ending
+told_text paths (OfPlant ending) = plant.told_text (plant_alone paths.plant) ending
 told_text paths (Script line) = codes "script line " ++ decimal line ++ codes "\n"
 told_text paths ScriptUnread = plant.file_line paths.script.now
 told_text paths (ImageUnopened fault) = unopened_text paths.image.now fault

@@ -3,7 +3,7 @@ use Rattle.std.specs.Prelude.{ℕ, List, []}
 use Rattle.command_line.specs.declared.request.ImageTask.{ImageTask}
 use Rattle.command_line.specs.declared.request.ImageTask.TheVariants.{Format, Run, Recover}
 use Rattle.command_line.specs.declared.request.Work.{Work}
-use Rattle.command_line.specs.declared.request.Work.TheVariants.{OfPlant, OnImage}
+use Rattle.command_line.specs.declared.request.Work.TheVariants.{OfPlant, ByHand, OnImage}
 
 -- where the script is of a task on an image; only a run has one
 abbrev pub script_of : ImageTask → List ℕ
@@ -14,9 +14,11 @@ script_of Recover = []
 -- where the script is of what is to be done, if it has one
 abbrev pub script_in : Work → List ℕ
 script_in (OfPlant task) = []
+script_in ByHand = []
 script_in (OnImage image task) = script_of task
 
 -- where the image is, if it has one
 abbrev pub image_in : Work → List ℕ
 image_in (OfPlant task) = []
+image_in ByHand = []
 image_in (OnImage image task) = image.now

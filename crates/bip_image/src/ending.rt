@@ -5,7 +5,7 @@ ghost use Rattle.bip_image.specs.Ending.{status_of};
 use command_line::{ImageTask, Request, Work};
 use file_disk::FileFault;
 use image_commands::ImageEnding;
-use plant_tasks::{PlantEnding, PlantTold, shown_path};
+use plant_tasks::{PlantEnding, PlantTold, TaskPaths, shown_path};
 use script_lines::ScriptFault;
 use std::alloc::{AllocError, Global};
 use std::fmt;
@@ -75,7 +75,7 @@ impl<'a> Paths<'a> {
         ensures image { result.image.now ≡ image_in request.now.work }
     {
         let (script, image) = match &request.work {
-            Work::OfPlant(_) => ("", ""),
+            Work::OfPlant(_) | Work::ByHand => ("", ""),
             Work::OnImage(image, ImageTask::Run(script)) => (*script, *image),
             Work::OnImage(image, _) => ("", *image),
         };
@@ -146,7 +146,7 @@ impl<'a> fmt::Display for Told<'a> {
             Ending::OfPlant(ending) => {
                 let told = PlantTold {
                     ending,
-                    path: self.paths.plant,
+                    paths: TaskPaths::of_plant(self.paths.plant),
                 };
                 write!(f, "{told}")
             }

@@ -73,7 +73,7 @@ fn work<R: Files<File = File> + Input + Print + Eprint + AllocGlobal>(
     failure: &mut Option<io::Error>,
 ) -> Result<(), Ending> {
     match &request.work {
-        Work::OfPlant(_) => {
+        Work::OfPlant(_) | Work::ByHand => {
             let _ = eprintln!(rt; "error: a task of a plant alone is done by the program bip_run");
             Err(Ending::OfPlant(PlantEnding::Usage))
         }

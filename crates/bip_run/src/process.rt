@@ -2,25 +2,37 @@
 ghost use Rattle.std.specs.Prelude.{◌≡◌};
 ghost use Rattle.bip_run.specs.Status.{status_of};
 
+use crate::paths::ShownPaths;
+use crate::saving::{FileSaver, perform_saving};
 use command_line::{Drawing, Request, Task, Work, is_standard_input, read_request};
 use plant_tasks::{
-    PlantEnding, PlantTold, Watched, ended, perform, shown_path, tell_more, words_of_process,
+    PlantEnding, PlantTold, ReadPlant, TaskPaths, Watched, ended, read_plant, step, tell_more,
+    words_of_process,
 };
 use std::alloc::Global;
 use std::fs::File;
-use std::io::{BufWriter, Read, Write};
+use std::io::{BufReader, BufWriter, Read, Write};
 use std::rt::{Env, Files};
 use std::{fs, io};
+use step_core::System;
 
-/// Does what the words of the command line ask for, and gives the exit status. More is told of an ending where `explain` says so or
-/// the words ask for it.
+/// Which ends of the process are a terminal.
+#[derive(Clone, Copy)]
+pub(crate) struct Terminals {
+    /// The standard input and the standard output: a person types lines, and sees the answer to each.
+    pub(crate) typed: bool,
+    /// The standard error: more is told there of a fault than its line.
+    pub(crate) told: bool,
+}
+
+/// Does what the words of the command line ask for, and gives the exit status.
 pub(crate) fn run<R: Env + Files<File = File> + Input + Print + Eprint + AllocGlobal>(
     rt: &R,
-    explain: bool,
+    terminals: Terminals,
 ) -> u8 {
     match words_of_process(rt) {
-        Ok(words) => answer(rt, words.as_slice(), explain),
-        Err(ending) => end(rt, "", Err(ending)),
+        Ok(words) => answer(rt, words.as_slice(), terminals),
+        Err(ending) => end(rt, TaskPaths::of_plant(""), Err(ending)),
     }
 }
 
@@ -28,81 +40,82 @@ pub(crate) fn run<R: Env + Files<File = File> + Input + Print + Eprint + AllocGl
 fn answer<R: Files<File = File> + Input + Print + Eprint + AllocGlobal>(
     rt: &R,
     words: &[String],
-    explain: bool,
+    terminals: Terminals,
 ) -> u8 {
     match read_request(rt, words) {
-        Ok(request) => serve(rt, &request, explain),
-        Err(answered) => end(rt, "", ended(answered)),
+        Ok(request) => serve(rt, &request, terminals),
+        Err(answered) => end(rt, TaskPaths::of_plant(""), ended(answered)),
     }
 }
 
-/// Does what was asked for, tells why not where it ends early, and gives the exit status.
+/// Does what was asked for, tells why not where it ends early, and gives the exit status. More is told of an ending on a terminal, or where
+/// the words ask for it.
 fn serve<R: Files<File = File> + Input + Print + Eprint + AllocGlobal>(
     rt: &R,
     request: &Request<'_>,
-    explain: bool,
+    terminals: Terminals,
 ) -> u8 {
-    let Ok(path) = shown_path(rt.alloc(), request.plant) else {
-        return end(rt, "", Err(PlantEnding::Memory));
+    let Ok(shown) = ShownPaths::of(rt.alloc(), request) else {
+        return end(rt, TaskPaths::of_plant(""), Err(PlantEnding::Memory));
     };
+    let paths = shown.lend();
     let mut text = Vec::new(rt.alloc());
     let mut failure = None;
-    let ended = work(rt, request, &path, &mut text, &mut failure);
-    let status = end(rt, &path, ended);
+    let ended = work(rt, request, paths.plant, terminals, &mut text, &mut failure);
+    let status = end(rt, paths, ended);
     if let Err(PlantEnding::NoAtom(place)) = ended {
         tell_no_atom(rt, &request.work, place);
     }
     if let Err(ending) = ended
-        && (explain || request.explain)
+        && (terminals.told || request.explain)
     {
         tell_more(rt, ending, request.plant, &text, failure);
     }
     status
 }
 
-/// Does what was asked for, where it is a task of the plant alone. The text of the plant is put into `text`, and a failure of the system
+/// Does what was asked for, where it needs no image. The text of the plant, which is shown so, is put into `text`, and a failure of the system
 /// into `failure`.
 fn work<R: Files<File = File> + Input + Print + Eprint + AllocGlobal>(
     rt: &R,
     request: &Request<'_>,
     shown: &str,
+    terminals: Terminals,
     text: &mut Vec<u8>,
     failure: &mut Option<io::Error>,
 ) -> Result<(), PlantEnding> {
-    match &request.work {
-        Work::OfPlant(task) => work_of_plant(rt, task, request.plant, shown, text, failure),
-        Work::OnImage(_, _) => {
-            let _ = eprintln!(rt; "error: a task on an image is done by the program bip_image");
-            Err(PlantEnding::Usage)
-        }
+    if let Work::OnImage(_, _) = request.work {
+        let _ = eprintln!(rt; "error: a task on an image is done by the program bip_image");
+        return Err(PlantEnding::Usage);
     }
-}
-
-/// Does a task of the plant alone that stands at the path, which is shown so.
-fn work_of_plant<R: Files<File = File> + Input + Print + AllocGlobal>(
-    rt: &R,
-    task: &Task<'_>,
-    plant: &str,
-    shown: &str,
-    text: &mut Vec<u8>,
-    failure: &mut Option<io::Error>,
-) -> Result<(), PlantEnding> {
     let mut output = BufWriter::new(rt.alloc(), Watched::new(io::writer(rt))).map_err(
         |_| PlantEnding::Memory,
     )?;
-    if is_standard_input(plant) {
-        return perform_watched(
-            rt.alloc(),
-            task,
-            plant,
-            rt.reader(),
-            text,
-            &mut output,
-            failure,
-        );
+    let system = plant_at(rt, request.plant, text, failure)?;
+    let plant = ReadPlant {
+        system: &system,
+        text: text.as_slice(),
+        path: shown,
+    };
+    let ended = work_on(rt, request, &plant, terminals, &mut output, failure);
+    if let Err(PlantEnding::Unwritten) = ended {
+        *failure = output.get_ref().failure();
     }
-    match fs::open(rt, plant) {
-        Ok(file) => perform_watched(rt.alloc(), task, shown, file, text, &mut output, failure),
+    ended
+}
+
+/// The plant that stands at the path. Its text is put into `text`, and a failure of its file into `failure`.
+fn plant_at<R: Files<File = File> + Input + AllocGlobal>(
+    rt: &R,
+    path: &str,
+    text: &mut Vec<u8>,
+    failure: &mut Option<io::Error>,
+) -> Result<System, PlantEnding> {
+    if is_standard_input(path) {
+        return plant_from(rt.alloc(), rt.reader(), text, failure);
+    }
+    match fs::open(rt, path) {
+        Ok(file) => plant_from(rt.alloc(), file, text, failure),
         Err(error) => {
             *failure = Some(error);
             Err(PlantEnding::Unopened)
@@ -110,22 +123,97 @@ fn work_of_plant<R: Files<File = File> + Input + Print + AllocGlobal>(
     }
 }
 
-/// Does a task of a plant whose text a reader gives, and puts a failure of the reader or of the output into `failure`.
-fn perform_watched<R: Read + Drop, W: Write + Drop>(
+/// The plant that a reader gives.
+fn plant_from<R: Read + Drop>(
     alloc: Global,
-    task: &Task<'_>,
-    path: &str,
     reader: R,
     text: &mut Vec<u8>,
-    output: &mut BufWriter<Watched<W>>,
+    failure: &mut Option<io::Error>,
+) -> Result<System, PlantEnding> {
+    let mut reader = Watched::new(reader);
+    let system = read_plant(alloc, &mut reader, text);
+    *failure = reader.failure();
+    system
+}
+
+/// Does what was asked for with a plant that was read.
+fn work_on<R: Files<File = File> + Input + AllocGlobal, W: Write>(
+    rt: &R,
+    request: &Request<'_>,
+    plant: &ReadPlant<'_>,
+    terminals: Terminals,
+    output: &mut W,
     failure: &mut Option<io::Error>,
 ) -> Result<(), PlantEnding> {
-    let mut reader = Watched::new(reader);
-    let ended = perform(alloc, task, path, &mut reader, text, output);
-    *failure = match ended {
-        Err(PlantEnding::Unwritten) => output.get_ref().failure(),
-        _ => reader.failure(),
+    match &request.work {
+        Work::OfPlant(task) => work_by(rt, request, task, plant, output, failure),
+        Work::ByHand => step_typed(rt, request.plant, plant, terminals.typed, output, failure),
+        Work::OnImage(_, _) => Err(PlantEnding::Usage),
+    }
+}
+
+/// Does a task of the plant alone, once what it reads beside the plant is open.
+fn work_by<R: Files<File = File> + Input + AllocGlobal, W: Write>(
+    rt: &R,
+    request: &Request<'_>,
+    task: &Task<'_>,
+    plant: &ReadPlant<'_>,
+    output: &mut W,
+    failure: &mut Option<io::Error>,
+) -> Result<(), PlantEnding> {
+    let saved = request.work.saved();
+    let Some(path) = request.work.input() else {
+        return perform_saving(rt, task, plant, io::empty(), output, saved, failure);
     };
+    if is_standard_input(path) {
+        return work_from(rt, task, plant, rt.reader(), output, saved, failure);
+    }
+    match fs::open(rt, path) {
+        Ok(file) => work_from(rt, task, plant, file, output, saved, failure),
+        Err(error) => {
+            *failure = Some(error);
+            Err(PlantEnding::InputUnread)
+        }
+    }
+}
+
+/// Does a task of the plant alone with the picks that a reader gives, and puts a failure of the reader into `failure`.
+fn work_from<R: Files<File = File> + AllocGlobal, F: Read + Drop, W: Write>(
+    rt: &R,
+    task: &Task<'_>,
+    plant: &ReadPlant<'_>,
+    reader: F,
+    output: &mut W,
+    saved: Option<&str>,
+    failure: &mut Option<io::Error>,
+) -> Result<(), PlantEnding> {
+    let mut input = BufReader::new(rt.alloc(), Watched::new(reader)).map_err(
+        |_| PlantEnding::Memory,
+    )?;
+    let ended = perform_saving(rt, task, plant, &mut input, output, saved, failure);
+    if let Err(PlantEnding::InputUnread) = ended {
+        *failure = input.get_ref().failure();
+    }
+    ended
+}
+
+/// Lets the plant, whose text is at the path, be run by hand from the standard input, and puts a failure of it into `failure`.
+fn step_typed<R: Files<File = File> + Input + AllocGlobal, W: Write>(
+    rt: &R,
+    path: &str,
+    plant: &ReadPlant<'_>,
+    prompt: bool,
+    output: &mut W,
+    failure: &mut Option<io::Error>,
+) -> Result<(), PlantEnding> {
+    let mut input = BufReader::new(rt.alloc(), Watched::new(rt.reader())).map_err(
+        |_| PlantEnding::Memory,
+    )?;
+    let mut saver = FileSaver { rt, plant: path };
+    let ended = step(rt.alloc(), plant, prompt, &mut input, output, &mut saver);
+    if let Err(PlantEnding::InputUnread) = ended {
+        *failure = input.get_ref().failure();
+    }
     ended
 }
 
@@ -139,16 +227,13 @@ fn tell_no_atom<R: Eprint>(rt: &R, work: &Work<'_>, place: usize) {
 }
 
 /// Tells why the program ends early, where it does, and gives the exit status.
-fn end<R: Eprint>(rt: &R, plant: &str, ended: Result<(), PlantEnding>) -> u8
+fn end<R: Eprint>(rt: &R, paths: TaskPaths<'_>, ended: Result<(), PlantEnding>) -> u8
     ensures { result ≡ status_of ended }
 {
     match ended {
         Ok(()) => 0,
         Err(ending) => {
-            let _ = rt.eprint(PlantTold {
-                ending,
-                path: plant,
-            });
+            let _ = rt.eprint(PlantTold { ending, paths });
             ending.exit_status()
         }
     }

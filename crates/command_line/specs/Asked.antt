@@ -1,14 +1,15 @@
 -- What the words of a command ask for.
-use Rattle.std.specs.Prelude.{◌≡◌, ℕ, List, [], true, false, codes, if◌then◌else◌, map, unwrap_or, option_map, Option, None, Some, Ok}
-use Rattle.command_line.specs.Inputs.{are_one_input}
+use Rattle.std.specs.Prelude.{◌≡◌, ℕ, List, [], Bool, true, false, ◌||◌, codes, if◌then◌else◌, is_some, map, unwrap_or, Option, None, Some, Ok}
+use Rattle.command_line.specs.Apart.{apart_in}
+use Rattle.command_line.specs.Files.{read_beside, saved_in}
 use Rattle.command_line.specs.Pickings.{IsSaid}
-use Rattle.command_line.specs.Picks.{picks_in}
 use Rattle.command_line.specs.Rings.{ring_in}
-use Rattle.command_line.specs.Runs.{run_in}
+use Rattle.command_line.specs.Runs.{shape_in}
 use Rattle.command_line.specs.Said.{word_of, words_of}
 use Rattle.command_line.specs.declared.names.CommandName.{CommandName}
 use Rattle.command_line.specs.declared.names.CommandName.TheVariants as command
 use Rattle.command_line.specs.declared.request.Picking.{Picking}
+use Rattle.command_line.specs.declared.request.Trace.{Trace}
 use Rattle.command_line.specs.declared.request.Drawing.{Drawing}
 use Rattle.command_line.specs.declared.request.Drawing.TheVariants.{Whole, Outline, After, Only}
 use Rattle.command_line.specs.declared.request.Task.{Task}
@@ -16,7 +17,7 @@ use Rattle.command_line.specs.declared.request.Task.TheVariants as task
 use Rattle.command_line.specs.declared.request.ImageTask.{ImageTask}
 use Rattle.command_line.specs.declared.request.ImageTask.TheVariants as image
 use Rattle.command_line.specs.declared.request.Work.{Work}
-use Rattle.command_line.specs.declared.request.Work.TheVariants.{OfPlant, OnImage}
+use Rattle.command_line.specs.declared.request.Work.TheVariants.{OfPlant, ByHand, OnImage}
 use Rattle.command_line.specs.declared.request.Request.{Request}
 use Rattle.command_line.specs.declared.said.Said.{Said}
 
@@ -26,54 +27,63 @@ pick_words said = unwrap_or (words_of said.picks) []
 
 -- the choices of a run are picked as the words say
 abbrev pub IsPicked : Picking → Said → Type 0
-IsPicked picking said = IsSaid picking (pick_words said) (word_of said.random) (word_of said.seed)
+IsPicked picking said = IsSaid picking (pick_words said) said
 
--- the picks behind which a plant is drawn
-abbrev pub ArePicked : Option (List ℕ) → Option (List (List ℕ)) → Type 0
-ArePicked None words = words ≡ None
-ArePicked (Some picks) None = ⊥
-ArePicked (Some picks) (Some words) = picks_in words ≡ Ok picks
+-- the words ask for this run: how its choices are picked, what is printed of it, and where what is fired is saved
+abbrev pub IsTrace : Trace → Said → Type 0
+IsTrace trace said =
+    IsPicked trace.picking said × (trace.shape ≡ shape_in (unwrap_or (word_of said.format) (codes "lines")) said.states) ×
+    (word_of trace.saved ≡ word_of said.saved)
+
+-- the words for the picks behind which a plant is drawn
+abbrev pub words_behind : Said → List (List ℕ)
+words_behind said = unwrap_or (words_of said.after) []
+
+-- a plant is drawn behind picks: some are given, or a text has them
+abbrev pub has_picks : Said → Bool
+has_picks said = is_some said.after || is_some said.recorded
+
+-- the picks behind which a plant is drawn, if there are some
+abbrev pub IsPickedBehind : Option Picking → Said → Type 0
+IsPickedBehind None said = (has_picks said ≡ false) × (said.strict ≡ false)
+IsPickedBehind (Some picking) said = (has_picks said ≡ true) × IsSaid picking (words_behind said) said
 
 -- the words ask for this drawing
 abbrev pub IsDrawing : Drawing → Said → Type 0
-IsDrawing Whole said = (said.outline ≡ false) × (words_of said.only ≡ None) × (words_of said.after ≡ None)
-IsDrawing Outline said = (said.outline ≡ true) × (words_of said.only ≡ None) × (words_of said.after ≡ None)
-IsDrawing (After picks) said =
-    (said.outline ≡ false) × (words_of said.only ≡ None) × ArePicked (Some picks.items) (words_of said.after)
-IsDrawing (Only names picks) said =
-    (said.outline ≡ false) × (words_of said.only ≡ Some (map (λ name. name.now) names.items)) ×
-    ArePicked (option_map (λ kept. kept.items) picks) (words_of said.after)
+IsDrawing Whole said = (said.outline ≡ false) × (words_of said.only ≡ None) × IsPickedBehind None said
+IsDrawing Outline said = (said.outline ≡ true) × (words_of said.only ≡ None) × IsPickedBehind None said
+IsDrawing (After picking) said = (said.outline ≡ false) × (words_of said.only ≡ None) × IsPickedBehind (Some picking) said
+IsDrawing (Only names picking) said =
+    (said.outline ≡ false) × (words_of said.only ≡ Some (map (λ name. name.now) names.items)) × IsPickedBehind picking said
 
 -- the words of a command of a plant alone ask for this task
 abbrev pub IsTask : CommandName → Task → Said → Type 0
 IsTask command.Check asked said = asked ≡ (if said.warn then task.Warn else task.Check)
 IsTask command.Choices asked said = (picking : Picking) × (asked ≡ task.Choices picking) × IsPicked picking said
 IsTask command.Why asked said = (picking : Picking) × (asked ≡ task.Why picking) × IsPicked picking said
-IsTask command.Trace asked said =
-    (picking : Picking) × (asked ≡ run_in picking (unwrap_or (word_of said.format) (codes "lines")) said.states) × IsPicked picking said
+IsTask command.Trace asked said = (trace : Trace) × (asked ≡ task.Trace trace) × IsTrace trace said
+IsTask command.Step asked said = ⊥
 IsTask command.Draw asked said = (drawing : Drawing) × (asked ≡ task.Draw drawing) × IsDrawing drawing said
 IsTask command.Format asked said = ⊥
 IsTask command.Run asked said = ⊥
 IsTask command.Recover asked said = ⊥
 
--- the script is at this path, and it and the plant are not both the standard input
-abbrev pub IsScript : List ℕ → Said → Type 0
-IsScript script said =
-    (word_of said.script ≡ Some script) × (plant : List ℕ) × (word_of said.plant ≡ Some plant) × (are_one_input plant script ≡ false)
-
 -- the words of a command on an image ask for this task
 abbrev pub IsImageTask : CommandName → ImageTask → Said → Type 0
 IsImageTask command.Format (image.Format ring) said = ring_in (unwrap_or (word_of said.ring) (codes "64")) ≡ Some ring.records
-IsImageTask command.Run (image.Run script) said = IsScript script.now said
+IsImageTask command.Run (image.Run script) said = word_of said.script ≡ Some script.now
 IsImageTask command.Recover image.Recover said = Unit {0}
 IsImageTask command asked said = ⊥
 
 -- the words ask for this to be done
 abbrev pub IsWork : Work → Said → Type 0
 IsWork (OfPlant asked) said = IsTask said.command asked said
+IsWork ByHand said = said.command ≡ command.Step
 IsWork (OnImage path asked) said = (word_of said.image ≡ Some path.now) × IsImageTask said.command asked said
 
--- the words are this request
-abbrev pub IsAsked : Request → Said → Type 0
-IsAsked request said =
-    (word_of said.plant ≡ Some request.plant.now) × (request.explain ≡ said.explain) × IsWork request.work said
+-- the words are this request: its plant and what is done with it, and the files of it that stand apart
+pub record IsAsked (request : Request) (said : Said) : Type 0 where
+  pub plant : word_of said.plant ≡ Some request.plant.now
+  pub explain : request.explain ≡ said.explain
+  pub work : IsWork request.work said
+  pub apart : apart_in request.plant.now (read_beside request.work) (saved_in request.work) ≡ Ok tt

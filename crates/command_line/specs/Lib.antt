@@ -5,5 +5,7 @@ pub mod Picks
 pub mod Rings
 pub mod Inputs
 pub mod Pickings
+pub mod Files
+pub mod Apart
 pub mod Asked
 pub mod Read

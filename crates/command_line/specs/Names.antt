@@ -2,7 +2,7 @@
 use Rattle.std.specs.Prelude.{ℕ, List, codes, if◌then◌else◌, Option, None, Some}
 use Rattle.petri_atom.specs.Name.{is_same_text}
 use Rattle.command_line.specs.declared.names.CommandName.{CommandName}
-use Rattle.command_line.specs.declared.names.CommandName.TheVariants.{Check, Choices, Why, Trace, Draw, Format, Run, Recover}
+use Rattle.command_line.specs.declared.names.CommandName.TheVariants.{Check, Choices, Why, Trace, Step, Draw, Format, Run, Recover}
 
 -- the command that a word names
 abbrev pub command_in : List ℕ → Option CommandName
@@ -11,6 +11,7 @@ command_in word =
     else if is_same_text word (codes "choices") then Some Choices
     else if is_same_text word (codes "why") then Some Why
     else if is_same_text word (codes "trace") then Some Trace
+    else if is_same_text word (codes "step") then Some Step
     else if is_same_text word (codes "draw") then Some Draw
     else if is_same_text word (codes "format") then Some Format
     else if is_same_text word (codes "run") then Some Run

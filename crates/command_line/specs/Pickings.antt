@@ -1,14 +1,18 @@
 -- How words say that the choices of a run are picked.
-use Rattle.std.specs.Prelude.{◌≡◌, ◌≢◌, ℕ, List, [], Option, None, Some, Ok, Err, IsOk}
+use Rattle.std.specs.Prelude.{◌≡◌, ◌≢◌, ℕ, Bool, true, false, List, [], Option, None, Some, Ok, Err, IsOk, if◌then◌else◌}
 use Rattle.plant_words.specs.Numbers.{pick_in}
 use Rattle.command_line.specs.Picks.{picks_in}
+use Rattle.command_line.specs.Said.{word_of}
 use Rattle.command_line.specs.declared.picking.PickingFault.{PickingFault}
-use Rattle.command_line.specs.declared.picking.PickingFault.TheVariants.{NoPick, NoCount, NoSeed, Both, SeedAlone, Memory}
+use Rattle.command_line.specs.declared.picking.PickingFault.TheVariants.{NoPick, NoCount, NoSeed, GivenAndRandom, GivenAndRecorded, RecordedAndRandom, StrictRandom, SeedAlone, Memory}
 use Rattle.command_line.specs.declared.picking.TheConstants.{USUAL_SEED}
 use Rattle.command_line.specs.declared.picks.PickFault.{PickFault}
 use Rattle.command_line.specs.declared.picks.PickFault.TheVariants as pick
+use Rattle.command_line.specs.declared.request.Numbers.{Numbers}
+use Rattle.command_line.specs.declared.request.Numbers.TheVariants.{Modulo, Strict}
 use Rattle.command_line.specs.declared.request.Picking.{Picking}
-use Rattle.command_line.specs.declared.request.Picking.TheVariants.{Given, Random}
+use Rattle.command_line.specs.declared.request.Picking.TheVariants.{Given, Recorded, Random}
+use Rattle.command_line.specs.declared.said.Said.{Said}
 
 -- the seed that is named, or the usual one
 abbrev pub seed_in : Option (List ℕ) → Option ℕ
@@ -20,11 +24,23 @@ abbrev pub count_in : Option (List ℕ) → Option ℕ
 count_in None = None
 count_in (Some word) = pick_in word
 
--- Words for picks, for how many random ones and for a seed say that choices are picked so: the picks are given, and there is no other word; or
--- there are so many random ones by a seed, and no pick is given.
-abbrev pub IsSaid : Picking → List (List ℕ) → Option (List ℕ) → Option (List ℕ) → Type 0
-IsSaid (Given picks) words count seed = (picks_in words ≡ Ok picks.items) × (count ≡ None) × (seed ≡ None)
-IsSaid (Random many by) words count seed = (words ≡ []) × (count_in count ≡ Some many) × (seed_in seed ≡ Some by)
+-- a pick whose number is past the list of choices is refused where that is asked for
+abbrev pub numbers_in : Bool → Numbers
+numbers_in strict = if strict then Strict else Modulo
+
+-- The words for picks that are given, and the other words of a command, say that choices are picked so: by the picks that are given, or by those of
+-- the text that is named, and then a number past the list of choices is refused where that is asked for; or by so many random ones by a seed. None
+-- of the three stands beside another.
+abbrev pub IsSaid : Picking → List (List ℕ) → Said → Type 0
+IsSaid (Given picks numbers) given said =
+    (picks_in given ≡ Ok picks.items) × (numbers ≡ numbers_in said.strict) ×
+    (word_of said.recorded ≡ None) × (word_of said.random ≡ None) × (word_of said.seed ≡ None)
+IsSaid (Recorded path numbers) given said =
+    (word_of said.recorded ≡ Some path.now) × (numbers ≡ numbers_in said.strict) ×
+    (given ≡ []) × (word_of said.random ≡ None) × (word_of said.seed ≡ None)
+IsSaid (Random many by) given said =
+    (count_in (word_of said.random) ≡ Some many) × (seed_in (word_of said.seed) ≡ Some by) ×
+    (given ≡ []) × (word_of said.recorded ≡ None) × (said.strict ≡ false)
 
 -- the fault of words for picks
 abbrev pub of_picks : PickFault → PickingFault
@@ -32,10 +48,21 @@ of_picks (pick.NoPick word) = NoPick word
 of_picks pick.Memory = Memory
 
 -- what is wrong with such words
-abbrev pub IsWrong : PickingFault → List (List ℕ) → Option (List ℕ) → Option (List ℕ) → Type 0
-IsWrong (NoPick word) words count seed = (picks_in words ≡ Err word.now) × (count ≡ None) × (seed ≡ None)
-IsWrong Memory words count seed = IsOk (picks_in words) × (count ≡ None) × (seed ≡ None)
-IsWrong SeedAlone words count seed = (count ≡ None) × (seed ≢ None)
-IsWrong Both words count seed = (count ≢ None) × (words ≢ [])
-IsWrong (NoCount word) words count seed = (words ≡ []) × (count ≡ Some word.now) × (pick_in word.now ≡ None)
-IsWrong (NoSeed word) words count seed = (words ≡ []) × (count_in count ≢ None) × (seed ≡ Some word.now) × (pick_in word.now ≡ None)
+abbrev pub IsWrong : PickingFault → List (List ℕ) → Said → Type 0
+IsWrong (NoPick word) given said =
+    (picks_in given ≡ Err word.now) × (word_of said.recorded ≡ None) × (word_of said.random ≡ None) × (word_of said.seed ≡ None)
+IsWrong Memory given said =
+    IsOk (picks_in given) × (word_of said.recorded ≡ None) × (word_of said.random ≡ None) × (word_of said.seed ≡ None)
+IsWrong SeedAlone given said = (word_of said.random ≡ None) × (word_of said.seed ≢ None)
+IsWrong GivenAndRecorded given said =
+    (given ≢ []) × (word_of said.recorded ≢ None) × (word_of said.random ≡ None) × (word_of said.seed ≡ None)
+IsWrong GivenAndRandom given said = (given ≢ []) × (word_of said.random ≢ None)
+IsWrong RecordedAndRandom given said = (given ≡ []) × (word_of said.recorded ≢ None) × (word_of said.random ≢ None)
+IsWrong StrictRandom given said =
+    (given ≡ []) × (word_of said.recorded ≡ None) × (said.strict ≡ true) × (word_of said.random ≢ None)
+IsWrong (NoCount word) given said =
+    (given ≡ []) × (word_of said.recorded ≡ None) × (said.strict ≡ false) ×
+    (word_of said.random ≡ Some word.now) × (pick_in word.now ≡ None)
+IsWrong (NoSeed word) given said =
+    (given ≡ []) × (word_of said.recorded ≡ None) × (said.strict ≡ false) × (count_in (word_of said.random) ≢ None) ×
+    (word_of said.seed ≡ Some word.now) × (pick_in word.now ≡ None)

@@ -15,12 +15,15 @@ pub record AreFound (said : Said) (found : Found) : Type 0 where
   pub image : word_of said.image ≡ first_value found (codes "IMAGE")
   pub script : word_of said.script ≡ first_value found (codes "SCRIPT")
   pub picks : words_of said.picks ≡ are_found found (codes "PICK")
+  pub recorded : word_of said.recorded ≡ first_value found (codes "picks")
+  pub saved : word_of said.saved ≡ first_value found (codes "save-picks")
   pub random : word_of said.random ≡ first_value found (codes "random")
   pub seed : word_of said.seed ≡ first_value found (codes "seed")
   pub format : word_of said.format ≡ first_value found (codes "format")
   pub ring : word_of said.ring ≡ first_value found (codes "ring")
   pub after : words_of said.after ≡ are_found found (codes "after")
   pub only : words_of said.only ≡ are_found found (codes "only")
+  pub strict : IsFlag found (codes "strict") said.strict
   pub outline : IsFlag found (codes "outline") said.outline
   pub states : IsFlag found (codes "states") said.states
   pub warn : IsFlag found (codes "warn") said.warn

@@ -3,9 +3,8 @@ use Rattle.std.specs.Prelude.{ℕ, Bool, List, codes, if◌then◌else◌}
 use Rattle.petri_atom.specs.Name.{is_same_text}
 use Rattle.text_io.specs.declared.format.Format.{Format}
 use Rattle.text_io.specs.declared.format.Format.TheVariants.{Lines, Csv, Jsonl}
-use Rattle.command_line.specs.declared.request.Picking.{Picking}
-use Rattle.command_line.specs.declared.request.Task.{Task}
-use Rattle.command_line.specs.declared.request.Task.TheVariants.{Trace, States, Waves}
+use Rattle.command_line.specs.declared.request.Shape.{Shape}
+use Rattle.command_line.specs.declared.request.Shape.TheVariants.{Steps, States, Waves}
 
 -- the format that a word names: the fixed lines where it is neither `csv` nor `jsonl`
 abbrev pub format_in : List ℕ → Format
@@ -14,9 +13,9 @@ format_in word =
     else if is_same_text word (codes "jsonl") then Jsonl
     else Lines
 
--- the run by these picks that a word for its format asks for, with its states or without: `vcd` is a dump of waves in any case
-abbrev pub run_in : Picking → List ℕ → Bool → Task
-run_in picking word states =
-    if is_same_text word (codes "vcd") then Waves picking
-    else if states then States picking (format_in word)
-    else Trace picking (format_in word)
+-- what is printed of a run, by the word for its format, with its states or without: `vcd` is a dump of waves in any case
+abbrev pub shape_in : List ℕ → Bool → Shape
+shape_in word states =
+    if is_same_text word (codes "vcd") then Waves
+    else if states then States (format_in word)
+    else Steps (format_in word)

@@ -1,7 +1,7 @@
 //! The arguments and the options of the commands.
 use crate::names::{
-    AFTER, EXPLAIN, FORMATS, IMAGE, LINES, ONLY, OUTLINE, PICK, PLANT, RANDOM, RING, RUN_FORMAT,
-    SCRIPT, SEED, STATES, USUAL_RING, WARN,
+    AFTER, EXPLAIN, FORMATS, IMAGE, LINES, ONLY, OUTLINE, PICK, PICKS, PLANT, RANDOM, RING,
+    RUN_FORMAT, SAVE_PICKS, SCRIPT, SEED, STATES, STRICT, USUAL_RING, WARN,
 };
 use clap::builder::ValueParser;
 use clap::{Arg, ArgAction};
@@ -77,6 +77,29 @@ pub(crate) fn pick_argument<'a>(alloc: Global) -> Arg<'a> {
         .num_args(0..)
         .allow_negative_numbers(true)
         .help("Which of the state's choices is fired, from 0")
+}
+
+/// The option that names the text with the picks.
+pub(crate) fn picks_argument<'a>(alloc: Global) -> Arg<'a> {
+    Arg::new(alloc, PICKS).long(PICKS).value_name("FILE").help(
+        "Takes the picks from a file, one on a line, or from the standard input, where FILE is -",
+    )
+}
+
+/// The option that has a pick refused whose number is past the list of choices.
+pub(crate) fn strict_argument<'a>(alloc: Global) -> Arg<'a> {
+    Arg::new(alloc, STRICT)
+        .long(STRICT)
+        .action(ArgAction::SetTrue)
+        .help("Refuses a pick whose number is past the list of choices")
+}
+
+/// The option that names the file in which is saved what is fired.
+pub(crate) fn save_picks_argument<'a>(alloc: Global) -> Arg<'a> {
+    Arg::new(alloc, SAVE_PICKS)
+        .long(SAVE_PICKS)
+        .value_name("FILE")
+        .help("Saves what is fired in a file that '--picks' can read")
 }
 
 /// The option that has the states of a run printed.

@@ -1,18 +1,16 @@
 //! What the words of a command ask for.
-ghost use Rattle.std.specs.Prelude.{◌≡◌, IfOk, Ok, Some, codes, if◌then◌else◌, map, unwrap_or};
-ghost use Rattle.command_line.specs.Asked.{IsAsked, IsDrawing, IsPicked, IsScript, IsWork};
+ghost use Rattle.std.specs.Prelude.{◌≡◌, IfOk, Some, codes, if◌then◌else◌, unwrap_or};
+ghost use Rattle.command_line.specs.Asked.{has_picks, IsAsked, IsDrawing, IsPicked, IsPickedBehind, IsTrace, IsWork};
 ghost use Rattle.command_line.specs.Rings.{ring_in};
-ghost use Rattle.command_line.specs.Picks.{picks_in};
 ghost use Rattle.command_line.specs.Said.{word_of};
 ghost use Rattle.command_line.specs.declared.request.Task.TheVariants.{Check, Warn};
 
-use crate::input::are_one_input;
+use crate::apart::{ApartFault, stand_apart};
 use crate::names::{CommandName, LINES, USUAL_RING};
 use crate::picking::{PickingFault, picking_named};
-use crate::picks::{PickFault, read_picks};
-use crate::request::{Drawing, ImageTask, Picking, Request, Task, Work};
+use crate::request::{Drawing, ImageTask, Picking, Request, Task, Trace, Work};
 use crate::ring::{RingLength, ring_named};
-use crate::runs::run_named;
+use crate::runs::shape_named;
 use crate::said::Said;
 use std::alloc::{AllocError, AllocFailed, Global};
 
@@ -23,14 +21,14 @@ pub(crate) enum AskingFault<'a> {
     NoPath,
     /// The words do not say how the choices of a run are picked.
     Picking(PickingFault<'a>),
-    /// The first of the words for the picks of a drawing that is no pick.
-    NoPickBehind(&'a str),
+    /// The picks of a drawing are to be strict, and there are none.
+    StrictAlone,
     /// An outline is asked for, and picks or atoms are given.
     OutlineOfPart,
     /// The word is no length of a ring.
     NoRing(&'a str),
-    /// The plant and the script are both to be read from the standard input.
-    OneInput,
+    /// The files of the request do not stand apart.
+    Apart(ApartFault),
     /// Memory ran out.
     Memory,
 }
@@ -42,6 +40,16 @@ impl<'a> From<PickingFault<'a>> for AskingFault<'a> {
 
     fn from(fault: PickingFault<'a>) -> Self {
         AskingFault::Picking(fault)
+    }
+}
+
+impl<'a> From<ApartFault> for AskingFault<'a> {
+    ghost use Rattle.command_line.specs.declared.asked.AskingFault.TheVariants.{Apart};
+
+    ghost from_gives = { λ fault told. told ≡ Apart fault };
+
+    fn from(fault: ApartFault) -> Self {
+        AskingFault::Apart(fault)
     }
 }
 
@@ -74,6 +82,7 @@ pub(crate) fn request_asked<'a>(
 {
     let plant = path_in(said.plant)?;
     let work = work_asked(alloc, said)?;
+    stand_apart(plant, work.input(), work.saved())?;
     Ok(Request {
         work,
         plant,
@@ -96,9 +105,10 @@ fn work_asked<'a>(alloc: Global, said: &Said<'_, 'a>) -> Result<Work<'a>, Asking
             Ok(Work::OfPlant(Task::Why(picking)))
         }
         CommandName::Trace => {
-            let picking = picking_asked(alloc, said)?;
-            Ok(Work::OfPlant(run_named(picking, said.format.unwrap_or(LINES), said.states)))
+            let trace = trace_asked(alloc, said)?;
+            Ok(Work::OfPlant(Task::Trace(trace)))
         }
+        CommandName::Step => Ok(Work::ByHand),
         CommandName::Draw => {
             let drawing = drawing_asked(alloc, said)?;
             Ok(Work::OfPlant(Task::Draw(drawing)))
@@ -108,7 +118,7 @@ fn work_asked<'a>(alloc: Global, said: &Said<'_, 'a>) -> Result<Work<'a>, Asking
             Ok(Work::OnImage(path_in(said.image)?, ImageTask::Format(ring)))
         }
         CommandName::Run => {
-            let script = script_asked(said)?;
+            let script = path_in(said.script)?;
             Ok(Work::OnImage(path_in(said.image)?, ImageTask::Run(script)))
         }
         CommandName::Recover => Ok(Work::OnImage(path_in(said.image)?, ImageTask::Recover)),
@@ -133,47 +143,62 @@ fn check_asked<'a>(warn: bool) -> Task<'a>
 }
 
 /// How the choices of a run are picked.
-fn picking_asked<'a>(alloc: Global, said: &Said<'_, 'a>) -> Result<Picking, AskingFault<'a>>
+fn picking_asked<'a>(alloc: Global, said: &Said<'_, 'a>) -> Result<Picking<'a>, AskingFault<'a>>
     ensures { IfOk result (λ picking. IsPicked picking said.now) }
 {
-    let words = said.picks.unwrap_or(&[]);
-    let picking = picking_named(alloc, words, said.random, said.seed)?;
+    let given = said.picks.unwrap_or(&[]);
+    let picking = picking_named(alloc, given, said)?;
     Ok(picking)
+}
+
+/// A run that is printed.
+fn trace_asked<'a>(alloc: Global, said: &Said<'_, 'a>) -> Result<Trace<'a>, AskingFault<'a>>
+    ensures { IfOk result (λ trace. IsTrace trace said.now) }
+{
+    let picking = picking_asked(alloc, said)?;
+    Ok(Trace {
+        picking,
+        shape: shape_named(said.format.unwrap_or(LINES), said.states),
+        saved: said.saved,
+    })
 }
 
 /// What is drawn of a plant.
 fn drawing_asked<'a>(alloc: Global, said: &Said<'_, 'a>) -> Result<Drawing<'a>, AskingFault<'a>>
     ensures { IfOk result (λ drawing. IsDrawing drawing said.now) }
 {
-    match (said.outline, said.only, said.after) {
+    let picking = picking_behind(alloc, said)?;
+    match (said.outline, said.only, picking) {
         (true, None, None) => Ok(Drawing::Outline),
         (true, _, _) => Err(AskingFault::OutlineOfPart),
         (false, None, None) => Ok(Drawing::Whole),
-        (false, None, Some(words)) => {
-            let picks = picks_behind(alloc, words)?;
-            Ok(Drawing::After(picks))
-        }
-        (false, Some(names), None) => {
-            let names = names_of(alloc, names)?;
-            Ok(Drawing::Only(names, None))
-        }
-        (false, Some(names), Some(words)) => {
-            let picks = picks_behind(alloc, words)?;
-            let names = names_of(alloc, names)?;
-            Ok(Drawing::Only(names, Some(picks)))
-        }
+        (false, None, Some(picking)) => Ok(Drawing::After(picking)),
+        (false, Some(names), picking) => Ok(Drawing::Only(names_of(alloc, names)?, picking)),
     }
 }
 
-/// The picks behind which a plant is drawn.
-fn picks_behind<'a>(alloc: Global, words: &[&'a str]) -> Result<Vec<u64>, AskingFault<'a>>
-    ensures { IfOk result (λ picks. picks_in (map (λ word. word.now) words.now) ≡ Ok picks.items) }
+/// The picks behind which a plant is drawn, if there are some.
+fn picking_behind<'a>(
+    alloc: Global,
+    said: &Said<'_, 'a>,
+) -> Result<Option<Picking<'a>>, AskingFault<'a>>
+    ensures { IfOk result (λ picking. IsPickedBehind picking said.now) }
 {
-    match read_picks(alloc, words) {
-        Ok(picks) => Ok(picks),
-        Err(PickFault::NoPick(word)) => Err(AskingFault::NoPickBehind(word)),
-        Err(PickFault::Memory) => Err(AskingFault::Memory),
+    if has_picks(said) {
+        let given = said.after.unwrap_or(&[]);
+        Ok(Some(picking_named(alloc, given, said)?))
+    } else if said.strict {
+        Err(AskingFault::StrictAlone)
+    } else {
+        Ok(None)
     }
+}
+
+/// Whether a plant is to be drawn behind picks.
+fn has_picks(said: &Said<'_, '_>) -> bool
+    ensures { result ≡ has_picks said.now }
+{
+    said.after.is_some() || said.recorded.is_some()
 }
 
 /// The names, as a list of their own.
@@ -194,16 +219,4 @@ fn ring_asked<'a>(word: Option<&'a str>) -> Result<RingLength, AskingFault<'a>>
         Some(ring) => Ok(ring),
         None => Err(AskingFault::NoRing(word)),
     }
-}
-
-/// Where the script is. The plant and the script cannot both be read from the standard input.
-fn script_asked<'a>(said: &Said<'_, 'a>) -> Result<&'a str, AskingFault<'a>>
-    ensures { IfOk result (λ script. IsScript script.now said.now) }
-{
-    let script = path_in(said.script)?;
-    let plant = path_in(said.plant)?;
-    if are_one_input(plant, script) {
-        return Err(AskingFault::OneInput);
-    }
-    Ok(script)
 }

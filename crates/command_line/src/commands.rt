@@ -1,16 +1,18 @@
 //! The commands of the program, with their arguments and options.
 use crate::arguments::{
     after_argument, explain_argument, image_argument, only_argument, outline_argument,
-    pick_argument, plant_argument, random_argument, ring_argument, run_format_argument,
-    script_argument, seed_argument, states_argument, warn_argument,
+    pick_argument, picks_argument, plant_argument, random_argument, ring_argument,
+    run_format_argument, save_picks_argument, script_argument, seed_argument, states_argument,
+    strict_argument, warn_argument,
 };
 use crate::help::{
     ABOUT, AFTER, BRIEF, CHECK_ABOUT, CHECK_AFTER, CHECK_BRIEF, CHOICES_ABOUT, CHOICES_AFTER,
     CHOICES_BRIEF, DRAW_ABOUT, DRAW_AFTER, DRAW_BRIEF, FORMAT_ABOUT, FORMAT_AFTER, FORMAT_BRIEF,
-    RECOVER_ABOUT, RECOVER_AFTER, RECOVER_BRIEF, RUN_ABOUT, RUN_AFTER, RUN_BRIEF, TRACE_ABOUT,
-    TRACE_AFTER, TRACE_BRIEF, VERSION, WHY_ABOUT, WHY_AFTER, WHY_BRIEF,
+    RECOVER_ABOUT, RECOVER_AFTER, RECOVER_BRIEF, RUN_ABOUT, RUN_AFTER, RUN_BRIEF, STEP_ABOUT,
+    STEP_AFTER, STEP_BRIEF, TRACE_ABOUT, TRACE_AFTER, TRACE_BRIEF, VERSION, WHY_ABOUT, WHY_AFTER,
+    WHY_BRIEF,
 };
-use crate::names::{CHECK, CHOICES, CommandName, DRAW, FORMAT, RECOVER, RUN, TRACE, WHY};
+use crate::names::{CHECK, CHOICES, CommandName, DRAW, FORMAT, RECOVER, RUN, STEP, TRACE, WHY};
 use clap::{Arg, Command};
 use std::alloc::{AllocError, Global};
 
@@ -27,6 +29,7 @@ pub(crate) fn program<'a>(alloc: Global) -> Result<Command<'a>, AllocError> {
     let program = with_command(program, choices_command(alloc));
     let program = with_command(program, why_command(alloc));
     let program = with_command(program, trace_command(alloc));
+    let program = with_command(program, step_command(alloc));
     let program = with_command(program, draw_command(alloc));
     let program = with_command(program, format_command(alloc));
     let program = with_command(program, run_command(alloc));
@@ -43,6 +46,7 @@ pub(crate) fn command_alone<'a>(
         CommandName::Choices => choices_command(alloc)?.bin_name("bip_run choices"),
         CommandName::Why => why_command(alloc)?.bin_name("bip_run why"),
         CommandName::Trace => trace_command(alloc)?.bin_name("bip_run trace"),
+        CommandName::Step => step_command(alloc)?.bin_name("bip_run step"),
         CommandName::Draw => draw_command(alloc)?.bin_name("bip_run draw"),
         CommandName::Format => format_command(alloc)?.bin_name("bip_run format"),
         CommandName::Run => run_command(alloc)?.bin_name("bip_run run"),
@@ -94,7 +98,9 @@ fn check_command<'a>(alloc: Global) -> Result<Command<'a>, AllocError> {
 /// The command that lists what can be fired next.
 fn choices_command<'a>(alloc: Global) -> Result<Command<'a>, AllocError> {
     let command = described(alloc, CHOICES, CHOICES_BRIEF, CHOICES_ABOUT, CHOICES_AFTER);
-    let command = with_argument(Ok(command), random_argument(alloc));
+    let command = with_argument(Ok(command), picks_argument(alloc));
+    let command = with_argument(command, strict_argument(alloc));
+    let command = with_argument(command, random_argument(alloc));
     let command = with_argument(command, seed_argument(alloc));
     let command = with_argument(command, explain_argument(alloc));
     let command = with_argument(command, plant_argument(alloc));
@@ -104,7 +110,9 @@ fn choices_command<'a>(alloc: Global) -> Result<Command<'a>, AllocError> {
 /// The command that tells why a connector can't be fired next.
 fn why_command<'a>(alloc: Global) -> Result<Command<'a>, AllocError> {
     let command = described(alloc, WHY, WHY_BRIEF, WHY_ABOUT, WHY_AFTER);
-    let command = with_argument(Ok(command), random_argument(alloc));
+    let command = with_argument(Ok(command), picks_argument(alloc));
+    let command = with_argument(command, strict_argument(alloc));
+    let command = with_argument(command, random_argument(alloc));
     let command = with_argument(command, seed_argument(alloc));
     let command = with_argument(command, explain_argument(alloc));
     let command = with_argument(command, plant_argument(alloc));
@@ -116,11 +124,21 @@ fn trace_command<'a>(alloc: Global) -> Result<Command<'a>, AllocError> {
     let command = described(alloc, TRACE, TRACE_BRIEF, TRACE_ABOUT, TRACE_AFTER);
     let command = with_argument(Ok(command), run_format_argument(alloc));
     let command = with_argument(command, states_argument(alloc));
+    let command = with_argument(command, picks_argument(alloc));
+    let command = with_argument(command, strict_argument(alloc));
+    let command = with_argument(command, save_picks_argument(alloc));
     let command = with_argument(command, random_argument(alloc));
     let command = with_argument(command, seed_argument(alloc));
     let command = with_argument(command, explain_argument(alloc));
     let command = with_argument(command, plant_argument(alloc));
     with_argument(command, pick_argument(alloc))
+}
+
+/// The command that runs a plant by hand.
+fn step_command<'a>(alloc: Global) -> Result<Command<'a>, AllocError> {
+    let command = described(alloc, STEP, STEP_BRIEF, STEP_ABOUT, STEP_AFTER);
+    let command = with_argument(Ok(command), explain_argument(alloc));
+    with_argument(command, plant_argument(alloc))
 }
 
 /// The command that draws a plant.
@@ -129,6 +147,8 @@ fn draw_command<'a>(alloc: Global) -> Result<Command<'a>, AllocError> {
     let command = with_argument(Ok(command), outline_argument(alloc));
     let command = with_argument(command, only_argument(alloc));
     let command = with_argument(command, after_argument(alloc));
+    let command = with_argument(command, picks_argument(alloc));
+    let command = with_argument(command, strict_argument(alloc));
     let command = with_argument(command, explain_argument(alloc));
     with_argument(command, plant_argument(alloc))
 }

@@ -20,8 +20,9 @@ begin with.";
 
 pub(crate) const AFTER: &str = "Exit status:
   0  what was asked for is done
-  1  the plant, the script or the image is refused; the standard error has
-     'plant line L: fault K NAME', 'script line L' or 'image: refusal K NAME'
+  1  the plant, a pick, the script or the image is refused; the standard error has
+     'plant line L: fault K NAME', 'error: FILE:LINE: WHY', 'script line L' or
+     'image: refusal K NAME'
   2  the words of the command line were not understood
   3  a file ('file PATH'), the device below an image ('image: refusal 8 Disk'), the
      memory ('memory', 'plant line 0: fault 15 Memory' or 'image: refusal 9 Memory')
@@ -62,17 +63,21 @@ pub(crate) const CHOICES_ABOUT: &str =
 Fires the picks as 'trace' does, and prints a line for each choice that the plant then
 has: the number by which a pick takes it, its connector, and each participant as
 ATOM.PORT/TRANSITION. After the first 1000 choices the line 'more N' says how many others
-there are. If nothing is possible, the line is 'stuck'.";
+there are. If nothing is possible, the line is 'stuck'. 'trace' tells of --picks and
+--strict.";
 
 pub(crate) const CHOICES_AFTER: &str = "Example:
   bip_run choices examples/sample.plant 0
 prints what can be fired after the pick 0
   0 tick A.t/0
   1 send A.t/0 B.u/0
+  bip_run choices examples/sample.plant --picks run.txt
+lists what can be fired after the picks of a file.
 
 Exit status:
   0  the choices are listed, also where there is none
-  1  the text is no plant; the standard error has 'plant line L: fault K NAME'
+  1  the text is no plant ('plant line L: fault K NAME' on the standard error), or a pick
+     is refused ('error: FILE:LINE: WHY')
   2  the words of the command line were not understood
   3  a file ('file PATH'), the memory ('memory', or 'plant line 0: fault 15 Memory')
      or the standard output failed";
@@ -84,14 +89,18 @@ pub(crate) const WHY_ABOUT: &str =
 
 Fires the picks as 'trace' does. Then it prints, for each connector that has no choice, a
 line for each reason: a port that offers nothing, a guard that is 0, or a connector that
-has priority. Nothing is printed if each connector can be fired.";
+has priority. Nothing is printed if each connector can be fired. 'trace' tells of --picks
+and --strict.";
 
 pub(crate) const WHY_AFTER: &str = "Example:
   bip_run why examples/light.plant
+  bip_run why examples/light.plant --picks run.txt
+tells it after the picks of a file.
 
 Exit status:
   0  the reasons are printed, also where there is none to tell
-  1  the text is no plant; the standard error has 'plant line L: fault K NAME'
+  1  the text is no plant ('plant line L: fault K NAME' on the standard error), or a pick
+     is refused ('error: FILE:LINE: WHY')
   2  the words of the command line were not understood
   3  a file ('file PATH'), the memory ('memory', or 'plant line 0: fault 15 Memory')
      or the standard output failed";
@@ -106,6 +115,12 @@ choices at the pick modulo their number. Where nothing is possible the line 'stu
 printed, and the picks that follow are passed over. With --random N the picks are N random
 ones; the same seed gives the same run. At the end there is a line for each
 atom: its marked places, and its variables with their values.
+
+With --picks the picks are the lines of a file: a number, or an interaction, as
+'tick A.t/0'. An interaction is still the same one where an edit of the plant has given the
+choices other numbers; where it can't be fired, it is refused, and the run ends there. A
+line that begins with # and a line without words are passed over. --save-picks writes such
+a file of what is fired. With --strict a number past the list of choices is refused.
 
 With --format csv the run is a table, with a row for each of these and a first row that
 names the columns; with --format jsonl it is a JSON object on each line. Both tell the
@@ -127,9 +142,49 @@ and with --format csv
   step,2,send,A.t/0 B.u/0,B.m=1
   state,,A,s,n=2
   state,,B,s,m=1
+  bip_run trace examples/sample.plant --random 100 --save-picks run.txt
+  bip_run trace examples/sample.plant --picks run.txt
+prints a random run, and the same run again from what was saved.
 
 Exit status:
   0  the run is printed, also one that is stuck
+  1  the text is no plant ('plant line L: fault K NAME' on the standard error), or a pick
+     is refused ('error: FILE:LINE: WHY')
+  2  the words of the command line were not understood
+  3  a file ('file PATH'), the memory ('memory', or 'plant line 0: fault 15 Memory')
+     or the standard output failed";
+
+pub(crate) const STEP_BRIEF: &str = "Runs a plant by hand, from its first state";
+
+pub(crate) const STEP_ABOUT: &str = "Runs a plant by hand, from its first state.
+
+Prints the line of each atom's state, and the choices as 'choices' lists them. Then it reads
+commands from the standard input, one on each line, and answers each. PLANT is a file.
+
+  N          fires choice N
+  back       takes the last firing back
+  random N   fires N random choices
+  why NAME   tells why the connector can't be fired; why alone, of each connector
+  state      shows the state and the choices again, as an empty line does
+  save FILE  saves what was fired, to be repeated by trace PLANT --picks FILE
+  help       lists the commands
+  quit       ends, as the end of the input does";
+
+pub(crate) const STEP_AFTER: &str = "Example:
+  printf '0\\nquit\\n' | bip_run step examples/sample.plant
+prints
+  state A [s] n=0
+  state B [s] m=0
+  0 tick A.t/0
+  1 send A.t/0 B.u/0
+  1 tick A.t/0
+  state A [s] n=1
+  state B [s] m=0
+  0 tick A.t/0
+  1 send A.t/0 B.u/0
+
+Exit status:
+  0  the commands are answered, also those that could not be followed
   1  the text is no plant; the standard error has 'plant line L: fault K NAME'
   2  the words of the command line were not understood
   3  a file ('file PATH'), the memory ('memory', or 'plant line 0: fault 15 Memory')
@@ -145,19 +200,23 @@ box with its tree, its guards and its transfers, joined to its ports: by an arro
 trigger, and by a line that ends in a dot to any other. A priority is a dashed arrow from
 the lower connector to the higher.
 
-With --after the state after some picks is drawn, and each connector that can then be
-fired is green. With --only some atoms are drawn, and the connectors that join them. With
---outline there is one node for each atom and for each connector, for large plants.";
+With --after or --picks the state after some picks is drawn, and each connector that can
+then be fired is green; 'trace' tells of --picks and --strict. With --only some atoms are
+drawn, and the connectors that join them. With --outline there is one node for each atom
+and for each connector, for large plants.";
 
 pub(crate) const DRAW_AFTER: &str = "Example:
   bip_run draw examples/sample.plant | dot -Tsvg -o sample.svg
 makes a picture of the plant. The program dot is part of Graphviz.
   bip_run draw examples/sample.plant --only A,B --after 0 1
 draws both atoms in the state after two picks.
+  bip_run draw examples/sample.plant --picks run.txt
+draws the state after the picks of a file.
 
 Exit status:
   0  the graph is printed
-  1  the text is no plant; the standard error has 'plant line L: fault K NAME'
+  1  the text is no plant ('plant line L: fault K NAME' on the standard error), or a pick
+     is refused ('error: FILE:LINE: WHY')
   2  the words of the command line were not understood
   3  a file ('file PATH'), the memory ('memory', or 'plant line 0: fault 15 Memory')
      or the standard output failed";
@@ -216,7 +275,7 @@ An image holds as many records as its ring is long. Where it is full ('refused 4
 'flush', save the atoms that took part in its oldest records ('ask', 'put'), and 'trim'.";
 
 pub(crate) const RUN_AFTER: &str = "Example:
-  printf 'fire 0\nfire 1\nflush\n' | bip_run run examples/sample.plant sample.image -
+  printf 'fire 0\\nfire 1\\nflush\\n' | bip_run run examples/sample.plant sample.image -
 prints, on an image that was formatted just before
   1 tick A.t/0
   2 send A.t/0 B.u/0

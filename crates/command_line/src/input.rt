@@ -2,6 +2,9 @@
 ghost use Rattle.std.specs.Prelude.{◌≡◌};
 ghost use Rattle.command_line.specs.Inputs.{are_one_input, is_standard_input};
 
+/// The path that stands for the standard input.
+pub(crate) const STANDARD_INPUT: &str = "-";
+
 /// Whether the path stands for the standard input.
 pub fn is_standard_input(path: &str) -> bool
     ensures { result ≡ is_standard_input path.now }

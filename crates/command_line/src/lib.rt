@@ -7,7 +7,7 @@
 //!   commands, as `clap` takes them. `help`: what is told of them.
 //! - `said`: what `clap` found of a command, part by part. `asked`: what that asks for.
 //! - `picking`: how the choices of a run are picked. `picks`: the words of a run's picks. `runs`: the words for how a run is printed.
-//!   `ring`: the word for an image's room. `input`: the word for the standard input.
+//!   `ring`: the word for an image's room. `input`: the word for the standard input. `apart`: which files may not be one another.
 //! - `answer`: what `clap` says in place of a request, and how the program then ends. `request`: what is asked for.
 //!
 //! `request_of` has the contract that its request is what the words of the command ask for that `clap` found; which words these are is
@@ -15,6 +15,7 @@
 #![tactic(auto)]
 
 mod answer;
+mod apart;
 mod arguments;
 mod asked;
 mod commands;
@@ -31,6 +32,6 @@ mod words;
 
 pub use answer::Answered;
 pub use input::is_standard_input;
-pub use request::{Drawing, ImageTask, Picking, Request, Task, Work};
+pub use request::{Drawing, ImageTask, Numbers, Picking, Request, Shape, Task, Trace, Work};
 pub use ring::RingLength;
 pub use words::read_request;

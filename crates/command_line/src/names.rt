@@ -10,6 +10,8 @@ pub(crate) const WHY: &str = "why";
 
 pub(crate) const TRACE: &str = "trace";
 
+pub(crate) const STEP: &str = "step";
+
 pub(crate) const DRAW: &str = "draw";
 
 pub(crate) const FORMAT: &str = "format";
@@ -37,6 +39,12 @@ pub(crate) const STATES: &str = "states";
 pub(crate) const RANDOM: &str = "random";
 
 pub(crate) const SEED: &str = "seed";
+
+pub(crate) const PICKS: &str = "picks";
+
+pub(crate) const STRICT: &str = "strict";
+
+pub(crate) const SAVE_PICKS: &str = "save-picks";
 
 pub(crate) const OUTLINE: &str = "outline";
 
@@ -66,6 +74,8 @@ pub(crate) enum CommandName {
     Why,
     /// Runs a plant from its first state.
     Trace,
+    /// Runs a plant by hand.
+    Step,
     /// Draws a plant.
     Draw,
     /// Makes an image.
@@ -89,6 +99,8 @@ pub(crate) fn command_named(word: &str) -> Option<CommandName>
         Some(CommandName::Why)
     } else if word == TRACE.as_bytes() {
         Some(CommandName::Trace)
+    } else if word == STEP.as_bytes() {
+        Some(CommandName::Step)
     } else if word == DRAW.as_bytes() {
         Some(CommandName::Draw)
     } else if word == FORMAT.as_bytes() {

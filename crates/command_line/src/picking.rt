@@ -1,10 +1,10 @@
 //! How the choices of a run are picked, as words of the command line.
-ghost use Rattle.std.specs.Prelude.{◌≡◌, map, IfOk, IfErr};
-ghost use Rattle.std.specs.Option.{option_map};
-ghost use Rattle.command_line.specs.Pickings.{IsSaid, IsWrong};
+ghost use Rattle.std.specs.Prelude.{◌≡◌, map, IfOk, IfErr, None};
+ghost use Rattle.command_line.specs.Pickings.{IsSaid, IsWrong, numbers_in};
 
 use crate::picks::{PickFault, read_picks};
-use crate::request::Picking;
+use crate::request::{Numbers, Picking};
+use crate::said::Said;
 use plant_words::read_decimal;
 use std::alloc::Global;
 
@@ -21,7 +21,13 @@ pub(crate) enum PickingFault<'a> {
     /// The word for a seed is no number.
     NoSeed(&'a str),
     /// There are picks and random ones.
-    Both,
+    GivenAndRandom,
+    /// There are picks and those of a text.
+    GivenAndRecorded,
+    /// There are picks of a text and random ones.
+    RecordedAndRandom,
+    /// Random picks are to be strict.
+    StrictRandom,
     /// There is a seed, and no random picks.
     SeedAlone,
     /// Memory ran out.
@@ -41,31 +47,68 @@ impl<'a> From<PickFault<'a>> for PickingFault<'a> {
     }
 }
 
-/// How choices are picked: by the picks that the words write, or by so many random ones, if a word says how many. Each
-/// number is digits alone, within a `u64`. Without a word for the seed it is [`USUAL_SEED`].
+/// How choices are picked: by the picks that the words in `given` write, by those of a text, if a word names one, or by so many random
+/// ones, if a word says how many. Each number is digits alone, within a `u64`. Without a word for the seed it is [`USUAL_SEED`].
 pub(crate) fn picking_named<'a>(
     alloc: Global,
-    words: &[&'a str],
-    count: Option<&'a str>,
-    seed: Option<&'a str>,
-) -> Result<Picking, PickingFault<'a>>
-    ensures said { IfOk result (λ picking. IsSaid picking (map (λ word. word.now) words.now) (option_map (λ word. word.now) count.entry) (option_map (λ word. word.now) seed.entry)) }
-    ensures wrong { IfErr result (λ fault. IsWrong fault (map (λ word. word.now) words.now) (option_map (λ word. word.now) count.entry) (option_map (λ word. word.now) seed.entry)) }
+    given: &[&'a str],
+    said: &Said<'_, 'a>,
+) -> Result<Picking<'a>, PickingFault<'a>>
+    ensures picking { IfOk result (λ picking. IsSaid picking (map (λ word. word.now) given.now) said.now) }
+    ensures wrong { IfErr result (λ fault. IsWrong fault (map (λ word. word.now) given.now) said.now) }
 {
-    let count = match (count, seed) {
-        (Some(count), _) => count,
-        (None, None) => return Ok(Picking::Given(read_picks(alloc, words)?)),
-        (None, Some(_)) => return Err(PickingFault::SeedAlone),
+    let Some(count) = said.random else {
+        return listed_named(alloc, given, said);
     };
-    if !words.is_empty() {
-        return Err(PickingFault::Both);
+    if !given.is_empty() {
+        return Err(PickingFault::GivenAndRandom);
+    }
+    if said.recorded.is_some() {
+        return Err(PickingFault::RecordedAndRandom);
+    }
+    if said.strict {
+        return Err(PickingFault::StrictRandom);
     }
     let picks = read_decimal(count.as_bytes()).ok_or(PickingFault::NoCount(count))?;
-    match seed {
+    match said.seed {
         Some(word) => match read_decimal(word.as_bytes()) {
             Some(seed) => Ok(Picking::Random(picks, seed)),
             None => Err(PickingFault::NoSeed(word)),
         },
         None => Ok(Picking::Random(picks, USUAL_SEED)),
+    }
+}
+
+/// How choices are picked where they are not random: by the picks that the words in `given` write, or by those of a text.
+fn listed_named<'a>(
+    alloc: Global,
+    given: &[&'a str],
+    said: &Said<'_, 'a>,
+) -> Result<Picking<'a>, PickingFault<'a>>
+    requires { said.now.random ≡ None }
+    ensures picking { IfOk result (λ picking. IsSaid picking (map (λ word. word.now) given.now) said.now) }
+    ensures wrong { IfErr result (λ fault. IsWrong fault (map (λ word. word.now) given.now) said.now) }
+{
+    if said.seed.is_some() {
+        return Err(PickingFault::SeedAlone);
+    }
+    let Some(path) = said.recorded else {
+        return Ok(Picking::Given(read_picks(alloc, given)?, numbers_in(said.strict)));
+    };
+    if given.is_empty() {
+        Ok(Picking::Recorded(path, numbers_in(said.strict)))
+    } else {
+        Err(PickingFault::GivenAndRecorded)
+    }
+}
+
+/// What becomes of a pick whose number is past the list of choices, where numbers are to be strict and where not.
+fn numbers_in(strict: bool) -> Numbers
+    ensures { result ≡ numbers_in strict }
+{
+    if strict {
+        Numbers::Strict
+    } else {
+        Numbers::Modulo
     }
 }

@@ -1,52 +1,142 @@
 //! What the command line asks for.
+use crate::input::STANDARD_INPUT;
 use crate::ring::RingLength;
 use text_io::Format;
 
+/// What becomes of a pick whose number is past the list of choices.
+#[derive(Clone, Copy)]
+pub enum Numbers {
+    /// It takes the choice at its number modulo the length of the list.
+    Modulo,
+    /// It is refused.
+    Strict,
+}
+
 /// How the choices of a run are picked.
-#[derive(Debug, Drop, PartialEq, Eq)]
-pub enum Picking {
-    /// One by one.
-    Given(Vec<u64>),
+#[derive(Drop)]
+pub enum Picking<'a> {
+    /// By numbers that are given one by one.
+    Given(Vec<u64>, Numbers),
+    /// By the lines of a text at this path: a file, or `-` for the standard input.
+    Recorded(&'a str, Numbers),
     /// So many at random, by a seed.
     Random(u64, u64),
 }
 
+impl<'a> Picking<'a> {
+    ghost use Rattle.std.specs.Prelude.{◌≡◌};
+    ghost use Rattle.command_line.specs.Files.{recorded_in};
+    ghost use Rattle.command_line.specs.Said.{word_of};
+
+    /// Where the text of the picks is, if a text has them.
+    fn recorded(&self) -> Option<&'a str>
+        ensures { word_of result ≡ recorded_in self.now }
+    {
+        match self {
+            Picking::Recorded(path, _) => Some(*path),
+            Picking::Given(_, _) | Picking::Random(_, _) => None,
+        }
+    }
+}
+
+/// What is printed of a run.
+#[derive(Clone, Copy)]
+pub enum Shape {
+    /// Each interaction that is fired, and the state at the end, in this format.
+    Steps(Format),
+    /// The state at the start, and each interaction that is fired with the state after it, in this format.
+    States(Format),
+    /// What changes, as a dump for a viewer of waves.
+    Waves,
+}
+
+/// A run of a plant from its first state that is printed.
+#[derive(Drop)]
+pub struct Trace<'a> {
+    /// How its choices are picked.
+    pub picking: Picking<'a>,
+    /// What is printed of it.
+    pub shape: Shape,
+    /// The file in which is saved what is fired, if it is.
+    pub saved: Option<&'a str>,
+}
+
 /// What is drawn of a plant.
-#[derive(Debug, Drop, PartialEq, Eq)]
+#[derive(Drop)]
 pub enum Drawing<'a> {
     /// All of it, in its first state.
     Whole,
     /// Its atoms and connectors alone, without what stands in an atom.
     Outline,
     /// The state after these picks, with the connectors in colour that can then be fired.
-    After(Vec<u64>),
+    After(Picking<'a>),
     /// These atoms alone, by their names, and the connectors that join them; in the first state, or after these picks.
-    Only(Vec<&'a str>, Option<Vec<u64>>),
+    Only(Vec<&'a str>, Option<Picking<'a>>),
+}
+
+impl<'a> Drawing<'a> {
+    ghost use Rattle.std.specs.Prelude.{◌≡◌};
+    ghost use Rattle.command_line.specs.Files.{recorded_behind};
+    ghost use Rattle.command_line.specs.Said.{word_of};
+
+    /// Where the text of the picks is behind which the plant is drawn, if a text has them.
+    fn recorded(&self) -> Option<&'a str>
+        ensures { word_of result ≡ recorded_behind self.now }
+    {
+        match self {
+            Drawing::After(picking) | Drawing::Only(_, Some(picking)) => picking.recorded(),
+            Drawing::Whole | Drawing::Outline | Drawing::Only(_, None) => None,
+        }
+    }
 }
 
 /// What is to be done with a plant.
-#[derive(Debug, Drop, PartialEq, Eq)]
+#[derive(Drop)]
 pub enum Task<'a> {
     /// Its parts are counted.
     Check,
     /// Its parts are counted, and what is probably a mistake is told.
     Warn,
-    /// It is run from its first state, by these picks, and the run is printed in this format.
-    Trace(Picking, Format),
-    /// The same, and the state is printed at the start and after each firing.
-    States(Picking, Format),
-    /// It is run from its first state, by these picks, and what changes is dumped for a viewer of waves.
-    Waves(Picking),
+    /// It is run from its first state, and the run is printed.
+    Trace(Trace<'a>),
     /// It is run from its first state by these picks, and what can be fired next is listed.
-    Choices(Picking),
+    Choices(Picking<'a>),
     /// The same, and of each connector that can't be fired next it is told why.
-    Why(Picking),
+    Why(Picking<'a>),
     /// It is drawn as a graph.
     Draw(Drawing<'a>),
 }
 
+impl<'a> Task<'a> {
+    ghost use Rattle.std.specs.Prelude.{◌≡◌};
+    ghost use Rattle.command_line.specs.Files.{recorded_by, saved_by};
+    ghost use Rattle.command_line.specs.Said.{word_of};
+
+    /// Where the text of the picks is by which the plant is run, if a text has them.
+    fn recorded(&self) -> Option<&'a str>
+        ensures { word_of result ≡ recorded_by self.now }
+    {
+        match self {
+            Task::Trace(trace) => trace.picking.recorded(),
+            Task::Choices(picking) | Task::Why(picking) => picking.recorded(),
+            Task::Draw(drawing) => drawing.recorded(),
+            Task::Check | Task::Warn => None,
+        }
+    }
+
+    /// The file in which is saved what is fired, if it is.
+    fn saved(&self) -> Option<&'a str>
+        ensures { word_of result ≡ saved_by self.now }
+    {
+        match self {
+            Task::Trace(trace) => trace.saved,
+            Task::Check | Task::Warn | Task::Choices(_) | Task::Why(_) | Task::Draw(_) => None,
+        }
+    }
+}
+
 /// What is to be done with a plant and its image.
-#[derive(Clone, Copy, Debug, PartialEq, Eq)]
+#[derive(Clone, Copy)]
 pub enum ImageTask<'a> {
     /// The image is made to stand for the plant's first state, with room for so many records.
     Format(RingLength),
@@ -57,16 +147,46 @@ pub enum ImageTask<'a> {
 }
 
 /// What is to be done, and with what but the plant.
-#[derive(Debug, Drop, PartialEq, Eq)]
+#[derive(Drop)]
 pub enum Work<'a> {
     /// A task of the plant alone.
     OfPlant(Task<'a>),
+    /// The plant is run by hand: what is fired is read from the standard input, line by line.
+    ByHand,
     /// A task of the plant and of its image, the file at this path.
     OnImage(&'a str, ImageTask<'a>),
 }
 
+impl<'a> Work<'a> {
+    ghost use Rattle.std.specs.Prelude.{◌≡◌};
+    ghost use Rattle.command_line.specs.Files.{read_beside, saved_in};
+    ghost use Rattle.command_line.specs.Said.{word_of};
+
+    /// What is read beside the plant and the image, if anything is: the path of the text of the picks, `-` for a run by hand, or a script.
+    pub fn input(&self) -> Option<&'a str>
+        ensures { word_of result ≡ read_beside self.now }
+    {
+        match self {
+            Work::OfPlant(task) => task.recorded(),
+            Work::ByHand => Some(STANDARD_INPUT),
+            Work::OnImage(_, ImageTask::Run(script)) => Some(*script),
+            Work::OnImage(_, ImageTask::Format(_) | ImageTask::Recover) => None,
+        }
+    }
+
+    /// The file in which is saved what is fired, if it is.
+    pub fn saved(&self) -> Option<&'a str>
+        ensures { word_of result ≡ saved_in self.now }
+    {
+        match self {
+            Work::OfPlant(task) => task.saved(),
+            Work::ByHand | Work::OnImage(_, _) => None,
+        }
+    }
+}
+
 /// What is to be done, and the plant that it is done with.
-#[derive(Debug, Drop)]
+#[derive(Drop)]
 pub struct Request<'a> {
     /// What is to be done.
     pub work: Work<'a>,

@@ -1,21 +1,20 @@
 //! How a run is printed, as words of the command line.
 ghost use Rattle.std.specs.Prelude.{◌≡◌};
-ghost use Rattle.command_line.specs.Runs.{format_in, run_in};
+ghost use Rattle.command_line.specs.Runs.{format_in, shape_in};
 
-use crate::request::{Picking, Task};
+use crate::request::Shape;
 use text_io::Format;
 
-/// The task to run a plant by these picks, and to print the run as the word and the option `--states` say: a dump of waves has all states
-/// in any case.
-pub(crate) fn run_named<'a>(picking: Picking, word: &str, states: bool) -> Task<'a>
-    ensures { result ≡ run_in picking word.now states }
+/// What is printed of a run, as the word for its format and the option `--states` say: a dump of waves has all states in any case.
+pub(crate) fn shape_named(word: &str, states: bool) -> Shape
+    ensures { result ≡ shape_in word.now states }
 {
     if word.as_bytes() == b"vcd".as_slice() {
-        Task::Waves(picking)
+        Shape::Waves
     } else if states {
-        Task::States(picking, format_named(word))
+        Shape::States(format_named(word))
     } else {
-        Task::Trace(picking, format_named(word))
+        Shape::Steps(format_named(word))
     }
 }
 

@@ -4,8 +4,8 @@ ghost use Rattle.clap.specs.Matches.{found_of};
 ghost use Rattle.command_line.specs.Read.{AreFound};
 
 use crate::names::{
-    AFTER, CommandName, EXPLAIN, IMAGE, ONLY, OUTLINE, PICK, PLANT, RANDOM, RING, RUN_FORMAT,
-    SCRIPT, SEED, STATES, WARN,
+    AFTER, CommandName, EXPLAIN, IMAGE, ONLY, OUTLINE, PICK, PICKS, PLANT, RANDOM, RING,
+    RUN_FORMAT, SAVE_PICKS, SCRIPT, SEED, STATES, STRICT, WARN,
 };
 use clap::ArgMatches;
 
@@ -22,6 +22,10 @@ pub(crate) struct Said<'m, 'a> {
     pub(crate) script: Option<&'a str>,
     /// The picks of a run.
     pub(crate) picks: Option<&'m [&'a str]>,
+    /// Where the picks are that a file has.
+    pub(crate) recorded: Option<&'a str>,
+    /// Where the picks of a run are saved.
+    pub(crate) saved: Option<&'a str>,
     /// How many random picks there are.
     pub(crate) random: Option<&'a str>,
     /// The seed of random picks.
@@ -34,6 +38,8 @@ pub(crate) struct Said<'m, 'a> {
     pub(crate) after: Option<&'m [&'a str]>,
     /// The atoms that are drawn.
     pub(crate) only: Option<&'m [&'a str]>,
+    /// Whether a pick is refused whose number is past the list of choices.
+    pub(crate) strict: bool,
     /// Whether a drawing is an outline.
     pub(crate) outline: bool,
     /// Whether the states of a run are printed.
@@ -55,12 +61,15 @@ pub(crate) fn said_in<'m, 'a>(command: CommandName, found: &'m ArgMatches<'a>) -
         image: found.get_str(IMAGE),
         script: found.get_str(SCRIPT),
         picks: found.get_strs(PICK),
+        recorded: found.get_str(PICKS),
+        saved: found.get_str(SAVE_PICKS),
         random: found.get_str(RANDOM),
         seed: found.get_str(SEED),
         format: found.get_str(RUN_FORMAT),
         ring: found.get_str(RING),
         after: found.get_strs(AFTER),
         only: found.get_strs(ONLY),
+        strict: found.get_flag(STRICT),
         outline: found.get_flag(OUTLINE),
         states: found.get_flag(STATES),
         warn: found.get_flag(WARN),

@@ -3,6 +3,7 @@ ghost use Rattle.std.specs.Prelude.{◌≡◌, IfOk};
 ghost use Rattle.command_line.specs.Read.{IsRead};
 
 use crate::answer::{Answered, show};
+use crate::apart::ApartFault;
 use crate::asked::{AskingFault, request_asked};
 use crate::commands::{command_alone, program};
 use crate::names::{CommandName, command_named};
@@ -57,18 +58,15 @@ fn no_command(program: &mut Command<'_>) -> Result<Error, AllocError> {
 }
 
 /// The answer to the words of a command that ask for nothing that it does. It shows how the command is used.
-fn refused(
-    alloc: Global,
-    command: CommandName,
-    fault: AskingFault<'_>,
-) -> Result<Error, AllocError> {
-    let mut command = command_alone(alloc, command)?;
-    refusal(alloc, &mut command, fault)
+fn refused(alloc: Global, name: CommandName, fault: AskingFault<'_>) -> Result<Error, AllocError> {
+    let mut command = command_alone(alloc, name)?;
+    refusal(alloc, name, &mut command, fault)
 }
 
 /// The answer of a command to words that ask for nothing that it does.
 fn refusal(
     alloc: Global,
+    name: CommandName,
     command: &mut Command<'_>,
     fault: AskingFault<'_>,
 ) -> Result<Error, AllocError> {
@@ -76,42 +74,87 @@ fn refusal(
         AskingFault::NoPath => {
             command.error(ErrorKind::MissingRequiredArgument, "a path is missing")
         }
-        AskingFault::Picking(fault) => no_picking(alloc, command, fault),
-        AskingFault::NoPickBehind(word) => {
-            no_number(alloc, command, word, "--after <PICK>...", "a pick")
-        }
+        AskingFault::Picking(fault) => no_picking(alloc, name, command, fault),
+        AskingFault::StrictAlone => command.error(
+            ErrorKind::MissingRequiredArgument,
+            "'--strict' is for picks, and both '--after <PICK>...' and '--picks <FILE>' are missing",
+        ),
         AskingFault::OutlineOfPart => command.error(
             ErrorKind::ArgumentConflict,
-            "an outline shows all atoms and no state, so '--only' and '--after' cannot be with '--outline'",
+            "an outline shows all atoms and no state, so '--only', '--after' and '--picks' cannot be with '--outline'",
         ),
         AskingFault::NoRing(word) => no_ring(alloc, command, word),
-        AskingFault::OneInput => command.error(
-            ErrorKind::ArgumentConflict,
-            "the standard input cannot be both the plant and the script",
-        ),
+        AskingFault::Apart(fault) => not_apart(name, command, fault),
         AskingFault::Memory => Ok(Error::from(AllocError)),
     }
+}
+
+/// The answer to words that name files which do not stand apart.
+fn not_apart(
+    name: CommandName,
+    command: &mut Command<'_>,
+    fault: ApartFault,
+) -> Result<Error, AllocError> {
+    let message = match (fault, name) {
+        (ApartFault::OneInput, CommandName::Run) => {
+            "the standard input cannot be both the plant and the script"
+        }
+        (ApartFault::OneInput, CommandName::Step) => {
+            "the standard input cannot be the plant: the commands of the run are read there"
+        }
+        (ApartFault::OneInput, _) => "the standard input cannot be both the plant and the picks",
+        (ApartFault::SavedOnOutput, _) => {
+            "the picks cannot be saved on the standard output, where the run is printed"
+        }
+        (ApartFault::SavedOverRead, _) => {
+            "the picks cannot be saved in the file from which the plant or the picks are read"
+        }
+    };
+    command.error(ErrorKind::ArgumentConflict, message)
 }
 
 /// The answer to words that do not say how choices are picked.
 fn no_picking(
     alloc: Global,
+    name: CommandName,
     command: &mut Command<'_>,
     fault: PickingFault<'_>,
 ) -> Result<Error, AllocError> {
     match fault {
-        PickingFault::NoPick(word) => no_number(alloc, command, word, "[PICK]...", "a pick"),
+        PickingFault::NoPick(word) => {
+            no_number(alloc, command, word, picks_argument(name), "a pick")
+        }
         PickingFault::NoCount(word) => no_number(alloc, command, word, "--random <N>", "a number"),
         PickingFault::NoSeed(word) => no_number(alloc, command, word, "--seed <S>", "a seed"),
-        PickingFault::Both => command.error(
+        PickingFault::GivenAndRandom => command.error(
             ErrorKind::ArgumentConflict,
             "the picks are given, so they cannot be random too",
+        ),
+        PickingFault::GivenAndRecorded => command.error(
+            ErrorKind::ArgumentConflict,
+            "the picks are given, so they cannot be those of a file too",
+        ),
+        PickingFault::RecordedAndRandom => command.error(
+            ErrorKind::ArgumentConflict,
+            "the picks are those of a file, so they cannot be random too",
+        ),
+        PickingFault::StrictRandom => command.error(
+            ErrorKind::ArgumentConflict,
+            "a random pick is taken modulo the number of choices, so '--strict' cannot be with '--random <N>'",
         ),
         PickingFault::SeedAlone => command.error(
             ErrorKind::MissingRequiredArgument,
             "a seed is for random picks, and '--random <N>' is missing",
         ),
         PickingFault::Memory => Ok(Error::from(AllocError)),
+    }
+}
+
+/// The argument by which picks are given one by one, as the use of the command shows it.
+fn picks_argument(name: CommandName) -> &'static str {
+    match name {
+        CommandName::Draw => "--after <PICK>...",
+        _ => "[PICK]...",
     }
 }
 

@@ -1,2 +1,4 @@
 pub mod Printing
 pub mod Naming
+pub mod Telling
+pub mod DrawnAfter

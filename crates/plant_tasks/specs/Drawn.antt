@@ -10,14 +10,18 @@ use Rattle.petri_atom.specs.Name.{is_same_text}
 use Rattle.petri_atom.specs.declared.atom.Atom.{Atom}
 use Rattle.step_core.specs.Plant.{PlantDefinition}
 use Rattle.step_core.specs.Step.{initial_states}
-use Rattle.run_text.specs.Choices.{state_after}
+use Rattle.run_text.specs.Picks.{PickDefinition}
+use Rattle.run_text.specs.Runs.{state_after}
+use Rattle.run_text.specs.declared.fault.Refusal.{Refusal}
 use Rattle.plant_drawing.specs.Drawing.{drawing_of}
 use Rattle.plant_drawing.specs.Outline.{outline_of}
 use Rattle.plant_drawing.specs.declared.drawn.TheConstants.{ALL_ATOMS}
 use Rattle.plant_drawing.specs.declared.filling.Filling.{Filling}
 use Rattle.plant_drawing.specs.declared.filling.Filling.TheVariants.{Alike, ByChoice}
+use Rattle.command_line.specs.declared.request.Picking.{Picking}
 use Rattle.command_line.specs.declared.request.Drawing.{Drawing}
 use Rattle.command_line.specs.declared.request.Drawing.TheVariants.{Whole, Outline, After, Only}
+use Rattle.plant_tasks.specs.Picked.{behind, picks_said, refusal_said}
 use Rattle.plant_tasks.specs.declared.ending.PlantEnding.{PlantEnding}
 use Rattle.plant_tasks.specs.declared.ending.PlantEnding.TheVariants.{NoAtom}
 
@@ -47,19 +51,34 @@ abbrev pub IsNoAtom : PlantDefinition → List (List ℕ) → PlantEnding → Ty
 IsNoAtom plant names (NoAtom place) = position (λ name. not (has_atom plant.atoms name)) names ≡ Some place
 IsNoAtom plant names ending = ⊥
 
--- a set of atoms is drawn in the state after some picks, and what stands on these
-abbrev pub drawn_after : PlantDefinition → List ℕ → ℕ → Filling → List ℕ
-drawn_after plant picks drawn filling = drawing_of plant (state_after plant (initial_states plant) picks) drawn filling
+-- a set of atoms in the state after some picks, and what stands on these
+abbrev pub drawn_in : PlantDefinition → ℕ → Filling → List PickDefinition → List ℕ
+drawn_in plant drawn filling picks = drawing_of plant (state_after plant (initial_states plant) picks) drawn filling
 
--- the atoms of these names in the first state, or in the state after some picks
-abbrev pub drawn_part : PlantDefinition → ℕ → Option (List ℕ) → List ℕ
-drawn_part plant drawn None = drawn_after plant [] drawn Alike
-drawn_part plant drawn (Some picks) = drawn_after plant picks drawn ByChoice
+-- the same, and nothing where one of the picks is refused
+abbrev pub drawn_after : PlantDefinition → ℕ → Filling → List PickDefinition → List ℕ
+drawn_after plant drawn filling = behind plant (drawn_in plant drawn filling)
+
+-- the same in the first state, or in the state after the picks that the words of the command line ask for
+abbrev pub drawn_part : PlantDefinition → ℕ → Option Picking → Option (List ℕ) → Option (List ℕ)
+drawn_part plant drawn None input = Some (drawn_after plant drawn Alike [])
+drawn_part plant drawn (Some picking) input = option_map (drawn_after plant drawn ByChoice) (picks_said picking plant input)
 
 -- what is drawn
-abbrev pub drawn_of : Drawing → PlantDefinition → List ℕ
-drawn_of Whole plant = drawn_part plant ALL_ATOMS None
-drawn_of Outline plant = outline_of plant
-drawn_of (After picks) plant = drawn_part plant ALL_ATOMS (Some picks.items)
-drawn_of (Only names picks) plant =
-    drawn_part plant (drawn_atoms plant (map (λ name. name.now) names.items)) (option_map (λ kept. kept.items) picks)
+abbrev pub drawn_of : Drawing → PlantDefinition → Option (List ℕ) → Option (List ℕ)
+drawn_of Whole plant input = drawn_part plant ALL_ATOMS None input
+drawn_of Outline plant input = Some (outline_of plant)
+drawn_of (After picking) plant input = drawn_part plant ALL_ATOMS (Some picking) input
+drawn_of (Only names picking) plant input = drawn_part plant (drawn_atoms plant (map (λ name. name.now) names.items)) picking input
+
+-- the first refused one of the picks behind which a plant is drawn, if there are some
+abbrev pub part_refusal : PlantDefinition → Option Picking → Option (List ℕ) → Option (Option Refusal)
+part_refusal plant None input = Some None
+part_refusal plant (Some picking) input = refusal_said picking plant input
+
+-- the same of a drawing
+abbrev pub drawing_refusal : Drawing → PlantDefinition → Option (List ℕ) → Option (Option Refusal)
+drawing_refusal Whole plant input = Some None
+drawing_refusal Outline plant input = Some None
+drawing_refusal (After picking) plant input = refusal_said picking plant input
+drawing_refusal (Only names picking) plant input = part_refusal plant picking input

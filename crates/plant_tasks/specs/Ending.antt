@@ -1,17 +1,23 @@
--- What a program tells where it ends early at a plant's text, the words, the memory or the output, and its exit status.
-use Rattle.std.specs.Prelude.{◌≡◌, ◌≢◌, ℕ, List, [], ◌++◌, codes, decimal, Option, Some, None, Result, Ok, Err}
+-- What a program tells where it ends early at a plant's text, the words, the picks, the memory or the output, and its exit status.
+use Rattle.std.specs.Prelude.{◌≡◌, ◌≢◌, ℕ, List, [], ◌++◌, codes, decimal, unwrap_or, Option, Some, None, Result, Ok, Err}
 use Rattle.plant_text.specs.Fault.{number_of, name_of, subject_of, of_no_line}
 use Rattle.plant_text.specs.Meaning.{meaning}
 use Rattle.plant_text.specs.Text.{PlantText}
 use Rattle.plant_text.specs.declared.fault.Fault.{Fault}
 use Rattle.plant_text.specs.declared.fault.Fault.TheVariants as fault
 use Rattle.plant_text.specs.declared.fault.PlantFault.{PlantFault}
+use Rattle.run_text.specs.Message.{refused_message}
+use Rattle.run_text.specs.declared.fault.Refusal.{Refusal}
 use Rattle.run_text.specs.declared.fault.TraceFault.{TraceFault}
 use Rattle.run_text.specs.declared.fault.TraceFault.TheVariants as trace
+use Rattle.step_session.specs.declared.fault.StepFault.{StepFault}
+use Rattle.step_session.specs.declared.fault.StepFault.TheVariants as step
 use Rattle.command_line.specs.declared.answer.Answered.{Answered}
 use Rattle.command_line.specs.declared.answer.Answered.TheVariants as answered
+use Rattle.plant_tasks.specs.Paths.{path_of}
+use Rattle.plant_tasks.specs.declared.paths.TaskPaths.{TaskPaths}
 use Rattle.plant_tasks.specs.declared.ending.PlantEnding.{PlantEnding}
-use Rattle.plant_tasks.specs.declared.ending.PlantEnding.TheVariants.{Usage, Plant, Unopened, NoAtom, Memory, Unwritten}
+use Rattle.plant_tasks.specs.declared.ending.PlantEnding.TheVariants.{Usage, Plant, Unopened, InputUnread, Refused, Unsaved, NoAtom, Memory, Unwritten}
 
 -- the exit status at a fault of a plant: a refused plant is 1; want of memory, and a text that can't be read, are 3
 abbrev pub fault_status : Fault → ℕ
@@ -19,11 +25,14 @@ fault_status fault.Memory = 3
 fault_status fault.Read = 3
 fault_status fault = 1
 
--- the exit status of a program that ends so: 1 a refused plant, 2 usage, 3 a file, the memory or the output
+-- the exit status of a program that ends so: 1 a refused plant or pick, 2 usage, 3 a file, the memory or the output
 abbrev pub status_at : PlantEnding → ℕ
 status_at Usage = 2
 status_at (Plant told) = fault_status told.fault
 status_at Unopened = 3
+status_at InputUnread = 3
+status_at (Refused refusal) = 1
+status_at Unsaved = 3
 status_at (NoAtom place) = 2
 status_at Memory = 3
 status_at Unwritten = 3
@@ -55,36 +64,74 @@ abbrev pub plant_text : List ℕ → Fault → PlantFault → List ℕ
 plant_text path fault.Read told = file_line path
 plant_text path fault told = fault_line told
 
--- What is told of an ending, where the plant's text is at the path. What is wrong with the words of the command line is told before, and of an output
+-- where a pick stands: a line of the text at the path, or a place among the picks of the command line
+abbrev pub place_text : Option (List ℕ) → ℕ → List ℕ
+place_text (Some path) number = path ++ codes ":" ++ decimal number
+place_text None number = codes "pick " ++ decimal number ++ codes " of the command line"
+
+-- the line of a refused pick: where it stands, and why it is refused
+abbrev pub refused_line : Option (List ℕ) → Refusal → List ℕ
+refused_line path refusal = codes "error: " ++ place_text path refusal.place ++ codes ": " ++ refused_message refusal.why ++ codes "\n"
+
+-- What is told of an ending, where the files are at these paths. What is wrong with the words of the command line is told before, and of an output
 -- that takes nothing there is nothing to tell.
-abbrev pub told_text : List ℕ → PlantEnding → List ℕ
-told_text path Usage = []
-told_text path (Plant told) = plant_text path told.fault told
-told_text path Unopened = file_line path
-told_text path (NoAtom place) = []
-told_text path Memory = codes "memory\n"
-told_text path Unwritten = []
+abbrev pub told_text : TaskPaths → PlantEnding → List ℕ
+told_text paths Usage = []
+told_text paths (Plant told) = plant_text paths.plant.now told.fault told
+told_text paths Unopened = file_line paths.plant.now
+told_text paths InputUnread = file_line (unwrap_or (path_of paths.input) [])
+told_text paths (Refused refusal) = refused_line (path_of paths.input) refusal
+told_text paths Unsaved = file_line (unwrap_or (path_of paths.saved) [])
+told_text paths (NoAtom place) = []
+told_text paths Memory = codes "memory\n"
+told_text paths Unwritten = []
 
 -- the ending at a fault of a run
 abbrev pub of_trace : TraceFault → PlantEnding
 of_trace trace.Memory = Memory
 of_trace trace.Write = Unwritten
+of_trace trace.Read = InputUnread
+of_trace (trace.Refused refusal) = Refused refusal
 
--- An ending behind these bytes of a plant text: a fault that is told is theirs, but for want of memory and a reader that failed; the output fails
--- only behind a plant, and no atom has a name only of one; memory may always be wanting; and words and files have no part in it.
+-- the ending at a fault of a run by hand
+abbrev pub of_step : StepFault → PlantEnding
+of_step step.Memory = Memory
+of_step step.Read = InputUnread
+of_step step.Write = Unwritten
+
+-- A plant that was not read from these bytes of a text: a fault that is told is theirs, but for want of memory and a reader that failed; memory may always be
+-- wanting; and nothing else has a part in it.
 abbrev pub Tells : PlantEnding → List ℕ → Type 0
 Tells (Plant told) bytes = told ≢ of_no_line fault.Memory → told ≢ of_no_line fault.Read → meaning bytes ≡ Err told
-Tells Usage bytes = ⊥
-Tells Unopened bytes = ⊥
-Tells (NoAtom place) bytes = (plant : PlantText) × (meaning bytes ≡ Ok plant)
 Tells Memory bytes = Unit {0}
-Tells Unwritten bytes = (plant : PlantText) × (meaning bytes ≡ Ok plant)
+Tells ending bytes = ⊥
 
--- an ending of what is printed: memory is wanting, no atom has a name, or the output fails
-abbrev pub IsOfOutput : PlantEnding → Type 0
-IsOfOutput (Plant told) = ⊥
-IsOfOutput Usage = ⊥
-IsOfOutput Unopened = ⊥
-IsOfOutput (NoAtom place) = Unit {0}
-IsOfOutput Memory = Unit {0}
-IsOfOutput Unwritten = Unit {0}
+-- a task that was not done with a plant: memory is wanting, no atom has a name, what is read beside the plant failed, a pick is refused, or the output failed
+abbrev pub IsOfTask : PlantEnding → Type 0
+IsOfTask (NoAtom place) = Unit {0}
+IsOfTask Memory = Unit {0}
+IsOfTask InputUnread = Unit {0}
+IsOfTask (Refused refusal) = Unit {0}
+IsOfTask Unwritten = Unit {0}
+IsOfTask ending = ⊥
+
+-- nothing was printed or saved before a task ended so
+abbrev pub IsSilent : PlantEnding → Type 0
+IsSilent (NoAtom place) = Unit {0}
+IsSilent Memory = Unit {0}
+IsSilent ending = ⊥
+
+-- where a task was done, or was done up to a pick that is refused, P holds of the refusal, or of none
+abbrev pub IfTold : {A : Type 0} → Result A PlantEnding → (Option Refusal → Type 0) → Type 0
+IfTold (Ok done) P = P None
+IfTold (Err (Refused refusal)) P = P (Some refusal)
+IfTold (Err ending) P = Unit {0}
+
+-- the same of what does not name the refusal
+abbrev pub OnTold : {A : Type 0} → Result A PlantEnding → Type 0 → Type 0
+OnTold result P = IfTold result (λ refusal. P)
+
+-- how a task ends whose run ended so
+abbrev pub told_of : Result (Unit {0}) TraceFault → Result (Unit {0}) PlantEnding
+told_of (Ok done) = Ok tt
+told_of (Err fault) = Err (of_trace fault)

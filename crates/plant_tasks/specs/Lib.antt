@@ -1,3 +1,5 @@
+pub mod Paths
+pub mod Picked
 pub mod Drawn
 pub mod Printed
 pub mod Ending

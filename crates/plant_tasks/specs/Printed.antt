@@ -1,25 +1,28 @@
--- What the program prints of a plant.
-use Rattle.std.specs.Prelude.{◌≡◌, ℕ, List, ◌++◌, length, codes, decimal, Option, Ok}
-use Rattle.std.specs.Io.KnownBytes.{Appends}
+-- What the program prints of a plant, and what it saves of its run.
+use Rattle.std.specs.Prelude.{ℕ, List, [], ◌++◌, length, codes, decimal, option_map, Option, None, Some}
 use Rattle.step_core.specs.Choice.{plant_interactions}
 use Rattle.step_core.specs.Plant.{PlantDefinition}
-use Rattle.plant_text.specs.Text.{text_of}
-use Rattle.plant_text.specs.Meaning.{meaning}
 use Rattle.step_core.specs.Step.{initial_states}
-use Rattle.run_text.specs.Choices.{choices_after, state_after}
-use Rattle.run_text.specs.Picks.{random_picks}
+use Rattle.step_core.specs.System.{plant_of}
+use Rattle.run_text.specs.Choices.{choices_after}
+use Rattle.run_text.specs.Picks.{PickDefinition}
+use Rattle.run_text.specs.Runs.{state_after}
+use Rattle.run_text.specs.Steps.{saved_in}
 use Rattle.run_text.specs.Trace.{trace_in}
+use Rattle.run_text.specs.declared.fault.Refusal.{Refusal}
 use Rattle.run_states.specs.States.{states_in}
 use Rattle.run_states.specs.Waves.{waves_of}
 use Rattle.blocked_text.specs.Blocked.{blocked_text}
 use Rattle.part_lines.specs.Lookup.{rule_lines}
 use Rattle.part_lines.specs.Table.{part_lines}
 use Rattle.plant_warnings.specs.Warnings.{warnings_text}
-use Rattle.plant_tasks.specs.Drawn.{drawn_of}
-use Rattle.command_line.specs.declared.request.Picking.{Picking}
-use Rattle.command_line.specs.declared.request.Picking.TheVariants.{Given, Random}
+use Rattle.plant_tasks.specs.Drawn.{drawing_refusal, drawn_of}
+use Rattle.plant_tasks.specs.Picked.{behind, picks_said, refusal_said}
+use Rattle.plant_tasks.specs.declared.task.ReadPlant.{ReadPlant}
+use Rattle.command_line.specs.declared.request.Shape.{Shape}
+use Rattle.command_line.specs.declared.request.Shape.TheVariants.{Steps, States, Waves}
 use Rattle.command_line.specs.declared.request.Task.{Task}
-use Rattle.command_line.specs.declared.request.Task.TheVariants.{Check, Warn, Choices, Why, Trace, States, Waves, Draw}
+use Rattle.command_line.specs.declared.request.Task.TheVariants.{Check, Warn, Trace, Choices, Why, Draw}
 
 -- a count behind the word for what is counted
 abbrev pub counted : List ℕ → ℕ → List ℕ
@@ -31,26 +34,43 @@ counts_line plant =
     counted (codes "atoms ") (length plant.atoms) ++ counted (codes " connectors ") (length plant.wires) ++
     counted (codes " interactions ") (length (plant_interactions plant)) ++ counted (codes " rules ") (length plant.rules) ++ codes "\n"
 
--- the picks of a run: those that are given, or random ones
-abbrev pub picks_said : Picking → List ℕ
-picks_said (Given picks) = picks.items
-picks_said (Random count seed) = random_picks seed count
+-- what is printed of a run by picks, in a shape
+abbrev pub run_shaped : Shape → PlantDefinition → List PickDefinition → List ℕ
+run_shaped (Steps format) plant picks = trace_in format plant picks
+run_shaped (States format) plant picks = states_in format plant picks
+run_shaped Waves plant picks = waves_of plant picks
 
 -- why connectors can't be fired after some picks
-abbrev pub why_after : PlantDefinition → List ℕ → List ℕ → List ℕ
-why_after plant picks lines = blocked_text plant (state_after plant (initial_states plant) picks) lines
+abbrev pub why_after : PlantDefinition → List ℕ → List PickDefinition → List ℕ
+why_after plant lines picks = blocked_text plant (state_after plant (initial_states plant) picks) lines
 
--- what a task prints of a plant with this text, which is at a path
-abbrev pub printed_of : Task → List ℕ → List ℕ → PlantDefinition → List ℕ
-printed_of Check path text plant = counts_line plant
-printed_of Warn path text plant = counts_line plant ++ warnings_text plant (part_lines text) path
-printed_of (Choices picking) path text plant = choices_after plant (picks_said picking)
-printed_of (Why picking) path text plant = why_after plant (picks_said picking) (rule_lines text)
-printed_of (Trace picking format) path text plant = trace_in format plant (picks_said picking)
-printed_of (States picking format) path text plant = states_in format plant (picks_said picking)
-printed_of (Waves picking) path text plant = waves_of plant (picks_said picking)
-printed_of (Draw drawing) path text plant = drawn_of drawing plant
+-- the plant that was read
+abbrev pub plant_read : ReadPlant → PlantDefinition
+plant_read plant = plant_of plant.system.now
 
--- the bytes are the text of a plant, and what the task says of it was appended
-abbrev pub Prints : Task → List ℕ → List ℕ → Option (List ℕ) → Option (List ℕ) → Type 0
-Prints task path bytes old new = (plant : PlantDefinition) × (meaning bytes ≡ Ok (text_of plant)) × Appends old new (printed_of task path bytes plant)
+-- what a task prints of a plant that was read, where the bytes of what is read beside it are known as far as it needs them; up to the first pick that is refused
+abbrev pub printed_of : Task → ReadPlant → Option (List ℕ) → Option (List ℕ)
+printed_of Check plant input = Some (counts_line (plant_read plant))
+printed_of Warn plant input =
+    Some (counts_line (plant_read plant) ++ warnings_text (plant_read plant) (part_lines plant.text.now) plant.path.now)
+printed_of (Trace trace) plant input =
+    option_map (run_shaped trace.shape (plant_read plant)) (picks_said trace.picking (plant_read plant) input)
+printed_of (Choices picking) plant input =
+    option_map (behind (plant_read plant) (choices_after (plant_read plant))) (picks_said picking (plant_read plant) input)
+printed_of (Why picking) plant input =
+    option_map (behind (plant_read plant) (why_after (plant_read plant) (rule_lines plant.text.now))) (picks_said picking (plant_read plant) input)
+printed_of (Draw drawing) plant input = drawn_of drawing (plant_read plant) input
+
+-- what it saves of what it fires
+abbrev pub saved_of : Task → ReadPlant → Option (List ℕ) → Option (List ℕ)
+saved_of (Trace trace) plant input = option_map (saved_in (plant_read plant)) (picks_said trace.picking (plant_read plant) input)
+saved_of task plant input = Some []
+
+-- the first pick that is refused, if one is
+abbrev pub refusal_by : Task → ReadPlant → Option (List ℕ) → Option (Option Refusal)
+refusal_by Check plant input = Some None
+refusal_by Warn plant input = Some None
+refusal_by (Trace trace) plant input = refusal_said trace.picking (plant_read plant) input
+refusal_by (Choices picking) plant input = refusal_said picking (plant_read plant) input
+refusal_by (Why picking) plant input = refusal_said picking (plant_read plant) input
+refusal_by (Draw drawing) plant input = drawing_refusal drawing (plant_read plant) input

@@ -1,5 +1,6 @@
 //! What is drawn of a plant, as the words of the command line ask for it.
-ghost use Rattle.std.specs.Prelude.{◌≡◌, ◌≢◌, ◌≤◌, not, map, length, option_map, OnOk, IfOk, IfErr, Err};
+ghost use Rattle.std.specs.Prelude.{◌≡◌, ◌≢◌, ◌≤◌, not, map, length, OnOk, IfOk, IfErr, IfSome, Err};
+ghost use Rattle.std.specs.Option.{option_copied};
 ghost use Rattle.std.specs.List.{list_any, position};
 ghost use Rattle.petri_atom.specs.Name.{is_same_text};
 ghost use Rattle.std.specs.Io.KnownBytes.{Appends};
@@ -7,76 +8,91 @@ ghost use Rattle.petri_atom.specs.Atom.{definition_of};
 ghost use Rattle.petri_atom.specs.Local.{set_below};
 ghost use Rattle.step_core.specs.System.{plant_of};
 ghost use Rattle.step_core.specs.declared.limits.TheConstants.{MAX_ATOMS};
-ghost use Rattle.plant_tasks.specs.Drawn.{drawn_after, drawn_atoms, drawn_of, drawn_part, is_named_in, IsNoAtom};
-ghost use Rattle.plant_tasks.specs.Ending.{IsOfOutput};
-ghost use Rattle.plant_tasks.specs.declared.ending.PlantEnding.{PlantEnding};
-ghost use Rattle.plant_tasks.specs.declared.ending.PlantEnding.TheVariants.{Unwritten};
+ghost use Rattle.run_text.specs.Ran.{IfRan};
+ghost use Rattle.run_text.specs.Runs.{refusal_of};
+ghost use Rattle.run_text.specs.declared.fault.TraceFault.{TraceFault};
+ghost use Rattle.run_text.specs.declared.fault.TraceFault.TheVariants.{Write as WriteFailed};
+ghost use Rattle.plant_tasks.specs.Drawn.{drawing_refusal, drawn_atoms, drawn_in, drawn_of, drawn_part, is_named_in, IsNoAtom, part_refusal};
+ghost use Rattle.plant_tasks.specs.Ending.{IfTold, IsOfTask, IsSilent, OnTold};
 
+use crate::doing::told;
 use crate::ending::PlantEnding;
-use command_line::Drawing;
+use crate::picks::picks_of;
+use command_line::{Drawing, Picking};
 use petri_atom::Atom;
 use plant_drawing::{ALL_ATOMS, Filling, draw_to, outline_to};
-use run_text::{GivenPicks, run_after};
+use run_text::{GivenPicks, Picks, TraceFault, run_after};
 use std::alloc::Global;
-use std::io::Write;
+use std::io::{BufRead, Write};
 use step_core::System;
 
-/// Prints the drawing of the plant.
-pub(crate) fn print_drawing<W: Write>(
+/// Prints the drawing of the plant. Where a pick is refused nothing is printed.
+pub(crate) fn print_drawing<F: BufRead + Drop, W: Write>(
     alloc: Global,
     drawing: &Drawing<'_>,
     system: &System,
+    input: F,
     output: &mut W,
 ) -> Result<(), PlantEnding>
-    ensures printed { OnOk result (Appends (W.contents output.old) (W.contents output.new) (drawn_of drawing.now (plant_of system.now))) }
-    ensures of_output { IfErr result IsOfOutput }
-    ensures nothing_printed { (ending : PlantEnding) → result ≡ Err ending → ending ≢ Unwritten → output.new ≡ output.old }
+    ensures printed { OnTold result (IfSome (drawn_of drawing.now (plant_of system.now) (F.remaining input)) (Appends (W.contents output.old) (W.contents output.new))) }
+    ensures refusal { IfTold result (λ refusal. IfSome (drawing_refusal drawing.now (plant_of system.now) (F.remaining input)) (λ first. refusal ≡ first)) }
+    ensures of_task { IfErr result IsOfTask }
+    ensures nothing_printed { IfErr result (λ ending. IsSilent ending → output.new ≡ output.old) }
 {
     match drawing {
-        Drawing::Whole => draw_state(alloc, system, &[], ALL_ATOMS, Filling::Alike, output),
+        Drawing::Whole => draw_behind(alloc, None, system, input, ALL_ATOMS, output),
         Drawing::Outline => Ok(outline_to(system, output)?),
-        Drawing::After(picks) => {
-            draw_state(alloc, system, picks, ALL_ATOMS, Filling::ByChoice, output)
+        Drawing::After(picking) => {
+            draw_behind(alloc, Some(picking), system, input, ALL_ATOMS, output)
         }
-        Drawing::Only(names, picks) => draw_only(alloc, system, names, picks, output),
+        Drawing::Only(names, picking) => {
+            let drawn = atoms_named(system, names)?;
+            draw_behind(alloc, picking.as_ref(), system, input, drawn, output)
+        }
     }
 }
 
-/// Draws the atoms of these names, in the first state or after the picks, and what stands on them.
-fn draw_only<W: Write>(
+/// Draws these atoms in the first state, or behind the picks, and what stands on them.
+fn draw_behind<F: BufRead + Drop, W: Write>(
     alloc: Global,
+    picking: Option<&Picking<'_>>,
     system: &System,
-    names: &[&str],
-    picks: &Option<Vec<u64>>,
+    input: F,
+    drawn: u64,
     output: &mut W,
 ) -> Result<(), PlantEnding>
-    ensures printed { OnOk result (Appends (W.contents output.old) (W.contents output.new)
-        (drawn_part (plant_of system.now) (drawn_atoms (plant_of system.now) (map (λ name. name.now) names.now)) (option_map (λ kept. kept.items) picks.now))) }
-    ensures of_output { IfErr result IsOfOutput }
-    ensures nothing_printed { (ending : PlantEnding) → result ≡ Err ending → ending ≢ Unwritten → output.new ≡ output.old }
+    ensures printed { OnTold result (IfSome (drawn_part (plant_of system.now) drawn (option_copied picking.entry) (F.remaining input)) (Appends (W.contents output.old) (W.contents output.new))) }
+    ensures refusal { IfTold result (λ refusal. IfSome (part_refusal (plant_of system.now) (option_copied picking.entry) (F.remaining input)) (λ first. refusal ≡ first)) }
+    ensures of_task { IfErr result IsOfTask }
+    ensures nothing_printed { IfErr result (λ ending. IsSilent ending → output.new ≡ output.old) }
 {
-    let drawn = atoms_named(system, names)?;
-    match picks {
-        None => draw_state(alloc, system, &[], drawn, Filling::Alike, output),
-        Some(picks) => draw_state(alloc, system, picks, drawn, Filling::ByChoice, output),
+    match picking {
+        None => {
+            let mut none = GivenPicks::of(&[]);
+            told(draw_state(alloc, system, &mut none, drawn, Filling::Alike, output))
+        }
+        Some(picking) => {
+            let mut picks = picks_of(alloc, picking, system, input)?;
+            told(draw_state(alloc, system, &mut picks, drawn, Filling::ByChoice, output))
+        }
     }
 }
 
-/// Draws these atoms in the state after the picks, and what stands on them.
-fn draw_state<W: Write>(
+/// Draws these atoms in the state after the picks, and what stands on them. Where a pick is refused nothing is printed.
+fn draw_state<P: Picks, W: Write>(
     alloc: Global,
     system: &System,
-    picks: &[u64],
+    picks: &mut P,
     drawn: u64,
     filling: Filling,
     output: &mut W,
-) -> Result<(), PlantEnding>
-    ensures printed { OnOk result (Appends (W.contents output.old) (W.contents output.new)
-        (drawn_after (plant_of system.now) picks.now drawn filling)) }
-    ensures of_output { IfErr result IsOfOutput }
-    ensures nothing_printed { (ending : PlantEnding) → result ≡ Err ending → ending ≢ Unwritten → output.new ≡ output.old }
+) -> Result<(), TraceFault>
+    ensures refusal { IfRan result (λ refusal. IfSome (P.left picks.old) (λ left. refusal ≡ refusal_of (plant_of system.now) left)) }
+    ensures printed { OnOk result (IfSome (P.left picks.old) (λ left. Appends (W.contents output.old) (W.contents output.new)
+        (drawn_in (plant_of system.now) drawn filling left))) }
+    ensures nothing_printed { (fault : TraceFault) → result ≡ Err fault → fault ≢ WriteFailed → output.new ≡ output.old }
 {
-    let run = run_after(alloc, system, &mut GivenPicks::of(picks))?;
+    let run = run_after(alloc, system, picks)?;
     draw_to(&run, drawn, filling, output)?;
     Ok(())
 }

@@ -1,12 +1,14 @@
-//! Why a program ends early at a plant's text, the words, the memory or the output: what it tells then, and its exit status.
+//! Why a program ends early at a plant's text, the words, the picks, the memory or the output: what it tells then, and its exit status.
 ghost use Rattle.std.specs.Prelude.{◌≡◌};
 ghost use Rattle.plant_tasks.specs.Ending.{ended_by};
 
+use crate::paths::TaskPaths;
 use command_line::Answered;
 use plant_text::{Fault, PlantFault};
-use run_text::TraceFault;
+use run_text::{Refusal, TraceFault};
 use std::alloc::AllocError;
 use std::fmt;
+use step_session::StepFault;
 use text_io::WriteFault;
 
 /// Why a program ends without having done with a plant what it was asked for.
@@ -18,6 +20,12 @@ pub enum PlantEnding {
     Plant(PlantFault),
     /// The plant's file could not be opened.
     Unopened,
+    /// What is read beside the plant, as the text of the picks, could not be opened or read.
+    InputUnread,
+    /// A pick of the run is refused.
+    Refused(Refusal),
+    /// The file in which is saved what is fired could not be made or written.
+    Unsaved,
     /// Of the names of atoms in the words of the command line, the one with this number, from 0, is of no atom of the plant.
     NoAtom(usize),
     /// Memory ran out.
@@ -30,7 +38,7 @@ impl PlantEnding {
     ghost use Rattle.std.specs.Prelude.{◌≡◌};
     ghost use Rattle.plant_tasks.specs.Ending.{status_at};
 
-    /// The exit status of a program that ends so: 1 where the plant is refused, 2 where the words of the command line were not
+    /// The exit status of a program that ends so: 1 where the plant or a pick is refused, 2 where the words of the command line were not
     /// understood, and 3 where a file, the memory or the output failed.
     pub fn exit_status(&self) -> u8
         ensures { result ≡ status_at self.now }
@@ -42,6 +50,9 @@ impl PlantEnding {
                 _ => 1,
             },
             PlantEnding::Unopened => 3,
+            PlantEnding::InputUnread => 3,
+            PlantEnding::Refused(_) => 1,
+            PlantEnding::Unsaved => 3,
             PlantEnding::NoAtom(_) => 2,
             PlantEnding::Memory => 3,
             PlantEnding::Unwritten => 3,
@@ -66,21 +77,21 @@ pub fn ended(answered: Answered) -> Result<(), PlantEnding>
 pub struct PlantTold<'a> {
     /// Why the program ends early.
     pub ending: PlantEnding,
-    /// Where the plant text stands, as the words of the command line name it; empty where they name none.
-    pub path: &'a str,
+    /// Where the files are that it may tell of.
+    pub paths: TaskPaths<'a>,
 }
 
 impl<'a> fmt::Display for PlantTold<'a> {
     ghost use Rattle.std.specs.Prelude.{Some};
     ghost use Rattle.plant_tasks.specs.Ending.{told_text};
 
-    ghost output = { λ told. Some (told_text told.path.now told.ending) };
+    ghost output = { λ told. Some (told_text told.paths told.ending) };
 
     fn fmt<W: fmt::Write>(&self, f: &mut fmt::Formatter<W>) -> fmt::Result {
         match self.ending {
             PlantEnding::Usage => Ok(()),
             PlantEnding::Plant(told) => match (told.fault, told.fault.subject()) {
-                (Fault::Read, _) => writeln!(f, "file {}", self.path),
+                (Fault::Read, _) => writeln!(f, "file {}", self.paths.plant),
                 (fault, None) => writeln!(
                     f,
                     "plant line {}: fault {} {}",
@@ -96,10 +107,41 @@ impl<'a> fmt::Display for PlantTold<'a> {
                     fault.name()
                 ),
             },
-            PlantEnding::Unopened => writeln!(f, "file {}", self.path),
+            PlantEnding::Unopened => writeln!(f, "file {}", self.paths.plant),
+            PlantEnding::InputUnread => writeln!(f, "file {}", self.paths.input.unwrap_or("")),
+            PlantEnding::Refused(refusal) => {
+                let place = PickPlace {
+                    path: self.paths.input,
+                    number: refusal.place,
+                };
+                writeln!(f, "error: {place}: {refusal}")
+            }
+            PlantEnding::Unsaved => writeln!(f, "file {}", self.paths.saved.unwrap_or("")),
             PlantEnding::NoAtom(_) => Ok(()),
             PlantEnding::Memory => f.write_str("memory\n"),
             PlantEnding::Unwritten => Ok(()),
+        }
+    }
+}
+
+/// Where a pick stands: a line of the text at the path, or a place among the picks of the command line.
+#[derive(Clone, Copy)]
+struct PickPlace<'a> {
+    path: Option<&'a str>,
+    number: u64,
+}
+
+impl<'a> fmt::Display for PickPlace<'a> {
+    ghost use Rattle.std.specs.Prelude.{Some};
+    ghost use Rattle.plant_tasks.specs.Ending.{place_text};
+    ghost use Rattle.plant_tasks.specs.Paths.{path_of};
+
+    ghost output = { λ place. Some (place_text (path_of place.path) place.number) };
+
+    fn fmt<W: fmt::Write>(&self, f: &mut fmt::Formatter<W>) -> fmt::Result {
+        match self.path {
+            Some(path) => write!(f, "{path}:{}", self.number),
+            None => write!(f, "pick {} of the command line", self.number),
         }
     }
 }
@@ -134,6 +176,20 @@ impl From<WriteFault> for PlantEnding {
     }
 }
 
+impl From<StepFault> for PlantEnding {
+    ghost use Rattle.plant_tasks.specs.Ending.{of_step};
+
+    ghost from_gives = { λ fault ending. ending ≡ of_step fault };
+
+    fn from(fault: StepFault) -> Self {
+        match fault {
+            StepFault::Memory => PlantEnding::Memory,
+            StepFault::Read => PlantEnding::InputUnread,
+            StepFault::Write => PlantEnding::Unwritten,
+        }
+    }
+}
+
 impl From<TraceFault> for PlantEnding {
     ghost use Rattle.plant_tasks.specs.Ending.{of_trace};
 
@@ -143,6 +199,8 @@ impl From<TraceFault> for PlantEnding {
         match fault {
             TraceFault::Memory => PlantEnding::Memory,
             TraceFault::Write => PlantEnding::Unwritten,
+            TraceFault::Read => PlantEnding::InputUnread,
+            TraceFault::Refused(refusal) => PlantEnding::Refused(refusal),
         }
     }
 }

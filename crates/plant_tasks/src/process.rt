@@ -43,9 +43,15 @@ pub fn tell_more<R: Eprint + AllocGlobal>(
 ) {
     match ending {
         PlantEnding::Plant(told) if told.fault != Fault::Read => show_fault(rt, path, text, &told),
-        PlantEnding::Plant(_) | PlantEnding::Unopened => tell_file_failure(rt, failure),
+        PlantEnding::Plant(_) | PlantEnding::Unopened | PlantEnding::InputUnread => {
+            tell_file_failure(rt, failure)
+        }
+        PlantEnding::Unsaved => tell_unsaved(rt, failure),
         PlantEnding::Unwritten => tell_output_failure(rt, failure),
-        PlantEnding::Usage | PlantEnding::NoAtom(_) | PlantEnding::Memory => {}
+        PlantEnding::Usage
+        | PlantEnding::NoAtom(_)
+        | PlantEnding::Refused(_)
+        | PlantEnding::Memory => {}
     }
 }
 
@@ -60,6 +66,16 @@ pub fn tell_file_failure<R: Eprint>(rt: &R, failure: Option<io::Error>) {
         ErrorKind::IsADirectory => eprintln!(rt; "  a folder, and no file"),
         _ => eprintln!(rt; "  {failure}"),
     };
+}
+
+/// Tells why a file could not be made or written.
+fn tell_unsaved<R: Eprint>(rt: &R, failure: Option<io::Error>) {
+    match failure {
+        Some(failure) if failure.kind() == ErrorKind::PermissionDenied => {
+            let _ = eprintln!(rt; "  no right to write it");
+        }
+        failure => tell_file_failure(rt, failure),
+    }
 }
 
 /// Tells why the standard output takes nothing. Where a reader of it has gone, as `head` does when it has enough, there is nothing to tell.

@@ -1,60 +1,76 @@
-//! What is done with a plant text, from a reader to a writer.
-ghost use Rattle.std.specs.Prelude.{◌≡◌, ◌≢◌, ◌<◌, ◌++◌, IfErr, IfOk, IfSome, OnOk, Ok, Err};
+//! What is done with a plant: it is read from a text, and then a task is done with it.
+ghost use Rattle.std.specs.Prelude.{◌≡◌, ◌<◌, IfErr, IfOk, IfSome, OnOk, Ok, Err};
 ghost use Rattle.std.specs.Io.KnownBytes.{Appends, Keeps};
 ghost use Rattle.step_core.specs.System.{plant_of};
-ghost use Rattle.part_lines.specs.Lookup.{rule_lines};
-ghost use Rattle.part_lines.specs.Table.{part_lines};
 ghost use Rattle.plant_text.specs.Meaning.{meaning};
 ghost use Rattle.plant_text.specs.Taken.{TakesFew};
 ghost use Rattle.plant_text.specs.Text.{text_of};
 ghost use Rattle.plant_text.specs.declared.fault.PlantFault.{PlantFault};
-ghost use Rattle.plant_warnings.specs.Warnings.{warnings_text};
-ghost use Rattle.run_text.specs.RunPicks.{picks_left};
-ghost use Rattle.plant_tasks.specs.Printed.{counts_line, picks_said, printed_of, why_after, Prints};
-ghost use Rattle.plant_tasks.specs.Ending.{Tells, IsOfOutput};
-ghost use Rattle.plant_tasks.specs.declared.ending.PlantEnding.{PlantEnding};
-ghost use Rattle.plant_tasks.specs.declared.ending.PlantEnding.TheVariants.{Plant, Unwritten};
+ghost use Rattle.plant_tasks.specs.Printed.{printed_of, refusal_by, saved_of};
+ghost use Rattle.plant_tasks.specs.Ending.{IfTold, IsOfTask, IsSilent, OnTold, Tells};
+ghost use Rattle.plant_tasks.specs.declared.ending.PlantEnding.TheVariants.{Plant};
 
-use crate::counts::print_counts;
-use crate::drawing::print_drawing;
+use crate::doing::print_task;
 use crate::ending::PlantEnding;
-use blocked_text::Reasons;
-use command_line::{Picking, Task};
-use part_lines::{PartLines, rule_lines};
+use command_line::Task;
 use plant_text::{PlantFault, plant_of_text};
-use plant_warnings::print_warnings;
-use run_states::{trace_states, trace_waves};
-use run_text::{
-    GivenPicks, Picks, RandomPicks, RunPicks, print_choices_after, run_after, trace_by,
-};
 use std::alloc::Global;
-use std::io::{Read, Write};
+use std::io::{BufRead, Read, Write};
 use step_core::System;
 use text_io::{WriteFault, read_text};
 
-/// Reads a plant text to the reader's end, and prints what the task says of the plant; warnings name the text by its path. The text is put
-/// into `text`, so that a fault of one of its lines can be shown there.
-pub fn perform<R: Read, W: Write>(
+/// A plant that was read, and its text.
+#[derive(Clone, Copy)]
+pub struct ReadPlant<'a> {
+    /// The plant.
+    pub system: &'a System,
+    /// Its text.
+    pub text: &'a [u8],
+    /// Where the text stands, as warnings name it.
+    pub path: &'a str,
+}
+
+/// Prints what the task says of a plant that was read, and saves what it fires if it is to. The picks that a text has are read from `input`
+/// as they are taken, and nothing else is.
+///
+/// Where a pick is refused, the run is printed and saved up to it. Where the input or a writer fails, a part of it may be.
+pub fn perform<F: BufRead + Drop, W: Write, S: Write>(
     alloc: Global,
     task: &Task<'_>,
-    path: &str,
-    reader: &mut R,
-    text: &mut Vec<u8>,
+    plant: &ReadPlant<'_>,
+    input: F,
     output: &mut W,
+    saved: &mut S,
 ) -> Result<(), PlantEnding>
-    ensures printed { OnOk result (IfSome (R.remaining reader.old) (λ bytes. Prints task.now path.now bytes (W.contents output.old) (W.contents output.new))) }
-    ensures refused { IfErr result (λ ending. IfSome (R.remaining reader.old) (λ bytes. Tells ending bytes)) }
-    ensures nothing_printed { (ending : PlantEnding) → result ≡ Err ending → ending ≢ Unwritten → output.new ≡ output.old }
-    ensures kept { (told : PlantFault) → result ≡ Err (Plant told) → 0 < told.line → IfSome (R.remaining reader.old) (λ bytes. text.new.items ≡ bytes) }
-    ensures few { TakesFew (R.remaining reader.old) (R.remaining reader.new) }
+    ensures printed { OnTold result (IfSome (printed_of task.now plant.now (F.remaining input)) (Appends (W.contents output.old) (W.contents output.new))) }
+    ensures saved { OnTold result (IfSome (saved_of task.now plant.now (F.remaining input)) (Appends (S.contents saved.old) (S.contents saved.new))) }
+    ensures refusal { IfTold result (λ refusal. IfSome (refusal_by task.now plant.now (F.remaining input)) (λ first. refusal ≡ first)) }
+    ensures of_task { IfErr result IsOfTask }
+    ensures nothing_printed { IfErr result (λ ending. IsSilent ending → output.new ≡ output.old) }
+    ensures nothing_saved { IfErr result (λ ending. IsSilent ending → saved.new ≡ saved.old) }
 {
-    let system = read_plant(alloc, reader, text)?;
-    print_task(alloc, task, path, text, &system, output)?;
-    flush(output)?;
+    match print_task(alloc, task, plant, input, output, saved) {
+        Ok(()) => Ok(hand_on(output, saved)?),
+        Err(PlantEnding::Refused(refusal)) => {
+            hand_on(output, saved)?;
+            Err(PlantEnding::Refused(refusal))
+        }
+        Err(ending) => Err(ending),
+    }
+}
+
+/// Hands on what the writers still keep.
+fn hand_on<W: Write, S: Write>(output: &mut W, saved: &mut S) -> Result<(), WriteFault>
+    ensures output { OnOk result (Keeps (W.contents output.old) (W.contents output.new)) }
+    ensures saved { OnOk result (Keeps (S.contents saved.old) (S.contents saved.new)) }
+{
+    output.flush()?;
+    saved.flush()?;
     Ok(())
 }
 
-/// Reads a plant text to the reader's end, and gives the plant. The text is put into `text`.
+/// Reads a plant text to the reader's end, and gives the plant. The text is put into `text`, so that a fault of one of its lines can be
+/// shown there.
 pub fn read_plant<R: Read>(
     alloc: Global,
     reader: &mut R,
@@ -78,93 +94,4 @@ fn read_bytes<R: Read>(alloc: Global, reader: &mut R) -> Result<Vec<u8>, PlantEn
     ensures few { TakesFew (R.remaining reader.old) (R.remaining reader.new) }
 {
     Ok(read_text(alloc, reader).map_err(PlantFault::from)?)
-}
-
-/// Prints what the task says of the plant, which has this text.
-fn print_task<W: Write>(
-    alloc: Global,
-    task: &Task<'_>,
-    path: &str,
-    text: &[u8],
-    system: &System,
-    output: &mut W,
-) -> Result<(), PlantEnding>
-    ensures printed { OnOk result (Appends (W.contents output.old) (W.contents output.new) (printed_of task.now path.now text.now (plant_of system.now))) }
-    ensures of_output { IfErr result IsOfOutput }
-    ensures nothing_printed { (ending : PlantEnding) → result ≡ Err ending → ending ≢ Unwritten → output.new ≡ output.old }
-{
-    match task {
-        Task::Check => print_counts(system, output)?,
-        Task::Warn => print_warned(alloc, path, text, system, output)?,
-        Task::Choices(picking) => {
-            print_choices_after(alloc, system, &mut picks_of(picking), output)?
-        }
-        Task::Why(picking) => print_why(alloc, text, system, &mut picks_of(picking), output)?,
-        Task::Trace(picking, format) => {
-            trace_by(alloc, system, &mut picks_of(picking), *format, output)?
-        }
-        Task::States(picking, format) => {
-            trace_states(alloc, system, &mut picks_of(picking), *format, output)?
-        }
-        Task::Waves(picking) => trace_waves(alloc, system, &mut picks_of(picking), output)?,
-        Task::Draw(drawing) => print_drawing(alloc, drawing, system, output)?,
-    }
-    Ok(())
-}
-
-/// Prints why connectors can't be fired after the picks.
-fn print_why<P: Picks, W: Write>(
-    alloc: Global,
-    text: &[u8],
-    system: &System,
-    picks: &mut P,
-    output: &mut W,
-) -> Result<(), PlantEnding>
-    ensures printed { OnOk result (Appends (W.contents output.old) (W.contents output.new)
-        (why_after (plant_of system.now) (P.left picks.old) (rule_lines text.now))) }
-    ensures of_output { IfErr result IsOfOutput }
-    ensures nothing_printed { (ending : PlantEnding) → result ≡ Err ending → ending ≢ Unwritten → output.new ≡ output.old }
-{
-    let lines = rule_lines(alloc, text)?;
-    let reasons = Reasons::new(alloc, system)?;
-    let run = run_after(alloc, system, picks)?;
-    reasons.print_blocked(run.states(), &lines, output)?;
-    Ok(())
-}
-
-/// Prints how many parts the plant has, and what is probably a mistake in it.
-fn print_warned<W: Write>(
-    alloc: Global,
-    path: &str,
-    text: &[u8],
-    system: &System,
-    output: &mut W,
-) -> Result<(), PlantEnding>
-    ensures printed { OnOk result (Appends (W.contents output.old) (W.contents output.new)
-        (counts_line (plant_of system.now) ++ warnings_text (plant_of system.now) (part_lines text.now) path.now)) }
-    ensures of_output { IfErr result IsOfOutput }
-    ensures nothing_printed { (ending : PlantEnding) → result ≡ Err ending → ending ≢ Unwritten → output.new ≡ output.old }
-{
-    let lines = PartLines::of_text(alloc, text)?;
-    print_counts(system, output)?;
-    print_warnings(system, &lines, path.as_bytes(), output)?;
-    Ok(())
-}
-
-/// The picks of a run.
-fn picks_of(picking: &Picking) -> RunPicks<'_>
-    ensures { picks_left result ≡ picks_said picking.now }
-{
-    match picking {
-        Picking::Given(picks) => RunPicks::Given(GivenPicks::of(picks)),
-        Picking::Random(count, seed) => RunPicks::Random(RandomPicks::new(*seed, *count)),
-    }
-}
-
-/// Hands on what the writer still keeps.
-fn flush<W: Write>(output: &mut W) -> Result<(), WriteFault>
-    ensures { OnOk result (Keeps (W.contents output.old) (W.contents output.new)) }
-{
-    output.flush()?;
-    Ok(())
 }

@@ -1,5 +1,5 @@
-pub mod Stepping
 pub mod Telling
+pub mod Behind
 pub mod OfAtoms
 pub mod Listing
 mod Rows

@@ -8,7 +8,7 @@ use Rattle.step_core.specs.Step.{transfer}
 use Rattle.text_io.specs.declared.format.Format.{Format}
 use Rattle.text_io.specs.declared.format.Format.TheVariants.{Lines, Csv, Jsonl}
 use Rattle.run_text.specs.Jsonl.{fired_members}
-use Rattle.run_text.proofs.Telling.{told-line, told-participants}
+use Rattle.run_text.proofs.ToldRows.{told-line, told-participants}
 use Rattle.run_states.specs.States.{fired_begin}
 use Rattle.run_states.specs.Told.{told_begin}
 

@@ -1,4 +1,3 @@
-pub mod Steps
 pub mod OfAtoms
 pub mod Columns
 pub mod Objects

@@ -1,8 +1,8 @@
 //! The states of a run, step by step.
 //!
-//! Two ways to print a run with all that it goes through. `specs/States.antt` and `specs/Waves.antt` define their texts, each as one
-//! fold of the model's choices and steps over the picks (`specs/Steps.antt`). Contracts say that exactly this text was appended to a
-//! writer, where its type says which bytes it took; they say nothing of when a writer fails.
+//! Two ways to print a run with all that it goes through: two [`run_text::Telling`]s. `specs/States.antt` and `specs/Waves.antt` define
+//! their texts, each by the parts of a run that it tells. Contracts say that exactly this text was appended to a writer, where its
+//! type says which bytes it took; they say nothing of when a writer fails.
 //!
 //! - `states`: [`trace_states`] prints the state at the start, and then for each pick the interaction that it fires and the state
 //!   after it, in a [`text_io::Format`]. `steps`: the steps. `present`: a state in each format. `columns`: a state as columns of a row.

@@ -4,46 +4,69 @@ ghost use Rattle.std.specs.Io.KnownBytes.{Appends};
 ghost use Rattle.step_core.specs.Choice.{IsAllowed};
 ghost use Rattle.step_core.specs.Chosen.{choice_of};
 ghost use Rattle.step_core.specs.Fitting.{IsOf};
-ghost use Rattle.step_core.specs.Running.{plant_in, states_in};
+ghost use Rattle.step_core.specs.Running.{plant_in, states_in, system_in};
 ghost use Rattle.step_core.specs.Step.{next};
 ghost use Rattle.step_core.specs.System.{plant_of};
-ghost use Rattle.run_states.specs.States.{fired_lines, states_from, stuck_lines};
+ghost use Rattle.run_states.specs.States.{fired_lines, stuck_lines};
 ghost use Rattle.run_states.specs.Told.{told_begin};
 
 use crate::present::print_present;
 use connector_tree::MAX_LEAVES;
 use petri_atom::Delivered;
-use run_text::{Picks, picked, print_step_members, print_told, stuck_text};
+use run_text::{Telling, print_step_members, print_told, stuck_text};
 use std::io::Write;
 use step_core::{Choice, PlantState, Stepper, System};
 use text_io::{Format, WriteFault, end_line, print_text};
 
-/// Prints the run from the present state on, without that state.
-pub(crate) fn print_steps<P: Picks, W: Write>(
-    run: &mut Stepper<'_>,
-    picks: &mut P,
+/// A run that is told in a format, each interaction with the state after it.
+#[derive(Drop)]
+pub(crate) struct States {
     format: Format,
-    output: &mut W,
-) -> Result<(), WriteFault>
-    ensures { OnOk result (Appends (W.contents output.old) (W.contents output.new)
-        (states_from format (plant_in run.old) (states_in run.old) 1 (P.left picks.old))) }
-{
-    // One row for all steps: each writes it anew.
-    let mut told = [Delivered::of([None, None, None, None]); MAX_LEAVES];
-    for fired in 0..picks.count() {
-        let pick = match picks.next_pick() {
-            Some(pick) => pick,
-            None => break,
-        };
-        match picked(run, pick) {
-            Some(choice) => print_step(format, fired + 1, run, &choice, &mut told, output)?,
-            None => {
-                print_stuck(format, run.system(), run.states(), output)?;
-                break;
-            }
+    /// One row for all steps: each writes it anew.
+    told: [Delivered; MAX_LEAVES],
+}
+
+impl States {
+    /// A run in the format.
+    pub(crate) fn of(format: Format) -> Self
+        ensures { result.format ≡ format }
+    {
+        States {
+            format,
+            told: [Delivered::of([None, None, None, None]); MAX_LEAVES],
         }
     }
-    Ok(())
+}
+
+impl Telling for States {
+    ghost use Rattle.run_states.specs.States.{state_parts};
+
+    ghost parts = { λ states. state_parts states.format };
+
+    ghost IsReady = { λ _ _. Unit {0} };
+
+    fn tell_fired<W: Write>(
+        &mut self,
+        number: u64,
+        run: &mut Stepper<'_>,
+        choice: &Choice,
+        output: &mut W,
+    ) -> Result<(), WriteFault> {
+        print_step(self.format, number, run, choice, &mut self.told, output)
+    }
+
+    fn tell_stuck<W: Write>(&self, run: &Stepper<'_>, output: &mut W) -> Result<(), WriteFault> {
+        print_stuck(self.format, run.system(), run.states(), output)
+    }
+
+    fn tell_end<W: Write>(
+        &self,
+        _fired: u64,
+        _run: &Stepper<'_>,
+        _output: &mut W,
+    ) -> Result<(), WriteFault> {
+        Ok(())
+    }
 }
 
 /// Fires a choice of the present state, and prints it with the state after it; `told` is for what it delivers.
@@ -56,6 +79,7 @@ fn print_step<W: Write>(
     output: &mut W,
 ) -> Result<(), WriteFault>
     requires { IsAllowed (plant_in run.old) (states_in run.old) (choice_of choice.now) }
+    ensures system { system_in run.new ≡ system_in run.old }
     ensures plant { plant_in run.new ≡ plant_in run.old }
     ensures next { states_in run.new ≡ next (plant_in run.old) (states_in run.old) (choice_of choice.now) }
     ensures printed { OnOk result (Appends (W.contents output.old) (W.contents output.new)

@@ -1,77 +1,116 @@
--- The run that a trace prints, and what is printed of it.
-use Rattle.std.proofs.Common.{◌≡◌, ℕ, ◌+◌, ◌<◌, ◌%◌, refl, sym, ◌∙◌, ap, List, [], ◌∷◌, ◌++◌, length, get_or, codes, append_assoc, arith}
-use Rattle.std.specs.Prelude.{Option, Some, None, slice_get}
-use Rattle.std.specs.Option.{option_map_or}
-use Rattle.std.proofs.Math.Nat.{mod-lt}
-use Rattle.std.proofs.lemmas.Option.{none-some, slice_get-get_or}
+-- The run that picks choose, and what is told of it.
+use Rattle.std.proofs.Common.{◌≡◌, ℕ, suc, ◌+◌, ◌<◌, refl, sym, ◌∙◌, ap, List, [], ◌∷◌, ◌++◌, length, append_assoc, arith}
+use Rattle.std.specs.Prelude.{Option, Some, None}
+use Rattle.std.proofs.lemmas.Option.{none-some}
 use Rattle.petri_atom.specs.Local.{Local}
 use Rattle.step_core.specs.Plant.{PlantDefinition}
 use Rattle.step_core.specs.Choice.{ChoiceDefinition, choices}
 use Rattle.step_core.specs.Runs.{IsRun, fold}
 use Rattle.step_core.specs.Step.{next}
-use Rattle.step_core.proofs.Membership.{entry-in}
-use Rattle.text_io.specs.declared.format.Format.{Format}
-use Rattle.run_text.specs.Format.{end_text, step_text, stuck_text}
-use Rattle.run_text.specs.Runs.{chosen, step_lines, stuck_part}
-use Rattle.run_text.specs.Trace.{picked, trace_from}
-
--- where the entry at a number modulo the length is missing, the list is empty
-none-of-empty : {X : Type 0} (xs : List X) (pick : ℕ) → slice_get xs (pick % length xs) ≡ None → xs ≡ []
-none-of-empty [] pick missing = refl
-none-of-empty (x ∷ xs) pick missing =
-    let within : pick % length (x ∷ xs) < length (x ∷ xs) = mod-lt pick (omega arith) in
-    absurd (none-some (get_or (x ∷ xs) (pick % length (x ∷ xs)) x) (sym missing ∙ slice_get-get_or (x ∷ xs) (pick % length (x ∷ xs)) x within))
-
--- one text before three
-pub behind : (first lines part last : List ℕ) → first ++ (lines ++ part ++ last) ≡ first ++ lines ++ part ++ last
-behind first lines part last = sym (ap (λ t. t ++ last) (append_assoc first lines part) ∙ append_assoc first (lines ++ part) last)
+use Rattle.run_text.specs.Picks.{PickDefinition}
+use Rattle.run_text.specs.Runs.{chosen, refusal_in}
+use Rattle.run_text.specs.Steps.{Parts, steps_told, told_from}
+use Rattle.run_text.specs.Taken.{Taken, fires, stuck, refused, by_taken, taken_as}
+use Rattle.run_text.specs.declared.fault.Refusal.{Refusal}
+use Rattle.run_text.proofs.Takes.{fires-allowed, stuck-without}
 
 module _ (plant : PlantDefinition) where
+  -- what is chosen of a pick and those behind it, and which is refused, by what comes of the pick
+  abbrev chosen_by : List Local → ℕ → List PickDefinition → Taken → List ChoiceDefinition
+  chosen_by states number picks t = by_taken t (λ c. c ∷ chosen plant (next plant states c) (number + 1) picks) [] (λ why. [])
+
+  abbrev refusal_by : List Local → ℕ → PickDefinition → List PickDefinition → Taken → Option Refusal
+  refusal_by states number pick picks t =
+      by_taken t (λ c. refusal_in plant (next plant states c) (number + 1) picks) None (λ why. Some (record { place = pick.place; why = why }))
+
   -- the choices that picks take are a run to their fold
-  pub chosen-runs : (picks : List ℕ) (states : List Local) → IsRun plant states (chosen plant states picks) (fold plant states (chosen plant states picks))
-  chosen-runs [] states = refl
-  chosen-runs (pick ∷ picks) states = each (chosen-runs picks) (picked plant states pick) refl
+  pub chosen-runs : (picks : List PickDefinition) (states : List Local) (number : ℕ) → IsRun plant states (chosen plant states number picks) (fold plant states (chosen plant states number picks))
+  chosen-runs [] states number = refl
+  chosen-runs (pick ∷ picks) states number = each (λ later. chosen-runs picks later (number + 1)) (taken_as plant states number pick.take) refl
     where
-      taken : Option ChoiceDefinition → List ChoiceDefinition
-      taken o = option_map_or (λ c. c ∷ chosen plant (next plant states c) picks) o []
+      each : ((later : List Local) → IsRun plant later (chosen plant later (number + 1) picks) (fold plant later (chosen plant later (number + 1) picks)))
+          → (t : Taken) → taken_as plant states number pick.take ≡ t → IsRun plant states (chosen_by states number picks t) (fold plant states (chosen_by states number picks t))
+      each more (fires c) is = ((fires-allowed plant states number pick.take c is).0, more (next plant states c))
+      each more stuck is = refl
+      each more (refused why) is = refl
 
-      each : ((later : List Local) → IsRun plant later (chosen plant later picks) (fold plant later (chosen plant later picks))) → (o : Option ChoiceDefinition) → picked plant states pick ≡ o → IsRun plant states (taken o) (fold plant states (taken o))
-      each more None is = refl
-      each more (Some c) is = (entry-in (choices plant states) (pick % length (choices plant states)) c is, more (next plant states c))
-
-  -- where they are fewer than the picks nothing is possible behind them
-  pub few-where-stuck : (picks : List ℕ) (states : List Local) → length (chosen plant states picks) < length picks
-      → choices plant (fold plant states (chosen plant states picks)) ≡ []
-  few-where-stuck [] states fewer = absurd (omega (arith, fewer))
-  few-where-stuck (pick ∷ picks) states fewer = each (few-where-stuck picks) (picked plant states pick) refl fewer
+  -- where they are fewer than the picks, and none is refused, there is no choice behind them
+  pub few-where-stuck : (picks : List PickDefinition) (states : List Local) (number : ℕ) → length (chosen plant states number picks) < length picks
+      → refusal_in plant states number picks ≡ None → choices plant (fold plant states (chosen plant states number picks)) ≡ []
+  few-where-stuck [] states number fewer none = absurd (omega (arith, fewer))
+  few-where-stuck (pick ∷ picks) states number fewer none =
+      each (λ later. few-where-stuck picks later (number + 1)) (taken_as plant states number pick.take) refl fewer none
     where
-      taken : Option ChoiceDefinition → List ChoiceDefinition
-      taken o = option_map_or (λ c. c ∷ chosen plant (next plant states c) picks) o []
+      each : ((later : List Local) → length (chosen plant later (number + 1) picks) < length picks → refusal_in plant later (number + 1) picks ≡ None
+          → choices plant (fold plant later (chosen plant later (number + 1) picks)) ≡ [])
+          → (t : Taken) → taken_as plant states number pick.take ≡ t → length (chosen_by states number picks t) < length (pick ∷ picks) → refusal_by states number pick picks t ≡ None
+          → choices plant (fold plant states (chosen_by states number picks t)) ≡ []
+      each more (fires c) is few kept = more (next plant states c) (omega (arith, few)) kept
+      each more stuck is few kept = stuck-without plant states number pick.take is
+      each more (refused why) is few kept = absurd (none-some _ (sym kept))
 
-      each : ((later : List Local) → length (chosen plant later picks) < length picks → choices plant (fold plant later (chosen plant later picks)) ≡ [])
-          → (o : Option ChoiceDefinition) → picked plant states pick ≡ o → length (taken o) < length (pick ∷ picks) → choices plant (fold plant states (taken o)) ≡ []
-      each more None is few = none-of-empty (choices plant states) pick is
-      each more (Some c) is few = more (next plant states c) (omega (arith, few))
+module _ (parts : Parts) (plant : PlantDefinition) where
+  abbrev told_by : List Local → ℕ → List PickDefinition → Taken → List ℕ
+  told_by states number picks t =
+      by_taken t (λ c. parts.fired plant states number c ++ told_from parts plant (next plant states c) (number + 1) picks)
+      (parts.stuck plant states ++ parts.end plant states number) (λ why. [])
 
-  -- a trace prints their lines, and the state behind them
-  pub chosen-printed : (format : Format) (picks : List ℕ) (states : List Local) (number : ℕ)
-      → trace_from format plant states number picks ≡ step_lines format plant states number (chosen plant states picks) ++ stuck_part format picks (chosen plant states picks) ++ end_text format plant (fold plant states (chosen plant states picks))
-  chosen-printed format [] states number = refl
-  chosen-printed format (pick ∷ picks) states number = each (λ later. chosen-printed format picks later (number + 1)) (picked plant states pick)
+  -- what is told behind choices where there is no other
+  abbrev behind : List Local → List ChoiceDefinition → ℕ → List ℕ
+  behind states cs number = parts.stuck plant (fold plant states cs) ++ parts.end plant (fold plant states cs) number
+
+  -- where each pick takes a choice, these are told, and the end
+  pub told-ended : (picks : List PickDefinition) (states : List Local) (number : ℕ) → length (chosen plant states number picks) ≡ length picks
+      → told_from parts plant states number picks
+      ≡ steps_told parts plant states number (chosen plant states number picks) ++ parts.end plant (fold plant states (chosen plant states number picks)) (number + length picks)
+  told-ended [] states number all = ap (parts.end plant states) (let e : number ≡ number + 0 = omega arith in e)
+  told-ended (pick ∷ picks) states number all = each (λ later. told-ended picks later (number + 1)) (taken_as plant states number pick.take) all
     where
-      taken : Option ChoiceDefinition → List ChoiceDefinition
-      taken o = option_map_or (λ c. c ∷ chosen plant (next plant states c) picks) o []
-
-      line : ChoiceDefinition → List ℕ
-      line c = step_text format plant states number c ++ codes "\n"
-
-      each : ((later : List Local) → trace_from format plant later (number + 1) picks ≡ step_lines format plant later (number + 1) (chosen plant later picks) ++ stuck_part format picks (chosen plant later picks) ++ end_text format plant (fold plant later (chosen plant later picks)))
-          → (o : Option ChoiceDefinition)
-          → option_map_or (λ c. step_text format plant states number c ++ codes "\n" ++ trace_from format plant (next plant states c) (number + 1) picks) o (stuck_text format ++ end_text format plant states)
-          ≡ step_lines format plant states number (taken o) ++ stuck_part format (pick ∷ picks) (taken o) ++ end_text format plant (fold plant states (taken o))
-      each more None = refl
-      each more (Some c) =
+      each : ((later : List Local) → length (chosen plant later (number + 1) picks) ≡ length picks → told_from parts plant later (number + 1) picks
+          ≡ steps_told parts plant later (number + 1) (chosen plant later (number + 1) picks) ++ parts.end plant (fold plant later (chosen plant later (number + 1) picks)) (number + 1 + length picks))
+          → (t : Taken) → length (chosen_by plant states number picks t) ≡ length (pick ∷ picks) → told_by states number picks t
+          ≡ steps_told parts plant states number (chosen_by plant states number picks t) ++ parts.end plant (fold plant states (chosen_by plant states number picks t)) (number + length (pick ∷ picks))
+      each more (fires c) same =
           let after = next plant states c in
-          let rest = chosen plant after picks in
-          ap (λ t. line c ++ t) (more after)
-          ∙ behind (line c) (step_lines format plant after (number + 1) rest) (stuck_part format picks rest) (end_text format plant (fold plant after rest))
+          let cs = chosen plant after (number + 1) picks in
+          let first = parts.fired plant states number c in
+          let later : length cs ≡ length picks = omega (arith, same) in
+          let count : number + 1 + length picks ≡ number + suc (length picks) = omega arith in
+          ap (λ text. first ++ text) (more after later ∙ ap (λ n. steps_told parts plant after (number + 1) cs ++ parts.end plant (fold plant after cs) n) count) ∙
+          sym (append_assoc first (steps_told parts plant after (number + 1) cs) (parts.end plant (fold plant after cs) (number + suc (length picks))))
+      each more stuck same = absurd (omega (arith, same))
+      each more (refused why) same = absurd (omega (arith, same))
+
+  -- where one is refused, the choices before it are told
+  pub told-refused : (picks : List PickDefinition) (states : List Local) (number : ℕ) (refusal : Refusal) → refusal_in plant states number picks ≡ Some refusal
+      → told_from parts plant states number picks ≡ steps_told parts plant states number (chosen plant states number picks)
+  told-refused [] states number refusal is = absurd (none-some refusal is)
+  told-refused (pick ∷ picks) states number refusal is = each (λ later. told-refused picks later (number + 1) refusal) (taken_as plant states number pick.take) is
+    where
+      each : ((later : List Local) → refusal_in plant later (number + 1) picks ≡ Some refusal → told_from parts plant later (number + 1) picks
+          ≡ steps_told parts plant later (number + 1) (chosen plant later (number + 1) picks))
+          → (t : Taken) → refusal_by plant states number pick picks t ≡ Some refusal → told_by states number picks t ≡ steps_told parts plant states number (chosen_by plant states number picks t)
+      each more (fires c) same = ap (λ text. parts.fired plant states number c ++ text) (more (next plant states c) same)
+      each more stuck same = absurd (none-some refusal same)
+      each more (refused why) same = refl
+
+  -- and where there is no choice for one, that too, and the end
+  pub told-stuck : (picks : List PickDefinition) (states : List Local) (number : ℕ) → length (chosen plant states number picks) < length picks → refusal_in plant states number picks ≡ None
+      → told_from parts plant states number picks ≡ steps_told parts plant states number (chosen plant states number picks)
+      ++ behind states (chosen plant states number picks) (number + length (chosen plant states number picks))
+  told-stuck [] states number fewer none = absurd (omega (arith, fewer))
+  told-stuck (pick ∷ picks) states number fewer none = each (λ later. told-stuck picks later (number + 1)) (taken_as plant states number pick.take) fewer none
+    where
+      each : ((later : List Local) → length (chosen plant later (number + 1) picks) < length picks → refusal_in plant later (number + 1) picks ≡ None → told_from parts plant later (number + 1) picks
+          ≡ steps_told parts plant later (number + 1) (chosen plant later (number + 1) picks) ++ behind later (chosen plant later (number + 1) picks) (number + 1 + length (chosen plant later (number + 1) picks)))
+          → (t : Taken) → length (chosen_by plant states number picks t) < length (pick ∷ picks) → refusal_by plant states number pick picks t ≡ None → told_by states number picks t
+          ≡ steps_told parts plant states number (chosen_by plant states number picks t) ++ behind states (chosen_by plant states number picks t) (number + length (chosen_by plant states number picks t))
+      each more (fires c) few kept =
+          let after = next plant states c in
+          let cs = chosen plant after (number + 1) picks in
+          let first = parts.fired plant states number c in
+          let count : number + 1 + length cs ≡ number + suc (length cs) = omega arith in
+          ap (λ text. first ++ text) (more after (omega (arith, few)) kept ∙ ap (λ n. steps_told parts plant after (number + 1) cs ++ behind after cs n) count) ∙
+          sym (append_assoc first (steps_told parts plant after (number + 1) cs) (behind after cs (number + suc (length cs))))
+      each more stuck few kept = ap (λ n. parts.stuck plant states ++ parts.end plant states n) (let e : number ≡ number + 0 = omega arith in e)
+      each more (refused why) few kept = absurd (none-some _ (sym kept))

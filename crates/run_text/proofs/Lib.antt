@@ -1,8 +1,9 @@
 pub mod Separating
-pub mod Running
+pub mod Among
+pub mod Takes
+pub mod GoingOn
 pub mod Chosen
-pub mod Telling
+pub mod ToldRows
 pub mod Listed
-pub mod Random
 mod Rows
 pub mod RunRows

@@ -14,8 +14,12 @@ use Rattle.run_text.specs.Word.{separated_by}
 use Rattle.run_text.specs.Csv.{state_row}
 use Rattle.run_text.specs.Delivered.{delivered_words}
 use Rattle.run_text.specs.Jsonl.{atom_object, state_object}
+use Rattle.run_text.specs.Message.{refused_message}
+use Rattle.run_text.specs.Picks.{counted_picks, numbered_picks}
+use Rattle.run_text.specs.Runs.{refusal_of}
 use Rattle.run_text.specs.Trace.{trace_in, trace_text}
-use Rattle.text_io.specs.declared.format.Format.TheVariants.{Csv, Jsonl}
+use Rattle.run_text.specs.declared.fault.RefusedPick.TheVariants.{PastList}
+use Rattle.text_io.specs.declared.format.Format.TheVariants.{Lines, Csv, Jsonl}
 
 -- no word, and two
 no_words : separated_by (codes " ") [] ≡ []
@@ -79,13 +83,35 @@ unfolding wide digits set_below
 no_picks = refl
 
 -- the same as rows and as objects, with what stands before the run
-rows_stuck_at_once : trace_in Csv alone (3 ∷ 0 ∷ []) ≡ codes "kind,number,name,parts,values\nstuck,,,,\nstate,,W,p q r,n=0 m=0\n"
+rows_stuck_at_once : trace_in Csv alone (counted_picks (3 ∷ 0 ∷ [])) ≡ codes "kind,number,name,parts,values\nstuck,,,,\nstate,,W,p q r,n=0 m=0\n"
 unfolding wide digits set_below
 rows_stuck_at_once = refl
 
-objects_stuck_at_once : trace_in Jsonl alone (3 ∷ 0 ∷ []) ≡ codes "{\"kind\":\"stuck\"}\n{\"kind\":\"state\",\"atom\":\"W\",\"places\":[\"p\",\"q\",\"r\"],\"variables\":{\"n\":0,\"m\":0}}\n"
+objects_stuck_at_once : trace_in Jsonl alone (counted_picks (3 ∷ 0 ∷ [])) ≡ codes "{\"kind\":\"stuck\"}\n{\"kind\":\"state\",\"atom\":\"W\",\"places\":[\"p\",\"q\",\"r\"],\"variables\":{\"n\":0,\"m\":0}}\n"
 unfolding wide digits set_below
 objects_stuck_at_once = refl
+
+-- a stuck run is not refused; but any number that is taken as it is, is past an empty list, and nothing is told
+stuck_and_not_refused : refusal_of alone (counted_picks (3 ∷ 0 ∷ [])) ≡ None
+unfolding wide set_below
+stuck_and_not_refused = refl
+
+past_an_empty_list : (refusal_of alone (numbered_picks (0 ∷ [])) ≡ Some (record { place = 1; why = PastList 0 0 })) × (trace_in Lines alone (numbered_picks (0 ∷ [])) ≡ [])
+unfolding wide set_below
+past_an_empty_list = (refl, refl)
+
+-- a number past lists of none, of one and of five choices
+past_none : refused_message (PastList 7 0) ≡ codes "pick 7, but there is no choice"
+unfolding digits
+past_none = refl
+
+past_one : refused_message (PastList 7 1) ≡ codes "pick 7, but there is 1 choice (0)"
+unfolding digits
+past_one = refl
+
+past_five : refused_message (PastList 7 5) ≡ codes "pick 7, but there are 5 choices (0 to 4)"
+unfolding digits
+past_five = refl
 
 -- its states in a row and in an object
 ends_in_a_row : state_row wide (record { marking = 5; values = pos 10 ∷ negsuc 1 ∷ [] }) ≡ codes "state,,W,p r,n=10 m=-2"

@@ -1,6 +1,6 @@
 -- A worked run of a plant of two atoms, computed from the definitions.
 use Rattle.std.proofs.Common.{◌≡◌, ℕ, ◌%◌, ◌∙◌, ap, ℤ, pos, refl, true, false, List, [], ◌∷◌, length, codes}
-use Rattle.std.specs.Prelude.{Some, slice_get}
+use Rattle.std.specs.Prelude.{Some, slice_get, ◌^◌, ◌-◌}
 use Rattle.std.specs.Fmt.{digits}
 use Rattle.std.specs.Int.{int_wrap}
 use Rattle.petri_atom.specs.Expression.{number, variable, operation}
@@ -14,8 +14,16 @@ use Rattle.priority_filter.specs.Decided.{is_overruled, is_below}
 use Rattle.step_core.specs.Step.{next}
 use Rattle.step_core.specs.declared.choice.Move.{Move}
 use Rattle.run_text.specs.Choices.{choices_after, more_text}
-use Rattle.run_text.specs.Picks.{random_picks}
-use Rattle.run_text.specs.Trace.{picked, trace_text}
+use Rattle.run_text.specs.Message.{message_of}
+use Rattle.run_text.specs.Picks.{PickDefinition, counted, counted_picks, named, numbered_picks, random_picks}
+use Rattle.run_text.specs.Runs.{refusal_of}
+use Rattle.run_text.specs.Steps.{saved_in}
+use Rattle.run_text.specs.Taken.{fires, picked, refused, taken_as}
+use Rattle.run_text.specs.Trace.{trace_in, trace_text}
+use Rattle.run_text.specs.declared.fault.Refusal.{Refusal}
+use Rattle.run_text.specs.declared.fault.RefusedPick.TheVariants.{NotPossible, PastList, TooMany}
+use Rattle.run_text.specs.declared.fault.TraceFault.TheVariants.{Refused}
+use Rattle.text_io.specs.declared.format.Format.TheVariants.{Lines}
 
 -- port 0 of an atom
 abbrev port_of : ℕ → Port
@@ -93,8 +101,50 @@ tick_and_send_twice : trace_text sample (0 ∷ 1 ∷ 0 ∷ 1 ∷ []) ≡ codes "
 unfolding sample digits moved set_below int_wrap is_overruled is_below
 tick_and_send_twice = refl
 
+-- what is saved of tick and send
+tick_and_send_saved : saved_in sample (counted_picks (0 ∷ 1 ∷ [])) ≡ codes "tick A.t/0\nsend A.t/0 B.u/0\n"
+unfolding sample digits moved set_below int_wrap is_overruled is_below
+tick_and_send_saved = refl
+
+-- numbers that are taken as they are: the second is past the list of two, and nothing is told behind tick
+abbrev past_two : Refusal
+past_two = record { place = 2; why = PastList 7 2 }
+
+seven_is_past_two : refusal_of sample (numbered_picks (0 ∷ 7 ∷ [])) ≡ Some past_two
+unfolding sample moved set_below int_wrap is_overruled is_below
+seven_is_past_two = refl
+
+told_up_to_seven : trace_in Lines sample (numbered_picks (0 ∷ 7 ∷ [])) ≡ codes "1 tick A.t/0\n"
+unfolding sample digits moved set_below int_wrap is_overruled is_below
+told_up_to_seven = refl
+
+seven_is_told : message_of (Refused past_two) ≡ codes "2: pick 7, but there are 2 choices (0 to 1)"
+unfolding digits
+seven_is_told = refl
+
+-- a pick in line 3 that names a choice
+abbrev in_line_3 : ChoiceDefinition → PickDefinition
+in_line_3 c = record { place = 3; take = named c }
+
+-- send is taken; but a transition that A does not have can't be fired
+send_by_its_name : trace_in Lines sample (in_line_3 sent ∷ []) ≡ codes "1 send A.t/0 B.u/0\nstate A [s] n=1\nstate B [s] m=0\n"
+unfolding sample digits moved set_below int_wrap is_overruled is_below
+send_by_its_name = refl
+
+no_such_choice : refusal_of sample (in_line_3 (record { connector = 0; mask = 1; moves = record { atom = 0; transition = 1 } ∷ [] }) ∷ []) ≡ Some (record { place = 3; why = NotPossible })
+unfolding sample moved set_below int_wrap is_overruled is_below
+no_such_choice = refl
+
+-- the last number that an interaction can have, and one more
+last_number : taken_as sample (at (pos 0) (pos 0)) (2 ^ 64 - 1) (counted 0) ≡ fires ticked
+unfolding sample is_overruled is_below
+last_number = refl
+
+one_number_more : taken_as sample (at (pos 0) (pos 0)) (2 ^ 64) (counted 0) ≡ refused TooMany
+one_number_more = refl
+
 -- after tick both can be fired, each by its number
-choices_after_tick : choices_after sample (0 ∷ []) ≡ codes "0 tick A.t/0\n1 send A.t/0 B.u/0\n"
+choices_after_tick : choices_after sample (counted_picks (0 ∷ [])) ≡ codes "0 tick A.t/0\n1 send A.t/0 B.u/0\n"
 unfolding sample digits moved set_below int_wrap is_overruled is_below
 choices_after_tick = refl
 

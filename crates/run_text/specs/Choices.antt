@@ -1,20 +1,13 @@
 -- The list of what can be fired next.
 use Rattle.std.specs.Prelude.{ℕ, ◌-◌, ◌==◌, if◌then◌else◌, List, [], ◌∷◌, ◌++◌, length, take, codes, decimal}
-use Rattle.std.specs.Option.{option_map_or}
-use Rattle.petri_atom.specs.Local.{Local}
 use Rattle.step_core.specs.Plant.{PlantDefinition}
 use Rattle.step_core.specs.Choice.{ChoiceDefinition, choices}
-use Rattle.step_core.specs.Step.{initial_states, next}
+use Rattle.step_core.specs.Step.{initial_states}
 use Rattle.run_text.specs.declared.choices.TheConstants.{MOST_LISTED}
 use Rattle.run_text.specs.Line.{fired_line}
 use Rattle.text_io.specs.Numbered.{numbered}
-use Rattle.run_text.specs.Trace.{picked}
-
--- the state after the choices that picks take, until the picks end or nothing is possible
-abbrev pub state_after : PlantDefinition → List Local → List ℕ → List Local
-state_after plant states [] = states
-state_after plant states (pick ∷ picks) =
-    option_map_or (λ c. state_after plant (next plant states c) picks) (picked plant states pick) states
+use Rattle.run_text.specs.Picks.{PickDefinition}
+use Rattle.run_text.specs.Runs.{state_after}
 
 -- a choice on a line, after its place in the list
 abbrev pub choice_text : PlantDefinition → ℕ → ChoiceDefinition → List ℕ
@@ -31,5 +24,5 @@ choices_text plant (c ∷ cs) =
     numbered (choice_text plant) 0 (take MOST_LISTED (c ∷ cs)) ++ more_text (length (c ∷ cs) - MOST_LISTED)
 
 -- the choices that a plant has after some picks, from its first states on
-abbrev pub choices_after : PlantDefinition → List ℕ → List ℕ
+abbrev pub choices_after : PlantDefinition → List PickDefinition → List ℕ
 choices_after plant picks = choices_text plant (choices plant (state_after plant (initial_states plant) picks))

@@ -5,9 +5,13 @@ pub mod Csv
 pub mod Jsonl
 pub mod Told
 pub mod Format
-pub mod Trace
-pub mod Runs
 pub mod Message
-pub mod Choices
 pub mod Picks
 pub mod RunPicks
+pub mod Taken
+pub mod Taking
+pub mod Runs
+pub mod Steps
+pub mod Ran
+pub mod Trace
+pub mod Choices

@@ -24,11 +24,13 @@ participant atoms m =
     option_map_or (λ a. a.name ++ codes "." ++ fired_port_name a m.transition ++ codes "/" ++ decimal m.transition)
     (slice_get atoms m.atom) []
 
--- a fired interaction: its number, its connector's name, and its participants in rising order of their atoms
+-- a fired interaction: its connector's name, and its participants in rising order of their atoms
+abbrev pub interaction_line : PlantDefinition → ChoiceDefinition → List ℕ
+interaction_line plant c = wire_name plant c.connector ++ flat_map (λ m. codes " " ++ participant plant.atoms m) c.moves
+
+-- the same behind its number
 abbrev pub fired_line : PlantDefinition → ℕ → ChoiceDefinition → List ℕ
-fired_line plant number c =
-    decimal number ++ codes " " ++ wire_name plant c.connector ++
-    flat_map (λ m. codes " " ++ participant plant.atoms m) c.moves
+fired_line plant number c = decimal number ++ codes " " ++ interaction_line plant c
 
 -- the name of the place with number k, where it is marked
 abbrev pub marked_name : Format → ℕ → ℕ → Place → List (List ℕ)

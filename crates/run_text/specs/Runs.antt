@@ -1,26 +1,31 @@
--- What a trace prints, by the run that its picks choose.
-use Rattle.std.specs.Prelude.{ℕ, ◌+◌, List, [], ◌∷◌, ◌++◌, codes}
-use Rattle.std.specs.Option.{option_map_or}
+-- The run that picks choose.
+use Rattle.std.specs.Prelude.{ℕ, ◌+◌, List, [], ◌∷◌, Option, Some, None}
 use Rattle.petri_atom.specs.Local.{Local}
 use Rattle.step_core.specs.Plant.{PlantDefinition}
 use Rattle.step_core.specs.Choice.{ChoiceDefinition}
-use Rattle.step_core.specs.Step.{next}
-use Rattle.text_io.specs.declared.format.Format.{Format}
-use Rattle.run_text.specs.Format.{step_text, stuck_text}
-use Rattle.run_text.specs.Trace.{picked}
+use Rattle.step_core.specs.Runs.{fold}
+use Rattle.step_core.specs.Step.{initial_states, next}
+use Rattle.run_text.specs.Picks.{PickDefinition}
+use Rattle.run_text.specs.Taken.{by_taken, taken_as}
+use Rattle.run_text.specs.declared.fault.Refusal.{Refusal}
 
--- the choices that picks take from a state on; where nothing is possible the picks that are left take none
-abbrev pub chosen : PlantDefinition → List Local → List ℕ → List ChoiceDefinition
-chosen plant states [] = []
-chosen plant states (pick ∷ picks) = option_map_or (λ c. c ∷ chosen plant (next plant states c) picks) (picked plant states pick) []
+-- the choices that picks take from a state on, the first of them with this number; behind a state with no choice, and behind a pick that is refused, none
+abbrev pub chosen : PlantDefinition → List Local → ℕ → List PickDefinition → List ChoiceDefinition
+chosen plant states number [] = []
+chosen plant states number (pick ∷ picks) =
+    by_taken (taken_as plant states number pick.take) (λ c. c ∷ chosen plant (next plant states c) (number + 1) picks) [] (λ why. [])
 
--- the lines of choices that are fired one after another, of which the first has this number
-abbrev pub step_lines : Format → PlantDefinition → List Local → ℕ → List ChoiceDefinition → List ℕ
-step_lines format plant states number [] = []
-step_lines format plant states number (c ∷ cs) = step_text format plant states number c ++ codes "\n" ++ step_lines format plant (next plant states c) (number + 1) cs
+-- the first pick that is refused, if one is
+abbrev pub refusal_in : PlantDefinition → List Local → ℕ → List PickDefinition → Option Refusal
+refusal_in plant states number [] = None
+refusal_in plant states number (pick ∷ picks) =
+    by_taken (taken_as plant states number pick.take) (λ c. refusal_in plant (next plant states c) (number + 1) picks) None
+    (λ why. Some (record { place = pick.place; why = why }))
 
--- what is printed behind them: where the choices end before the picks, that nothing is possible
-abbrev pub stuck_part : Format → List ℕ → List ChoiceDefinition → List ℕ
-stuck_part format [] cs = []
-stuck_part format (pick ∷ picks) [] = stuck_text format
-stuck_part format (pick ∷ picks) (c ∷ cs) = stuck_part format picks cs
+-- the state behind the choices that picks take from a state on
+abbrev pub state_after : PlantDefinition → List Local → List PickDefinition → List Local
+state_after plant states picks = fold plant states (chosen plant states 1 picks)
+
+-- the first pick that is refused in the run of a plant from its first states on
+abbrev pub refusal_of : PlantDefinition → List PickDefinition → Option Refusal
+refusal_of plant picks = refusal_in plant (initial_states plant) 1 picks

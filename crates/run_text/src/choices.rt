@@ -1,19 +1,24 @@
 //! The list of what can be fired next.
-ghost use Rattle.std.specs.Prelude.{◌≡◌, ◌-◌, ◌≤◌, Err, IfOk, OnOk, length, take};
+ghost use Rattle.std.specs.Prelude.{◌≡◌, ◌≢◌, ◌-◌, ◌≤◌, Err, IfOk, IfSome, OnOk, length, take};
 ghost use Rattle.std.specs.Io.KnownBytes.{Appends};
 ghost use Rattle.step_core.specs.Choice.{choices};
 ghost use Rattle.step_core.specs.Running.{plant_in, states_in, system_in};
 ghost use Rattle.step_core.specs.Step.{initial_states};
 ghost use Rattle.step_core.specs.System.{plant_of};
-ghost use Rattle.run_text.specs.Choices.{choice_text, choices_after, choices_text, more_text, state_after};
+ghost use Rattle.run_text.specs.Choices.{choice_text, choices_after, choices_text, more_text};
+ghost use Rattle.run_text.specs.Ran.{IfRan};
+ghost use Rattle.run_text.specs.Runs.{refusal_of, state_after};
 ghost use Rattle.text_io.specs.Numbered.{numbered};
-ghost use Rattle.run_text.specs.declared.fault.TraceFault.TheVariants.{Memory};
+ghost use Rattle.run_text.specs.declared.fault.TraceFault.{TraceFault};
+ghost use Rattle.run_text.specs.declared.fault.TraceFault.TheVariants.{Write as WriteFailed};
 
 use crate::fault::TraceFault;
 use crate::fired::print_choice;
 use crate::picks::Picks;
-use crate::trace::picked;
-use std::alloc::{AllocError, Global};
+use crate::running::run_picks;
+use crate::telling::Silence;
+use std::alloc::Global;
+use std::io;
 use std::io::Write;
 use step_core::{Stepper, System};
 use text_io::{WriteFault, end_line, print_text};
@@ -21,34 +26,43 @@ use text_io::{WriteFault, end_line, print_text};
 /// How many choices of a state are listed at most.
 pub const MOST_LISTED: u64 = 1_000;
 
-/// Prints the choices that a plant has after some picks: from its first state on each pick is fired as
-/// [`trace_by`](crate::trace_by) fires it, and then [`print_choices`] lists the choices of the state at the end.
+/// Prints the choices that a plant has after some picks: from its first state on each is taken as [`run_picks`] takes it, and then
+/// [`print_choices`] lists the choices of the state at the end. Where a pick is refused nothing is printed.
 pub fn print_choices_after<P: Picks, W: Write>(
     alloc: Global,
     system: &System,
     picks: &mut P,
     output: &mut W,
 ) -> Result<(), TraceFault>
-    ensures choices { OnOk result (Appends (W.contents output.old) (W.contents output.new)
-        (choices_after (plant_of system.now) (P.left picks.old))) }
-    ensures nothing_written { result ≡ Err Memory → output.new ≡ output.old }
+    ensures refusal { IfRan result (λ refusal. IfSome (P.left picks.old) (λ left. refusal ≡ refusal_of (plant_of system.now) left)) }
+    ensures choices { OnOk result (IfSome (P.left picks.old) (λ left. Appends (W.contents output.old) (W.contents output.new)
+        (choices_after (plant_of system.now) left))) }
+    ensures nothing_written { (fault : TraceFault) → result ≡ Err fault → fault ≢ WriteFailed → output.new ≡ output.old }
 {
     print_choices(&run_after(alloc, system, picks)?, output)?;
     Ok(())
 }
 
-/// The plant after some picks: from its first state on each is fired as [`trace_by`](crate::trace_by) fires it.
+/// The plant after some picks: from its first state on each is taken as [`run_picks`] takes it. It writes nothing.
 pub fn run_after<'s, P: Picks>(
     alloc: Global,
     system: &'s System,
     picks: &mut P,
-) -> Result<Stepper<'s>, AllocError>
+) -> Result<Stepper<'s>, TraceFault>
     ensures system { IfOk result (λ run. system_in run ≡ system.now) }
     ensures plant { IfOk result (λ run. plant_in run ≡ plant_of system.now) }
-    ensures states { IfOk result (λ run. states_in run ≡ state_after (plant_of system.now) (initial_states (plant_of system.now)) (P.left picks.old)) }
+    ensures refusal { IfRan result (λ refusal. IfSome (P.left picks.old) (λ left. refusal ≡ refusal_of (plant_of system.now) left)) }
+    ensures states { IfOk result (λ run. IfSome (P.left picks.old) (λ left.
+        states_in run ≡ state_after (plant_of system.now) (initial_states (plant_of system.now)) left)) }
 {
     let mut run = Stepper::first(alloc, system)?;
-    fire_picks(&mut run, picks);
+    run_picks(
+        &mut run,
+        picks,
+        &mut Silence,
+        &mut io::sink(),
+        &mut io::sink(),
+    )?;
     Ok(run)
 }
 
@@ -90,18 +104,4 @@ fn print_more<W: Write>(more: u128, output: &mut W) -> Result<(), WriteFault>
         writeln!(output, "more {more}")?;
     }
     Ok(())
-}
-
-/// Fires the choice that each pick takes, until the picks end or nothing is possible.
-fn fire_picks<P: Picks>(run: &mut Stepper<'_>, picks: &mut P)
-    ensures system { system_in run.new ≡ system_in run.old }
-    ensures plant { plant_in run.new ≡ plant_in run.old }
-    ensures states { states_in run.new ≡ state_after (plant_in run.old) (states_in run.old) (P.left picks.old) }
-{
-    while let Some(pick) = picks.next_pick() {
-        match picked(run, pick) {
-            Some(choice) => run.fire(&choice),
-            None => break,
-        }
-    }
 }

@@ -4,7 +4,7 @@ ghost use Rattle.std.specs.Io.KnownBytes.{Appends};
 ghost use Rattle.petri_atom.specs.Atom.{definition_of};
 ghost use Rattle.step_core.specs.Chosen.{choice_of};
 ghost use Rattle.step_core.specs.System.{plant_of};
-ghost use Rattle.run_text.specs.Line.{fired_line, fired_port_name, participant};
+ghost use Rattle.run_text.specs.Line.{fired_line, fired_port_name, interaction_line, participant};
 ghost use Rattle.run_text.specs.Word.{separated_after};
 
 use petri_atom::Atom;
@@ -25,6 +25,19 @@ pub fn print_choice<W: Write>(
 {
     print_number(output, number)?;
     print_text(output, b" ")?;
+    print_interaction(system, choice, output)
+}
+
+/// Prints a fired interaction without its number: the name of its connector, and its participants in rising order of their atoms,
+/// each as `ATOM.PORT/TRANSITION`. The line is not ended.
+pub fn print_interaction<W: Write>(
+    system: &System,
+    choice: &Choice,
+    output: &mut W,
+) -> Result<(), WriteFault>
+    ensures { OnOk result (Appends (W.contents output.old) (W.contents output.new)
+        (interaction_line (plant_of system.now) (choice_of choice.now))) }
+{
     print_text(output, system.wire_name(choice.connector))?;
     print_moves(system.atoms(), choice.moves.as_slice(), b" ", output)
 }

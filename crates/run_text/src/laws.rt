@@ -1,24 +1,50 @@
-//! What a printed run says of the plant. The function makes no call: its clauses are the laws.
-ghost use Rattle.std.specs.Prelude.{◌≡◌, ◌<◌, ◌++◌, ℕ, List, [], length};
-ghost use Rattle.step_core.specs.Choice.{choices};
+//! What picks take, and what is told of the run that they choose. The functions make no call: their clauses are the laws.
+ghost use Rattle.std.specs.Prelude.{◌≡◌, ◌+◌, ◌^◌, ◌<◌, ◌++◌, ℕ, List, [], None, Some, length};
+ghost use Rattle.petri_atom.specs.Local.{Local};
+ghost use Rattle.step_core.specs.Choice.{ChoiceDefinition, IsAllowed, choices};
 ghost use Rattle.step_core.specs.Plant.{PlantDefinition};
-ghost use Rattle.step_core.specs.Runs.{IsRun, fold};
+ghost use Rattle.step_core.specs.Runs.{IsRun};
 ghost use Rattle.step_core.specs.Step.{initial_states};
-ghost use Rattle.text_io.specs.declared.format.Format.{Format};
-ghost use Rattle.run_text.specs.Format.{head_text, end_text};
-ghost use Rattle.run_text.specs.Runs.{chosen, step_lines, stuck_part};
-ghost use Rattle.run_text.specs.Trace.{trace_in};
+ghost use Rattle.run_text.specs.Picks.{PickDefinition, TakeDefinition, counted_picks, named};
+ghost use Rattle.run_text.specs.Runs.{chosen, refusal_of, state_after};
+ghost use Rattle.run_text.specs.Steps.{Parts, steps_told, told_from};
+ghost use Rattle.run_text.specs.Taken.{fires, taken};
+ghost use Rattle.run_text.specs.declared.fault.Refusal.{Refusal};
 
-/// A trace prints a run of the plant from its first states and the state at the run's end: the choices that its picks take, each by
-/// its line. Fewer choices than picks are taken only where the end has no choice.
-pub fn a_trace_prints_a_run_and_its_end()
-    ensures run { (plant : PlantDefinition) (picks : List ℕ)
-        → IsRun plant (initial_states plant) (chosen plant (initial_states plant) picks) (fold plant (initial_states plant) (chosen plant (initial_states plant) picks)) }
-    ensures printed { (format : Format) (plant : PlantDefinition) (picks : List ℕ)
-        → trace_in format plant picks ≡ head_text format
-        ++ step_lines format plant (initial_states plant) 1 (chosen plant (initial_states plant) picks)
-        ++ stuck_part format picks (chosen plant (initial_states plant) picks)
-        ++ end_text format plant (fold plant (initial_states plant) (chosen plant (initial_states plant) picks)) }
-    ensures stuck { (plant : PlantDefinition) (picks : List ℕ) → length (chosen plant (initial_states plant) picks) < length picks
-        → choices plant (fold plant (initial_states plant) (chosen plant (initial_states plant) picks)) ≡ [] }
+/// What a pick fires is a choice of the state; and a choice of the state is fired where a pick names it.
+pub fn a_pick_fires_a_choice_of_the_state()
+    ensures allowed { (plant : PlantDefinition) (states : List Local) (take : TakeDefinition) (c : ChoiceDefinition)
+        → taken plant states take ≡ fires c → IsAllowed plant states c }
+    ensures by_name { (plant : PlantDefinition) (states : List Local) (c : ChoiceDefinition)
+        → IsAllowed plant states c → taken plant states (named c) ≡ fires c }
+{}
+
+/// Fewer than 2^64 numbers that are taken modulo how many choices there are: none is refused.
+pub fn counted_picks_are_not_refused()
+    ensures { (plant : PlantDefinition) (numbers : List ℕ) → length numbers < 2 ^ 64 → refusal_of plant (counted_picks numbers) ≡ None }
+{}
+
+/// The choices that picks take are a run of the plant from its first states. Each is told by its part, and behind them where each pick
+/// took one, the end; where a pick is refused, nothing; and else, that there is no choice, which then holds, and the end.
+pub fn a_run_is_told_by_its_choices_and_its_end()
+    ensures run { (plant : PlantDefinition) (picks : List PickDefinition)
+        → IsRun plant (initial_states plant) (chosen plant (initial_states plant) 1 picks) (state_after plant (initial_states plant) picks) }
+    ensures ended { (parts : Parts) (plant : PlantDefinition) (picks : List PickDefinition)
+        → length (chosen plant (initial_states plant) 1 picks) ≡ length picks
+        → told_from parts plant (initial_states plant) 1 picks
+        ≡ steps_told parts plant (initial_states plant) 1 (chosen plant (initial_states plant) 1 picks)
+        ++ parts.end plant (state_after plant (initial_states plant) picks) (1 + length picks) }
+    ensures refused { (parts : Parts) (plant : PlantDefinition) (picks : List PickDefinition) (refusal : Refusal)
+        → refusal_of plant picks ≡ Some refusal
+        → told_from parts plant (initial_states plant) 1 picks
+        ≡ steps_told parts plant (initial_states plant) 1 (chosen plant (initial_states plant) 1 picks) }
+    ensures stuck { (plant : PlantDefinition) (picks : List PickDefinition)
+        → length (chosen plant (initial_states plant) 1 picks) < length picks → refusal_of plant picks ≡ None
+        → choices plant (state_after plant (initial_states plant) picks) ≡ [] }
+    ensures stuck_told { (parts : Parts) (plant : PlantDefinition) (picks : List PickDefinition)
+        → length (chosen plant (initial_states plant) 1 picks) < length picks → refusal_of plant picks ≡ None
+        → told_from parts plant (initial_states plant) 1 picks
+        ≡ steps_told parts plant (initial_states plant) 1 (chosen plant (initial_states plant) 1 picks)
+        ++ (parts.stuck plant (state_after plant (initial_states plant) picks)
+        ++ parts.end plant (state_after plant (initial_states plant) picks) (1 + length (chosen plant (initial_states plant) 1 picks))) }
 {}

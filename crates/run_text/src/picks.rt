@@ -1,63 +1,86 @@
 //! Where the picks of a run come from.
-ghost use Rattle.std.specs.Prelude.{◌≡◌, [], ◌∷◌, length, IfNone, MatchOption};
-ghost use Rattle.run_text.specs.Picks.{pick_at, random_from, random_picks, shifted};
+ghost use Rattle.std.specs.Prelude.{◌≡◌, IfOk, IsOk};
+ghost use Rattle.run_text.specs.Picks.{Gives, counted_picks, numbered_picks, pick_at, random_picks, shifted};
 
+use crate::fault::ReadFault;
+use crate::pick::{Numbers, Pick, Take};
 use std::marker::Model;
 
-/// A list of picks that are taken one after the other.
+/// A source of picks, that are taken one after the other.
 pub trait Picks {
-    ghost use Rattle.std.specs.Prelude.{List, ℕ};
+    ghost use Rattle.std.specs.Prelude.{List, Option};
+    ghost use Rattle.run_text.specs.Picks.{PickDefinition};
 
-    /// Those that are left.
-    ghost left: { Self → List ℕ };
+    /// Those that are left; `None` where its type does not say them.
+    ghost left: { Self → Option (List PickDefinition) };
 
-    /// How many are left.
-    fn count(&self) -> u64
-        ensures { result ≡ length (left self.now) };
-
-    /// The next one, or `None` if none is left.
-    fn next_pick(&mut self) -> Option<u64>
-        ensures pick { MatchOption result (left self.old ≡ []) (λ pick. left self.old ≡ pick ∷ left self.new) }
-        ensures end { IfNone result (left self.new ≡ []) };
+    /// The next one, or `None` if none is left. After an error nothing is said of those that are left.
+    fn next_pick(&mut self) -> Result<Option<Pick>, ReadFault>
+        ensures { IfOk result (Gives (left self.old) (left self.new)) };
 }
 
-/// Picks that are given one by one. In a contract it is the list of those that are left.
+/// Picks that are given as numbers, one by one. In a contract it is the list of those that are left.
 #[derive(Debug, Drop)]
 pub struct GivenPicks<'a> {
+    numbers: Numbers,
+    taken: u64,
     left: &'a [u64],
 }
 
 impl<'a> Model for GivenPicks<'a> {
-    ghost use Rattle.std.specs.Prelude.{List, ℕ};
+    ghost use Rattle.std.specs.Prelude.{◌+◌, ◌^◌, ◌<◌, List, length};
+    ghost use Rattle.run_text.specs.Picks.{PickDefinition, number_as, placed};
 
-    ghost Value = { List ℕ };
+    ghost Value = { List PickDefinition };
 
-    ghost view = { λ given. given.left.now };
+    ghost view = { λ given. placed (number_as given.numbers) (given.taken + 1) given.left.now };
+
+    ghost invariant = { λ given. given.taken + length given.left.now < 2 ^ 64 };
 }
 
 impl<'a> GivenPicks<'a> {
-    /// These picks.
+    /// These numbers, each taken modulo how many choices there are.
     pub fn of(picks: &'a [u64]) -> Self
-        ensures { result ≡ picks.now }
+        ensures { result ≡ counted_picks picks.now }
     {
-        GivenPicks { left: picks }
+        GivenPicks {
+            numbers: Numbers::Modulo,
+            taken: 0,
+            left: picks,
+        }
+    }
+
+    /// These numbers, each taken as it is: one past the list of choices is refused.
+    pub fn strictly(picks: &'a [u64]) -> Self
+        ensures { result ≡ numbered_picks picks.now }
+    {
+        GivenPicks {
+            numbers: Numbers::Strict,
+            taken: 0,
+            left: picks,
+        }
     }
 }
 
 impl<'a> Picks for GivenPicks<'a> {
-    ghost left = { λ given. given };
+    ghost use Rattle.std.specs.Prelude.{Some};
 
-    fn count(&self) -> u64 {
-        self.left.len() as u64
-    }
+    ghost left = { λ given. Some given };
 
-    fn next_pick(&mut self) -> Option<u64> {
+    fn next_pick(&mut self) -> Result<Option<Pick>, ReadFault>
+        ensures next { IfOk result (Gives (Some self.old) (Some self.new)) }
+        ensures read { IsOk result }
+    {
         match self.left.split_first() {
-            Some((pick, left)) => {
+            Some((number, left)) => {
                 self.left = left;
-                Some(*pick)
+                self.taken += 1;
+                Ok(Some(Pick {
+                    place: self.taken,
+                    take: self.numbers.take(*number),
+                }))
             }
-            None => None,
+            None => Ok(None),
         }
     }
 }
@@ -65,79 +88,85 @@ impl<'a> Picks for GivenPicks<'a> {
 /// What stands for the seed 0, from which no other number would come.
 const SEED: u64 = 0x9E37_79B9_7F4A_7C15;
 
-/// What a state is multiplied by to make its pick.
+/// What a state is multiplied by to make its number.
 const FACTOR: u64 = 0x2545_F491_4F6C_DD1D;
 
-/// Random picks: xorshift64* with the shifts 12, 25 and 27. In a contract it is the list of those that are left.
+/// Random numbers, each taken modulo how many choices there are: xorshift64* with the shifts 12, 25 and 27. In a contract it is the
+/// list of the picks that are left.
 #[derive(Debug, Drop)]
 pub struct RandomPicks {
     state: u64,
+    taken: u64,
     left: u64,
 }
 
 impl Model for RandomPicks {
-    ghost use Rattle.std.specs.Prelude.{List, ℕ};
-    ghost use Rattle.run_text.specs.Picks.{random_from};
+    ghost use Rattle.std.specs.Prelude.{◌+◌, ◌^◌, ◌<◌, List};
+    ghost use Rattle.run_text.specs.Picks.{PickDefinition, counted, placed, random_from};
 
-    ghost Value = { List ℕ };
+    ghost Value = { List PickDefinition };
 
-    ghost view = { λ random. random_from random.left random.state };
+    ghost view = { λ random. placed counted (random.taken + 1) (random_from random.left random.state) };
+
+    ghost invariant = { λ random. random.taken + random.left < 2 ^ 64 };
 }
 
 impl RandomPicks {
     /// So many picks, by a seed. The same seed gives the same picks.
     pub fn new(seed: u64, count: u64) -> Self
-        ensures { result ≡ random_picks seed count }
+        ensures { result ≡ counted_picks (random_picks seed count) }
     {
         RandomPicks {
             state: if seed == 0 { SEED } else { seed },
+            taken: 0,
             left: count,
         }
     }
 }
 
 impl Picks for RandomPicks {
-    ghost left = { λ random. random };
+    ghost use Rattle.std.specs.Prelude.{Some};
 
-    fn count(&self) -> u64 {
-        self.left
-    }
+    ghost left = { λ random. Some random };
 
-    fn next_pick(&mut self) -> Option<u64> {
+    fn next_pick(&mut self) -> Result<Option<Pick>, ReadFault>
+        ensures next { IfOk result (Gives (Some self.old) (Some self.new)) }
+        ensures read { IsOk result }
+    {
         if self.left == 0 {
-            return None;
+            return Ok(None);
         }
         self.left -= 1;
+        self.taken += 1;
         self.state = next_state(self.state);
-        Some(pick_of(self.state))
+        Ok(Some(Pick {
+            place: self.taken,
+            take: Take::Counted(number_of(self.state)),
+        }))
     }
 }
 
 /// Picks of any kind.
 #[derive(Debug, Drop)]
-pub enum RunPicks<'a> {
+pub enum RunPicks<'a, F> {
     /// They are given one by one.
     Given(GivenPicks<'a>),
     /// They are random.
     Random(RandomPicks),
+    /// They come from another source, such as a file.
+    From(F),
 }
 
-impl<'a> Picks for RunPicks<'a> {
+impl<'a, F: Picks> Picks for RunPicks<'a, F> {
     ghost use Rattle.run_text.specs.RunPicks.{picks_left};
 
-    ghost left = { picks_left };
+    ghost left = { picks_left F.left };
 
-    fn count(&self) -> u64 {
-        match self {
-            RunPicks::Given(picks) => picks.count(),
-            RunPicks::Random(picks) => picks.count(),
-        }
-    }
-
-    fn next_pick(&mut self) -> Option<u64> {
+    fn next_pick(&mut self) -> Result<Option<Pick>, ReadFault> {
         match self {
             RunPicks::Given(picks) => picks.next_pick(),
             RunPicks::Random(picks) => picks.next_pick(),
+            RunPicks::From(picks) => picks.next_pick(),
         }
     }
 }
@@ -151,8 +180,8 @@ fn next_state(state: u64) -> u64
     up ^ (up >> 27)
 }
 
-/// The pick of a state.
-fn pick_of(state: u64) -> u64
+/// The number of a state.
+fn number_of(state: u64) -> u64
     ensures { result ≡ pick_at state }
 {
     state.wrapping_mul(FACTOR)

@@ -37,7 +37,7 @@ impl Moves {
     ghost use Rattle.connector_tree.specs.declared.tree.TheConstants.{MAX_LEAVES};
 
     /// No move.
-    pub(crate) fn none() -> Self
+    pub fn none() -> Self
         ensures { result ≡ [] }
     {
         let none = Move {
@@ -51,7 +51,7 @@ impl Moves {
     }
 
     /// Adds a move at the end.
-    pub(crate) fn push(&mut self, added: Move)
+    pub fn push(&mut self, added: Move)
         requires { length self.old + 1 ≤ MAX_LEAVES }
         ensures { self.new ≡ self.old ++ added ∷ [] }
     {

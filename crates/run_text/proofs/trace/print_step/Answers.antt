@@ -6,7 +6,7 @@ use Rattle.step_core.specs.Running.{plant_in, states_in}
 use Rattle.step_core.specs.System.{plant_of}
 use Rattle.run_text.specs.Format.{step_text}
 use Rattle.run_text.specs.Told.{told_text}
-use Rattle.run_text.proofs.Telling.{told-line}
+use Rattle.run_text.proofs.ToldRows.{told-line}
 use Rattle.run_text.proofs.trace.print_step.Goals as goal
 
 pub returns-clause-printed : goal.returns-clause-printed

@@ -1,0 +1,59 @@
+-- What a request reads and writes beside the plant and the image, by its paths.
+use Rattle.std.specs.Prelude.{ℕ, List, codes, Option, None, Some}
+use Rattle.command_line.specs.Said.{word_of}
+use Rattle.command_line.specs.declared.request.Picking.{Picking}
+use Rattle.command_line.specs.declared.request.Picking.TheVariants.{Given, Recorded, Random}
+use Rattle.command_line.specs.declared.request.Drawing.{Drawing}
+use Rattle.command_line.specs.declared.request.Drawing.TheVariants.{Whole, Outline, After, Only}
+use Rattle.command_line.specs.declared.request.Task.{Task}
+use Rattle.command_line.specs.declared.request.Task.TheVariants.{Check, Warn, Trace, Choices, Why, Draw}
+use Rattle.command_line.specs.declared.request.ImageTask.{ImageTask}
+use Rattle.command_line.specs.declared.request.ImageTask.TheVariants as image
+use Rattle.command_line.specs.declared.request.Work.{Work}
+use Rattle.command_line.specs.declared.request.Work.TheVariants.{OfPlant, ByHand, OnImage}
+
+-- the text that has the picks of a run, if a text has them
+abbrev pub recorded_in : Picking → Option (List ℕ)
+recorded_in (Given picks numbers) = None
+recorded_in (Recorded path numbers) = Some path.now
+recorded_in (Random many by) = None
+
+-- the same of picks behind which a plant is drawn
+abbrev pub recorded_behind : Drawing → Option (List ℕ)
+recorded_behind Whole = None
+recorded_behind Outline = None
+recorded_behind (After picking) = recorded_in picking
+recorded_behind (Only names None) = None
+recorded_behind (Only names (Some picking)) = recorded_in picking
+
+-- the same of a task
+abbrev pub recorded_by : Task → Option (List ℕ)
+recorded_by Check = None
+recorded_by Warn = None
+recorded_by (Trace trace) = recorded_in trace.picking
+recorded_by (Choices picking) = recorded_in picking
+recorded_by (Why picking) = recorded_in picking
+recorded_by (Draw drawing) = recorded_behind drawing
+
+-- the file in which a task of the plant alone saves what is fired
+abbrev pub saved_by : Task → Option (List ℕ)
+saved_by Check = None
+saved_by Warn = None
+saved_by (Trace trace) = word_of trace.saved
+saved_by (Choices picking) = None
+saved_by (Why picking) = None
+saved_by (Draw drawing) = None
+
+-- what is read beside the plant and the image: the text of the picks, the standard input of a run by hand, or a script
+abbrev pub read_beside : Work → Option (List ℕ)
+read_beside (OfPlant task) = recorded_by task
+read_beside ByHand = Some (codes "-")
+read_beside (OnImage path (image.Format ring)) = None
+read_beside (OnImage path (image.Run script)) = Some script.now
+read_beside (OnImage path image.Recover) = None
+
+-- the file in which is saved what is fired
+abbrev pub saved_in : Work → Option (List ℕ)
+saved_in (OfPlant task) = saved_by task
+saved_in ByHand = None
+saved_in (OnImage path task) = None

@@ -1,0 +1,20 @@
+-- What is drawn in the state after some picks.
+use Rattle.std.proofs.Common.{◌≡◌, subst, List, ℕ, Option, Some, None}
+use Rattle.std.specs.Prelude.{IfSome}
+use Rattle.std.specs.Io.KnownBytes.{Appends}
+use Rattle.petri_atom.specs.Local.{Local}
+use Rattle.step_core.specs.Plant.{PlantDefinition}
+use Rattle.step_core.specs.Step.{initial_states}
+use Rattle.run_text.specs.Picks.{PickDefinition}
+use Rattle.run_text.specs.Runs.{state_after}
+use Rattle.plant_drawing.specs.Drawing.{drawing_of}
+use Rattle.plant_drawing.specs.declared.filling.Filling.{Filling}
+use Rattle.plant_tasks.specs.Drawn.{drawn_in}
+
+-- what is drawn in the state of a plant that runs is what is drawn after the picks, where these are known
+pub drawn_in_state : (left : Option (List PickDefinition)) (now plant : PlantDefinition) (states : List Local) (drawn : ℕ) (filling : Filling) (a b : Option (List ℕ)) →
+    now ≡ plant → IfSome left (λ picks. states ≡ state_after plant (initial_states plant) picks) → Appends a b (drawing_of now states drawn filling) →
+    IfSome left (λ picks. Appends a b (drawn_in plant drawn filling picks))
+drawn_in_state None now plant states drawn filling a b same there printed = tt
+drawn_in_state (Some picks) now plant states drawn filling a b same there printed =
+    subst (λ s. Appends a b (drawing_of plant s drawn filling)) there (subst (λ p. Appends a b (drawing_of p states drawn filling)) same printed)

@@ -1,0 +1,33 @@
+//! A plant that is run by hand.
+ghost use Rattle.std.specs.Prelude.{IfErr, IfSome, OnOk};
+ghost use Rattle.part_lines.specs.Lookup.{rule_lines};
+ghost use Rattle.plant_words.specs.Lines.{lines_of};
+ghost use Rattle.step_session.specs.Told.{IsTold, told_of};
+ghost use Rattle.plant_tasks.specs.Ending.{IsOfTask};
+ghost use Rattle.plant_tasks.specs.Printed.{plant_read};
+
+use crate::ending::PlantEnding;
+use crate::task::ReadPlant;
+use part_lines::rule_lines;
+use std::alloc::Global;
+use std::io::{BufRead, Write};
+use step_session::{Saver, step_by_hand};
+
+/// Lets a plant that was read be run by hand: prints where it stands, and answers each line of the input, up to one that asks to quit or to
+/// the input's end. A prompt is printed before each line where `prompt` says so. What was fired is saved by the saver, where a line asks for it.
+pub fn step<F: BufRead, W: Write, S: Saver>(
+    alloc: Global,
+    plant: &ReadPlant<'_>,
+    prompt: bool,
+    input: &mut F,
+    output: &mut W,
+    saver: &mut S,
+) -> Result<(), PlantEnding>
+    ensures told { OnOk result (IfSome (F.remaining input.old) (λ bytes.
+        IsTold S.saves (told_of (plant_read plant.now) (rule_lines plant.now.text.now) prompt (lines_of bytes)) saver.old saver.new (W.contents output.old) (W.contents output.new))) }
+    ensures of_task { IfErr result IsOfTask }
+{
+    let lines = rule_lines(alloc, plant.text)?;
+    step_by_hand(alloc, plant.system, &lines, prompt, input, output, saver)?;
+    Ok(())
+}

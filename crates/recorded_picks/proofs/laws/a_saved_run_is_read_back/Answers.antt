@@ -1,0 +1,19 @@
+use Rattle.step_core.specs.Step.{initial_states}
+use Rattle.run_text.specs.Runs.{chosen}
+use Rattle.recorded_picks.proofs.ReadBack.{file-read, line-read}
+use Rattle.recorded_picks.proofs.RunAgain.{chosen-again, chosen-allowed, none-refused}
+use Rattle.recorded_picks.proofs.laws.a_saved_run_is_read_back.Goals as goal
+
+pub returns-clause-line : goal.returns-clause-line
+returns-clause-line c = λ numbers plant states choice valid formed names allowed. line-read plant valid formed names states choice allowed numbers
+
+pub returns-clause-file : goal.returns-clause-file
+returns-clause-file c = λ numbers plant picks valid formed names.
+    let start = initial_states plant in
+    file-read plant valid formed names numbers 1 (chosen plant start 1 picks) (λ choice in_it. chosen-allowed plant picks start 1 choice in_it)
+
+pub returns-clause-again : goal.returns-clause-again
+returns-clause-again c = λ plant picks. chosen-again plant picks (initial_states plant) 1 1
+
+pub returns-clause-none_refused : goal.returns-clause-none_refused
+returns-clause-none_refused c = λ plant picks. none-refused plant picks (initial_states plant) 1 1

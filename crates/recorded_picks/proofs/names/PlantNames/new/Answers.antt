@@ -1,0 +1,34 @@
+use Rattle.std.proofs.Common.{◌≡◌, ◌≤◌, length, sym, ◌∙◌, subst}
+use Rattle.petri_atom.specs.Atom.{definition_of}
+use Rattle.petri_atom.specs.Definition.{AtomDefinition}
+use Rattle.step_core.specs.Plant.{WireDefinition}
+use Rattle.step_core.specs.System.{plant_of}
+use Rattle.step_core.specs.Wire.{wire_of}
+use Rattle.step_core.specs.declared.limits.TheConstants.{MAX_ATOMS, MAX_WIRES}
+use Rattle.recorded_picks.specs.Names.{AreApart, atom_names, connector_names}
+use Rattle.recorded_picks.proofs.Apart.{atoms-apart, connectors-apart, few-atoms, few-connectors, names-kept}
+use Rattle.recorded_picks.proofs.names.PlantNames.new.Goals as goal
+
+pub index_of_wires-requires : goal.index_of_wires-requires
+index_of_wires-requires c =
+    let plant = plant_of c.args.system.now in
+    subst AreApart (sym (names-kept (λ (w : WireDefinition). w.name) wire_of c.wires.result.now plant.wires c.wires.ensures)) (connectors-apart plant c.keeps_its_rules.ensures.plant)
+
+pub index_of_atoms-requires : goal.index_of_atoms-requires
+index_of_atoms-requires c =
+    let plant = plant_of c.args.system.now in
+    subst AreApart (sym (names-kept (λ (a : AtomDefinition). a.name) definition_of c.atoms.result.now plant.atoms c.atoms.ensures)) (atoms-apart plant c.keeps_its_rules.ensures.plant)
+
+pub invariant_of-result : goal.invariant_of-result
+invariant_of-result c =
+    let plant = plant_of c.args.system.now in
+    let valid = c.keeps_its_rules.ensures.plant in
+    let connectors : c.in_ok-connectors.connectors ≡ connector_names plant = c.in_ok-connectors.ensures ∙ names-kept (λ (w : WireDefinition). w.name) wire_of c.wires.result.now plant.wires c.wires.ensures in
+    let atoms : c.in_ok-atoms.atoms ≡ atom_names plant = c.in_ok-atoms.ensures ∙ names-kept (λ (a : AtomDefinition). a.name) definition_of c.atoms.result.now plant.atoms c.atoms.ensures in
+    record {
+      valid = valid;
+      connectors_named = connectors;
+      atoms_named = atoms;
+      few_connectors = subst (λ names. length names ≤ MAX_WIRES) (sym connectors) (few-connectors plant valid);
+      few_atoms = subst (λ names. length names ≤ MAX_ATOMS) (sym atoms) (few-atoms plant valid);
+    }

@@ -1,0 +1,25 @@
+-- What a recorded run keeps of its choices.
+use Rattle.std.specs.Prelude.{◌≡◌, ℕ, ◌&&◌, Bool, true, List, [], ◌∷◌}
+use Rattle.std.specs.List.{list_all}
+use Rattle.petri_atom.specs.Definition.{AtomDefinition}
+use Rattle.petri_atom.specs.Name.{is_name}
+use Rattle.step_core.specs.Choice.{ChoiceDefinition}
+use Rattle.step_core.specs.Plant.{PlantDefinition}
+use Rattle.text_io.specs.Numbered.{numbered}
+use Rattle.run_text.specs.Picks.{PickDefinition, named}
+
+-- the names of an atom and of its ports are names
+abbrev pub has_names : AtomDefinition → Bool
+has_names a = is_name a.name && list_all (λ p. is_name p.name) a.ports
+
+-- the names of a plant's connectors, of its atoms and of their ports are names
+abbrev pub AreNames : PlantDefinition → Type 0
+AreNames plant = (list_all (λ w. is_name w.name) plant.wires && list_all has_names plant.atoms) ≡ true
+
+-- the pick of a choice at a place
+abbrev pub named_pick : ℕ → ChoiceDefinition → List PickDefinition
+named_pick place c = record { place = place; take = named c } ∷ []
+
+-- choices as picks, the first of them at this place
+abbrev pub named_picks : ℕ → List ChoiceDefinition → List PickDefinition
+named_picks place cs = numbered named_pick place cs

@@ -1,0 +1,7 @@
+pub mod Names
+pub mod Moves
+pub mod Choices
+pub mod Lines
+pub mod Files
+pub mod KeptLines
+pub mod Laws

@@ -1,0 +1,7 @@
+use Rattle.std.proofs.Common.{arith}
+use Rattle.step_core.specs.Step.{initial_states}
+use Rattle.run_text.proofs.Takes.{counted-not-refused}
+use Rattle.run_text.proofs.laws.counted_picks_are_not_refused.Goals as goal
+
+pub returns : goal.returns
+returns c = λ plant numbers few. counted-not-refused plant numbers (initial_states plant) 1 1 (omega (arith, few))

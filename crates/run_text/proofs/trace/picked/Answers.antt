@@ -1,5 +1,0 @@
-use Rattle.std.proofs.Common.{rules}
-use Rattle.run_text.proofs.trace.picked.Goals as goal
-
-pub returns-in_default-clause-choice : goal.returns-in_default-clause-choice
-returns-in_default-clause-choice c = search rules

@@ -1,0 +1,42 @@
+-- What commands keep of a session.
+use Rattle.std.proofs.Common.{◌≡◌, refl, ℕ, ◌-◌, Bool, true, false, cond, List, [], ◌∷◌, length}
+use Rattle.std.specs.Prelude.{nat_lt}
+use Rattle.std.proofs.lemmas.Bool.{ltb-true}
+use Rattle.step_core.specs.Choice.{choices}
+use Rattle.step_core.specs.Plant.{PlantDefinition}
+use Rattle.run_text.specs.Picks.{random_from}
+use Rattle.step_session.specs.Answers.{choice_count, fire_session, fired_more, session_after, session_from}
+use Rattle.step_session.specs.Command.{CommandDefinition, shows, fires, takes_back, fires_random, tells, tells_of, saves_to, helps, quits, mistaken, command_in}
+use Rattle.step_session.specs.Fired.{IsThere}
+use Rattle.step_session.specs.Session.{SessionDefinition, states_at}
+use Rattle.step_session.proofs.AtRandom.{picked-there}
+use Rattle.step_session.proofs.Firing.{entry-at, take-there, there-append, there-more}
+
+module _ (plant : PlantDefinition) where
+  -- a number fires a choice that is there, or nothing
+  fire-there : (session : SessionDefinition) (number : ℕ) → IsThere plant session.fired → IsThere plant (fire_session plant session number).fired
+  fire-there session number all = each (nat_lt number (choice_count plant session)) refl
+    where
+      each : (b : Bool) → nat_lt number (choice_count plant session) ≡ b → IsThere plant (cond b (fired_more session (number ∷ []) session.random) session).fired
+      each true is =
+          let entry = entry-at (choices plant (states_at plant session)) number (ltb-true number (choice_count plant session) is) in
+          there-more plant session.fired number entry.0 all entry.1
+      each false is = all
+
+  -- what was fired has its entries behind each command
+  pub after-there : (session : SessionDefinition) (command : CommandDefinition) → IsThere plant session.fired → IsThere plant (session_after plant session command).fired
+  after-there session shows all = all
+  after-there session (fires number) all = fire-there session number all
+  after-there session takes_back all = take-there plant session.fired (length session.fired - 1) all
+  after-there session (fires_random count) all = there-append plant session.fired _ all (picked-there plant (random_from count session.random) (states_at plant session))
+  after-there session tells all = all
+  after-there session (tells_of name) all = all
+  after-there session (saves_to path) all = all
+  after-there session helps all = all
+  after-there session quits all = all
+  after-there session (mistaken mistake) all = all
+
+  -- and behind lines
+  pub lines-there : (lines : List (List ℕ)) (session : SessionDefinition) → IsThere plant session.fired → IsThere plant (session_from plant session lines).fired
+  lines-there [] session all = all
+  lines-there (line ∷ lines) session all = lines-there lines (session_after plant session (command_in line)) (after-there session (command_in line) all)

@@ -1,0 +1,32 @@
+use Rattle.std.proofs.Common.{◌∙◌, ap, subst}
+use Rattle.std.specs.Io.KnownBytes.{Appends}
+use Rattle.std.proofs.lemmas.Option.{IfSome_then}
+use Rattle.std.proofs.lemmas.Result.{on_ok_weaker}
+use Rattle.plant_words.specs.Lines.{lines_of}
+use Rattle.step_core.specs.System.{plant_of}
+use Rattle.step_session.specs.Answers.{standing_text}
+use Rattle.step_session.specs.Kept.{session_of}
+use Rattle.step_session.specs.Session.{first_session}
+use Rattle.step_session.specs.Told.{IsTold, told_from}
+use Rattle.step_session.proofs.Telling.{told-behind}
+use Rattle.step_session.proofs.stepping.step_by_hand.Goals as goal
+
+pub returns : goal.returns
+returns g c =
+    let saves = g.S.Saver.saves in
+    let plant = plant_of c.args.system.now in
+    let rules = c.args.rule_lines.now in
+    let session = c.in_ok-session.session in
+    let start = g.W.Write.contents c.args.output.now in
+    let old = g.W.Write.contents c.print_standing.new.output in
+    let new = g.W.Write.contents c.answer_lines.new.output in
+    let before = c.args.saver.now in
+    let after = c.answer_lines.new.saver in
+    let begun : Appends start old (standing_text plant first_session) =
+    subst (Appends start old) (ap (λ p. standing_text p (session_of session)) c.in_ok-session.ensures.plant ∙ ap (standing_text plant) c.in_ok-session.ensures.first) c.in_ok-print_standing.ensures in
+    on_ok_weaker c.answer_lines.result
+    (λ told. IfSome_then (g.R.Read.remaining c.args.input.now) told
+    (λ bytes t. told-behind saves (told_from plant rules c.args.prompt first_session (lines_of bytes)) before after start old new (standing_text plant first_session) begun
+    (subst (λ s. IsTold saves (told_from plant rules c.args.prompt s (lines_of bytes)) before after old new) c.in_ok-session.ensures.first
+    (subst (λ p. IsTold saves (told_from p rules c.args.prompt (session_of session) (lines_of bytes)) before after old new) c.in_ok-session.ensures.plant t))))
+    c.answer_lines.ensures

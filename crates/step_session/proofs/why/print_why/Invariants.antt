@@ -1,0 +1,12 @@
+-- The writer took what is said of each connector so far.
+use Rattle.std.specs.Prelude.{flat_map}
+use Rattle.std.specs.Io.KnownBytes.{Appends}
+use Rattle.std.specs.List.{range_with_len}
+use Rattle.blocked_text.specs.Blocked.{connector_text}
+use Rattle.step_core.specs.Running.{plant_in, states_in}
+use Rattle.step_session.proofs.why.print_why.Given as goal
+
+abbrev pub invariant-loop-connector : goal.invariant-loop-connector
+invariant-loop-connector g l =
+    Appends (g.W.Write.contents l.initial.output) (g.W.Write.contents l.output)
+    (flat_map (connector_text (plant_in l.run) (states_in l.run) l.rule_lines) (range_with_len 0 l.connector))

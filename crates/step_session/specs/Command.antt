@@ -1,0 +1,92 @@
+-- What a line asks for.
+use Rattle.std.specs.Prelude.{ℕ, Bool, true, false, nat_lt, if◌then◌else◌, List, [], ◌∷◌, length, codes}
+use Rattle.std.specs.Option.{option_map_or}
+use Rattle.petri_atom.specs.Name.{is_same_text}
+use Rattle.plant_words.specs.Numbers.{is_numeric, pick_in}
+use Rattle.plant_words.specs.Words.{words_of}
+use Rattle.step_session.specs.declared.lines.TheConstants.{MAX_LINE}
+
+-- why a line asks for nothing: it is too long, its first word is no command, a word is left over or is no number, or a number or a file is missing
+pub data MistakeDefinition : Type 0 where
+  too_long : MistakeDefinition
+  no_command : List ℕ → MistakeDefinition
+  left_over : List ℕ → MistakeDefinition
+  no_number : List ℕ → MistakeDefinition
+  no_count : MistakeDefinition
+  no_file : MistakeDefinition
+
+-- what can be asked for: where the plant stands; to fire a choice, to take a firing back, to fire random choices; why connectors can't be fired; to save; the list of the commands; to end. A mistaken line asks for nothing
+pub data CommandDefinition : Type 0 where
+  shows : CommandDefinition
+  fires : ℕ → CommandDefinition
+  takes_back : CommandDefinition
+  fires_random : ℕ → CommandDefinition
+  tells : CommandDefinition
+  tells_of : List ℕ → CommandDefinition
+  saves_to : List ℕ → CommandDefinition
+  helps : CommandDefinition
+  quits : CommandDefinition
+  mistaken : MistakeDefinition → CommandDefinition
+
+-- the session ends
+abbrev pub ends : CommandDefinition → Bool
+ends shows = false
+ends (fires number) = false
+ends takes_back = false
+ends (fires_random count) = false
+ends tells = false
+ends (tells_of name) = false
+ends (saves_to path) = false
+ends helps = false
+ends quits = true
+ends (mistaken mistake) = false
+
+-- a command behind which no word stands
+abbrev pub alone : CommandDefinition → List (List ℕ) → CommandDefinition
+alone command [] = command
+alone command (word ∷ words) = mistaken (left_over word)
+
+-- a word that is a number within 64 bits: the choice with this number
+abbrev pub number_in : List ℕ → CommandDefinition
+number_in word = option_map_or fires (pick_in word) (mistaken (no_number word))
+
+-- the same of how many random choices
+abbrev pub count_in : List ℕ → CommandDefinition
+count_in word = option_map_or fires_random (pick_in word) (mistaken (no_number word))
+
+-- behind `random` stands how many
+abbrev pub random_in : List (List ℕ) → CommandDefinition
+random_in [] = mistaken no_count
+random_in (word ∷ words) = alone (count_in word) words
+
+-- behind `why` stands the name of a connector, or nothing
+abbrev pub why_in : List (List ℕ) → CommandDefinition
+why_in [] = tells
+why_in (name ∷ words) = alone (tells_of name) words
+
+-- behind `save` stands a file
+abbrev pub save_in : List (List ℕ) → CommandDefinition
+save_in [] = mistaken no_file
+save_in (path ∷ words) = alone (saves_to path) words
+
+-- what a first word and the words behind it ask for
+abbrev pub command_behind : List ℕ → List (List ℕ) → CommandDefinition
+command_behind first words =
+    if is_numeric first then alone (number_in first) words
+    else if is_same_text first (codes "back") then alone takes_back words
+    else if is_same_text first (codes "random") then random_in words
+    else if is_same_text first (codes "why") then why_in words
+    else if is_same_text first (codes "state") then alone shows words
+    else if is_same_text first (codes "save") then save_in words
+    else if is_same_text first (codes "help") then alone helps words
+    else if is_same_text first (codes "quit") then alone quits words
+    else mistaken (no_command first)
+
+-- a line without words asks where the plant stands
+abbrev pub said_in : List (List ℕ) → CommandDefinition
+said_in [] = shows
+said_in (first ∷ words) = command_behind first words
+
+-- what a line asks for
+abbrev pub command_in : List ℕ → CommandDefinition
+command_in line = if nat_lt MAX_LINE (length line) then mistaken too_long else said_in (words_of line)

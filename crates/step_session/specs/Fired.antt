@@ -1,0 +1,22 @@
+-- The choices at places, fired one after another.
+use Rattle.std.specs.Prelude.{◌≡◌, ℕ, List, [], ◌∷◌, length, slice_get}
+use Rattle.std.specs.Option.{option_map_or}
+use Rattle.petri_atom.specs.Local.{Local}
+use Rattle.step_core.specs.Plant.{PlantDefinition}
+use Rattle.step_core.specs.Choice.{ChoiceDefinition, choices}
+use Rattle.step_core.specs.Runs.{fold}
+use Rattle.step_core.specs.Step.{initial_states, next}
+
+-- the choices at places, fired one after another from a state on: each is the entry at its place among the choices of the state before it; a place without an entry ends them
+abbrev pub choices_fired : PlantDefinition → List Local → List ℕ → List ChoiceDefinition
+choices_fired plant states [] = []
+choices_fired plant states (place ∷ places) =
+    option_map_or (λ c. c ∷ choices_fired plant (next plant states c) places) (slice_get (choices plant states) place) []
+
+-- each place has an entry where it is fired, from the first state on
+abbrev pub IsThere : PlantDefinition → List ℕ → Type 0
+IsThere plant places = length (choices_fired plant (initial_states plant) places) ≡ length places
+
+-- the state behind them
+abbrev pub states_behind : PlantDefinition → List ℕ → List Local
+states_behind plant places = fold plant (initial_states plant) (choices_fired plant (initial_states plant) places)

@@ -1,0 +1,15 @@
+pub mod Message
+pub mod Lines
+pub mod Command
+pub mod CommandOf
+pub mod Fired
+pub mod Session
+pub mod Kept
+pub mod Random
+pub mod Saved
+pub mod Connectors
+pub mod Help
+pub mod Mistakes
+pub mod Answers
+pub mod AtRandom
+pub mod Told

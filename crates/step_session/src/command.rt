@@ -1,0 +1,157 @@
+//! What a line asks for.
+ghost use Rattle.std.specs.Prelude.{◌≡◌};
+ghost use Rattle.step_session.specs.Command.{alone, command_behind, command_in, count_in, ends, number_in, random_in, save_in, why_in};
+ghost use Rattle.step_session.specs.CommandOf.{command_of};
+
+use crate::lines::MAX_LINE;
+use plant_words::{Words, is_numeric, read_decimal};
+
+/// What a line asks for.
+#[derive(Clone, Copy)]
+pub(crate) enum Command<'a> {
+    /// Where the plant stands, and what can be fired.
+    Show,
+    /// To fire the choice with this number.
+    Fire(u64),
+    /// To take the last firing back.
+    Back,
+    /// To fire so many random choices.
+    Random(u64),
+    /// Why each connector can't be fired.
+    Why,
+    /// Why the connector with this name can't be fired.
+    WhyOf(&'a [u8]),
+    /// To save what was fired at this path.
+    Save(&'a [u8]),
+    /// What can be asked for.
+    Help,
+    /// To end.
+    Quit,
+    /// Nothing: the line is mistaken.
+    Mistaken(Mistake<'a>),
+}
+
+/// Why a line asks for nothing.
+#[derive(Clone, Copy)]
+pub(crate) enum Mistake<'a> {
+    /// It has more than `MAX_LINE` bytes.
+    TooLong,
+    /// Its first word is neither a number nor a command.
+    NoCommand(&'a [u8]),
+    /// A word stands behind the last one that belongs to the command.
+    LeftOver(&'a [u8]),
+    /// A word has to be a number within 64 bits, and is none.
+    NoNumber(&'a [u8]),
+    /// How many random choices are to be fired is missing.
+    NoCount,
+    /// The file in which to save is missing.
+    NoFile,
+}
+
+impl<'a> Command<'a> {
+    /// Whether the session ends.
+    pub(crate) fn ends(&self) -> bool
+        ensures { result ≡ ends (command_of self.now) }
+    {
+        matches!(self, Command::Quit)
+    }
+}
+
+/// What the line asks for.
+pub(crate) fn read_command(line: &[u8]) -> Command<'_>
+    ensures { command_of result ≡ command_in line.now }
+{
+    if line.len() > MAX_LINE {
+        return Command::Mistaken(Mistake::TooLong);
+    }
+    let mut words = Words::new(line);
+    match words.next_word() {
+        Some(first) => command_behind(first, &mut words),
+        None => Command::Show,
+    }
+}
+
+/// What a first word and the words behind it ask for.
+fn command_behind<'a>(first: &'a [u8], words: &mut Words<'a>) -> Command<'a>
+    ensures { command_of result ≡ command_behind first.now words.old }
+{
+    if is_numeric(first) {
+        alone(number_in(first), words)
+    } else if first == b"back".as_slice() {
+        alone(Command::Back, words)
+    } else if first == b"random".as_slice() {
+        random_in(words)
+    } else if first == b"why".as_slice() {
+        why_in(words)
+    } else if first == b"state".as_slice() {
+        alone(Command::Show, words)
+    } else if first == b"save".as_slice() {
+        save_in(words)
+    } else if first == b"help".as_slice() {
+        alone(Command::Help, words)
+    } else if first == b"quit".as_slice() {
+        alone(Command::Quit, words)
+    } else {
+        Command::Mistaken(Mistake::NoCommand(first))
+    }
+}
+
+/// The command, where no word stands behind it.
+fn alone<'a>(command: Command<'a>, words: &mut Words<'a>) -> Command<'a>
+    ensures { command_of result ≡ alone (command_of command.entry) words.old }
+{
+    match words.next_word() {
+        Some(word) => Command::Mistaken(Mistake::LeftOver(word)),
+        None => command,
+    }
+}
+
+/// To fire the choice with the number that the word writes.
+fn number_in(word: &[u8]) -> Command<'_>
+    ensures { command_of result ≡ number_in word.now }
+{
+    match read_decimal(word) {
+        Some(number) => Command::Fire(number),
+        None => Command::Mistaken(Mistake::NoNumber(word)),
+    }
+}
+
+/// What the words behind `random` ask for.
+fn random_in<'a>(words: &mut Words<'a>) -> Command<'a>
+    ensures { command_of result ≡ random_in words.old }
+{
+    match words.next_word() {
+        Some(word) => alone(count_in(word), words),
+        None => Command::Mistaken(Mistake::NoCount),
+    }
+}
+
+/// To fire as many random choices as the word writes.
+fn count_in(word: &[u8]) -> Command<'_>
+    ensures { command_of result ≡ count_in word.now }
+{
+    match read_decimal(word) {
+        Some(count) => Command::Random(count),
+        None => Command::Mistaken(Mistake::NoNumber(word)),
+    }
+}
+
+/// What the words behind `why` ask for.
+fn why_in<'a>(words: &mut Words<'a>) -> Command<'a>
+    ensures { command_of result ≡ why_in words.old }
+{
+    match words.next_word() {
+        Some(name) => alone(Command::WhyOf(name), words),
+        None => Command::Why,
+    }
+}
+
+/// What the words behind `save` ask for.
+fn save_in<'a>(words: &mut Words<'a>) -> Command<'a>
+    ensures { command_of result ≡ save_in words.old }
+{
+    match words.next_word() {
+        Some(path) => alone(Command::Save(path), words),
+        None => Command::Mistaken(Mistake::NoFile),
+    }
+}

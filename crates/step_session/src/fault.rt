@@ -1,0 +1,63 @@
+//! Why a session was not held to its end.
+ghost use Rattle.std.specs.Prelude.{◌≡◌};
+
+use std::alloc::{AllocError, AllocFailed};
+use std::fmt;
+use text_io::WriteFault;
+use thiserror::Error;
+
+/// Why a session was not held to its end. What was answered before may be written.
+#[derive(Clone, Copy, Debug, PartialEq, Eq, Error)]
+pub enum StepFault {
+    /// There was no memory: for the plant, for a line, for what was fired, or for a word that is shown.
+    Memory,
+    /// The reader answered an error, or gave 2^64 - 1 lines without an end.
+    Read,
+    /// The writer answered an error. It may have taken a part of an answer.
+    Write,
+}
+
+impl fmt::Display for StepFault {
+    ghost use Rattle.std.specs.Prelude.{Some};
+    ghost use Rattle.step_session.specs.Message.{message_of};
+
+    ghost output = { λ fault. Some (message_of fault) };
+
+    fn fmt<W: fmt::Write>(&self, f: &mut fmt::Formatter<W>) -> fmt::Result {
+        match self {
+            StepFault::Memory => f.write_str("not enough memory for the session"),
+            StepFault::Read => f.write_str("the lines could not be read"),
+            StepFault::Write => f.write_str("the answers could not be written"),
+        }
+    }
+}
+
+impl From<AllocError> for StepFault {
+    ghost use Rattle.step_session.specs.declared.fault.StepFault.TheVariants.{Memory};
+
+    ghost from_gives = { λ _ fault. fault ≡ Memory };
+
+    fn from(_: AllocError) -> Self {
+        Self::Memory
+    }
+}
+
+impl<T: Drop> From<AllocFailed<T>> for StepFault {
+    ghost use Rattle.step_session.specs.declared.fault.StepFault.TheVariants.{Memory};
+
+    ghost from_gives = { λ _ fault. fault ≡ Memory };
+
+    fn from(_: AllocFailed<T>) -> Self {
+        Self::Memory
+    }
+}
+
+impl From<WriteFault> for StepFault {
+    ghost use Rattle.step_session.specs.declared.fault.StepFault.TheVariants.{Write};
+
+    ghost from_gives = { λ _ fault. fault ≡ Write };
+
+    fn from(_: WriteFault) -> Self {
+        Self::Write
+    }
+}

@@ -1,0 +1,27 @@
+//! The list of what can be asked for.
+ghost use Rattle.std.specs.Prelude.{OnOk};
+ghost use Rattle.std.specs.Io.KnownBytes.{Appends};
+ghost use Rattle.step_session.specs.Help.{help_text};
+
+use crate::fault::StepFault;
+use std::io::Write;
+use text_io::print_text;
+
+/// Each command on a line.
+const HELP: &[u8] = b"N          fires choice N
+back       takes the last firing back
+random N   fires N random choices
+why NAME   tells why the connector can't be fired; why alone, of each connector
+state      shows the state and the choices again, as an empty line does
+save FILE  saves what was fired, to be repeated by trace PLANT --picks FILE
+help       lists the commands
+quit       ends, as the end of the input does
+";
+
+/// Prints the list of the commands.
+pub(crate) fn print_help<W: Write>(output: &mut W) -> Result<(), StepFault>
+    ensures { OnOk result (Appends (W.contents output.old) (W.contents output.new) help_text) }
+{
+    print_text(output, HELP)?;
+    Ok(())
+}

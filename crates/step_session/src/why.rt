@@ -1,0 +1,55 @@
+//! Why connectors can't be fired.
+ghost use Rattle.std.specs.Prelude.{◌≡◌, OnOk};
+ghost use Rattle.std.specs.Io.KnownBytes.{Appends};
+ghost use Rattle.blocked_text.specs.Asked.{plant_asked};
+ghost use Rattle.step_core.specs.Running.{plant_in, states_in};
+ghost use Rattle.step_session.specs.Answers.{why_of_text, why_text};
+
+use crate::connectors::connector_named;
+use crate::fault::StepFault;
+use crate::mistakes::print_quoted;
+use blocked_text::Reasons;
+use std::alloc::Global;
+use std::io::Write;
+use step_core::Stepper;
+
+/// Prints of each connector why it can't be fired in the present state, or that it can be.
+pub(crate) fn print_why<W: Write>(
+    reasons: &Reasons<'_>,
+    rule_lines: &[u32],
+    run: &Stepper<'_>,
+    output: &mut W,
+) -> Result<(), StepFault>
+    requires { plant_asked reasons.now ≡ plant_in run.now }
+    ensures { OnOk result (Appends (W.contents output.old) (W.contents output.new)
+        (why_text (plant_in run.now) rule_lines.now (states_in run.now))) }
+{
+    let system = run.system();
+    system.keeps_its_rules();
+    for connector in 0..system.wires().len() {
+        reasons.print_blocked_of(run.states(), connector as u16, rule_lines, output)?;
+    }
+    Ok(())
+}
+
+/// The same of the connector with the name; where there is none, that.
+pub(crate) fn print_why_of<W: Write>(
+    alloc: Global,
+    reasons: &Reasons<'_>,
+    rule_lines: &[u32],
+    run: &Stepper<'_>,
+    name: &[u8],
+    output: &mut W,
+) -> Result<(), StepFault>
+    requires { plant_asked reasons.now ≡ plant_in run.now }
+    ensures { OnOk result (Appends (W.contents output.old) (W.contents output.new)
+        (why_of_text (plant_in run.now) rule_lines.now (states_in run.now) name.now)) }
+{
+    match connector_named(run.system(), name) {
+        Some(connector) => {
+            reasons.print_blocked_of(run.states(), connector, rule_lines, output)?;
+            Ok(())
+        }
+        None => print_quoted(alloc, name, b" is no connector of the plant\n", output),
+    }
+}
