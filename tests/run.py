@@ -39,7 +39,7 @@ A case is a folder tests/COMMAND/CASE. The program runs in a fresh copy of it, i
 
 Each run that examples/README.md shows is a case too, shown/WORDS, and so is each stop of tests/stops.py, stops/MOMENT, each round of
 tests/images.py, texts.py and scripts.py, images/ROUND, texts/ROUND and scripts/ROUND, each test of tests/faults.py, failures.py, limits.py and power.py,
-faults/NAME, failures/NAME, limits/NAME and power/NAME, and usage/version_of_the_kit, by which the version of the program names the kit as `rt version` does.
+faults/NAME, failures/NAME, limits/NAME and power/NAME, and usage/version_of_the_kit, by which the version of the program names the logic that `rt version` tells.
 
 What the system does not let be tested is skipped: each such test is told with the reason in a line, and is counted neither as passed nor as failed.
 
@@ -315,9 +315,9 @@ def shown_runs():
 
 
 def version_of_the_kit():
-    """The program's version names the kit that proved it."""
-    kit = subprocess.run(["rt", "version"], stdout=subprocess.PIPE, check=True).stdout
-    return Made("usage/version_of_the_kit", "--version", {"stdout-has": kit})
+    """The program's version names the logic that proved it: kits of one logic differ in their tools alone."""
+    kit = subprocess.run(["rt", "version"], stdout=subprocess.PIPE, text=True, check=True).stdout
+    return Made("usage/version_of_the_kit", "--version", {"stdout-has": re.search(r"logic \S+", kit)[0].encode()})
 
 
 class Answers(unittest.TestCase):
