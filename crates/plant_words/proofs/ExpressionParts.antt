@@ -9,10 +9,13 @@ use Rattle.petri_atom.specs.declared.parts.TheConstants.{MAX_WORDS}
 use Rattle.plant_words.specs.declared.expression_fault.ExpressionFault.{ExpressionFault}
 use Rattle.plant_words.specs.declared.expression_word.Word.{Word}
 use Rattle.plant_words.specs.declared.expression_word.Word.TheVariants.{Number, Variable, Negation, Operation}
-use Rattle.plant_words.specs.ExpressionWords.{number_in, variable_found, operator_in, could_be_variable, word_in}
+use Rattle.plant_words.specs.declared.expression_fault.ExpressionFault.TheVariants.{NotAscii}
+use Rattle.plant_words.specs.ExpressionWords.{number_in, variable_found, operator_in, could_be_variable, legal_word_in, word_in}
 use Rattle.plant_words.specs.Expressions.{Reading, expressions_in, expression_in, led_by, wanted_behind, on_trees, behind, only}
 use Rattle.petri_atom.specs.Name.{is_same_text}
+use Rattle.plant_words.specs.Lines.{is_legal_line}
 use Rattle.plant_words.specs.Numbers.{is_numeric, int_in}
+use Rattle.plant_words.proofs.Steps.{either_way}
 
 -- what a change of the expressions makes, it makes of expressions that were read
 on_trees-ok : {V : Type 0} (change : List (Tree V) → List (Tree V)) (r : Reading V) (trees : List (Tree V)) (rest : List (List ℕ)) →
@@ -96,8 +99,10 @@ named_by false None false value could_be None v says = absurd (cc)
 named_by false None false value could_be (Some w) v says = cc
 
 variable_named : {V : Type 0} (named : List ℕ → Option V) (text : List ℕ) (v : V) → word_in named text ≡ Ok (Variable v) → named text ≡ Some v
-variable_named named text v says =
-    named_by (is_same_text text (codes "!")) (operator_in text) (is_numeric text) (int_in text) (could_be_variable text) (named text) v says
+variable_named named text v =
+    either_way (is_legal_line text) (legal_word_in named text) (Err NotAscii) (Variable v) (named text ≡ Some v)
+    (λ said. named_by (is_same_text text (codes "!")) (operator_in text) (is_numeric text) (int_in text) (could_be_variable text) (named text) v said)
+    (λ said. absurd (cc))
 
 -- a word leads expressions of such variables where it says such a variable alone
 variables_led_by : {V : Type 0} (test : V → Bool) (word : Word V) (trees : List (Tree V)) → ((v : V) → word ≡ Variable v → test v ≡ true) →

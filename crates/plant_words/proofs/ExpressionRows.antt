@@ -5,7 +5,7 @@ use Rattle.petri_atom.specs.Expression.{Tree, number, variable, negation, operat
 use Rattle.petri_atom.specs.declared.expression.Operator.TheVariants.{Add, Subtract, Less, Equal, And}
 use Rattle.plant_words.specs.Words.{words_of}
 use Rattle.plant_words.specs.declared.expression_fault.ExpressionFault.{ExpressionFault}
-use Rattle.plant_words.specs.declared.expression_fault.ExpressionFault.TheVariants.{UnknownName, BadExpression, BadNumber, Limit}
+use Rattle.plant_words.specs.declared.expression_fault.ExpressionFault.TheVariants.{NotAscii, UnknownName, BadExpression, BadNumber, Limit}
 use Rattle.plant_words.specs.Expressions.{expression_in}
 
 -- the only variable is `n`, with number 0
@@ -81,6 +81,22 @@ a_number_past_the_largest = refl
 a_number_below_the_least : read (codes "-9223372036854775809") ≡ Err BadNumber
 unfolding read
 a_number_below_the_least = refl
+
+an_illegal_byte : read (codes "+ n " ++ 128 ∷ []) ≡ Err NotAscii
+unfolding read
+an_illegal_byte = refl
+
+an_illegal_byte_in_a_word : read (codes "+ n" ++ 128 ∷ codes " x") ≡ Err NotAscii
+unfolding read
+an_illegal_byte_in_a_word = refl
+
+an_illegal_byte_behind_a_fault : read (codes "+ x " ++ 128 ∷ []) ≡ Err UnknownName
+unfolding read
+an_illegal_byte_behind_a_fault = refl
+
+an_illegal_byte_behind_the_expression : read (codes "n " ++ 128 ∷ []) ≡ Ok (variable 0, (128 ∷ []) ∷ [])
+unfolding read
+an_illegal_byte_behind_the_expression = refl
 
 -- an expression of so many words `!` and a variable behind them
 denied : ℕ → List (List ℕ)

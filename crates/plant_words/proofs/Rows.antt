@@ -1,5 +1,5 @@
 -- Worked examples of the definitions, as computed facts.
-use Rattle.std.proofs.Common.{◌≡◌, true, false, refl, [], ◌∷◌, codes, ◌++◌, Some, None, pos, negsuc}
+use Rattle.std.proofs.Common.{◌≡◌, true, false, refl, [], ◌∷◌, codes, ◌++◌, Some, None, pos, negsuc, Ok, Err}
 use Rattle.std.specs.Prelude.{position}
 use Rattle.petri_atom.specs.Name.{is_same_text}
 use Rattle.plant_words.specs.Lines.{lines_of, is_legal_line}
@@ -7,6 +7,8 @@ use Rattle.plant_words.specs.Words.{words_of, is_passed_over}
 use Rattle.plant_words.specs.Numbers.{is_numeric, int_in, pick_in}
 use Rattle.plant_words.specs.Names.{name_in}
 use Rattle.plant_words.specs.Splits.{port_parts, export_parts, named_mask_in}
+use Rattle.plant_words.specs.Reading.{first_word, first_name, first_keyword, at_end}
+use Rattle.plant_words.specs.declared.line_fault.LineFault.TheVariants.{NotAscii, BadName, Shape}
 use Rattle.plant_words.specs.declared.numbers.TheConstants.{MAX_DIGITS}
 
 -- ---- lines
@@ -196,6 +198,32 @@ no_named_mask_in_the_empty_word = refl
 
 no_named_mask_without_a_colon : named_mask_in (codes "A.n") ≡ None
 no_named_mask_without_a_colon = refl
+
+-- ---- words that are taken; 228 and 128 are illegal bytes
+
+an_illegal_byte_in_a_word : first_word (words_of (codes "a" ++ 228 ∷ codes "b c")) ≡ Err NotAscii
+an_illegal_byte_in_a_word = refl
+
+an_illegal_byte_behind_a_word : first_word (words_of (codes "a " ++ 228 ∷ [])) ≡ Ok (codes "a")
+an_illegal_byte_behind_a_word = refl
+
+a_name_with_an_illegal_byte : first_name (words_of (codes "to" ++ 128 ∷ [])) ≡ Err NotAscii
+a_name_with_an_illegal_byte = refl
+
+a_reserved_word_before_an_illegal_byte : first_name (words_of (codes "to " ++ 128 ∷ [])) ≡ Err BadName
+a_reserved_word_before_an_illegal_byte = refl
+
+an_illegal_byte_in_place_of_a_keyword : first_keyword (codes "to") (words_of (128 ∷ codes " to")) ≡ Err NotAscii
+an_illegal_byte_in_place_of_a_keyword = refl
+
+another_word_in_place_of_a_keyword : first_keyword (codes "to") (words_of (codes "t " ++ 128 ∷ [])) ≡ Err Shape
+another_word_in_place_of_a_keyword = refl
+
+an_illegal_byte_left_over : at_end (words_of (128 ∷ codes " x")) ≡ Err NotAscii
+an_illegal_byte_left_over = refl
+
+a_word_left_over_before_an_illegal_byte : at_end (words_of (codes "x " ++ 128 ∷ [])) ≡ Err Shape
+a_word_left_over_before_an_illegal_byte = refl
 
 -- ---- names by their place, of q2 and q
 

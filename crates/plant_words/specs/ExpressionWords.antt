@@ -3,10 +3,11 @@ use Rattle.std.specs.Option.{option_map_or}
 use Rattle.petri_atom.specs.Name.{is_name, is_same_text}
 use Rattle.petri_atom.specs.declared.expression.Operator.{Operator}
 use Rattle.petri_atom.specs.declared.expression.Operator.TheVariants.{Add, Subtract, Multiply, Min, Max, Less, LessOrEqual, Equal, NotEqual, And, Or}
+use Rattle.plant_words.specs.Lines.{is_legal_line}
 use Rattle.plant_words.specs.Numbers.{is_numeric, int_in}
 use Rattle.plant_words.specs.Splits.{export_parts}
 use Rattle.plant_words.specs.declared.expression_fault.ExpressionFault.{ExpressionFault}
-use Rattle.plant_words.specs.declared.expression_fault.ExpressionFault.TheVariants.{UnknownName, BadExpression, BadNumber}
+use Rattle.plant_words.specs.declared.expression_fault.ExpressionFault.TheVariants.{NotAscii, UnknownName, BadExpression, BadNumber}
 use Rattle.plant_words.specs.declared.expression_word.Word.{Word}
 use Rattle.plant_words.specs.declared.expression_word.Word.TheVariants.{Number, Variable, Negation, Operation}
 
@@ -44,9 +45,13 @@ abbrev pub variable_found : {V : Type 0} → Bool → Option V → Result (Word 
 variable_found could_be None = Err (if could_be then UnknownName else BadExpression)
 variable_found could_be (Some variable) = Ok (Variable variable)
 
--- what a word says where an expression may stand: an operator, a number, a variable that is named, or else a fault
-abbrev pub word_in : {V : Type 0} → (List ℕ → Option V) → List ℕ → Result (Word V) ExpressionFault
-word_in named word =
+-- what a word of legal bytes says: an operator, a number, a variable that is named, or else a fault
+abbrev pub legal_word_in : {V : Type 0} → (List ℕ → Option V) → List ℕ → Result (Word V) ExpressionFault
+legal_word_in named word =
     if is_same_text word (codes "!") then Ok Negation
     else option_map_or (λ operator. Ok (Operation operator)) (operator_in word)
     (if is_numeric word then number_in (int_in word) else variable_found (could_be_variable word) (named word))
+
+-- what a word says where an expression may stand; a word with an illegal byte is that fault
+abbrev pub word_in : {V : Type 0} → (List ℕ → Option V) → List ℕ → Result (Word V) ExpressionFault
+word_in named word = if is_legal_line word then legal_word_in named word else Err NotAscii

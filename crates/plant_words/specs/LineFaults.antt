@@ -2,7 +2,7 @@ use Rattle.std.specs.Prelude.{◌≡◌, ◌≢◌, ℕ, List, codes, Result, Er
 use Rattle.plant_words.specs.declared.expression_fault.ExpressionFault.{ExpressionFault}
 use Rattle.plant_words.specs.declared.expression_fault.ExpressionFault.TheVariants as expression
 use Rattle.plant_words.specs.declared.line_fault.LineFault.{LineFault}
-use Rattle.plant_words.specs.declared.line_fault.LineFault.TheVariants.{BadName, Twice, UnknownName, BadExpression, BadNumber, Shape, Limit, Memory}
+use Rattle.plant_words.specs.declared.line_fault.LineFault.TheVariants.{NotAscii, BadName, Twice, UnknownName, BadExpression, BadNumber, Shape, Limit, Memory}
 
 -- a fault that is told is the one of what was read, or that memory ran out
 abbrev pub IsFaultOf : {A : Type 0} → Result A LineFault → LineFault → Type 0
@@ -14,6 +14,7 @@ IsLast read fault = fault ≡ Memory → IsOk read
 
 -- the fault of a line where an expression in it has this one
 abbrev pub line_fault : ExpressionFault → LineFault
+line_fault expression.NotAscii = NotAscii
 line_fault expression.UnknownName = UnknownName
 line_fault expression.BadExpression = BadExpression
 line_fault expression.BadNumber = BadNumber
@@ -21,6 +22,7 @@ line_fault expression.Limit = Limit
 
 -- what a fault says to a person
 abbrev pub message_of : LineFault → List ℕ
+message_of NotAscii = codes "a byte is no printed ASCII character, space or tab"
 message_of BadName = codes "a name is malformed or reserved"
 message_of Twice = codes "a name is declared already, or stands twice where it may stand once"
 message_of UnknownName = codes "a name is not known here"

@@ -6,6 +6,8 @@ use thiserror::Error;
 /// Why words are no expression.
 #[derive(Clone, Copy, Debug, PartialEq, Eq, Error)]
 pub enum ExpressionFault {
+    /// A byte of a word is no printed ASCII character, space or tab.
+    NotAscii,
     /// A word that could be a variable's name names none that may stand here.
     UnknownName,
     /// An operand is missing, or a word is no number, no operator and no name.

@@ -3,6 +3,7 @@ ghost use Rattle.std.specs.Prelude.{◌≡◌, ℕ, List, Option};
 ghost use Rattle.plant_words.specs.ExpressionWords.{operator_in, could_be_variable, word_in};
 
 use crate::expression_fault::ExpressionFault;
+use crate::lines::is_legal;
 use crate::numbers::{is_numeric, read_int};
 use crate::splits::split_export;
 use petri_atom::{Operator, is_name};
@@ -34,6 +35,9 @@ pub(crate) fn read_word<V, N: Variables<V>>(
 ) -> Result<Word<V>, ExpressionFault>
     ensures { result ≡ word_in (N.variable_named names.now) word.now }
 {
+    if !is_legal(word) {
+        return Err(ExpressionFault::NotAscii);
+    }
     if word == b"!".as_slice() {
         return Ok(Word::Negation);
     }

@@ -6,10 +6,11 @@
 //! knows what a line says.
 //!
 //! - A carriage return directly before a line feed belongs to the line's end. Anywhere else it is a byte of its
-//!   line, and [`is_legal`] refuses it, as it does each byte but printed ASCII, spaces and tabs.
+//!   line, and [`is_legal`] refuses it, as it does each byte but printed ASCII, spaces and tabs. Such a byte is never a blank, so it
+//!   stands in a word, and who takes that word tells it.
 //! - The last line may lack its line feed. Nothing follows a line feed at the end of the text.
 //! - [`is_passed_over`] says which lines say nothing: those without words, and comments, whose first word begins
-//!   with `#`. They count as lines, and their bytes have to be legal.
+//!   with `#`. They count as lines; a layer above asks whether their bytes are legal.
 //!
 //! In contracts, `Lines` is the list of the lines that are left, and `Words` that of the words, so a layer above
 //! goes down a list. What a word is stands in `specs/` as a function on its bytes: `int_in`, `pick_in`,
@@ -56,7 +57,8 @@
 //!
 //! Lines of atoms, of connectors and of rules are read by the same steps, and a [`LineFault`] says why one is refused. Each step
 //! of [`reading`] takes words, or tells the fault of one; in `specs/Reading.antt` it is a function on the list of the words, and
-//! what comes behind a fault is not judged.
+//! what comes behind a fault is not judged. A word with an illegal byte is [`LineFault::NotAscii`], whatever else it would be, and so
+//! is one that is left over.
 //!
 //! # Modules
 //!

@@ -12,6 +12,8 @@ use thiserror::Error;
 /// out.
 #[derive(Clone, Copy, Debug, PartialEq, Eq, Error)]
 pub enum LineFault {
+    /// A byte of the word is no printed ASCII character, space or tab.
+    NotAscii,
     /// A word that must be a name is none, or is reserved.
     BadName,
     /// The name is declared already, or stands twice where each may stand once.
@@ -39,6 +41,9 @@ impl fmt::Display for LineFault {
 
     fn fmt<W: fmt::Write>(&self, f: &mut fmt::Formatter<W>) -> fmt::Result {
         match self {
+            LineFault::NotAscii => {
+                f.write_str("a byte is no printed ASCII character, space or tab")
+            }
             LineFault::BadName => f.write_str("a name is malformed or reserved"),
             LineFault::Twice => f.write_str(
                 "a name is declared already, or stands twice where it may stand once",
@@ -74,6 +79,7 @@ impl From<ExpressionFault> for LineFault {
 
     fn from(fault: ExpressionFault) -> Self {
         match fault {
+            ExpressionFault::NotAscii => LineFault::NotAscii,
             ExpressionFault::UnknownName => LineFault::UnknownName,
             ExpressionFault::BadExpression => LineFault::BadExpression,
             ExpressionFault::BadNumber => LineFault::BadNumber,
