@@ -1,10 +1,10 @@
 -- Worked lines, as computed facts. The words are those behind the line's first one.
-use Rattle.std.proofs.Common.{◌≡◌, [], ◌∷◌, codes, replicate, refl, true, false, pos, negsuc, Some, None, Ok, Err}
+use Rattle.std.proofs.Common.{◌≡◌, [], ◌∷◌, ◌++◌, codes, replicate, refl, true, false, pos, negsuc, Some, None, Ok, Err}
 use Rattle.petri_atom.specs.Definition.{AtomDefinition}
 use Rattle.petri_atom.specs.Expression.{number, variable, operation}
 use Rattle.petri_atom.specs.declared.expression.Operator.TheVariants.{Add, Less}
 use Rattle.plant_words.specs.Words.{words_of}
-use Rattle.plant_words.specs.declared.line_fault.LineFault.TheVariants.{BadName, Twice, UnknownName, BadExpression, BadNumber, Shape, Limit}
+use Rattle.plant_words.specs.declared.line_fault.LineFault.TheVariants.{NotAscii, BadName, Twice, UnknownName, BadExpression, BadNumber, Shape, Limit}
 use Rattle.atom_lines.specs.Lookup.{place_number, variable_number, export_number}
 use Rattle.atom_lines.specs.Rows.{place_row, variable_row, port_row, with_place, with_variable, with_port}
 use Rattle.atom_lines.specs.Transitions.{transition_row, with_transition, updates_from}
@@ -70,7 +70,28 @@ a_place_too_many : place_row (words_of (codes "to")) full ≡ Err Limit
 unfolding sample full
 a_place_too_many = refl
 
+-- 228 is a byte that may not stand in a text
+an_illegal_byte_behind_a_place_twice : place_row (words_of (codes "p " ++ 228 ∷ [])) sample ≡ Err Twice
+unfolding sample
+an_illegal_byte_behind_a_place_twice = refl
+
+an_illegal_byte_in_place_of_init : place_row (words_of (codes "q in" ++ 228 ∷ codes "t x")) sample ≡ Err NotAscii
+unfolding sample
+an_illegal_byte_in_place_of_init = refl
+
+an_illegal_byte_behind_init : place_row (words_of (codes "q init " ++ 228 ∷ [])) sample ≡ Err NotAscii
+unfolding sample
+an_illegal_byte_behind_init = refl
+
+an_illegal_byte_behind_init_misspelt : place_row (words_of (codes "q inti " ++ 228 ∷ [])) sample ≡ Err Shape
+unfolding sample
+an_illegal_byte_behind_init_misspelt = refl
+
 -- ---- variables
+
+a_value_with_an_illegal_byte : variable_row (words_of (codes "k 7" ++ 228 ∷ codes " y")) sample ≡ Err NotAscii
+unfolding sample
+a_value_with_an_illegal_byte = refl
 
 a_negative_first_value : variable_row (words_of (codes "k -7")) sample ≡ Ok (with_variable sample (record { name = codes "k"; first = negsuc 6 }))
 unfolding sample
@@ -113,6 +134,14 @@ four_exports = record sample { variables = record { name = codes "a"; first = po
 a_fifth_export : port_row (words_of (codes "u a b c d a")) four_exports ≡ Err Limit
 unfolding sample four_exports
 a_fifth_export = refl
+
+a_fifth_export_with_an_illegal_byte : port_row (words_of (codes "u a b c d a" ++ 228 ∷ [])) four_exports ≡ Err Limit
+unfolding sample four_exports
+a_fifth_export_with_an_illegal_byte = refl
+
+an_export_with_an_illegal_byte : port_row (words_of (codes "u n m" ++ 228 ∷ codes " n")) sample ≡ Err NotAscii
+unfolding sample
+an_export_with_an_illegal_byte = refl
 
 -- port u exports m and n
 exporting : AtomDefinition
@@ -201,3 +230,31 @@ an_update_of_no_variable = refl
 a_word_left_over : transition_row (words_of (codes "t from p to q when 1 1")) moving ≡ Err Shape
 unfolding sample moving updates_from
 a_word_left_over = refl
+
+an_illegal_byte_in_a_list_of_places : transition_row (words_of (codes "t from p" ++ 228 ∷ codes " to x")) moving ≡ Err NotAscii
+unfolding sample moving updates_from
+an_illegal_byte_in_a_list_of_places = refl
+
+an_illegal_byte_in_place_of_from : transition_row (words_of (codes "t " ++ 228 ∷ codes " p")) moving ≡ Err NotAscii
+unfolding sample moving updates_from
+an_illegal_byte_in_place_of_from = refl
+
+an_illegal_byte_behind_no_source : transition_row (words_of (codes "t from to " ++ 228 ∷ [])) moving ≡ Err Shape
+unfolding sample moving updates_from
+an_illegal_byte_behind_no_source = refl
+
+an_illegal_byte_in_a_guard : transition_row (words_of (codes "t from p to q when < n " ++ 228 ∷ [])) moving ≡ Err NotAscii
+unfolding sample moving updates_from
+an_illegal_byte_in_a_guard = refl
+
+an_illegal_byte_behind_a_guard : transition_row (words_of (codes "t from p to q when 1 " ++ 228 ∷ [])) moving ≡ Err NotAscii
+unfolding sample moving updates_from
+an_illegal_byte_behind_a_guard = refl
+
+an_illegal_byte_in_an_update : transition_row (words_of (codes "t from p to q do n :=" ++ 228 ∷ codes " 1")) moving ≡ Err NotAscii
+unfolding sample moving updates_from
+an_illegal_byte_in_an_update = refl
+
+an_illegal_byte_behind_an_update_of_no_variable : transition_row (words_of (codes "t from p to q do p " ++ 228 ∷ [])) moving ≡ Err UnknownName
+unfolding sample moving updates_from
+an_illegal_byte_behind_an_update_of_no_variable = refl

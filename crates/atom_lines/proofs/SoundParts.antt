@@ -14,12 +14,14 @@ use Rattle.petri_atom.specs.declared.parts.TheConstants.{MAX_UPDATES, MAX_WORDS}
 use Rattle.plant_words.specs.Expressions.{expression_in}
 use Rattle.plant_words.specs.declared.expression_fault.ExpressionFault.{ExpressionFault}
 use Rattle.plant_words.proofs.ExpressionParts.{words_of_expression, variables_of_expression}
+use Rattle.plant_words.specs.Lines.{is_legal_line}
 use Rattle.plant_words.specs.declared.line_fault.LineFault.{LineFault}
-use Rattle.plant_words.specs.declared.line_fault.LineFault.TheVariants.{Twice, UnknownName, Shape, Limit}
-use Rattle.plant_words.specs.Reading.{◌>>=◌, check, first_word, leads, on_line}
+use Rattle.plant_words.specs.declared.line_fault.LineFault.TheVariants.{NotAscii, Twice, UnknownName, Shape, Limit}
+use Rattle.plant_words.specs.Reading.{◌>>=◌, check, first_word, first_keyword, leads, on_line}
+use Rattle.atom_lines.specs.Reading.{goes_on}
 use Rattle.atom_lines.specs.Lookup.{place_number, variable_number, port_number}
 use Rattle.atom_lines.specs.Rows.{export_in, exports_in}
-use Rattle.atom_lines.specs.Transitions.{ends_places, port_in, place_in, places_in, places_behind, expression_on, guard_in, update_in, goes_on, updates_from, updates_in, transition_in}
+use Rattle.atom_lines.specs.Transitions.{ends_places, port_in, place_in, places_in, places_behind, expression_on, guard_in, update_in, updates_from, updates_in, transition_in}
 use Rattle.atom_lines.specs.Sound.{is_sound_port, is_sound_transition}
 use Rattle.plant_words.proofs.Steps.{led_on, passed, was_there, same_end, either_way}
 use Rattle.plant_words.proofs.Positions.{position-within}
@@ -48,8 +50,10 @@ exported : (a : AtomDefinition) (before : List ℕ) (word : List ℕ) (k : ℕ) 
     (length before < MAX_EXPORTS) × (list_any (λ j. nat_eq j k) before ≡ false) × (k < length a.variables)
 exported a before word k told =
     let after : ℕ → Result ℕ LineFault = λ n. check (not (list_any (λ j. nat_eq j n) before)) Twice >>= (λ _. Ok n) in
-    let room = led_on (check (nat_lt (length before) MAX_EXPORTS) Limit) (λ _. ok_or (variable_number a word) UnknownName >>= after) k told in
-    let known = led_on (ok_or (variable_number a word) UnknownName) after k room.2 in
+    let named : Unit {0} → Result ℕ LineFault = λ _. ok_or (variable_number a word) UnknownName >>= after in
+    let room = led_on (check (nat_lt (length before) MAX_EXPORTS) Limit) (λ _. check (is_legal_line word) NotAscii >>= named) k told in
+    let legal = led_on (check (is_legal_line word) NotAscii) named k room.2 in
+    let known = led_on (ok_or (variable_number a word) UnknownName) after k legal.2 in
     let new = led_on (check (not (list_any (λ j. nat_eq j known.0) before)) Twice) (λ _. Ok known.0) k known.2 in
     let same : known.0 ≡ k = cc (new.2) in (
       ltb-true _ _ (passed _ _ _ room.1),
@@ -82,7 +86,8 @@ placed : (a : AtomDefinition) (before : List ℕ) (word : List ℕ) (k : ℕ) �
     (list_any (λ j. nat_eq j k) before ≡ false) × (k < length a.places)
 placed a before word k told =
     let after : ℕ → Result ℕ LineFault = λ n. check (not (list_any (λ j. nat_eq j n) before)) Twice >>= (λ _. Ok n) in
-    let known = led_on (ok_or (place_number a word) UnknownName) after k told in
+    let legal = led_on (check (is_legal_line word) NotAscii) (λ _. ok_or (place_number a word) UnknownName >>= after) k told in
+    let known = led_on (ok_or (place_number a word) UnknownName) after k legal.2 in
     let new = led_on (check (not (list_any (λ j. nat_eq j known.0) before)) Twice) (λ _. Ok known.0) k known.2 in
     let same : known.0 ≡ k = cc (new.2) in (
       ap (λ n. list_any (λ j. nat_eq j n) before) (sym same) ∙ not-true _ (passed _ _ _ new.1),
@@ -120,7 +125,7 @@ places_sound : (a : AtomDefinition) (keyword : List ℕ) (words : List (List ℕ
     Listed (length a.places) listed.0 × (nat_lt 0 (length listed.0) ≡ true)
 places_sound a keyword words listed told =
     let last : List ℕ × List (List ℕ) → Result (List ℕ × List (List ℕ)) LineFault = λ l. check (nat_lt 0 (length l.0)) Shape >>= (λ _. Ok l) in
-    let begun = led_on (check (leads keyword words) Shape) (λ _. places_in a [] (drop 1 words) >>= last) listed told in
+    let begun = led_on (first_keyword keyword words) (λ _. places_in a [] (drop 1 words) >>= last) listed told in
     let read = led_on (places_in a [] (drop 1 words)) last listed begun.2 in
     let filled = led_on (check (nat_lt 0 (length read.0.0)) Shape) (λ _. Ok read.0) listed read.2 in
     let same : read.0 ≡ listed = cc (filled.2) in (
@@ -172,10 +177,10 @@ one_update variables us u sound small known = record {
 update_sound : (a : AtomDefinition) (words : List (List ℕ)) (read : UpdateDefinition × List (List ℕ)) → update_in a words ≡ Ok read → (is_small_value read.0 ≡ true) × (has_known_variables (length a.variables) read.0 ≡ true)
 update_sound a words read told =
     let made : ℕ → Tree ℕ × List (List ℕ) → Result (UpdateDefinition × List (List ℕ)) LineFault = λ v e. Ok (record { variable = v; value = e.0 }, e.1) in
-    let valued : ℕ → Result (UpdateDefinition × List (List ℕ)) LineFault = λ v. check (leads (codes ":=") (drop 1 words)) Shape >>= (λ _. expression_on a (drop 1 (drop 1 words)) >>= made v) in
+    let valued : ℕ → Result (UpdateDefinition × List (List ℕ)) LineFault = λ v. first_keyword (codes ":=") (drop 1 words) >>= (λ _. expression_on a (drop 1 (drop 1 words)) >>= made v) in
     let word = led_on (first_word words) (λ w. ok_or (variable_number a w) UnknownName >>= valued) read told in
     let variable = led_on (ok_or (variable_number a word.0) UnknownName) valued read word.2 in
-    let assigned = led_on (check (leads (codes ":=") (drop 1 words)) Shape) (λ _. expression_on a (drop 1 (drop 1 words)) >>= made variable.0) read variable.2 in
+    let assigned = led_on (first_keyword (codes ":=") (drop 1 words)) (λ _. expression_on a (drop 1 (drop 1 words)) >>= made variable.0) read variable.2 in
     let value = led_on (expression_on a (drop 1 (drop 1 words))) (made variable.0) read assigned.2 in
     let same : ◌≡◌ {A = UpdateDefinition × List (List ℕ)} (record { variable = variable.0; value = value.0.0 }, value.0.1) read = same_end _ _ value.2 in
     let fits = expression_fits a (drop 1 (drop 1 words)) value.0 value.1 in

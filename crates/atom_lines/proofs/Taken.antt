@@ -1,37 +1,12 @@
 -- What one step of reading the line of an atom makes of the words that were left.
-use Rattle.std.proofs.Common.{◌≡◌, ◌∙◌, refl, sym, ap, ℕ, ◌<◌, ◌≤◌, Bool, true, false, ◌||◌, if◌then◌else◌, List, [], ◌∷◌, length, get_or, drop, Option, Some, None, Result, Ok, Err, MatchOption, codes}
+use Rattle.std.proofs.Common.{◌≡◌, ◌∙◌, refl, sym, ap, ℕ, ◌<◌, ◌≤◌, Bool, true, false, ◌||◌, List, [], ◌∷◌, length, get_or, drop, Option, Some, None, MatchOption, codes}
 use Rattle.std.specs.Prelude.{slice_get}
 use Rattle.std.specs.Option.{option_map_or}
 use Rattle.std.proofs.lemmas.Option.{slice_get_read, slice_get_past}
 use Rattle.petri_atom.specs.Name.{is_same_text}
 use Rattle.petri_atom.specs.declared.parts.Variable.{Variable}
-use Rattle.plant_words.specs.declared.line_fault.LineFault.{LineFault}
-use Rattle.plant_words.specs.declared.line_fault.LineFault.TheVariants.{Shape}
 use Rattle.atom_lines.specs.Lookup.{is_named}
-use Rattle.plant_words.specs.Reading.{check}
-use Rattle.atom_lines.specs.Transitions.{goes_on, ends_places}
-use Rattle.plant_words.proofs.Steps.{passed}
-use Rattle.plant_words.proofs.Taken.{refused}
-
--- whether a line goes on, by the test of its next word
-by_test : Bool → Result Bool LineFault
-by_test same = if same then Ok true else Err Shape
-
-goes_on_by_test : (keyword word : List ℕ) (words rest : List (List ℕ)) (same : Bool) → words ≡ word ∷ rest → same ≡ is_same_text word keyword → goes_on keyword words ≡ by_test same
-unfolding by_test
-goes_on_by_test keyword word words rest same taken test = ap (goes_on keyword) taken ∙ ap by_test (sym test)
-
--- the line goes on by the right word
-pub goes_on_well : (keyword word : List ℕ) (words rest : List (List ℕ)) (same : Bool) (u : Unit {0}) → words ≡ word ∷ rest → same ≡ is_same_text word keyword → check same Shape ≡ Ok u → Ok true ≡ goes_on keyword words
-unfolding by_test
-goes_on_well keyword word words rest same u taken test well = sym (goes_on_by_test keyword word words rest same taken test ∙ ap by_test (passed same Shape u well))
-
--- the line goes on by another word
-pub goes_on_ill : (keyword word : List ℕ) (words rest : List (List ℕ)) (same : Bool) (told : LineFault) → words ≡ word ∷ rest → same ≡ is_same_text word keyword → check same Shape ≡ Err told → goes_on keyword words ≡ Err told
-unfolding by_test
-goes_on_ill keyword word words rest same told taken test ill =
-    let is = refused same Shape told ill in
-    goes_on_by_test keyword word words rest same taken test ∙ ap by_test is.0 ∙ ap Err is.1
+use Rattle.atom_lines.specs.Transitions.{ends_places}
 
 second_of : (a b c : Bool) → b ≡ true → (a || b || c) ≡ true
 second_of true b c is = refl

@@ -2,7 +2,8 @@ use Rattle.std.proofs.Common.{◌≡◌, ℕ, zero, suc, ◌-◌, ◌<◌, List,
 use Rattle.petri_atom.specs.Definition.{AtomDefinition, UpdateDefinition}
 use Rattle.plant_words.specs.declared.line_fault.LineFault.{LineFault}
 use Rattle.plant_words.specs.declared.line_fault.LineFault.TheVariants.{Limit}
-use Rattle.atom_lines.specs.Transitions.{update_in, goes_on, updates_from}
+use Rattle.atom_lines.specs.Reading.{goes_on}
+use Rattle.atom_lines.specs.Transitions.{update_in, updates_from}
 
 -- where the line ends, the updates are those before
 pub no_more_updates : (a : AtomDefinition) (left : ℕ) (before : List UpdateDefinition) (words : List (List ℕ)) → updates_from a left before false words ≡ Ok before

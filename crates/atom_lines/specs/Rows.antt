@@ -9,8 +9,9 @@ use Rattle.petri_atom.specs.declared.parts.Place.{Place}
 use Rattle.petri_atom.specs.declared.parts.Variable.{Variable}
 use Rattle.petri_atom.specs.declared.state.TheConstants.{MAX_PLACES, MAX_VARIABLES, MAX_EXPORTS}
 use Rattle.petri_atom.specs.declared.parts.TheConstants.{MAX_PORTS}
+use Rattle.plant_words.specs.Lines.{is_legal_line}
 use Rattle.plant_words.specs.declared.line_fault.LineFault.{LineFault}
-use Rattle.plant_words.specs.declared.line_fault.LineFault.TheVariants.{Twice, UnknownName, Limit}
+use Rattle.plant_words.specs.declared.line_fault.LineFault.TheVariants.{NotAscii, Twice, UnknownName, Limit}
 use Rattle.plant_words.specs.Reading.{◌>>=◌, check, first_name}
 use Rattle.atom_lines.specs.Reading.{mark_in, value_in}
 use Rattle.atom_lines.specs.Lookup.{place_number, variable_number, port_number}
@@ -45,11 +46,12 @@ variable_row words a = do
   first ← value_in (drop 1 words)
   Ok (with_variable a (record { name = name; first = first }))
 
--- The number of the variable that a port exports by the word, behind these: none too many, of a variable that is
--- there, and not exported yet
+-- The number of the variable that a port exports by the word, behind these: none too many, by a word of legal bytes, of a
+-- variable that is there, and not exported yet
 abbrev pub export_in : AtomDefinition → List ℕ → List ℕ → Result ℕ LineFault
 export_in a before word = do
   _ ← check (nat_lt (length before) MAX_EXPORTS) Limit
+  _ ← check (is_legal_line word) NotAscii
   number ← ok_or (variable_number a word) UnknownName
   _ ← check (not (list_any (λ k. nat_eq k number) before)) Twice
   Ok number

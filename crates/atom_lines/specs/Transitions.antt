@@ -8,9 +8,11 @@ use Rattle.petri_atom.specs.Expression.{Tree, number}
 use Rattle.petri_atom.specs.Definition.{AtomDefinition, TransitionDefinition, UpdateDefinition}
 use Rattle.petri_atom.specs.declared.parts.TheConstants.{MAX_TRANSITIONS, MAX_UPDATES}
 use Rattle.plant_words.specs.Expressions.{expression_in}
+use Rattle.plant_words.specs.Lines.{is_legal_line}
 use Rattle.plant_words.specs.declared.line_fault.LineFault.{LineFault}
-use Rattle.plant_words.specs.declared.line_fault.LineFault.TheVariants.{Twice, UnknownName, Shape, Limit}
-use Rattle.plant_words.specs.Reading.{◌>>=◌, check, first_word, leads, on_line}
+use Rattle.plant_words.specs.declared.line_fault.LineFault.TheVariants.{NotAscii, Twice, UnknownName, Shape, Limit}
+use Rattle.plant_words.specs.Reading.{◌>>=◌, check, first_word, first_keyword, leads, on_line}
+use Rattle.atom_lines.specs.Reading.{goes_on}
 use Rattle.atom_lines.specs.Lookup.{place_number, variable_number, port_number}
 
 -- a list of places ends at the words that may stand behind one, and at the line's end
@@ -24,9 +26,10 @@ port_in a words = do
   word ← first_word words
   ok_or (port_number a word) UnknownName
 
--- the number of the place that a word names, behind these: a place that is there, and is not listed yet
+-- the number of the place that a word of legal bytes names, behind these: a place that is there, and is not listed yet
 abbrev pub place_in : AtomDefinition → List ℕ → List ℕ → Result ℕ LineFault
 place_in a before word = do
+  _ ← check (is_legal_line word) NotAscii
   place ← ok_or (place_number a word) UnknownName
   _ ← check (not (list_any (λ k. nat_eq k place) before)) Twice
   Ok place
@@ -41,7 +44,7 @@ places_in a before (word ∷ words) =
 -- the places of a list that begins with a word, one at least, and the words behind the list
 abbrev pub places_behind : List ℕ → AtomDefinition → List (List ℕ) → Result (List ℕ × List (List ℕ)) LineFault
 places_behind keyword a words = do
-  _ ← check (leads keyword words) Shape
+  _ ← first_keyword keyword words
   listed ← places_in a [] (drop 1 words)
   _ ← check (nat_lt 0 (length listed.0)) Shape
   Ok listed
@@ -59,14 +62,9 @@ abbrev pub update_in : AtomDefinition → List (List ℕ) → Result (UpdateDefi
 update_in a words = do
   word ← first_word words
   variable ← ok_or (variable_number a word) UnknownName
-  _ ← check (leads (codes ":=") (drop 1 words)) Shape
+  _ ← first_keyword (codes ":=") (drop 1 words)
   value ← expression_on a (drop 1 (drop 1 words))
   Ok (record { variable = variable; value = value.0 }, value.1)
-
--- whether the line goes on, which it may by this word alone
-abbrev pub goes_on : List ℕ → List (List ℕ) → Result Bool LineFault
-goes_on keyword [] = Ok false
-goes_on keyword (word ∷ words) = if is_same_text word keyword then Ok true else Err Shape
 
 -- The updates behind these, of which so many may come, where the line goes on. One too many is at fault by the
 -- word before it.

@@ -24,8 +24,8 @@ use petri_atom::{
     Atom, AtomFault, Expression, MAX_EXPORTS, MAX_PLACES, MAX_PORTS, MAX_TRANSITIONS, MAX_UPDATES,
     MAX_VARIABLES, Name, Place, Port, Transition, Update, Variable,
 };
-use plant_words::reading::{check, next_name, next_word, skip_word};
-use plant_words::{LineFault, NameIndex, Variables, Words, read_expression};
+use plant_words::reading::{check, next_keyword, next_name, next_word, skip_word};
+use plant_words::{LineFault, NameIndex, Variables, Words, is_legal, read_expression};
 use std::alloc::{AllocError, Global};
 
 /// An atom to which lines add parts.
@@ -212,6 +212,7 @@ impl AtomDraft {
         ensures room { OnOk result (length before.now < MAX_EXPORTS) }
     {
         check(before.len() < MAX_EXPORTS, LineFault::Limit)?;
+        check(is_legal(word), LineFault::NotAscii)?;
         let number = self.find_variable(word).ok_or(LineFault::UnknownName)?;
         check(!before.contains(&number), LineFault::Twice)?;
         Ok(number)
@@ -244,6 +245,7 @@ impl AtomDraft {
         ensures place { result ≡ place_in (drafted self.now) before.now word.now }
         ensures within { IfOk result (λ place. place < MAX_PLACES) }
     {
+        check(is_legal(word), LineFault::NotAscii)?;
         let place = self.find_place(word).ok_or(LineFault::UnknownName)?;
         check(!before.contains(&place), LineFault::Twice)?;
         Ok(place)
@@ -273,7 +275,7 @@ impl AtomDraft {
         ensures fault { IfErr result (λ fault. places_behind keyword.now (drafted self.now) words.old ≡ Err fault) }
         ensures within { IfOk result (λ places. IsTrue (are_places places.items)) }
     {
-        check(skip_word(words, keyword), LineFault::Shape)?;
+        next_keyword(words, keyword)?;
         let places = self.read_places(words)?;
         check(0 < places.len(), LineFault::Shape)?;
         Ok(places)
@@ -309,7 +311,7 @@ impl AtomDraft {
     {
         let word = next_word(words)?;
         let variable = self.find_variable(word).ok_or(LineFault::UnknownName)?;
-        check(skip_word(words, b":="), LineFault::Shape)?;
+        next_keyword(words, b":=")?;
         let value = self.read_expression(words)?;
         Ok(update(variable, value))
     }

@@ -1,9 +1,9 @@
 //! Steps of reading the line of an atom, beside those that lines of every kind share: each takes words, or tells the fault of one.
 ghost use Rattle.std.specs.Prelude.{◌≡◌, drop, false, MatchOption, true, ◌∷◌};
-ghost use Rattle.atom_lines.specs.Reading.{first_number, mark_in, value_in};
-ghost use Rattle.atom_lines.specs.Transitions.{ends_places, goes_on};
+ghost use Rattle.atom_lines.specs.Reading.{first_number, goes_on, mark_in, value_in};
+ghost use Rattle.atom_lines.specs.Transitions.{ends_places};
 
-use plant_words::reading::{check, end, next_word};
+use plant_words::reading::{end, next_keyword, next_word};
 use plant_words::{LineFault, Words, read_int};
 
 /// The next word as a number.
@@ -19,14 +19,9 @@ fn next_number(words: &mut Words) -> Result<i64, LineFault>
 pub(crate) fn read_mark(words: &mut Words) -> Result<bool, LineFault>
     ensures { result ≡ mark_in words.old }
 {
-    match words.next_word() {
-        None => Ok(false),
-        Some(word) => {
-            check(word == b"init".as_slice(), LineFault::Shape)?;
-            end(words)?;
-            Ok(true)
-        }
-    }
+    let marked = goes_on(words, b"init")?;
+    end(words)?;
+    Ok(marked)
 }
 
 /// The number that the words that are left say, which is one word.
@@ -55,9 +50,9 @@ pub(crate) fn goes_on(words: &mut Words, keyword: &[u8]) -> Result<bool, LineFau
     ensures goes_on { result ≡ goes_on keyword.now words.old }
     ensures taken { words.new ≡ drop 1 words.old }
 {
-    let Some(word) = words.next_word() else {
+    if words.peek().is_none() {
         return Ok(false);
-    };
-    check(word == keyword, LineFault::Shape)?;
+    }
+    next_keyword(words, keyword)?;
     Ok(true)
 }
