@@ -43,6 +43,11 @@ def require(holds, number):
         raise Fault(number)
 
 
+def check_bytes(word):
+    """Each byte may be in a text. A word is kept as text with one character for each byte."""
+    require(all(" " <= byte <= "~" or byte == "\t" for byte in word), 1)
+
+
 class Words:
     """The words of a line that are left."""
 
@@ -52,6 +57,7 @@ class Words:
     def next(self):
         """The next word, which must be there."""
         require(self.left, 10)
+        check_bytes(self.left[0])
         return self.left.pop(0)
 
     def take(self, word):
@@ -61,7 +67,9 @@ class Words:
         return self.left[:1] == [word]
 
     def end(self):
-        require(not self.left, 10)
+        if self.left:
+            check_bytes(self.left[0])
+            raise Fault(10)
 
     def new_name(self, names):
         name = self.next()
@@ -75,7 +83,7 @@ class Words:
         while wanted:
             require(self.left, 8)
             require(count < 64, 13)
-            word, count, wanted = self.left.pop(0), count + 1, wanted - 1
+            word, count, wanted = self.next(), count + 1, wanted - 1
             if word == "!":
                 wanted += 1
             elif word in OPERATORS:
@@ -169,11 +177,11 @@ class Reader:
         self.rules = []
 
     def read_line(self, line):
-        require(all(0x20 <= byte <= 0x7E or byte == 9 for byte in line), 1)
-        words = line.decode().split()
+        words = re.findall(r"[^ \t]+", line.decode("latin-1"))
         if not words or words[0].startswith("#"):
-            return
-        kind, words = words[0], Words(words[1:])
+            return check_bytes("".join(words))
+        words = Words(words)
+        kind = words.next()
         if kind in OF_ATOMS:
             self.read_part(self.atoms, OF_ATOMS[kind], kind, lambda: getattr(self.atoms[-1], f"read_{kind}")(words))
         elif kind in OF_CONNECTORS:
@@ -209,6 +217,7 @@ class Reader:
         require(words.left, 10)
         level, deepest, leaves, before, empty = 0, 0, [], "", False
         for word in words.left:
+            check_bytes(word)
             if word == "[":
                 level += 1
             elif word in ("]", "]'"):

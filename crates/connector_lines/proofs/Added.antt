@@ -11,8 +11,8 @@ use Rattle.step_core.specs.Rules.{are_small_guards, are_small_transfers}
 use Rattle.step_core.specs.declared.limits.TheConstants.{MAX_GUARDS, MAX_TRANSFERS}
 use Rattle.step_core.specs.declared.wire.Export.{Export}
 use Rattle.plant_words.specs.declared.line_fault.LineFault.{LineFault}
-use Rattle.plant_words.specs.declared.line_fault.LineFault.TheVariants.{Twice, UnknownName, Shape, Limit}
-use Rattle.plant_words.specs.Reading.{◌>>=◌, check, first_word, leads}
+use Rattle.plant_words.specs.declared.line_fault.LineFault.TheVariants.{Twice, UnknownName, Limit}
+use Rattle.plant_words.specs.Reading.{◌>>=◌, check, first_word, first_keyword}
 use Rattle.plant_words.proofs.Exits.{room_for_one}
 use Rattle.plant_words.proofs.Once.{all_and_one}
 use Rattle.plant_words.proofs.Steps.{led_on, passed, same_end}
@@ -68,9 +68,9 @@ transfer_is_new : (named : Named) (before : List TransferDefinition) (words : Li
 transfer_is_new named before words t told =
     let made : Export → Tree Export → Result TransferDefinition LineFault = λ target value. Ok (record { target = target; value = value }) in
     let valued : Export → Unit {0} → Result TransferDefinition LineFault = λ target assigns. whole_expression named (drop 1 (drop 1 words)) >>= made target in
-    let assigned : Export → Result TransferDefinition LineFault = λ target. check (leads (codes ":=") (drop 1 words)) Shape >>= valued target in
+    let assigned : Export → Result TransferDefinition LineFault = λ target. first_keyword (codes ":=") (drop 1 words) >>= valued target in
     let target = led_on (target_in named before words) assigned t told in
-    let assigns = led_on (check (leads (codes ":=") (drop 1 words)) Shape) (valued target.0) t target.2 in
+    let assigns = led_on (first_keyword (codes ":=") (drop 1 words)) (valued target.0) t target.2 in
     let value = led_on (whole_expression named (drop 1 (drop 1 words))) (made target.0) t assigns.2 in
     let same : record { target = target.0; value = value.0 } ≡ t = same_end (record { target = target.0; value = value.0 }) t value.2 in
     subst (λ s. has_target before s.target ≡ false) same (target_is_new named before words target.0 target.1)

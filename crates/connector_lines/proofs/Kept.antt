@@ -10,8 +10,8 @@ use Rattle.petri_atom.specs.Expression.{Tree}
 use Rattle.step_core.specs.Plant.{TransferDefinition}
 use Rattle.step_core.specs.declared.wire.Export.{Export}
 use Rattle.plant_words.specs.declared.line_fault.LineFault.{LineFault}
-use Rattle.plant_words.specs.declared.line_fault.LineFault.TheVariants.{Twice, UnknownName, Shape}
-use Rattle.plant_words.specs.Reading.{◌>>=◌, check, first_word, leads}
+use Rattle.plant_words.specs.declared.line_fault.LineFault.TheVariants.{Twice, UnknownName}
+use Rattle.plant_words.specs.Reading.{◌>>=◌, check, first_word, first_keyword}
 use Rattle.connector_lines.specs.Rows.{Named, has_target, target_in, transfer_in, whole_expression}
 use Rattle.connector_lines.specs.Parts.{Passes}
 use Rattle.connector_lines.proofs.Expressions.{IsKept, whole_is_kept}
@@ -61,12 +61,12 @@ pub record IsKeptTransfer (test : Export → Bool) (t : TransferDefinition) : Ty
   pub target : test t.target ≡ true
   pub value : IsKept test t.value
 
-transfer_if_read : (test : Export → Bool) (target : Result Export LineFault) (assigns : Bool) (value : Result (Tree Export) LineFault) →
+transfer_if_read : (test : Export → Bool) (target : Result Export LineFault) (assigns : Result (Unit {0}) LineFault) (value : Result (Tree Export) LineFault) →
     IfOk target (λ t. test t ≡ true) → IfOk value (IsKept test) →
-    IfOk (target >>= λ t. (check assigns Shape >>= λ _. (value >>= λ v. Ok (record { target = t; value = v })))) (IsKeptTransfer test)
-transfer_if_read test (Ok t) true (Ok v) first second = record { target = first; value = second }
-transfer_if_read test (Ok t) true (Err fault) first second = tt
-transfer_if_read test (Ok t) false value first second = tt
+    IfOk (target >>= λ t. (assigns >>= λ _. (value >>= λ v. Ok (record { target = t; value = v })))) (IsKeptTransfer test)
+transfer_if_read test (Ok t) (Ok u) (Ok v) first second = record { target = first; value = second }
+transfer_if_read test (Ok t) (Ok u) (Err fault) first second = tt
+transfer_if_read test (Ok t) (Err fault) value first second = tt
 transfer_if_read test (Err fault) assigns value first second = tt
 
 -- the target of a transfer and the variables of its value are named by words, and the value is small
@@ -74,7 +74,7 @@ pub transfer_is_kept : (test : Export → Bool) (named : Named) → Passes test 
     transfer_in named before words ≡ Ok t → IsKeptTransfer test t
 transfer_is_kept test named passing before words t is =
     subst (λ (read : Result TransferDefinition LineFault). IfOk read (IsKeptTransfer test)) is
-    (transfer_if_read test (target_in named before words) (leads (codes ":=") (drop 1 words)) (whole_expression named (drop 1 (drop 1 words)))
+    (transfer_if_read test (target_in named before words) (first_keyword (codes ":=") (drop 1 words)) (whole_expression named (drop 1 (drop 1 words)))
     (target_if_written (λ target. test target ≡ true) before named (first_word words) passing)
     (whole_is_kept test named passing (drop 1 (drop 1 words))))
 

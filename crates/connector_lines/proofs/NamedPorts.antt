@@ -4,6 +4,7 @@ use Rattle.std.specs.List.{list_all}
 use Rattle.std.specs.Option.{option_map_or}
 use Rattle.std.proofs.lemmas.Bool.{and_from}
 use Rattle.petri_atom.specs.Name.{is_same_text}
+use Rattle.plant_words.specs.Lines.{is_legal_line}
 use Rattle.plant_words.specs.Splits.{PortParts, port_parts}
 use Rattle.connector_tree.specs.declared.tree.Port.{Port}
 use Rattle.connector_tree.specs.declared.faults.TreeFault.{TreeFault}
@@ -12,8 +13,8 @@ use Rattle.connector_tree.specs.declared.token.Token.TheVariants.{Leaf, Open, Cl
 use Rattle.connector_tree.specs.Tokens.{level_behind, ports_in}
 use Rattle.connector_tree.specs.TokenFaults.{fault_in}
 use Rattle.connector_lines.specs.declared.tree_words_fault.TreeWordsFault.{TreeWordsFault}
-use Rattle.connector_lines.specs.declared.tree_words_fault.TreeWordsFault.TheVariants.{Shape}
-use Rattle.connector_lines.specs.Tokens.{Names, Reading, leaf_of, leaf_in, token_in, led_by, behind, tokens_in}
+use Rattle.connector_lines.specs.declared.tree_words_fault.TreeWordsFault.TheVariants.{NotAscii, Shape}
+use Rattle.connector_lines.specs.Tokens.{Names, Reading, leaf_of, leaf_in, legal_token_in, token_in, led_by, behind, tokens_in}
 use Rattle.connector_lines.specs.Trees.{unless, judged, tree_in}
 
 -- ---- faults
@@ -65,6 +66,11 @@ module _ (test : Port → Bool) (named : Names) (passes : (atom port : List ℕ)
   at_bracket false false true parts = refl
   at_bracket false false false parts = at_leaf parts
 
+  at_legal : (legal : Bool) (said : Result Token TreeWordsFault) → IfOk said (λ token. token_passes test token ≡ true) →
+      IfOk (if legal then said else Err NotAscii) (λ token. token_passes test token ≡ true)
+  at_legal true said own = own
+  at_legal false said own = tt
+
   led : (token : Token) (reading : Reading) → token_passes test token ≡ true → PortsPass test reading → PortsPass test (led_by token reading)
   led (Leaf port trigger) (Ok tokens) own all = and_from _ _ own all
   led Open (Ok tokens) own all = all
@@ -90,7 +96,8 @@ module _ (test : Port → Bool) (named : Names) (passes : (atom port : List ℕ)
   at_words level [] = at_end (level == 0)
   at_words level (word ∷ words) =
       at_word (token_in named word) level (λ next. tokens_in named next words)
-      (at_bracket (is_same_text word (codes "[")) (is_same_text word (codes "]")) (is_same_text word (codes "]'")) (port_parts word))
+      (at_legal (is_legal_line word) (legal_token_in named word)
+      (at_bracket (is_same_text word (codes "[")) (is_same_text word (codes "]")) (is_same_text word (codes "]'")) (port_parts word)))
       (λ next. at_words next words)
 
   -- the ports of a tree that words are pass a test that each port passes which is named

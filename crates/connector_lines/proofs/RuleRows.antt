@@ -1,10 +1,10 @@
 -- Worked lines, as computed facts. The words are those behind the line's first one.
-use Rattle.std.proofs.Common.{◌≡◌, ℕ, Bool, true, List, codes, if◌then◌else◌, ◌&&◌, ◌||◌, ◌==◌, refl, Option, Some, None, Ok, Err}
+use Rattle.std.proofs.Common.{◌≡◌, ℕ, Bool, true, List, [], ◌∷◌, ◌++◌, codes, if◌then◌else◌, ◌&&◌, ◌||◌, ◌==◌, refl, Option, Some, None, Ok, Err}
 use Rattle.petri_atom.specs.Name.{is_same_text}
 use Rattle.plant_words.specs.Words.{words_of}
 use Rattle.priority_filter.specs.declared.rule.Side.TheVariants.{Whole, One}
 use Rattle.priority_filter.specs.declared.rule.Rule.TheVariants.{Under, Maximal}
-use Rattle.plant_words.specs.declared.line_fault.LineFault.TheVariants.{UnknownName, BadNumber, Shape}
+use Rattle.plant_words.specs.declared.line_fault.LineFault.TheVariants.{NotAscii, UnknownName, BadNumber, Shape}
 use Rattle.connector_lines.specs.Rules.{priority_in, maximal_in}
 use Rattle.connector_lines.specs.declared.side.TheConstants.{MAX_MASK}
 
@@ -137,6 +137,23 @@ another_word_before_an_unknown_side = refl
 a_word_left_over : priority_in connector_named has_interaction (words_of (codes "tick < send x")) ≡ Err Shape
 unfolding connector_named has_interaction
 a_word_left_over = refl
+
+-- 228 is a byte that may not stand in a text
+an_illegal_byte_in_a_side : priority_in connector_named has_interaction (words_of (codes "bc:" ++ 228 ∷ codes " tick")) ≡ Err NotAscii
+unfolding connector_named has_interaction
+an_illegal_byte_in_a_side = refl
+
+an_illegal_byte_in_place_of_below : priority_in connector_named has_interaction (words_of (codes "tick <" ++ 228 ∷ codes " no")) ≡ Err NotAscii
+unfolding connector_named has_interaction
+an_illegal_byte_in_place_of_below = refl
+
+an_illegal_byte_behind_an_unknown_side : priority_in connector_named has_interaction (words_of (codes "no " ++ 228 ∷ [])) ≡ Err UnknownName
+unfolding connector_named has_interaction
+an_illegal_byte_behind_an_unknown_side = refl
+
+an_illegal_byte_left_over : priority_in connector_named has_interaction (words_of (codes "tick < send x" ++ 228 ∷ [])) ≡ Err NotAscii
+unfolding connector_named has_interaction
+an_illegal_byte_left_over = refl
 
 -- ---- maximal connectors
 

@@ -1,11 +1,11 @@
 -- Worked examples of the definitions, as computed facts.
-use Rattle.std.proofs.Common.{◌≡◌, ℕ, ◌-◌, ◌==◌, ◌&&◌, true, false, refl, if◌then◌else◌, List, [], ◌∷◌, codes, length, slice_index, nat_le, Option, Some, None, Ok, Err}
+use Rattle.std.proofs.Common.{◌≡◌, ℕ, ◌-◌, ◌==◌, ◌&&◌, true, false, refl, if◌then◌else◌, List, [], ◌∷◌, ◌++◌, codes, length, slice_index, nat_le, Option, Some, None, Ok, Err}
 use Rattle.connector_tree.specs.declared.tree.Port.{Port}
 use Rattle.connector_tree.specs.declared.faults.TreeFault.TheVariants.{TooManyLeaves, TooDeep, SameAtom, Empty}
 use Rattle.plant_words.specs.Words.{words_of}
 use Rattle.connector_tree.specs.declared.token.Token.{Token}
 use Rattle.connector_tree.specs.declared.token.Token.TheVariants.{Leaf, Open, Close}
-use Rattle.connector_lines.specs.declared.tree_words_fault.TreeWordsFault.TheVariants.{UnknownName, Shape, Tree}
+use Rattle.connector_lines.specs.declared.tree_words_fault.TreeWordsFault.TheVariants.{NotAscii, UnknownName, Shape, Tree}
 use Rattle.connector_lines.specs.Tokens.{Reading}
 use Rattle.connector_lines.specs.Trees.{tree_in}
 
@@ -112,6 +112,23 @@ an_unknown_name_in_an_open_bracket : read (codes "[ B.q") ≡ Err UnknownName
 unfolding read
 an_unknown_name_in_an_open_bracket = refl
 
+-- 228 is a byte that may not stand in a text
+an_illegal_byte_in_a_port : read (codes "a.p b." ++ 228 ∷ codes " B.q") ≡ Err NotAscii
+unfolding read
+an_illegal_byte_in_a_port = refl
+
+an_illegal_byte_behind_an_unknown_name : read (codes "B.q " ++ 228 ∷ []) ≡ Err UnknownName
+unfolding read
+an_illegal_byte_behind_an_unknown_name = refl
+
+an_illegal_byte_in_an_open_bracket : read (codes "[ a.p ]" ++ 228 ∷ []) ≡ Err NotAscii
+unfolding read
+an_illegal_byte_in_an_open_bracket = refl
+
+an_illegal_byte_behind_an_end_without_its_begin : read (codes "a.p ] " ++ 228 ∷ []) ≡ Err Shape
+unfolding read
+an_illegal_byte_behind_an_end_without_its_begin = refl
+
 -- ---- faults of trees
 
 eight_ports : read (codes "a.p b.p c.p d.p e.p f.p g.p h.p") ≡
@@ -126,6 +143,10 @@ nine_ports = refl
 an_unknown_name_behind_eight_ports : read (codes "a.p b.p c.p d.p e.p f.p g.p h.p I.p") ≡ Err UnknownName
 unfolding read
 an_unknown_name_behind_eight_ports = refl
+
+an_illegal_byte_behind_nine_ports : read (codes "a.p b.p c.p d.p e.p f.p g.p h.p i.p " ++ 228 ∷ []) ≡ Err NotAscii
+unfolding read
+an_illegal_byte_behind_nine_ports = refl
 
 eight_levels : read (codes "[ [ [ [ [ [ [ a.p ] ] ] ] ] ] ]") ≡
     Ok (Open ∷ Open ∷ Open ∷ Open ∷ Open ∷ Open ∷ Open ∷ synchron 0

@@ -1,6 +1,7 @@
 -- No words say that memory is wanting.
 use Rattle.std.proofs.Common.{◌≡◌, ◌≢◌, ap, ℕ, ◌==◌, Bool, true, false, if◌then◌else◌, List, [], ◌∷◌, Option, Some, None, Result, Ok, Err}
 use Rattle.std.specs.Option.{option_map_or}
+use Rattle.plant_words.specs.Lines.{is_legal_line}
 use Rattle.plant_words.specs.Splits.{PortParts, port_parts}
 use Rattle.connector_tree.specs.declared.tree.Port.{Port}
 use Rattle.connector_tree.specs.declared.faults.TreeFault.{TreeFault}
@@ -8,8 +9,8 @@ use Rattle.connector_tree.specs.declared.token.Token.{Token}
 use Rattle.connector_tree.specs.Tokens.{level_behind}
 use Rattle.connector_tree.specs.TokenFaults.{fault_in}
 use Rattle.connector_lines.specs.declared.tree_words_fault.TreeWordsFault.{TreeWordsFault}
-use Rattle.connector_lines.specs.declared.tree_words_fault.TreeWordsFault.TheVariants.{Memory, Shape}
-use Rattle.connector_lines.specs.Tokens.{Names, Reading, bracket_in, leaf_of, leaf_in, token_in, led_by, behind, tokens_in}
+use Rattle.connector_lines.specs.declared.tree_words_fault.TreeWordsFault.TheVariants.{NotAscii, Memory, Shape}
+use Rattle.connector_lines.specs.Tokens.{Names, Reading, bracket_in, leaf_of, leaf_in, legal_token_in, token_in, led_by, behind, tokens_in}
 use Rattle.connector_lines.specs.Trees.{unless, judged, tree_in}
 
 port_wants_none : (trigger : Bool) (port : Option Port) → leaf_of trigger port ≢ Err Memory
@@ -24,8 +25,13 @@ said_wants_none : (bracket : Option Token) (leaf : Result Token TreeWordsFault) 
 said_wants_none None leaf none wants = none wants
 said_wants_none (Some bracket) leaf none wants = absurd (cc)
 
+legal_wants_none : (legal : Bool) (said : Result Token TreeWordsFault) → said ≢ Err Memory → ◌≢◌ {A = Result Token TreeWordsFault} (if legal then said else Err NotAscii) (Err Memory)
+legal_wants_none true said none wants = none wants
+legal_wants_none false said none wants = absurd (cc)
+
 word_wants_none : (named : Names) (word : List ℕ) → token_in named word ≢ Err Memory
-word_wants_none named word = said_wants_none (bracket_in word) (leaf_in named (port_parts word)) (leaf_wants_none named (port_parts word))
+word_wants_none named word =
+    legal_wants_none (is_legal_line word) (legal_token_in named word) (said_wants_none (bracket_in word) (leaf_in named (port_parts word)) (leaf_wants_none named (port_parts word)))
 
 led_wants_none : (token : Token) (read : Reading) → read ≢ Err Memory → led_by token read ≢ Err Memory
 led_wants_none token (Ok tokens) none wants = absurd (cc)

@@ -8,7 +8,7 @@ use Rattle.connector_tree.specs.declared.tree.Port.{Port}
 use Rattle.step_core.specs.Plant.{TransferDefinition, WireDefinition}
 use Rattle.step_core.specs.declared.wire.Export.{Export}
 use Rattle.plant_words.specs.Words.{words_of}
-use Rattle.plant_words.specs.declared.line_fault.LineFault.TheVariants.{Twice, UnknownName, BadExpression, BadNumber, Shape, Limit}
+use Rattle.plant_words.specs.declared.line_fault.LineFault.TheVariants.{NotAscii, Twice, UnknownName, BadExpression, BadNumber, Shape, Limit}
 use Rattle.connector_lines.specs.Exports.{variable_in}
 use Rattle.connector_lines.specs.Rows.{guard_row, transfer_row}
 
@@ -92,6 +92,18 @@ a_word_behind_a_guard : guard_row atom_named export_named (words_of (codes "A.n 
 unfolding atom_named export_named
 a_word_behind_a_guard = refl
 
+-- 228 is a byte that may not stand in a text
+an_illegal_byte_in_a_variable : guard_row atom_named export_named (words_of (codes "< A.n" ++ 228 ∷ codes " x")) (link [] []) ≡ Err NotAscii
+unfolding atom_named export_named
+an_illegal_byte_in_a_variable = refl
+
+an_illegal_byte_behind_a_guard : guard_row atom_named export_named (words_of (codes "A.n " ++ 228 ∷ [])) (link [] []) ≡ Err NotAscii
+unfolding atom_named export_named
+an_illegal_byte_behind_a_guard = refl
+
+a_ninth_guard_with_an_illegal_byte : guard_row atom_named export_named ((228 ∷ []) ∷ []) (link (replicate 8 (number (pos 1))) []) ≡ Err Limit
+a_ninth_guard_with_an_illegal_byte = refl
+
 a_ninth_guard : guard_row atom_named export_named [] (link (replicate 8 (number (pos 1))) []) ≡ Err Limit
 a_ninth_guard = refl
 
@@ -132,6 +144,14 @@ a_target_twice = refl
 no_assignment : transfer_row atom_named export_named (words_of (codes "B.m = A.n")) (link [] []) ≡ Err Shape
 unfolding atom_named export_named
 no_assignment = refl
+
+an_illegal_byte_in_the_assignment : transfer_row atom_named export_named (words_of (codes "B.m :=" ++ 228 ∷ codes " n")) (link [] []) ≡ Err NotAscii
+unfolding atom_named export_named
+an_illegal_byte_in_the_assignment = refl
+
+an_illegal_byte_behind_a_target_twice : transfer_row atom_named export_named (words_of (codes "A.n " ++ 228 ∷ [])) (link [] (to_n ∷ [])) ≡ Err Twice
+unfolding atom_named export_named
+an_illegal_byte_behind_a_target_twice = refl
 
 no_word_behind_the_target : transfer_row atom_named export_named (words_of (codes "B.m")) (link [] []) ≡ Err Shape
 unfolding atom_named export_named

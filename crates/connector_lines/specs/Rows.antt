@@ -14,8 +14,8 @@ use Rattle.step_core.specs.declared.limits.TheConstants.{MAX_GUARDS, MAX_TRANSFE
 use Rattle.step_core.specs.declared.wire.Export.{Export}
 use Rattle.plant_words.specs.Expressions.{expression_in}
 use Rattle.plant_words.specs.declared.line_fault.LineFault.{LineFault}
-use Rattle.plant_words.specs.declared.line_fault.LineFault.TheVariants.{Twice, UnknownName, Shape, Limit}
-use Rattle.plant_words.specs.Reading.{◌>>=◌, check, first_word, at_end, leads, on_line}
+use Rattle.plant_words.specs.declared.line_fault.LineFault.TheVariants.{Twice, UnknownName, Limit}
+use Rattle.plant_words.specs.Reading.{◌>>=◌, check, first_word, first_keyword, at_end, on_line}
 use Rattle.connector_lines.specs.Exports.{variable_in}
 
 -- which exported variable a word names
@@ -49,7 +49,7 @@ target_in named before words = do
 abbrev pub transfer_in : Named → List TransferDefinition → List (List ℕ) → Result TransferDefinition LineFault
 transfer_in named before words = do
   target ← target_in named before words
-  _ ← check (leads (codes ":=") (drop 1 words)) Shape
+  _ ← first_keyword (codes ":=") (drop 1 words)
   value ← whole_expression named (drop 1 (drop 1 words))
   Ok (record { target = target; value = value })
 

@@ -5,15 +5,15 @@ use Rattle.std.specs.Option.{ok_or}
 use Rattle.priority_filter.specs.declared.rule.Rule.{Rule}
 use Rattle.priority_filter.specs.declared.rule.Rule.TheVariants.{Under, Maximal}
 use Rattle.plant_words.specs.declared.line_fault.LineFault.{LineFault}
-use Rattle.plant_words.specs.declared.line_fault.LineFault.TheVariants.{UnknownName, Shape}
-use Rattle.plant_words.specs.Reading.{◌>>=◌, check, first_word, at_end, leads}
+use Rattle.plant_words.specs.declared.line_fault.LineFault.TheVariants.{UnknownName}
+use Rattle.plant_words.specs.Reading.{◌>>=◌, first_word, first_keyword, at_end}
 use Rattle.connector_lines.specs.Sides.{side_in}
 
 -- `prio SIDE < SIDE`: the left side is below the right one
 abbrev pub priority_in : (List ℕ → Option ℕ) → (ℕ → ℕ → Bool) → List (List ℕ) → Result Rule LineFault
 priority_in connector_named has_interaction words = do
   left ← side_in connector_named has_interaction words
-  _ ← check (leads (codes "<") (drop 1 words)) Shape
+  _ ← first_keyword (codes "<") (drop 1 words)
   right ← side_in connector_named has_interaction (drop 2 words)
   _ ← at_end (drop 3 words)
   Ok (Under left right)

@@ -2,13 +2,14 @@
 use Rattle.std.specs.Prelude.{ℕ, ◌==◌, Bool, true, false, if◌then◌else◌, List, [], ◌∷◌, codes, Option, Some, None, Result, Ok, Err}
 use Rattle.std.specs.Option.{option_map_or}
 use Rattle.petri_atom.specs.Name.{is_same_text}
+use Rattle.plant_words.specs.Lines.{is_legal_line}
 use Rattle.plant_words.specs.Splits.{PortParts, port_parts}
 use Rattle.connector_tree.specs.declared.tree.Port.{Port}
 use Rattle.connector_tree.specs.declared.token.Token.{Token}
 use Rattle.connector_tree.specs.declared.token.Token.TheVariants.{Leaf, Open, Close}
 use Rattle.connector_tree.specs.Tokens.{level_behind}
 use Rattle.connector_lines.specs.declared.tree_words_fault.TreeWordsFault.{TreeWordsFault}
-use Rattle.connector_lines.specs.declared.tree_words_fault.TreeWordsFault.TheVariants.{UnknownName, Shape}
+use Rattle.connector_lines.specs.declared.tree_words_fault.TreeWordsFault.TheVariants.{NotAscii, UnknownName, Shape}
 
 -- the ports of a plant, each by the names of its atom and its own
 abbrev pub Names : Type 0
@@ -32,9 +33,13 @@ abbrev pub leaf_in : Names → Option PortParts → Result Token TreeWordsFault
 leaf_in named None = Err Shape
 leaf_in named (Some parts) = leaf_of parts.quoted (named parts.atom parts.port)
 
--- what a word says: a bracket, or else a port that is named
+-- what a word of legal bytes says: a bracket, or else a port that is named
+abbrev pub legal_token_in : Names → List ℕ → Result Token TreeWordsFault
+legal_token_in named word = option_map_or (λ bracket. Ok bracket) (bracket_in word) (leaf_in named (port_parts word))
+
+-- what a word says; one with an illegal byte is that fault
 abbrev pub token_in : Names → List ℕ → Result Token TreeWordsFault
-token_in named word = option_map_or (λ bracket. Ok bracket) (bracket_in word) (leaf_in named (port_parts word))
+token_in named word = if is_legal_line word then legal_token_in named word else Err NotAscii
 
 -- the tokens of words, or their first fault
 abbrev pub Reading : Type 0

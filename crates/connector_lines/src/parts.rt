@@ -8,7 +8,7 @@ ghost use Rattle.step_core.specs.Wire.{transfer_of};
 ghost use Rattle.connector_lines.specs.Rows.{whole_expression, has_target, target_in, transfer_in};
 
 use petri_atom::Expression;
-use plant_words::reading::{check, end, next_word, take_word};
+use plant_words::reading::{check, end, next_keyword, next_word};
 use plant_words::{LineFault, Variables, Words, read_expression};
 use std::alloc::Global;
 use step_core::{Export, Transfer};
@@ -74,7 +74,7 @@ pub(crate) fn read_transfer<N: Variables<Export>>(
     ensures new_target { IfOk result (λ transfer. has_target (map transfer_of transfers.now) transfer.target ≡ false) }
 {
     let target = read_target(transfers, words, names)?;
-    check(take_word(words, b":="), LineFault::Shape)?;
+    next_keyword(words, b":=")?;
     let value = read_whole(alloc, words, names)?;
     Ok(Transfer { target, value })
 }

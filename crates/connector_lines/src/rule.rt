@@ -4,7 +4,7 @@ ghost use Rattle.connector_lines.specs.Rules.{priority_in, maximal_in};
 
 use crate::connectors::Connectors;
 use crate::side::read_side;
-use plant_words::reading::{check, end, next_word, take_word};
+use plant_words::reading::{end, next_keyword, next_word};
 use plant_words::{LineFault, Words};
 use priority_filter::Rule;
 
@@ -16,7 +16,7 @@ pub fn read_priority<C: Connectors>(
     ensures { result ≡ priority_in (C.connector_named connectors.now) (C.has_interaction connectors.now) words.old }
 {
     let left = read_side(words, connectors)?;
-    check(take_word(words, b"<"), LineFault::Shape)?;
+    next_keyword(words, b"<")?;
     let right = read_side(words, connectors)?;
     end(words)?;
     Ok(Rule::Under(left, right))

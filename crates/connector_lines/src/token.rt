@@ -5,7 +5,7 @@ ghost use Rattle.connector_lines.specs.Tokens.{bracket_in, token_in};
 
 use crate::tree_words_fault::TreeWordsFault;
 use connector_tree::{Port, Token};
-use plant_words::split_port;
+use plant_words::{is_legal, split_port};
 
 /// Which ports a tree may name.
 pub trait Ports {
@@ -23,6 +23,9 @@ pub trait Ports {
 pub(crate) fn read_word<N: Ports>(word: &[u8], names: &N) -> Result<Token, TreeWordsFault>
     ensures { result ≡ token_in (N.port_named names.now) word.now }
 {
+    if !is_legal(word) {
+        return Err(TreeWordsFault::NotAscii);
+    }
     if let Some(bracket) = bracket(word) {
         return Ok(bracket);
     }

@@ -8,6 +8,8 @@ use thiserror::Error;
 /// Why words are no tree of a connector, or that memory ran out.
 #[derive(Clone, Copy, Debug, PartialEq, Eq, Error)]
 pub enum TreeWordsFault {
+    /// A byte of a word is no printed ASCII character, space or tab.
+    NotAscii,
     /// A word that is written as a port names an atom or a port that isn't there.
     UnknownName,
     /// There are no words, a word is no bracket and not written as a port, or a bracket has only one of its ends.
@@ -26,6 +28,7 @@ impl fmt::Display for TreeWordsFault {
 
     fn fmt<W: fmt::Write>(&self, f: &mut fmt::Formatter<W>) -> fmt::Result {
         match self {
+            TreeWordsFault::NotAscii => write!(f, "{}", LineFault::NotAscii),
             TreeWordsFault::UnknownName => write!(f, "{}", LineFault::UnknownName),
             TreeWordsFault::Shape => write!(f, "{}", LineFault::Shape),
             TreeWordsFault::Tree(fault) => write!(f, "{fault}"),

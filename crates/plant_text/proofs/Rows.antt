@@ -94,8 +94,36 @@ another_atom = refl
 another_connector : line_row (codes "connector two A.t' B.u") (record sample { wires = wire_named (codes "one") ∷ [] }) ≡ Ok sample
 another_connector = refl
 
-an_illegal_byte : line_row (codes "foo " ++ 128 ∷ []) sample ≡ Err NotAscii
-an_illegal_byte = refl
+-- 228 is a byte that may not stand in a text
+an_illegal_byte_behind_a_word_of_no_line : line_row (codes "plaice " ++ 228 ∷ []) sample ≡ Err UnknownWord
+an_illegal_byte_behind_a_word_of_no_line = refl
+
+an_illegal_byte_in_the_first_word : line_row (codes "pl" ++ 228 ∷ codes "ce p") sample ≡ Err NotAscii
+an_illegal_byte_in_the_first_word = refl
+
+an_illegal_byte_in_a_comment : line_row (codes "# foo " ++ 228 ∷ []) sample ≡ Err NotAscii
+an_illegal_byte_in_a_comment = refl
+
+an_illegal_byte_alone : line_row (32 ∷ 13 ∷ []) sample ≡ Err NotAscii
+an_illegal_byte_alone = refl
+
+an_illegal_byte_in_a_name : line_row (codes "atom C" ++ 228 ∷ codes " x") sample ≡ Err NotAscii
+an_illegal_byte_in_a_name = refl
+
+an_illegal_byte_left_over : line_row (codes "atom C " ++ 228 ∷ []) sample ≡ Err NotAscii
+an_illegal_byte_left_over = refl
+
+an_illegal_byte_behind_a_place_twice : line_row (codes "place s " ++ 228 ∷ []) sample ≡ Err Twice
+an_illegal_byte_behind_a_place_twice = refl
+
+an_illegal_byte_in_a_place_of_no_atom : line_row (codes "place " ++ 228 ∷ []) nothing ≡ Err Misplaced
+an_illegal_byte_in_a_place_of_no_atom = refl
+
+an_illegal_byte_behind_a_connector_too_many : line_row (codes "connector " ++ 228 ∷ []) (record sample { wires = replicate 64 (wire_named (codes "one")) }) ≡ Err Limit
+an_illegal_byte_behind_a_connector_too_many = refl
+
+an_illegal_byte_behind_an_atom_twice_in_a_tree : line_row (codes "connector c A.t A.t " ++ 228 ∷ []) sample ≡ Err NotAscii
+an_illegal_byte_behind_an_atom_twice_in_a_tree = refl
 
 a_word_of_no_line : line_row (codes "priority one < two") sample ≡ Err UnknownWord
 a_word_of_no_line = refl

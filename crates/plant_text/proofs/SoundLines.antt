@@ -19,7 +19,7 @@ use Rattle.connector_tree.specs.TokenMeaning.{interactions_in}
 use Rattle.plant_text.specs.Text.{WireText, PlantText}
 use Rattle.plant_text.specs.Interactions.{interactions_of}
 use Rattle.plant_text.specs.Names.{kind_in, atom_number}
-use Rattle.plant_text.specs.Rows.{told, last_changed, atom_part_row, wire_part_row, atom_row, rule_in, rule_row, row_of, words_row, line_row}
+use Rattle.plant_text.specs.Rows.{told, last_changed, atom_part_row, wire_part_row, atom_row, rule_in, rule_row, row_of, words_row, passed_row, line_row}
 use Rattle.plant_text.specs.Meaning.{on_line, lines_row, nothing}
 use Rattle.plant_text.specs.declared.kinds.AtomPart.{AtomPart}
 use Rattle.plant_text.specs.declared.kinds.AtomPart.TheVariants.{Place, Variable, Port, Transition}
@@ -30,7 +30,7 @@ use Rattle.plant_text.specs.declared.kinds.LineKind.TheVariants.{Atom, Connector
 use Rattle.plant_text.specs.declared.fault.Fault.{Fault}
 use Rattle.plant_text.specs.declared.fault.Fault.TheVariants.{NotAscii, UnknownWord, Twice, Limit}
 use Rattle.plant_words.proofs.Exits.{room_for_one}
-use Rattle.plant_words.proofs.Steps.{led_on, passed, same_end}
+use Rattle.plant_words.proofs.Steps.{led_on, passed, same_end, either_way}
 use Rattle.plant_text.proofs.SoundLists.{was_none, changed_last, EachBehind, each_of_none, each_and_one, each_before_last, each_weaker}
 use Rattle.plant_text.proofs.SoundAtoms.{Extends, extended, extended_last}
 use Rattle.plant_text.proofs.SoundWires.{SoundBehind, stays_behind, part_kept, connector_added, interactions_and_more, same_interactions}
@@ -201,18 +201,16 @@ row_sound (OfRule kind) words plant next sound is = rule_sound kind words plant 
 words_sound : (words : List (List ℕ)) (plant next : PlantText) → SoundText plant → words_row words plant ≡ Ok next → SoundText next
 words_sound [] plant next sound is = subst SoundText (same_end plant next is) sound
 words_sound (word ∷ words) plant next sound is =
-    let kind = led_on (ok_or (kind_in word) UnknownWord) (λ kind. row_of kind words plant) next is in
+    let legal = led_on (check (is_legal_line word) NotAscii) (λ _. ok_or (kind_in word) UnknownWord >>= λ kind. row_of kind words plant) next is in
+    let kind = led_on (ok_or (kind_in word) UnknownWord) (λ kind. row_of kind words plant) next legal.2 in
     row_sound kind.0 words plant next sound kind.2
 
 -- a line without a fault
 pub line_sound : (line : List ℕ) (plant next : PlantText) → SoundText plant → line_row line plant ≡ Ok next → SoundText next
-line_sound line plant next sound is =
-    let said = led_on (check (is_legal_line line) NotAscii) (λ _. if is_passed_over line then Ok plant else words_row (words_of line) plant) next is in
-    either (is_passed_over line) said.2
-  where
-    either : (over : Bool) → (if over then Ok plant else words_row (words_of line) plant) ≡ Ok next → SoundText next
-    either true same = subst SoundText (same_end plant next same) sound
-    either false row = words_sound (words_of line) plant next sound row
+line_sound line plant next sound =
+    either_way (is_passed_over line) (passed_row line plant) (words_row (words_of line) plant) next (SoundText next)
+    (λ passed. let legal = led_on (check (is_legal_line line) NotAscii) (λ _. Ok plant) next passed in subst SoundText (same_end plant next legal.2) sound)
+    (words_sound (words_of line) plant next sound)
 
 told_on_line : {A : Type 0} (number : ℕ) (r : Result A Fault) (x : A) → on_line number r ≡ Ok x → r ≡ Ok x
 told_on_line number (Ok y) x is = cc

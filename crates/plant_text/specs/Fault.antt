@@ -86,7 +86,7 @@ name_of Read = codes "Read"
 
 -- what a fault says to a person
 abbrev pub message_of : Fault → List ℕ
-message_of NotAscii = codes "a byte is no printed ASCII character, space or tab"
+message_of NotAscii = of_words.message_of line.NotAscii
 message_of TooLong = of_reading.message_of reading.TooLong
 message_of UnknownWord = codes "no line begins with this word"
 message_of Misplaced = codes "the line speaks of the latest atom or connector, and there is none yet"
@@ -110,6 +110,7 @@ placed_message_of told =
 
 -- the fault of a line that an atom or a connector could not take
 abbrev pub of_line : LineFault → Fault
+of_line line.NotAscii = NotAscii
 of_line line.BadName = BadName
 of_line line.Twice = Twice
 of_line line.UnknownName = UnknownName
@@ -121,6 +122,7 @@ of_line line.Memory = Memory
 
 -- the fault of a line whose words are no tree
 abbrev pub of_tree : TreeWordsFault → Fault
+of_tree words.NotAscii = NotAscii
 of_tree words.UnknownName = UnknownName
 of_tree words.Shape = Shape
 of_tree (words.Tree fault) = Tree fault

@@ -112,15 +112,21 @@ row_of (OfAtom part) words plant = last_changed (atom_part_row part words) plant
 row_of (OfConnector part) words plant = last_changed (wire_part_row part plant.atoms words) plant.wires >>= λ wires. Ok (record plant { wires = wires })
 row_of (OfRule kind) words plant = rule_row kind words plant
 
--- the words of a line: the first one says of which kind it is
+-- the words of a line: the first one says of which kind it is, and its bytes must be legal
 abbrev pub words_row : List (List ℕ) → PlantText → Result PlantText Fault
 words_row [] plant = Ok plant
 words_row (word ∷ words) plant = do
+  _ ← check (is_legal_line word) NotAscii
   kind ← ok_or (kind_in word) UnknownWord
   row_of kind words plant
 
--- a line: its bytes must be legal, and empty lines and comments say nothing
-abbrev pub line_row : List ℕ → PlantText → Result PlantText Fault
-line_row line plant = do
+-- a line that says nothing; its bytes must be legal all the same
+abbrev pub passed_row : List ℕ → PlantText → Result PlantText Fault
+passed_row line plant = do
   _ ← check (is_legal_line line) NotAscii
-  if is_passed_over line then Ok plant else words_row (words_of line) plant
+  Ok plant
+
+-- A line: empty lines and comments say nothing. An illegal byte of another line is told where it stands, by the word that it is in, so
+-- where an earlier word is at fault that one is told.
+abbrev pub line_row : List ℕ → PlantText → Result PlantText Fault
+line_row line plant = if is_passed_over line then passed_row line plant else words_row (words_of line) plant

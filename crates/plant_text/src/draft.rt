@@ -79,9 +79,8 @@ impl PlantDraft {
         ensures added { OnOk result (line_row line.now (drafted self.old) ≡ Ok (drafted self.new)) }
         ensures fault { IfErr result (IsFaultOf (line_row line.now (drafted self.old))) }
     {
-        check(is_legal(line), Fault::NotAscii)?;
         if is_passed_over(line) {
-            return Ok(());
+            return check(is_legal(line), Fault::NotAscii);
         }
         self.add_words(words)
     }
@@ -108,6 +107,7 @@ impl PlantDraft {
         let Some(word) = words.next_word() else {
             return Ok(());
         };
+        check(is_legal(word), Fault::NotAscii)?;
         let kind = LineKind::of(word).ok_or(Fault::UnknownWord)?;
         self.add_of_kind(kind, words)
     }

@@ -15,7 +15,7 @@ use thiserror::Error;
 /// What is wrong with a text, or why it could not be read.
 #[derive(Clone, Copy, Debug, PartialEq, Eq, Error)]
 pub enum Fault {
-    /// A byte of the line is no printed ASCII character, space or tab. It is told before all else of the line.
+    /// A byte of a word, or of a comment, is no printed ASCII character, space or tab.
     NotAscii,
     /// The text has more than `MAX_TEXT` bytes.
     TooLong,
@@ -155,7 +155,7 @@ impl fmt::Display for Fault {
 
     fn fmt<W: fmt::Write>(&self, f: &mut fmt::Formatter<W>) -> fmt::Result {
         match self {
-            Fault::NotAscii => f.write_str("a byte is no printed ASCII character, space or tab"),
+            Fault::NotAscii => write!(f, "{}", LineFault::NotAscii),
             Fault::TooLong => write!(f, "{}", TextFault::TooLong),
             Fault::UnknownWord => f.write_str("no line begins with this word"),
             Fault::Misplaced => f.write_str(
@@ -200,6 +200,7 @@ impl From<LineFault> for Fault {
 
     fn from(fault: LineFault) -> Self {
         match fault {
+            LineFault::NotAscii => Fault::NotAscii,
             LineFault::BadName => Fault::BadName,
             LineFault::Twice => Fault::Twice,
             LineFault::UnknownName => Fault::UnknownName,
@@ -219,6 +220,7 @@ impl From<TreeWordsFault> for Fault {
 
     fn from(fault: TreeWordsFault) -> Self {
         match fault {
+            TreeWordsFault::NotAscii => Fault::NotAscii,
             TreeWordsFault::UnknownName => Fault::UnknownName,
             TreeWordsFault::Shape => Fault::Shape,
             TreeWordsFault::Tree(fault) => Fault::Tree(fault),

@@ -20,8 +20,8 @@
 //! SHA-256 of the text as its digest.
 //!
 //! - A fault ([`PlantFault`]) is the one of the text's meaning, or want of memory, or that the reader failed. Within a
-//!   line the first word from the left that is at fault is told; an illegal byte before all words; one atom, connector or
-//!   rule too many before all else but an illegal byte; a connector with too many interactions behind all its words.
+//!   line the first word from the left that is at fault is told, and a word with an illegal byte is; one atom, connector or
+//!   rule too many before all else; a connector with too many interactions behind all its words.
 //! - That the rules put an interaction below itself is told behind all lines, at no line.
 //!
 //! - `read`: the text, its lines and its system. `draft`: the plant so far, and its lines. `making`: the system of a draft.

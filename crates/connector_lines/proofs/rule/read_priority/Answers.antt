@@ -1,6 +1,5 @@
 use Rattle.std.proofs.Common.{◌≡◌, ◌∙◌, refl, sym, ap, ℕ, List, [], ◌∷◌, drop, codes}
-use Rattle.plant_words.specs.declared.line_fault.LineFault.TheVariants.{Shape}
-use Rattle.plant_words.specs.Reading.{check, at_end, leads}
+use Rattle.plant_words.specs.Reading.{first_keyword, at_end}
 use Rattle.plant_words.proofs.Exits.{passes}
 use Rattle.connector_lines.specs.Sides.{side_in}
 use Rattle.connector_lines.proofs.rule.read_priority.Goals as goal
@@ -20,11 +19,11 @@ returns g c =
     let words = c.args.words.now in
     let named = g.C.Connectors.connector_named c.args.connectors.now in
     let has = g.C.Connectors.has_interaction c.args.connectors.now in
-    let second : drop 2 words ≡ c.take_word.new.words =
-    drop_two words ∙ ap (drop 1) (sym c.read_side.ensures.taken) ∙ sym c.take_word.ensures.taken in
+    let second : drop 2 words ≡ c.next_keyword.new.words =
+    drop_two words ∙ ap (drop 1) (sym c.read_side.ensures.taken) ∙ sym c.next_keyword.ensures.taken in
     let third : drop 3 words ≡ c.read_side-2.new.words =
     drop_three words ∙ ap (drop 1) (sym (drop_two words) ∙ second) ∙ sym c.read_side-2.ensures.taken in
     sym (passes _ (sym c.in_ok-left.ensures.side)
-    (passes _ (ap (λ rest. check (leads (codes "<") rest) Shape) (sym c.read_side.ensures.taken) ∙ ap (λ b. check b Shape) (sym c.take_word.ensures.leads) ∙ sym c.in_ok-check.ensures)
+    (passes _ (ap (first_keyword (codes "<")) (sym c.read_side.ensures.taken) ∙ sym c.in_ok-next_keyword.ensures.keyword)
     (passes _ (ap (side_in named has) second ∙ sym c.in_ok-right.ensures.side)
     (passes _ (ap at_end third ∙ sym c.in_ok-end.ensures) refl))))
