@@ -1,5 +1,6 @@
 -- A list that grows with the one that it is made of, and lines that are read one by one.
-use Rattle.std.proofs.Common.{◌≡◌, ◌≢◌, ◌∙◌, ap, sym, ℕ, ◌+◌, List, [], ◌∷◌, ◌++◌, map, refl, Result, Ok, Err}
+use Rattle.std.proofs.Common.{◌≡◌, ◌≢◌, ◌∙◌, ap, sym, ℕ, ◌+◌, List, [], ◌∷◌, ◌++◌, map, refl, false, true≢false, Option, Some, Result, Ok, Err}
+use Rattle.std.specs.Prelude.{is_ok}
 use Rattle.std.proofs.lemmas.List.{map-append}
 use Rattle.plant_text.specs.Fault.{of_no_line, placed}
 use Rattle.plant_text.specs.Marks.{if_refused, faulty_line}
@@ -59,3 +60,13 @@ pub line_passed : (lines rest : List (List ℕ)) (line : List ℕ) (plant next :
     lines ≡ line ∷ rest → line_row line plant ≡ Ok next → faulty_line lines plant ≡ faulty_line rest next
 line_passed lines rest line plant next taken says =
     ap (λ (all : List (List ℕ)). faulty_line all plant) taken ∙ ap (λ told. if_refused told line (faulty_line rest)) says
+
+-- a line with a fault is the first one that has one
+refused_here : (row : Result PlantText Fault) (line : List ℕ) (behind : PlantText → Option (List ℕ)) → is_ok row ≡ false → if_refused row line behind ≡ Some line
+refused_here (Ok next) line behind refused = absurd (true≢false refused)
+refused_here (Err fault) line behind refused = refl
+
+pub line_marked : (lines rest : List (List ℕ)) (line : List ℕ) (plant : PlantText) →
+    lines ≡ line ∷ rest → is_ok (line_row line plant) ≡ false → faulty_line lines plant ≡ Some line
+line_marked lines rest line plant taken refused =
+    ap (λ (all : List (List ℕ)). faulty_line all plant) taken ∙ refused_here (line_row line plant) line (faulty_line rest) refused
