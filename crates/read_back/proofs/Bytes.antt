@@ -1,10 +1,11 @@
 -- What bytes are that pass a test, and what words of such bytes are not.
-use Rattle.std.proofs.Common.{◌≡◌, ◌∙◌, refl, sym, ap, ⊎_elim, ℕ, Bool, true, false, not, ◌&&◌, List, [], ◌∷◌, ◌++◌, nat_le, ◌==◌, ne_eqb, leb-true, arith}
+use Rattle.std.proofs.Common.{◌≡◌, ◌∙◌, refl, sym, ap, ⊎_elim, ℕ, Bool, true, false, not, ◌&&◌, ◌||◌, List, [], ◌∷◌, ◌++◌, nat_le, ◌==◌, ne_eqb, eqb-true, leb-true, le-leb, ◌≤◌, arith}
 use Rattle.std.specs.List.{list_all}
-use Rattle.std.proofs.lemmas.Bool.{and_parts, and_from, and_left, or_cases, or_from, not-true, not_from_false, false_from_ne_true, false≢true}
+use Rattle.std.proofs.lemmas.Bool.{and_parts, and_from, and_left, or_cases, or_from, or_left, not-true, not_from_false, false_from_ne_true, false≢true}
 use Rattle.std.proofs.lemmas.Slice.Eq.{bytes_eq-Decides}
 use Rattle.petri_atom.specs.Name.{is_letter, is_letter_or_digit, is_reserved, is_same_text, begins_with_letter, has_word_bytes, is_name}
 use Rattle.petri_atom.proofs.Fitting.{all_weaker}
+use Rattle.plant_words.specs.Lines.{is_legal_byte, is_legal_line}
 use Rattle.plant_words.specs.Numbers.{is_digit}
 use Rattle.plant_words.specs.Words.{is_blank, is_filled}
 use Rattle.read_back.proofs.Words.{is_one_word}
@@ -35,6 +36,45 @@ letter_is_no_digit byte letter =
     (λ upper. let from = leb-true 65 byte (and_parts (nat_le 65 byte) (nat_le byte 90) upper).0 in absurd (omega (arith, last, from)))
     (λ lower. let from = leb-true 97 byte (and_parts (nat_le 97 byte) (nat_le byte 122) lower).0 in absurd (omega (arith, last, from)))
     (or_cases (nat_le 65 byte && nat_le byte 90) (nat_le 97 byte && nat_le byte 122) letter))
+
+-- ---- bytes that may stand in a text
+
+printed_is_legal : (byte : ℕ) → 32 ≤ byte → byte ≤ 126 → is_legal_byte byte ≡ true
+printed_is_legal byte from to = or_left (nat_le 32 byte && nat_le byte 126) (byte == 9) (and_from (nat_le 32 byte) (nat_le byte 126) (le-leb 32 byte from) (le-leb byte 126 to))
+
+-- what lies between two printed bytes
+between_is_legal : (low high byte : ℕ) → 32 ≤ low → high ≤ 126 → (nat_le low byte && nat_le byte high) ≡ true → is_legal_byte byte ≡ true
+between_is_legal low high byte above below inside =
+    let parts = and_parts (nat_le low byte) (nat_le byte high) inside in
+    let from = leb-true low byte parts.0 in
+    let to = leb-true byte high parts.1 in
+    printed_is_legal byte (omega (arith, above, from)) (omega (arith, below, to))
+
+letter_is_legal : (byte : ℕ) → is_letter byte ≡ true → is_legal_byte byte ≡ true
+letter_is_legal byte letter =
+    ⊎_elim (between_is_legal 65 90 byte (omega arith) (omega arith)) (between_is_legal 97 122 byte (omega arith) (omega arith))
+    (or_cases (nat_le 65 byte && nat_le byte 90) (nat_le 97 byte && nat_le byte 122) letter)
+
+digit_is_legal : (byte : ℕ) → is_digit byte ≡ true → is_legal_byte byte ≡ true
+digit_is_legal byte digit = between_is_legal 48 57 byte (omega arith) (omega arith) digit
+
+-- one byte alone
+same_is_legal : (byte other : ℕ) → is_legal_byte other ≡ true → (byte == other) ≡ true → is_legal_byte byte ≡ true
+same_is_legal byte other legal same = ap is_legal_byte (eqb-true byte other same) ∙ legal
+
+pub name_byte_is_legal : (byte : ℕ) → is_letter_or_digit byte ≡ true → is_legal_byte byte ≡ true
+name_byte_is_legal byte passes =
+    ⊎_elim (λ first. ⊎_elim (letter_is_legal byte) (digit_is_legal byte) (or_cases (is_letter byte) (is_digit byte) first)) (same_is_legal byte 95 refl)
+    (or_cases (is_letter byte || is_digit byte) (byte == 95) passes)
+
+-- and with one byte more beside such bytes
+pub byte_or_is_legal : (other : ℕ) → is_legal_byte other ≡ true → (byte : ℕ) → (is_letter_or_digit byte || byte == other) ≡ true → is_legal_byte byte ≡ true
+byte_or_is_legal other legal byte passes =
+    ⊎_elim (name_byte_is_legal byte) (same_is_legal byte other legal) (or_cases (is_letter_or_digit byte) (byte == other) passes)
+
+-- so digits may
+pub digits_are_legal : (bytes : List ℕ) → list_all is_digit bytes ≡ true → is_legal_line bytes ≡ true
+digits_are_legal bytes all = all_weaker is_digit is_legal_byte digit_is_legal bytes all
 
 -- ---- first bytes
 
@@ -93,3 +133,7 @@ name_parts text named =
 pub name_is_one_word : (text : List ℕ) → IsOfName text → is_one_word text ≡ true
 name_is_one_word text name =
     and_from (is_filled text) (list_all (λ byte. not (is_blank byte)) text) (begins_filled is_letter text name.begins) (none_blank is_letter_or_digit text name.bytes refl refl)
+
+-- and may stand in a text
+pub name_is_legal : (text : List ℕ) → IsOfName text → is_legal_line text ≡ true
+name_is_legal text name = all_weaker is_letter_or_digit is_legal_byte name_byte_is_legal text name.bytes

@@ -5,10 +5,11 @@ use Rattle.std.proofs.lemmas.Bool.{and_from, and_right, or_left, or_parts}
 use Rattle.std.proofs.lemmas.List.Folds.{list_all-append}
 use Rattle.petri_atom.specs.Name.{is_letter, is_letter_or_digit, is_same_text}
 use Rattle.petri_atom.proofs.Fitting.{all_weaker}
+use Rattle.plant_words.specs.Lines.{is_legal_byte, is_legal_line}
 use Rattle.plant_words.specs.Splits.{sides_in}
 use Rattle.plant_words.specs.Words.{is_blank, is_filled}
 use Rattle.read_back.proofs.Words.{is_one_word, two_sides}
-use Rattle.read_back.proofs.Bytes.{none_is, none_blank, begins_by, begins_filled, begins_more, not_all, IsOfName}
+use Rattle.read_back.proofs.Bytes.{none_is, none_blank, begins_by, begins_filled, begins_more, not_all, byte_or_is_legal, name_is_legal, IsOfName}
 use Rattle.read_back.proofs.ExpressionWords.{IsPlain}
 
 -- as it is written
@@ -24,7 +25,7 @@ pub plain_name : (text : List ℕ) → IsOfName text → IsPlain text
 plain_name text name =
     let most = or_parts _ (is_same_text text (codes "max")) name.free in
     let least = or_parts _ (is_same_text text (codes "min")) most.0 in
-    record { begins = name.begins; least = least.1; most = most.1 }
+    record { begins = name.begins; least = least.1; most = most.1; legal = name_is_legal text name }
 
 module _ (first second : List ℕ) (one : IsOfName first) (other : IsOfName second) where
   -- with the dot before the second name
@@ -57,7 +58,11 @@ module _ (first second : List ℕ) (one : IsOfName first) (other : IsOfName seco
       and_from (is_filled (dotted first second)) (list_all (λ byte. not (is_blank byte)) (dotted first second))
       (begins_filled is_letter (dotted first second) dotted_begins) (none_blank is_dotted_byte (dotted first second) dotted_bytes refl refl)
 
-  -- and no operator
+  -- it may stand in a text
+  pub dotted_is_legal : is_legal_line (dotted first second) ≡ true
+  dotted_is_legal = all_weaker is_dotted_byte is_legal_byte (byte_or_is_legal 46 refl) (dotted first second) dotted_bytes
+
+  -- and is no operator
   not_a_name : list_all is_letter_or_digit joined ≡ false
   not_a_name = list_all-append is_letter_or_digit first (46 ∷ second) ∙ and_right (list_all is_letter_or_digit first) (list_all is_letter_or_digit (46 ∷ second)) refl
 
@@ -68,6 +73,7 @@ module _ (first second : List ℕ) (one : IsOfName first) (other : IsOfName seco
         begins = joined_begins;
         least = not_all is_letter_or_digit joined (codes "min") not_a_name refl;
         most = not_all is_letter_or_digit joined (codes "max") not_a_name refl;
+        legal = all_weaker is_dotted_byte is_legal_byte (byte_or_is_legal 46 refl) joined joined_bytes;
       })
 
   -- its sides are the names

@@ -1,5 +1,5 @@
 -- What each word of an expression says that is written: an operator, a number or a variable.
-use Rattle.std.proofs.Common.{◌≡◌, ◌∙◌, refl, ap, true≢false, ℕ, ℤ, pos, negsuc, suc, Bool, true, false, if◌then◌else◌, List, [], ◌∷◌, drop, codes, Option, Some, None, decimal, ◌<◌, ◌^◌}
+use Rattle.std.proofs.Common.{◌≡◌, ◌∙◌, refl, ap, true≢false, ℕ, ℤ, pos, negsuc, suc, Bool, true, false, if◌then◌else◌, List, [], ◌∷◌, drop, codes, Option, Some, None, Err, decimal, ◌<◌, ◌^◌}
 use Rattle.std.specs.Fmt.{signed_decimal}
 use Rattle.std.specs.List.{list_all}
 use Rattle.std.specs.Option.{option_map_or}
@@ -7,13 +7,15 @@ use Rattle.std.proofs.lemmas.Bool.{and_left, false≢true}
 use Rattle.petri_atom.specs.Name.{is_letter, is_same_text}
 use Rattle.petri_atom.specs.declared.expression.Operator.{Operator}
 use Rattle.petri_atom.specs.declared.expression.Operator.TheVariants.{Add, Subtract, Multiply, Min, Max, Less, LessOrEqual, Equal, NotEqual, And, Or}
-use Rattle.plant_words.specs.ExpressionWords.{operator_in, could_be_variable, number_in, variable_found, word_in}
+use Rattle.plant_words.specs.declared.expression_fault.ExpressionFault.TheVariants.{NotAscii}
+use Rattle.plant_words.specs.ExpressionWords.{operator_in, could_be_variable, number_in, variable_found, legal_word_in, word_in}
+use Rattle.plant_words.specs.Lines.{is_legal_line}
 use Rattle.plant_words.specs.Numbers.{is_digit, has_digits_alone, is_numeric, int_in}
 use Rattle.plant_words.specs.Words.{is_filled}
 use Rattle.part_text.specs.Expression.{operator_word}
 use Rattle.read_back.specs.Expressions.{is_in_range}
 use Rattle.read_back.proofs.Words.{is_one_word}
-use Rattle.read_back.proofs.Bytes.{other_byte, letter_is_no_digit, begins_by, begins_by_all, other_first}
+use Rattle.read_back.proofs.Bytes.{other_byte, letter_is_no_digit, begins_by, begins_by_all, other_first, digits_are_legal}
 use Rattle.read_back.proofs.Decimals.{all_digits, some_digit, within, next_within, number_read, number_is_numeric}
 
 -- ---- operators
@@ -55,6 +57,10 @@ no_operator word other =
     (passed_by (is_same_text word (codes "!=")) NotEqual _ (other NotEqual)
     (passed_by (is_same_text word (codes "&&")) And _ (other And)
     (passed_by (is_same_text word (codes "||")) Or None (other Or) refl))))))))))
+
+-- a word of legal bytes is read by what it says
+legal_says : {V : Type 0} (named : List ℕ → Option V) (word : List ℕ) → is_legal_line word ≡ true → word_in named word ≡ legal_word_in named word
+legal_says named word legal = ap (λ (b : Bool). if b then legal_word_in named word else Err NotAscii) legal
 
 -- ---- numbers
 
@@ -110,10 +116,15 @@ number_negates_none : (z : ℤ) → is_in_range z ≡ true → is_same_text (sig
 number_negates_none (pos n) fits = other_first is_digit (decimal n) 33 [] (first_digit n (within n fits)) refl
 number_negates_none (negsuc n) fits = refl
 
+number_is_legal : (z : ℤ) → is_in_range z ≡ true → is_legal_line (signed_decimal z) ≡ true
+number_is_legal (pos n) fits = digits_are_legal (decimal n) (all_digits n (within n fits))
+number_is_legal (negsuc n) fits = digits_are_legal (decimal (suc n)) (all_digits (suc n) (next_within n fits))
+
 pub number_reads : {V : Type 0} (named : List ℕ → Option V) (z : ℤ) → is_in_range z ≡ true → word_in named (signed_decimal z) ≡ number_in (Some z)
 number_reads named z fits =
     let word : List ℕ = signed_decimal z in
-    as_number _ (number_in (int_in word)) (variable_found (could_be_variable word) (named word)) _ (is_same_text word (codes "!")) (operator_in word) (is_numeric word) (number_negates_none z fits) (no_operator word (number_other z fits)) (number_is_numeric z fits)
+    legal_says named word (number_is_legal z fits)
+    ∙ as_number _ (number_in (int_in word)) (variable_found (could_be_variable word) (named word)) _ (is_same_text word (codes "!")) (operator_in word) (is_numeric word) (number_negates_none z fits) (no_operator word (number_other z fits)) (number_is_numeric z fits)
     ∙ ap number_in (number_read z fits)
 
 -- ---- variables
@@ -127,11 +138,12 @@ as_variable negation digits others operation false (Some other) numeric n o u = 
 as_variable negation digits others operation false None true n o u = absurd (true≢false u)
 as_variable negation digits others operation false None false n o u = refl
 
--- a word that can only be a variable's: it begins with a letter, and is no operator
+-- a word that can only be a variable's: it begins with a letter, is no operator, and may stand in a text
 pub record IsPlain (word : List ℕ) : Type 0 where
   pub begins : begins_by is_letter word ≡ true
   pub least : is_same_text word (codes "min") ≡ false
   pub most : is_same_text word (codes "max") ≡ false
+  pub legal : is_legal_line word ≡ true
 
 plain_other : (word : List ℕ) → IsPlain word → IsOther word
 plain_other word plain Add = other_first is_letter word 43 [] plain.begins refl
@@ -154,6 +166,7 @@ no_number (byte ∷ bytes) begins =
 
 pub variable_reads : {V : Type 0} (named : List ℕ → Option V) (word : List ℕ) (v : V) → IsPlain word → named word ≡ Some v → word_in named word ≡ variable_found true (Some v)
 variable_reads named word v plain found =
-    as_variable _ (number_in (int_in word)) (variable_found (could_be_variable word) (named word)) _ (is_same_text word (codes "!")) (operator_in word) (is_numeric word)
+    legal_says named word plain.legal
+    ∙ as_variable _ (number_in (int_in word)) (variable_found (could_be_variable word) (named word)) _ (is_same_text word (codes "!")) (operator_in word) (is_numeric word)
     (other_first is_letter word 33 [] plain.begins refl) (no_operator word (plain_other word plain)) (no_number word plain.begins)
     ∙ ap (variable_found (could_be_variable word)) found

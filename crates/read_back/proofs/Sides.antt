@@ -1,8 +1,9 @@
 -- The sides of a rule, and the words of its line, read.
-use Rattle.std.proofs.Common.{◌≡◌, ◌∙◌, refl, sym, ap, ℕ, ◌^◌, ◌<◌, Bool, true, false, List, [], ◌∷◌, ◌++◌, append_assoc, length, drop, codes, decimal, Option, Some, None, Ok, Result, option_map, slice_get, nat_lt, ltb-true, lt-ltb, ◌==◌, arith}
+use Rattle.std.proofs.Common.{◌≡◌, ◌∙◌, refl, sym, ap, ℕ, ◌^◌, ◌<◌, Bool, true, false, if◌then◌else◌, List, [], ◌∷◌, ◌++◌, append_assoc, length, drop, codes, decimal, Option, Some, None, Ok, Err, Result, option_map, slice_get, nat_lt, ltb-true, lt-ltb, ◌==◌, arith}
 use Rattle.std.specs.List.{list_any}
 use Rattle.std.specs.Option.{ok_or, option_map_or}
-use Rattle.std.proofs.lemmas.Bool.{and_parts, false≢true}
+use Rattle.std.proofs.lemmas.Bool.{and_parts, and_from, false≢true}
+use Rattle.std.proofs.lemmas.List.Folds.{list_all-append}
 use Rattle.std.proofs.lemmas.Option.{slice_get-map}
 use Rattle.petri_atom.specs.Name.{is_letter, is_letter_or_digit, is_same_text}
 use Rattle.connector_tree.specs.TokenMeaning.{interactions_in}
@@ -12,8 +13,9 @@ use Rattle.priority_filter.specs.declared.rule.Side.{Side}
 use Rattle.priority_filter.specs.declared.rule.Side.TheVariants.{Whole, One}
 use Rattle.step_core.specs.Plant.{PlantDefinition, WireDefinition, wire_name}
 use Rattle.step_core.specs.declared.limits.TheConstants.{MAX_RULES}
+use Rattle.plant_words.specs.Lines.{is_legal_byte, is_legal_line}
 use Rattle.plant_words.specs.Numbers.{is_digit, pick_in}
-use Rattle.plant_words.specs.Reading.{◌>>=◌, check, at_end, leads}
+use Rattle.plant_words.specs.Reading.{◌>>=◌, check, first_word, first_keyword, at_end}
 use Rattle.plant_words.specs.Splits.{named_mask_in}
 use Rattle.plant_words.specs.Words.{words_of}
 use Rattle.plant_words.specs.declared.line_fault.LineFault.{LineFault}
@@ -32,9 +34,13 @@ use Rattle.part_text.specs.Rule.{side_word, sides_text, rule_text}
 use Rattle.read_back.specs.Names.{are_named}
 use Rattle.read_back.specs.Rules.{is_side_of, is_rule_of, with_rules}
 use Rattle.read_back.proofs.Words.{is_one_word, one_word_more, no_sides, two_sides, word_alone, word_before}
-use Rattle.read_back.proofs.Bytes.{none_is, none_blank, begins_filled, IsOfName, name_is_one_word}
+use Rattle.read_back.proofs.Bytes.{none_is, none_blank, begins_filled, digits_are_legal, IsOfName, name_is_one_word, name_is_legal}
 use Rattle.read_back.proofs.Decimals.{all_digits, some_digit, pick_read}
 use Rattle.read_back.proofs.Found.{there_at, named_at, found_by_name}
+
+-- the first word, where it may stand in a text
+first_legal : (word : List ℕ) (rest : List (List ℕ)) → is_legal_line word ≡ true → first_word (word ∷ rest) ≡ Ok word
+first_legal word rest legal = ap (λ (b : Bool). if b then Ok word else Err line.NotAscii) legal
 
 -- what passes a test behind a map is there before it
 unmapped : {X Y : Type 0} (f : X → Y) (test : Y → Bool) (found : Option X) → option_map_or test (option_map f found) false ≡ true → (x : X) × (found ≡ Some x)
@@ -66,6 +72,9 @@ module _ (plant : PlantDefinition) (named : are_named (λ w. w.name) plant.wires
     name_alone : is_one_word (wire_name plant k) ≡ true
     name_alone = ap is_one_word name_is ∙ name_is_one_word w.name own_name
 
+    name_legal : is_legal_line (wire_name plant k) ≡ true
+    name_legal = ap is_legal_line name_is ∙ name_is_legal w.name own_name
+
     -- its name is read as all of it
     whole_read : side_of by_name by_mask (wire_name plant k) ≡ Ok (Whole k)
     whole_read =
@@ -78,8 +87,10 @@ module _ (plant : PlantDefinition) (named : are_named (λ w. w.name) plant.wires
     maximal_read =
         let made : ℕ → Unit {0} → Result Rule LineFault = λ connector end. Ok (Maximal connector) in
         let ended : ℕ → Result Rule LineFault = λ connector. at_end [] >>= made connector in
+        let known : List ℕ → Result Rule LineFault = λ name. ok_or (by_name name) line.UnknownName >>= ended in
         ap (λ (name : List ℕ). maximal_in by_name (name ∷ [])) name_is
-        ∙ passes ended (ap (λ (found : Option ℕ). ok_or found line.UnknownName) wire_found) refl
+        ∙ passes known (first_legal w.name [] (name_is_legal w.name own_name))
+        (passes ended (ap (λ (found : Option ℕ). ok_or found line.UnknownName) wire_found) refl)
 
     -- with a mask behind it, it is read as one interaction
     module _ (mask : ℕ) (small : nat_lt mask (2 ^ 16) ≡ true) where
@@ -102,6 +113,12 @@ module _ (plant : PlantDefinition) (named : are_named (λ w. w.name) plant.wires
       masked_alone =
           ap is_one_word (one_name_is ∙ append_assoc w.name (codes ":") (decimal mask))
           ∙ one_word_more w.name (58 ∷ decimal mask) (name_is_one_word w.name own_name) (none_blank is_digit (decimal mask) (all_digits mask within) refl refl)
+
+      masked_legal : is_legal_line (side_word plant (One k mask)) ≡ true
+      masked_legal =
+          ap is_legal_line (one_name_is ∙ append_assoc w.name (codes ":") (decimal mask))
+          ∙ list_all-append is_legal_byte w.name (58 ∷ decimal mask)
+          ∙ and_from (is_legal_line w.name) (is_legal_line (58 ∷ decimal mask)) (name_is_legal w.name own_name) (digits_are_legal (decimal mask) (all_digits mask within))
 
       one_read : by_mask k mask ≡ true → side_of by_name by_mask (side_word plant (One k mask)) ≡ Ok (One k mask)
       one_read held =
@@ -144,6 +161,19 @@ module _ (plant : PlantDefinition) (named : are_named (λ w. w.name) plant.wires
       let w = wire_at k mask parts.1 in
       masked_alone k w.0 w.1 mask parts.0
 
+  -- that may stand in a text, so it is read as the first one
+  side_legal : (side : Side) → is_side_of plant side ≡ true → is_legal_line (side_word plant side) ≡ true
+  side_legal (Whole k) held =
+      let w = there_at plant.wires k (ltb-true k (length plant.wires) held) in
+      name_legal k w.0 w.1
+  side_legal (One k mask) held =
+      let parts = and_parts (nat_lt mask (2 ^ 16)) (by_mask k mask) held in
+      let w = wire_at k mask parts.1 in
+      masked_legal k w.0 w.1 mask parts.0
+
+  side_first : (side : Side) (rest : List (List ℕ)) → is_side_of plant side ≡ true → side_in by_name by_mask (side_word plant side ∷ rest) ≡ Ok side
+  side_first side rest held = passes (side_of by_name by_mask) (first_legal (side_word plant side) rest (side_legal side held)) (side_read side held)
+
   -- ---- rules
 
   module _ (left right : Side) (lower : is_side_of plant left ≡ true) (upper : is_side_of plant right ≡ true) where
@@ -163,8 +193,8 @@ module _ (plant : PlantDefinition) (named : are_named (λ w. w.name) plant.wires
         let made : Side → Side → Unit {0} → Result Rule LineFault = λ one other end. Ok (Under one other) in
         let ended : Side → Side → Result Rule LineFault = λ one other. at_end (drop 3 sides) >>= made one other in
         let second : Side → Unit {0} → Result Rule LineFault = λ one below. side_in by_name by_mask (drop 2 sides) >>= ended one in
-        let between : Side → Result Rule LineFault = λ one. check (leads (codes "<") (drop 1 sides)) line.Shape >>= second one in
-        passes between (side_read left lower) (passes (ended left) (side_read right upper) refl)
+        let between : Side → Result Rule LineFault = λ one. first_keyword (codes "<") (drop 1 sides) >>= second one in
+        passes between (side_first left (codes "<" ∷ side_word plant right ∷ []) lower) (passes (ended left) (side_first right [] upper) refl)
 
   module _ (k : ℕ) (held : is_side_of plant (Whole k) ≡ true) where
     name_is_words : words_of (rule_text plant (Maximal k)) ≡ codes "maximal" ∷ wire_name plant k ∷ []

@@ -1,8 +1,9 @@
 -- What each word of a connector's tree says that is written: a port or a bracket.
-use Rattle.std.proofs.Common.{◌≡◌, ◌∙◌, refl, sym, ap, ℕ, ◌+◌, ◌-◌, ◌<◌, Bool, true, false, not, if◌then◌else◌, List, [], ◌∷◌, ◌++◌, append-nil, length, take, slice_index, codes, Option, Some, None, Ok, option_map, option_and_then, slice_get, nat_lt, eq-eqb, ltb-true, arith}
+use Rattle.std.proofs.Common.{◌≡◌, ◌∙◌, refl, sym, ap, ℕ, ◌+◌, ◌-◌, ◌<◌, Bool, true, false, not, if◌then◌else◌, List, [], ◌∷◌, ◌++◌, append-nil, length, take, slice_index, codes, Option, Some, None, Ok, Err, option_map, option_and_then, slice_get, nat_lt, eq-eqb, ltb-true, arith}
 use Rattle.std.specs.List.{list_all}
 use Rattle.std.specs.Option.{option_map_or}
-use Rattle.std.proofs.lemmas.Bool.{and_parts, false≢true}
+use Rattle.std.proofs.lemmas.Bool.{and_parts, and_from, false≢true}
+use Rattle.std.proofs.lemmas.List.Folds.{list_all-append}
 use Rattle.std.proofs.lemmas.List.{length_push, get_or_push, take_at}
 use Rattle.std.proofs.lemmas.List.Sums.{AllPass-from_list_all}
 use Rattle.petri_atom.specs.Definition.{AtomDefinition, PortDefinition, port_name}
@@ -12,10 +13,12 @@ use Rattle.connector_tree.specs.declared.token.Token.{Token}
 use Rattle.connector_tree.specs.declared.token.Token.TheVariants.{Leaf, Open, Close}
 use Rattle.connector_tree.specs.declared.tree.Port.{Port}
 use Rattle.step_core.specs.Rules.{is_known_port}
+use Rattle.plant_words.specs.Lines.{is_legal_byte, is_legal_line}
 use Rattle.plant_words.specs.Splits.{PortParts, sides_in, is_quoted, port_parts}
 use Rattle.plant_words.specs.Words.{is_blank, is_filled}
 use Rattle.atom_lines.specs.Lookup.{port_number}
-use Rattle.connector_lines.specs.Tokens.{bracket_in, leaf_of, leaf_in, token_in}
+use Rattle.connector_lines.specs.Tokens.{bracket_in, leaf_of, leaf_in, legal_token_in, token_in}
+use Rattle.connector_lines.specs.declared.tree_words_fault.TreeWordsFault.TheVariants.{NotAscii}
 use Rattle.plant_text.specs.Names.{port_at, port_named}
 use Rattle.part_text.specs.Words.{leaf_word, trigger_mark, token_word}
 use Rattle.read_back.specs.Names.{are_named, names_its_parts, are_named_atoms}
@@ -23,7 +26,7 @@ use Rattle.read_back.proofs.Words.{is_one_word, one_word_more}
 use Rattle.read_back.proofs.Bytes.{other_byte, begins_by, begins_filled, begins_more, other_first, IsOfName}
 use Rattle.read_back.proofs.ExpressionWords.{passed_by}
 use Rattle.read_back.proofs.Found.{there_at, passing, named_at, found_by_name}
-use Rattle.read_back.proofs.Dotted.{dotted, is_dotted_byte, dotted_bytes, dotted_begins, dotted_is_one_word, dotted_sides}
+use Rattle.read_back.proofs.Dotted.{dotted, is_dotted_byte, dotted_bytes, dotted_begins, dotted_is_one_word, dotted_is_legal, dotted_sides}
 
 -- ---- words with a mark
 
@@ -95,6 +98,14 @@ module _ (first second : List ℕ) (one : IsOfName first) (other : IsOfName seco
   pub marked_is_one_word : (trigger : Bool) → is_one_word (word ++ trigger_mark trigger) ≡ true
   marked_is_one_word trigger = one_word_more word (trigger_mark trigger) (dotted_is_one_word first second one other) (mark_is_no_blank trigger)
 
+  -- and may stand in a text
+  mark_is_legal : (trigger : Bool) → is_legal_line (trigger_mark trigger) ≡ true
+  mark_is_legal true = refl
+  mark_is_legal false = refl
+
+  pub marked_is_legal : (trigger : Bool) → is_legal_line (word ++ trigger_mark trigger) ≡ true
+  marked_is_legal trigger = list_all-append is_legal_byte word (trigger_mark trigger) ∙ and_from _ _ (dotted_is_legal first second one other) (mark_is_legal trigger)
+
   pub marked_is_no_bracket : (trigger : Bool) → bracket_in (word ++ trigger_mark trigger) ≡ None
   marked_is_no_bracket trigger = no_bracket (word ++ trigger_mark trigger) (begins_more is_letter word (trigger_mark trigger) begins)
 
@@ -154,6 +165,7 @@ module _ (atoms : List AtomDefinition) (named : are_named_atoms atoms ≡ true) 
         let own : List ℕ = at.port.name in
         let marked : List ℕ = dotted name own ++ trigger_mark trigger in
         ap (λ (text : List ℕ). token_in (port_named atoms) (text ++ trigger_mark trigger)) told
+        ∙ ap (λ (legal : Bool). if legal then legal_token_in (port_named atoms) marked else Err NotAscii) (marked_is_legal name own atom_name own_name trigger)
         ∙ ap (λ (bracket : Option Token). option_map_or (λ b. Ok b) bracket (leaf_in (port_named atoms) (port_parts marked))) (marked_is_no_bracket name own atom_name own_name trigger)
         ∙ ap (leaf_in (port_named atoms)) (parts_by_mark name own atom_name own_name trigger)
         ∙ ap (leaf_of trigger) port_is_found
