@@ -27,7 +27,8 @@ const CELL: u64 = BODY as u64 + 1;
 const FIRST_RECORD: u64 = 1;
 
 /// Makes of the device one that stands for the first state of the plant and for the number 0, with a ring of so many records. Whatever it
-/// held is gone then. A stop inside leaves what it held, or an unformatted device, or the whole new one.
+/// held is gone then. A stop inside leaves what it held, or an unformatted device, or the whole new one. All memory is taken before the first
+/// call of the device, and its size is judged before the first write: where either is refused, the device is as it was.
 pub fn format<D: Disk>(
     alloc: Global,
     disk: D,
@@ -40,6 +41,7 @@ pub fn format<D: Disk>(
     ensures wrong_size { IfErr result (λ refused. refused.fault ≡ FormatFault.WrongSize
         → size_of (D.state disk) ≢ formatted_size (plant_of system.now) ring) }
     ensures untouched { IfErr result (λ refused. refused.fault ≢ FormatFault.Disk → Reads false (D.state disk) (D.state refused.disk)) }
+    ensures uncalled { IfErr result (λ refused. refused.fault ≡ FormatFault.Memory → refused.disk ≡ disk) }
     ensures counts { CountsUpTo (is_disk_refusal result) (6 + 3 * length (plant_of system.now).atoms)
         (D.state disk) (D.state (returned result)) }
     ensures stops { (D.state disk).keeps ≡ true
@@ -118,6 +120,7 @@ fn format_cells<D: Disk>(
     ensures sized { OnOk result (size_of cells.old ≡ formatted_size (plant_of system.now) ring) }
     ensures wrong_size { IfErr result (λ fault. fault ≡ FormatFault.WrongSize → size_of cells.old ≢ formatted_size (plant_of system.now) ring) }
     ensures untouched { IfErr result (λ fault. fault ≢ FormatFault.Disk → Reads false cells.old cells.new) }
+    ensures memory { IfErr result (λ fault. fault ≢ FormatFault.Memory) }
     ensures counts { CountsUpTo (is_disk_error result) (6 + 3 * length (plant_of system.now).atoms) cells.old cells.new }
     ensures stops { cells.old.keeps ≡ true
         → Leaves (BODY + 1) (IsFormatting (plant_of system.now) (digest_of system.now) cells.old) cells.old cells.new }
