@@ -3,7 +3,7 @@ ghost use Rattle.std.specs.Prelude.{◌≡◌};
 ghost use Rattle.bip_run.specs.Status.{status_of};
 
 use crate::paths::ShownPaths;
-use crate::saving::{FileSaver, perform_saving};
+use crate::saving::{FileSaver, lead_to_one_file, perform_saving};
 use command_line::{Drawing, Request, Task, Work, is_standard_input, read_request};
 use plant_tasks::{
     PlantEnding, PlantTold, ReadPlant, TaskPaths, Watched, ended, read_plant, step, tell_more,
@@ -88,6 +88,12 @@ fn work<R: Files<File = File> + Input + Print + Eprint + AllocGlobal>(
         let _ = eprintln!(rt; "error: a task on an image is done by the program bip_image");
         return Err(PlantEnding::Usage);
     }
+    if saves_over_what_is_read(rt, request) {
+        let _ = eprintln!(rt;
+            "error: '--save-picks' leads to the file from which the plant or the picks are read"
+        );
+        return Err(PlantEnding::Usage);
+    }
     let mut output = BufWriter::new(rt.alloc(), Watched::new(io::writer(rt))).map_err(
         |_| PlantEnding::Memory,
     )?;
@@ -102,6 +108,16 @@ fn work<R: Files<File = File> + Input + Print + Eprint + AllocGlobal>(
         *failure = output.get_ref().failure();
     }
     ended
+}
+
+/// Whether what is fired would be saved in the file of the plant or of the picks. Where their paths are written alike, the words of the command line
+/// were refused before.
+fn saves_over_what_is_read<R: Files>(rt: &R, request: &Request<'_>) -> bool {
+    let Some(saved) = request.work.saved() else {
+        return false;
+    };
+    let leads_to = |path: &str| !is_standard_input(path) && lead_to_one_file(rt, saved, path);
+    leads_to(request.plant) || request.work.input().is_some_and(leads_to)
 }
 
 /// The plant that stands at the path. Its text is put into `text`, and a failure of its file into `failure`.

@@ -4,6 +4,7 @@ use plant_tasks::{PlantEnding, ReadPlant, Watched, perform};
 use std::alloc::Global;
 use std::fs::File;
 use std::io::{BufRead, BufWriter, Write};
+use std::os::unix::fs::MetadataExt;
 use std::rt::Files;
 use std::{fs, io, str};
 use step_session::{Saver, Session};
@@ -20,11 +21,20 @@ pub(crate) struct FileSaver<'a, R> {
 impl<'a, R: Files<File = File> + AllocGlobal> Saver for FileSaver<'a, R> {
     fn save(&mut self, path: &[u8], session: &Session<'_>) -> bool {
         match str::from_utf8(path) {
-            Ok(path) if path != self.plant && !is_standard_input(path) => {
-                save_at(self.rt, path, session)
+            Ok(path) if is_standard_input(path) || lead_to_one_file(self.rt, path, self.plant) => {
+                false
             }
-            _ => false,
+            Ok(path) => save_at(self.rt, path, session),
+            Err(_) => false,
         }
+    }
+}
+
+/// Whether the paths lead to one file that is there, also where they are written in different ways.
+pub(crate) fn lead_to_one_file<R: Files>(rt: &R, one: &str, other: &str) -> bool {
+    match (fs::metadata(rt, one), fs::metadata(rt, other)) {
+        (Ok(one), Ok(other)) => one.dev() == other.dev() && one.ino() == other.ino(),
+        _ => false,
     }
 }
 

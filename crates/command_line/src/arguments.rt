@@ -14,6 +14,13 @@ pub(crate) fn plant_argument<'a>(alloc: Global) -> Arg<'a> {
     )
 }
 
+/// The same where commands are read from the standard input.
+pub(crate) fn plant_file_argument<'a>(alloc: Global) -> Arg<'a> {
+    Arg::new(alloc, PLANT)
+        .required(true)
+        .help("The file with the text of the plant")
+}
+
 /// The argument that names the image.
 pub(crate) fn image_argument<'a>(alloc: Global) -> Arg<'a> {
     Arg::new(alloc, IMAGE)

@@ -1,16 +1,16 @@
 //! The commands of the program, with their arguments and options.
 use crate::arguments::{
     after_argument, explain_argument, image_argument, only_argument, outline_argument,
-    pick_argument, picks_argument, plant_argument, random_argument, ring_argument,
-    run_format_argument, save_picks_argument, script_argument, seed_argument, states_argument,
-    strict_argument, warn_argument,
+    pick_argument, picks_argument, plant_argument, plant_file_argument, random_argument,
+    ring_argument, run_format_argument, save_picks_argument, script_argument, seed_argument,
+    states_argument, strict_argument, warn_argument,
 };
 use crate::help::{
     ABOUT, AFTER, BRIEF, CHECK_ABOUT, CHECK_AFTER, CHECK_BRIEF, CHOICES_ABOUT, CHOICES_AFTER,
-    CHOICES_BRIEF, DRAW_ABOUT, DRAW_AFTER, DRAW_BRIEF, FORMAT_ABOUT, FORMAT_AFTER, FORMAT_BRIEF,
-    RECOVER_ABOUT, RECOVER_AFTER, RECOVER_BRIEF, RUN_ABOUT, RUN_AFTER, RUN_BRIEF, STEP_ABOUT,
-    STEP_AFTER, STEP_BRIEF, TRACE_ABOUT, TRACE_AFTER, TRACE_BRIEF, VERSION, WHY_ABOUT, WHY_AFTER,
-    WHY_BRIEF,
+    CHOICES_BRIEF, DRAW_ABOUT, DRAW_AFTER, DRAW_BRIEF, DRAW_USAGE, FORMAT_ABOUT, FORMAT_AFTER,
+    FORMAT_BRIEF, RECOVER_ABOUT, RECOVER_AFTER, RECOVER_BRIEF, RUN_ABOUT, RUN_AFTER, RUN_BRIEF,
+    STEP_ABOUT, STEP_AFTER, STEP_BRIEF, TRACE_ABOUT, TRACE_AFTER, TRACE_BRIEF, VERSION, WHY_ABOUT,
+    WHY_AFTER, WHY_BRIEF,
 };
 use crate::names::{CHECK, CHOICES, CommandName, DRAW, FORMAT, RECOVER, RUN, STEP, TRACE, WHY};
 use clap::{Arg, Command};
@@ -138,12 +138,15 @@ fn trace_command<'a>(alloc: Global) -> Result<Command<'a>, AllocError> {
 fn step_command<'a>(alloc: Global) -> Result<Command<'a>, AllocError> {
     let command = described(alloc, STEP, STEP_BRIEF, STEP_ABOUT, STEP_AFTER);
     let command = with_argument(Ok(command), explain_argument(alloc));
-    with_argument(command, plant_argument(alloc))
+    with_argument(command, plant_file_argument(alloc))
 }
 
 /// The command that draws a plant.
 fn draw_command<'a>(alloc: Global) -> Result<Command<'a>, AllocError> {
-    let command = described(alloc, DRAW, DRAW_BRIEF, DRAW_ABOUT, DRAW_AFTER);
+    // What 'clap' would show puts PLANT behind the picks, which would take it for one of them.
+    let command = described(alloc, DRAW, DRAW_BRIEF, DRAW_ABOUT, DRAW_AFTER).override_usage(
+        DRAW_USAGE,
+    );
     let command = with_argument(Ok(command), outline_argument(alloc));
     let command = with_argument(command, only_argument(alloc));
     let command = with_argument(command, after_argument(alloc));

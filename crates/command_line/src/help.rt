@@ -117,8 +117,9 @@ ones; the same seed gives the same run. At the end there is a line for each
 atom: its marked places, and its variables with their values.
 
 With --picks the picks are the lines of a file: a number, or an interaction, as
-'tick A.t/0'. An interaction is still the same one where an edit of the plant has given the
-choices other numbers; where it can't be fired, it is refused, and the run ends there. A
+'tick A.t/0'. An interaction is found by its names and the numbers of its transitions, so
+it stays the same where an edit of the plant gives the choices other numbers, and each
+transition keeps its own; where it can't be fired, it is refused, and the run ends there. A
 line that begins with # and a line without words are passed over. --save-picks writes such
 a file of what is fired. With --strict a number past the list of choices is refused.
 
@@ -202,8 +203,10 @@ the lower connector to the higher.
 
 With --after or --picks the state after some picks is drawn, and each connector that can
 then be fired is green; 'trace' tells of --picks and --strict. With --only some atoms are
-drawn, and the connectors that join them. With --outline there is one node for each atom
-and for each connector, for large plants.";
+drawn, and the connectors that join them. With --outline alone there is one node for each
+atom and for each connector, for large plants.";
+
+pub(crate) const DRAW_USAGE: &str = "bip_run draw [OPTIONS] <PLANT>";
 
 pub(crate) const DRAW_AFTER: &str = "Example:
   bip_run draw examples/sample.plant | dot -Tsvg -o sample.svg
