@@ -5,6 +5,7 @@ for is then no less than what was acknowledged.
 """
 
 import ctypes
+import errno
 import functools
 import itertools
 import os
@@ -18,17 +19,22 @@ from pathlib import Path
 
 import calls
 import sample
-from calls import LetGo
+from calls import Fails, LetGo
 from failures import NOT_FORMATTED, answer_at
 from faults import TAKEN
 from reference import CELL, Image
-from sample import CELLS, FORMATTED, PLANT, OnImage, answer, image_of, standing, told_before
+from sample import CELLS, FORMATTED, PLANT, ROOT, OnImage, answer, image_of, standing, told_before
 
 # The superuser reads and writes any file by these rights, which can be given up for good.
 DROP_OF_THE_BOUND, OVERRIDE, READ_SEARCH = 24, 1, 2
 # Each block of memory is asked of the system by itself, where the C library knows this.
 BLOCK_BY_BLOCK = {"GLIBC_TUNABLES": "glibc.malloc.mmap_threshold=1"}
 LEAST_BLOCKS, LAST_BLOCKS = 100, 20
+# A test of the library that asks memory of each of these calls in turn. It prints the name of one that is refused it, and makes it again.
+TESTS = ROOT / "crates" / "durable_tests" / "out" / "durable_tests_tests"
+REFUSED = "tests::memory::a_refused_growth_changes_nothing"
+ASKING = ["plant", "device", "format", "boot", "hands", "drive"]
+PASSED = "\ntest result: ok\n"
 FIRST = standing(0, 0, number=0)
 
 
@@ -55,6 +61,22 @@ def why_rights_bind_nothing():
 def is_growth(call):
     """The call asks for more memory, and not only where the data ends."""
     return call.file == "<memory>" and not (call.name == "brk" and call.place == 0)
+
+
+class RefusesOnce:
+    """Refuses one growth of memory, and whatever the C library asks for in its place, until the program prints a line."""
+
+    def __init__(self, number):
+        self.left = number
+        self.is_refusing = False
+
+    def __call__(self, call):
+        self.is_refusing &= call.file != "<output>"
+        if not is_growth(call):
+            return None
+        self.is_refusing |= self.left == 0
+        self.left -= 1
+        return Fails(errno.ENOMEM) if self.is_refusing else None
 
 
 def no_more_memory(process):
@@ -167,6 +189,22 @@ class Limits(OnImage):
             found += [ran.told] if [ran.told] != found[-1:] else []
             self.expect_untouched(data)
         self.assertEqual(found, lines)
+
+    def check_memory_of_each_call(self):
+        """One growth is refused, each in turn, until a run meets no refusal. The call tells it and has changed nothing, and made again it succeeds."""
+        if reason := calls.why_not() or not TESTS.exists() and "the tests of durable_tests are not built":
+            self.skipTest(reason)
+        found = []
+        for number in itertools.count():
+            ran = calls.watched([TESTS, REFUSED], RefusesOnce(number), cwd=self.folder, env={**os.environ, **BLOCK_BY_BLOCK})
+            self.assertEqual((ran.status, ran.told), (0, ""), number)
+            names = ran.printed.removesuffix(PASSED).split()
+            if not names:
+                break
+            found += names if names != found[-1:] else []
+        if number < LEAST_BLOCKS:
+            self.skipTest("the C library does not ask the system for each block of memory by itself")
+        self.assertEqual(found, ASKING)
 
     def put_image(self, data):
         self.image.unlink(missing_ok=True)

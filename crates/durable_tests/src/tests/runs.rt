@@ -95,7 +95,7 @@ fn ended(disk: Untold, front: Front, last: Result<u64, Refused>) -> Outcome {
 }
 
 /// The number that was answered: that of a choice, the acknowledged one, the count of a state, or the base; 0 where no state was at hand.
-fn answer_in(happened: &Happened) -> Result<u64, Refused> {
+pub(super) fn answer_in(happened: &Happened) -> Result<u64, Refused> {
     match happened {
         Happened::Fire(_, Ok(fired)) => Ok(fired.number),
         Happened::Ask(_, Ok(copy)) => Ok(copy.count()),
@@ -187,7 +187,7 @@ fn shows(plant: &Plant<'_, Untold>, wanted: &Stepper<'_>) -> bool {
 
 /// Whether the image that a stop of the run left boots to a state behind some front of what was fired, with all that was acknowledged; the base is the
 /// one that was told or one behind it, up to this.
-fn boots_right(
+pub(super) fn boots_right(
     alloc: Global,
     system: &System,
     left: MemDisk,

@@ -1,0 +1,147 @@
+// Plants on devices of which one call fails, and those behind it serve again. Numbers and states are worked out by hand.
+use super::common::{SAMPLE, Untold};
+use super::runs::{
+    FIRE_0, FIRE_1, FLUSH, NEVER, answer_in, boots_right, new_device, settled, stopped_run,
+    value_of,
+};
+use disk_model::{MemDisk, Tear};
+use plant_core::{Event, Front, Hands, Happened, Plant, Refused, drive};
+use plant_text::plant_of_text;
+use recovery::{BootFault, boot};
+use std::alloc::Global;
+use std::test::Fail;
+use step_core::System;
+
+/// Tick, send, tick, send, all of it acknowledged, A saved behind all of them, and one event more of each kind.
+const A_SAVED_AND_ON: [Event; 11] = [
+    FIRE_0,
+    FIRE_1,
+    FIRE_0,
+    FIRE_1,
+    FLUSH,
+    Event::Ask(0),
+    Event::Put(0),
+    FIRE_0,
+    FLUSH,
+    Event::Ask(0),
+    Event::Trim,
+];
+
+/// The plant that the device is booted to, and how many boots the device failed. Behind the first of them it is booted again.
+fn booted<'s>(
+    alloc: Global,
+    system: &'s System,
+    disk: MemDisk,
+) -> Result<(Plant<'s, Untold>, u64), Fail> {
+    let refused = match boot(alloc, Untold::over(disk), system) {
+        Ok(plant) => return Ok((plant, 0)),
+        Err(refused) => refused,
+    };
+    if refused.fault != BootFault::Disk {
+        return Err(Fail::new("the image is refused"));
+    }
+    match boot(alloc, refused.disk, system) {
+        Ok(plant) => Ok((plant, 1)),
+        Err(_) => Err(Fail::new("the second boot is refused")),
+    }
+}
+
+/// How many of the answers tell that the device failed. Behind the first of them the plant is broken, for whatever is asked.
+fn failures_in(answers: &[Happened]) -> Result<u64, Fail> {
+    let mut failed = 0u64;
+    for happened in answers {
+        match (answer_in(happened), happened) {
+            (Err(Refused::Disk), _) => failed = failed.saturating_add(1),
+            (Err(Refused::Broken), _) | (_, Happened::Empty(_)) => {}
+            _ if failed == 0 => {}
+            _ => return Err(Fail::new("a broken plant goes on")),
+        }
+    }
+    Ok(failed)
+}
+
+/// The run of these events on a device of which the `k`-th call fails: how many of the calls tell it. Booted again without a stop, the device has to stand
+/// for what was acknowledged, and a front of the rest.
+fn failing_once(
+    alloc: Global,
+    system: &System,
+    events: &[Event],
+    last_base: u64,
+    k: u64,
+) -> Result<u64, Fail> {
+    let mut disk = new_device(alloc, system, 8)?;
+    disk.fuse_once(k);
+    let (mut plant, failed) = booted(alloc, system, disk)?;
+    let mut hands = Hands::new(alloc, plant.system().atoms().len())?;
+    let answers = drive(alloc, &mut plant, events, &mut hands)?;
+    let front = plant.front();
+    let mut left = plant.into_disk().into_memory();
+    left.fuse_once(NEVER);
+    if !boots_right(alloc, system, left, front, last_base, events)? {
+        return Err(Fail::new("another state was booted"));
+    }
+    Ok(failed.saturating_add(failures_in(&answers)?))
+}
+
+/// The boot makes 30 calls, the flushes of four and of one 10 and 4, the put 8 and the trim 8. Each of them fails in turn, while those before and behind
+/// it serve.
+#[test]
+fn each_call_that_fails_is_told_once(rt: HostRuntime) -> Result<(), Fail> {
+    let alloc = rt.alloc();
+    let system = plant_of_text(alloc, SAMPLE)?;
+    let calls = 30 + 10 + 8 + 4 + 8;
+    for k in 1..=calls {
+        assert_eq!(rt;
+            failing_once(alloc, &system, &A_SAVED_AND_ON, 2, k)?,
+            1,
+            "at {k}"
+        );
+    }
+    assert_eq!(rt;
+        failing_once(alloc, &system, &A_SAVED_AND_ON, 2, calls + 1)?,
+        0
+    );
+    Ok(())
+}
+
+/// A flush of records 3 and 4 was stopped with the first gate closed and the second open.
+fn torn(alloc: Global, system: &System) -> Result<MemDisk, Fail> {
+    let events = [FIRE_0, FIRE_1, FLUSH, FIRE_0, FIRE_1, FLUSH];
+    // The boot makes 30 calls, and each flush of two 6.
+    let stopped = stopped_run(alloc, system, 42, &events)?;
+    Ok(stopped.disk.stop(Tear::Mixed))
+}
+
+/// The torn device is booted while its `k`-th call fails: how many boots the device failed, and what the plant shows.
+fn booted_at(alloc: Global, system: &System, k: u64) -> Result<(u64, i64, i64, Front), Fail> {
+    let mut disk = torn(alloc, system)?;
+    disk.fuse_once(k);
+    let (plant, failed) = booted(alloc, system, disk)?;
+    Ok((
+        failed,
+        value_of(&plant, 0),
+        value_of(&plant, 1),
+        plant.front(),
+    ))
+}
+
+/// The boot makes a sync, asks the size, reads 15 gates and the bodies of 7 full cells, then the gates of the 6 cells of the ring that are not live, closes
+/// that of record 4, and syncs.
+#[test]
+fn a_boot_that_the_device_fails_is_made_again(rt: HostRuntime) -> Result<(), Fail> {
+    let alloc = rt.alloc();
+    let system = plant_of_text(alloc, SAMPLE)?;
+    let calls = 2 + 15 + 7 + 6 + 1 + 1;
+    for k in 1..=calls {
+        assert_eq!(rt;
+            booted_at(alloc, &system, k)?,
+            (1, 2, 1, settled(2)),
+            "at {k}"
+        );
+    }
+    assert_eq!(rt;
+        booted_at(alloc, &system, calls + 1)?,
+        (0, 2, 1, settled(2))
+    );
+    Ok(())
+}

@@ -1,0 +1,160 @@
+// A plant that is read, formatted, booted and driven while one growth of memory is refused. Here none is: the tests of the program run this test
+// once more for each growth, refuse that one, and read which call was refused it. Made again, the call succeeds.
+ghost use Rattle.std.specs.Prelude.{◌≡◌, IfOk, length};
+ghost use Rattle.plant_core.specs.Plants.{definition_of};
+
+use super::common::{SAMPLE, Untold};
+use super::runs::{FIRE_0, FIRE_1, FLUSH, ROOM, settled, value_of};
+use disk_model::{BODY, Cells, Disk, MemDisk};
+use plant_core::{Event, Hands, Happened, Plant, drive};
+use plant_image::ImageFault;
+use plant_text::{Fault, read_plant};
+use recovery::{BootFault, FormatFault, boot, format};
+use std::alloc::Global;
+use std::test::Fail;
+use step_core::System;
+
+/// The bytes of the sample's device with a ring of 8.
+const BYTES: usize = 7_680;
+
+/// The cell of record 5.
+const FIFTH: u64 = 12;
+
+/// Tick, send, both acknowledged, and A saved behind both.
+const TWO: [Event; 5] = [FIRE_0, FIRE_1, FLUSH, Event::Ask(0), Event::Put(0)];
+
+/// The plant that is read, and before it one line where memory was refused.
+fn plant_read(rt: &impl Print, alloc: Global) -> Result<System, Fail> {
+    let mut text = SAMPLE;
+    match read_plant(alloc, &mut text) {
+        Ok(system) => return Ok(system),
+        Err(refused) if refused.fault == Fault::Memory => rt.println("plant")?,
+        Err(_) => return Err(Fail::new("the plant is refused")),
+    }
+    let mut again = SAMPLE;
+    Ok(read_plant(alloc, &mut again)?)
+}
+
+/// All that the device holds.
+fn bytes_of(disk: &mut Untold) -> Result<[u8; BYTES], Fail> {
+    if disk.size()? < BYTES as u64 {
+        return Err(Fail::new("the device is too small"));
+    }
+    let mut bytes = [0; BYTES];
+    disk.read_at(0, &mut bytes)?;
+    Ok(bytes)
+}
+
+/// A device of zeros.
+fn new_disk(rt: &impl Print, alloc: Global) -> Result<Untold, Fail> {
+    if let Ok(disk) = MemDisk::new(alloc, BYTES as u64, ROOM) {
+        return Ok(Untold::over(disk));
+    }
+    rt.println("device")?;
+    Ok(Untold::over(MemDisk::new(alloc, BYTES as u64, ROOM)?))
+}
+
+/// The device, formatted for the plant.
+fn formatted(
+    rt: &impl Print,
+    alloc: Global,
+    system: &System,
+    disk: Untold,
+) -> Result<Untold, Fail> {
+    let calls = disk.calls();
+    let refused = match format(alloc, disk, system, 8) {
+        Ok(disk) => return Ok(disk),
+        Err(refused) => refused,
+    };
+    if refused.fault != FormatFault::Memory || refused.disk.calls() != calls {
+        return Err(Fail::new("the device is not formatted"));
+    }
+    rt.println("format")?;
+    match format(alloc, refused.disk, system, 8) {
+        Ok(disk) => Ok(disk),
+        Err(_) => Err(Fail::new("the device is not formatted")),
+    }
+}
+
+/// The device with a full cell of the ring that no record needs: a boot empties it.
+fn with_a_stale_cell(disk: Untold) -> Result<Untold, Fail> {
+    let mut cells = Cells::new(disk);
+    if cells.size()? / 512 <= FIFTH {
+        return Err(Fail::new("no such cell"));
+    }
+    cells.replace(FIFTH, &[7; BODY])?;
+    Ok(cells.into_disk())
+}
+
+/// The plant that the device is booted to.
+fn booted<'s>(
+    rt: &impl Print,
+    alloc: Global,
+    system: &'s System,
+    disk: Untold,
+) -> Result<Plant<'s, Untold>, Fail> {
+    let mut disk = disk;
+    let before = bytes_of(&mut disk)?;
+    let mut refused = match boot(alloc, disk, system) {
+        Ok(plant) => return Ok(plant),
+        Err(refused) => refused,
+    };
+    if refused.fault != BootFault::Image(ImageFault::Memory)
+        || bytes_of(&mut refused.disk)?.as_slice() != before.as_slice()
+    {
+        return Err(Fail::new("the image is refused"));
+    }
+    rt.println("boot")?;
+    match boot(alloc, refused.disk, system) {
+        Ok(plant) => Ok(plant),
+        Err(_) => Err(Fail::new("the image is refused")),
+    }
+}
+
+/// Empty hands for so many atoms.
+fn new_hands(rt: &impl Print, alloc: Global, atoms: usize) -> Result<Hands, Fail>
+    ensures { IfOk result (λ hands. length hands ≡ atoms) }
+{
+    if let Ok(hands) = Hands::new(alloc, atoms) {
+        return Ok(hands);
+    }
+    rt.println("hands")?;
+    Ok(Hands::new(alloc, atoms)?)
+}
+
+/// The answers of the plant.
+fn driven(
+    rt: &impl Print,
+    alloc: Global,
+    plant: &mut Plant<'_, Untold>,
+    hands: &mut Hands,
+) -> Result<Vec<Happened>, Fail>
+    requires { length hands.old ≡ length (definition_of plant.old).atoms }
+{
+    if let Ok(answers) = drive(alloc, plant, &TWO, hands) {
+        return Ok(answers);
+    }
+    if plant.front() != settled(0) || value_of(plant, 0) != 0 {
+        return Err(Fail::new("something was fired"));
+    }
+    rt.println("drive")?;
+    Ok(drive(alloc, plant, &TWO, hands)?)
+}
+
+#[test]
+fn a_refused_growth_changes_nothing(rt: HostRuntime) -> Result<(), Fail> {
+    let alloc = rt.alloc();
+    let system = plant_read(&rt, alloc)?;
+    let disk = new_disk(&rt, alloc)?;
+    let disk = formatted(&rt, alloc, &system, disk)?;
+    let disk = with_a_stale_cell(disk)?;
+    let mut plant = booted(&rt, alloc, &system, disk)?;
+    let mut hands = new_hands(&rt, alloc, plant.system().atoms().len())?;
+    let answers = driven(&rt, alloc, &mut plant, &mut hands)?;
+    assert_eq!(rt; answers.len(), TWO.len());
+    assert_eq!(rt;
+        (value_of(&plant, 0), value_of(&plant, 1), plant.front()),
+        (2, 1, settled(2))
+    );
+    Ok(())
+}
