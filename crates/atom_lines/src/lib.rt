@@ -21,7 +21,8 @@
 //! without a fault: where a part of it is refused memory, the words behind are read on and the part isn't made.
 //!
 //! A name is declared where it is new, and has to be a [`petri_atom::Name`]. Where it is used, it is looked up alone: a
-//! word that is no name is as unknown as one that no line declared, but one with an illegal byte is told as that. Places, variables and ports may share names.
+//! word that is no name is as unknown as one that no line declared, but one with an illegal byte is told as that. Places,
+//! variables and ports may share names.
 //!
 //! Each line keeps the rules of an atom, so what was drafted is one at any time, also before any line: then
 //! [`AtomDraft::into_atom`] fails only where memory runs out.

@@ -26,8 +26,8 @@ pub struct Mark<'a> {
 
 /// Where the first line with a fault has it, or `None` where no line has one: then the fault is of no line, or there is none.
 ///
-/// The part that is marked is the first word that is at fault, or of a word with a byte that may not stand in a text, that byte. Where a word is
-/// missing it is the end of the line. Where a tree breaks a rule it is the leaf or the bracket with which it comes to break it,
+/// The part that is marked is the first word that is at fault, or of a word with a byte that may not stand in a text, that byte.
+/// Where a word is missing it is the end of the line. Where a tree breaks a rule it is the leaf or the bracket with which it comes to break it,
 /// and where a connector has too many interactions its whole tree.
 #[tactic(auto, using(crate::proofs::Marked::told_line))]
 pub fn find_mark<'t>(alloc: Global, text: &'t [u8]) -> Result<Option<Mark<'t>>, AllocError>

@@ -1,0 +1,61 @@
+-- Choices of a run, one by one and cut into fronts, and lists that are the same entry by entry.
+use Rattle.std.proofs.Common.{◌≡◌, ℕ, ◌+◌, ◌<◌, ◌≤◌, List, [], ◌∷◌, ◌++◌, length, map, take, drop, get_or, Some, slice_get, sym, ◌∙◌, ap, subst, arith}
+use Rattle.std.proofs.lemmas.List.{at_drop_more, drop-map, get_or-map, length-map, take_all, take-map, take_more, take-append-drop}
+use Rattle.std.proofs.lemmas.Option.{get_or_from_slice_get}
+use Rattle.petri_atom.specs.Local.{Local}
+use Rattle.step_core.specs.Choice.{ChoiceDefinition, IsAllowed}
+use Rattle.step_core.specs.Plant.{PlantDefinition}
+use Rattle.step_core.specs.Runs.{IsRun, fold}
+use Rattle.step_core.specs.Step.{initial_states, next}
+use Rattle.step_core.proofs.OnRuns.{runs-cut}
+use Rattle.plant_core.proofs.EventRuns.{fold-append}
+use Rattle.crash_explorer.specs.Judging.{IsRunOf, state_behind}
+
+-- what is left of a list from a place on begins with the entry there
+pub left-at : {X Y : Type 0} (f : X → Y) (xs : List X) (i : ℕ) (x : X) → i < length xs → x ≡ get_or xs i x → drop i (map f xs) ≡ f x ∷ drop (i + 1) (map f xs)
+left-at {X} {Y} f xs i x inside is =
+    let within : i < length (map f xs) = omega (arith, length-map xs f) in
+    at_drop_more (λ (l : List Y). l) (map f xs) i (f x) within ∙ ap (λ (y : Y). y ∷ drop (i + 1) (map f xs)) (get_or-map f xs i x (f x) inside ∙ ap f (sym is))
+
+-- the parts of a list that is cut in two, and what a function gives of them
+pub cut-front : {X Y : Type 0} (f : X → Y) (n : ℕ) (xs : List X) → map f (take n xs) ≡ take n (map f xs)
+cut-front f n xs = sym (take-map f n xs)
+
+pub cut-rest : {X Y : Type 0} (f : X → Y) (n : ℕ) (xs : List X) → map f (drop n xs) ≡ drop n (map f xs)
+cut-rest f n xs = sym (drop-map f n xs)
+
+pub cut-whole : {X Y : Type 0} (f : X → Y) (n : ℕ) (xs : List X) → map f (take n xs) ++ map f (drop n xs) ≡ map f xs
+cut-whole f n xs =
+    ap (λ l. l ++ map f (drop n xs)) (cut-front f n xs) ∙ ap (λ l. take n (map f xs) ++ l) (cut-rest f n xs) ∙ take-append-drop n (map f xs)
+
+-- one more entry is the same
+pub one_more_same : {X : Type 0} (xs ys : List X) (i : ℕ) (x y : X) → i < length xs → i < length ys → slice_get xs i ≡ Some x → slice_get ys i ≡ Some y → x ≡ y → take i xs ≡ take i ys → take (i + 1) xs ≡ take (i + 1) ys
+one_more_same xs ys i x y inside within here there same so_far =
+    take_more xs i x inside
+    ∙ ap (λ zs. zs ++ get_or xs i x ∷ []) so_far
+    ∙ ap (λ z. take i ys ++ z ∷ []) (get_or_from_slice_get xs i x x here ∙ same ∙ sym (get_or_from_slice_get ys i y y there))
+    ∙ sym (take_more ys i y within)
+
+-- lists are the same where so many of their entries are
+pub all_same : {X : Type 0} (xs ys : List X) (i : ℕ) → length xs ≤ i → length ys ≤ i → take i xs ≡ take i ys → xs ≡ ys
+all_same xs ys i few fewer same = sym (take_all i xs few) ∙ same ∙ take_all i ys fewer
+
+module _ (plant : PlantDefinition) where
+  -- a run behind its front
+  pub run-at : (cs rest : List ChoiceDefinition) (c : ChoiceDefinition) (states end : List Local) → cs ≡ c ∷ rest → IsRun plant states cs end → IsAllowed plant states c × IsRun plant (next plant states c) rest end
+  run-at cs rest c states end is run = subst (λ l. IsRun plant states l end) is run
+
+  -- the acknowledged choices of a run are a run, and so is a front of the others behind them
+  pub acked-run : (acked tail : List ChoiceDefinition) → IsRunOf plant (acked ++ tail) → IsRun plant (initial_states plant) acked (state_behind plant acked)
+  acked-run acked tail run = (runs-cut plant acked tail (initial_states plant) (state_behind plant (acked ++ tail)) run).0
+
+  pub front-run : (acked tail : List ChoiceDefinition) (k : ℕ) → IsRunOf plant (acked ++ tail) → IsRun plant (state_behind plant acked) (take k tail) (fold plant (state_behind plant acked) (take k tail))
+  front-run acked tail k run =
+      let whole : IsRun plant (state_behind plant acked) tail (state_behind plant (acked ++ tail)) = (runs-cut plant acked tail (initial_states plant) (state_behind plant (acked ++ tail)) run).1 in
+      let parts : IsRun plant (state_behind plant acked) (take k tail ++ drop k tail) (state_behind plant (acked ++ tail)) =
+      subst (λ (l : List ChoiceDefinition). IsRun plant (state_behind plant acked) l (state_behind plant (acked ++ tail))) (sym (take-append-drop k tail)) whole in
+      (runs-cut plant (take k tail) (drop k tail) (state_behind plant acked) (state_behind plant (acked ++ tail)) parts).0
+
+  -- where they lead
+  pub front-leads : (acked tail : List ChoiceDefinition) (k : ℕ) → fold plant (state_behind plant acked) (take k tail) ≡ state_behind plant (acked ++ take k tail)
+  front-leads acked tail k = sym (fold-append plant acked (take k tail) (initial_states plant))

@@ -1,0 +1,164 @@
+-- What a stop leaves is right, whatever of a run it falls in.
+use Rattle.std.proofs.Common.{◌≡◌, inl, inr, ⊎_elim, ℕ, ◌+◌, ◌-◌, ◌<◌, ◌≤◌, Bool, true, false, nat_lt, cond, eqb, List, [], ◌++◌, length, map, take, drop, replicate, get_or, None, Some, refl, sym, ◌∙◌, ap, subst, arith}
+use Rattle.std.proofs.lemmas.Bool.{le-ltb}
+use Rattle.std.proofs.lemmas.List.{get_or-replicate, length-replicate, length-take-le}
+use Rattle.disk_model.specs.Cells.{Cell, MayBe, body_at, cell, cells_in, seen_cells}
+use Rattle.disk_model.specs.DiskState.{DiskState, size_of}
+use Rattle.disk_model.specs.MemDisk.{fresh}
+use Rattle.disk_model.specs.Moments.{seen_may}
+use Rattle.disk_model.proofs.CellBytes.{cell-cells_of}
+use Rattle.plant_core.specs.Events.{IsAckedOf, IsEventRun, all_fired}
+use Rattle.plant_core.specs.Stops.{StandsForFront}
+use Rattle.plant_core.specs.View.{View}
+use Rattle.plant_core.specs.declared.events.Happened.{Happened}
+use Rattle.plant_core.proofs.EventRuns.{events-ack, events-run, fold-append}
+use Rattle.plant_image.specs.Faults.{fault_of}
+use Rattle.plant_image.specs.Standing.{StandsFor}
+use Rattle.plant_image.specs.declared.fault.ImageFault.TheVariants.{NotFormatted}
+use Rattle.petri_atom.specs.Local.{Local}
+use Rattle.record_codec.specs.Ring.{identity_cell}
+use Rattle.recovery.specs.Booting.{IsBooted, IsBooting}
+use Rattle.recovery.specs.Formatting.{IsFormatting, formatted_size}
+use Rattle.step_core.specs.Choice.{ChoiceDefinition}
+use Rattle.step_core.specs.Plant.{PlantDefinition}
+use Rattle.step_core.specs.Runs.{IsRun, fold}
+use Rattle.step_core.specs.Step.{initial_states}
+use Rattle.step_core.proofs.OnRuns.{run-folds}
+use Rattle.crash_explorer.specs.Judging.{IsRight, IsRightStop, IsRunOf, state_behind}
+use Rattle.step_core.specs.Chosen.{choice_of}
+use Rattle.step_core.specs.declared.choice.Choice.{Choice}
+use Rattle.crash_explorer.specs.Running.{IsEnded, IsFirst, device_in, is_formatting}
+use Rattle.crash_explorer.specs.declared.running.Ended.{Ended}
+use Rattle.crash_explorer.specs.declared.running.Stage.{Stage}
+
+module _ (plant : PlantDefinition) (digest : List ℕ) where
+  -- the first state, before anything was fired
+  abbrev pub StandsForFirst : ℕ → List Cell → Type 0
+  StandsForFirst bytes cells = StandsFor plant digest bytes cells (initial_states plant) 0
+
+  -- what stands for it is right where nothing was fired
+  pub first-right : (bytes : ℕ) (formatting : Bool) (cells : List Cell) → StandsForFirst bytes cells → IsRightStop plant digest bytes [] [] formatting cells
+  first-right bytes formatting cells stands = inl (0, omega arith, stands)
+
+  -- so is a run that ended before anything was fired, where what a stop leaves of its device is
+  pub ended-first : (bytes : ℕ) (e : Ended) (stage : Stage) → e.fired.items ≡ [] → e.acked ≡ 0 → e.stage ≡ stage → size_of (device_in e) ≡ bytes
+      → ((cells : List Cell) → MayBe 512 (device_in e) cells → IsRightStop plant digest bytes [] [] (is_formatting stage) cells) → IsEnded plant digest bytes e
+  ended-first bytes e stage none zero at size right = record {
+    run = subst (λ (l : List Choice). IsRunOf plant (map choice_of l)) (sym none) refl;
+    acked = omega (arith, zero);
+    size = size;
+    stops = λ cells may.
+        subst (λ (n : ℕ). IsRightStop plant digest bytes (take n (map choice_of e.fired.items)) (drop n (map choice_of e.fired.items)) (is_formatting e.stage) cells) (sym zero)
+        (subst (λ (l : List Choice). IsRightStop plant digest bytes (take 0 (map choice_of l)) (drop 0 (map choice_of l)) (is_formatting e.stage) cells) (sym none)
+        (subst (λ (s : Stage). IsRightStop plant digest bytes [] [] (is_formatting s) cells) (sym at) (right cells may)));
+  }
+
+  -- ---- while the device was formatted
+
+  -- a device with an empty first cell reads as never formatted
+  unformatted : (bytes : ℕ) (cells : List Cell) → nat_lt bytes 512 ≡ false → cell cells identity_cell ≡ None → fault_of plant digest bytes cells ≡ Some NotFormatted
+  unformatted bytes cells large empty = rw (large, empty) refl
+
+  -- the first cell of a device that was all zeros, at which nothing is pending, is empty
+  zeros-empty : (bytes : ℕ) (cells : List Cell) → 512 ≤ bytes → MayBe 512 (fresh (replicate bytes 0)) cells → cell cells identity_cell ≡ None
+  zeros-empty bytes cells large may =
+      let image : List ℕ = may.image in
+      let zeros : List ℕ = replicate bytes 0 in
+      let long : length image ≡ bytes = may.left.size ∙ length-replicate bytes 0 in
+      let bytes_long : length zeros ≡ bytes = length-replicate bytes 0 in
+      let settled : get_or (replicate (length zeros) false) 0 false ≡ false = get_or-replicate (length zeros) 0 false false (omega arith) in
+      let zero : get_or image 0 0 ≡ 0 = may.left.others 0 settled ∙ get_or-replicate bytes 0 0 0 (omega arith) in
+      let inside : 0 < cells_in 512 (length image) = omega arith in
+      ap (λ (l : List Cell). cell l 0) may.same
+      ∙ cell-cells_of 512 image 0 inside
+      ∙ ap (λ (g : ℕ). cond (eqb g 165) (Some (body_at 512 image 0)) None) zero
+
+  -- what a stop leaves of a device that was all zeros and is formatted
+  pub formatting-right : (ring : ℕ) (s : DiskState) (cells : List Cell) → s ≡ fresh (replicate (formatted_size plant ring) 0) → IsFormatting plant digest s cells
+      → IsRightStop plant digest (formatted_size plant ring) [] [] true cells
+  formatting-right ring s cells zeros is =
+      let bytes : ℕ = formatted_size plant ring in
+      let size : size_of s ≡ bytes = ap size_of zeros ∙ length-replicate bytes 0 in
+      let large : 512 ≤ bytes = omega arith in
+      let small : nat_lt bytes 512 ≡ false = le-ltb bytes 512 large in
+      ⊎_elim
+      (λ may. inr (refl, unformatted bytes cells small (zeros-empty bytes cells large (subst (λ (d : DiskState). MayBe 512 d cells) zeros may))))
+      (λ made. ⊎_elim (λ empty. inr (refl, unformatted bytes cells small empty)) (λ stands. first-right bytes true cells (subst (λ (n : ℕ). StandsForFirst n cells) size stands)) made)
+      is
+
+  -- ---- while the plant was booted
+
+  -- what a stop leaves of a formatted device while it is booted
+  pub booting-right : (s : DiskState) (cells : List Cell) → ((left : List Cell) → MayBe 512 s left → StandsForFirst (size_of s) left) → IsBooting plant digest s cells → StandsForFirst (size_of s) cells
+  booting-right s cells formatted is = ⊎_elim (λ may. formatted cells may)
+      (λ alike.
+      let seen = formatted (seen_cells 512 s) (seen_may 512 s) in
+      let states : alike.states ≡ initial_states plant = sym alike.stood.states_are ∙ seen.states_are in
+      let number : alike.number ≡ 0 = sym alike.stood.number_is ∙ seen.number_is in
+      record { sound = alike.stand.sound; states_are = alike.stand.states_are ∙ states; number_is = alike.stand.number_is ∙ number })
+      is
+
+  -- the plant that is booted has fired nothing
+  pub first-view : (bytes : ℕ) (cells : List Cell) (v : View) → IsBooted plant digest bytes cells v → StandsForFirst bytes cells → IsFirst plant v
+  first-view bytes cells v booted stands = record {
+    acked = booted.acked ∙ stands.states_are;
+    present = booted.present ∙ booted.acked ∙ stands.states_are;
+    tail = booted.tail;
+    number = booted.number ∙ stands.number_is;
+  }
+
+  -- ---- while the plant ran
+
+  module _ (bytes : ℕ) (v w : View) (hs : List Happened) (first : IsFirst plant v) (run : IsEventRun plant v hs w) where
+    abbrev fired : List ChoiceDefinition
+    fired = all_fired hs
+
+    leads : v.present ≡ fold plant v.acked v.tail
+    leads = first.present ∙ sym first.acked ∙ ap (λ (cs : List ChoiceDefinition). fold plant v.acked cs) (sym first.tail)
+
+    acked : IsAckedOf plant v fired w
+    acked = events-ack plant hs v w leads run
+
+    all-of : v.tail ++ fired ≡ fired
+    all-of = ap (λ (cs : List ChoiceDefinition). cs ++ fired) first.tail
+
+    grown : w.number - v.number ≡ w.number
+    grown = omega (arith, first.number)
+
+    -- what was fired is a run
+    pub is-run : IsRunOf plant fired
+    is-run =
+        let whole : IsRun plant (initial_states plant) fired w.present = subst (λ (s : List Local). IsRun plant s fired w.present) first.present (events-run plant hs v w run) in
+        subst (λ (s : List Local). IsRun plant (initial_states plant) fired s) (sym (run-folds plant fired (initial_states plant) w.present whole)) whole
+
+    -- of which no more is acknowledged
+    pub within : w.number ≤ length fired
+    within = omega (arith, acked.within, first.number, ap (λ (cs : List ChoiceDefinition). length cs) all-of)
+
+    acked-is : w.acked ≡ state_behind plant (take w.number fired)
+    acked-is =
+        acked.acked
+        ∙ ap (λ (n : ℕ). fold plant v.acked (take n (v.tail ++ fired))) grown
+        ∙ ap (λ (cs : List ChoiceDefinition). fold plant v.acked (take w.number cs)) all-of
+        ∙ ap (λ (s : List Local). fold plant s (take w.number fired)) first.acked
+
+    tail-is : w.tail ≡ drop w.number fired
+    tail-is = acked.tail ∙ ap (λ (n : ℕ). drop n (v.tail ++ fired)) grown ∙ ap (λ (cs : List ChoiceDefinition). drop w.number cs) all-of
+
+    -- and what a stop leaves is right
+    pub running-right : (cells : List Cell) → StandsForFront plant digest bytes w cells → IsRight plant digest bytes (take w.number fired) (drop w.number fired) cells
+    running-right cells stands =
+        let k : ℕ = stands.0 in
+        let long : length (take w.number fired) ≡ w.number = length-take-le w.number fired within in
+        let states : fold plant w.acked (take k w.tail) ≡ state_behind plant (take w.number fired ++ take k (drop w.number fired)) =
+        ap (λ (s : List Local). fold plant s (take k w.tail)) acked-is
+        ∙ ap (λ (cs : List ChoiceDefinition). fold plant (state_behind plant (take w.number fired)) (take k cs)) tail-is
+        ∙ sym (fold-append plant (take w.number fired) (take k (drop w.number fired)) (initial_states plant)) in (
+          k,
+          subst (λ (cs : List ChoiceDefinition). k ≤ length cs) tail-is stands.1,
+          record {
+            sound = stands.2.sound;
+            states_are = stands.2.states_are ∙ states;
+            number_is = stands.2.number_is ∙ ap (λ (n : ℕ). n + k) (sym long);
+          },
+        )

@@ -1,0 +1,25 @@
+use Rattle.std.proofs.Common.{◌≡◌, ◌<◌, List, length, ◌∙◌, ap, arith}
+use Rattle.disk_model.specs.Cells.{Cell, cell, cells_of, seen_cells}
+use Rattle.disk_model.specs.DiskState.{Moment}
+use Rattle.disk_model.specs.MemDisk.{state_of}
+use Rattle.disk_model.specs.Moments.{seen_length, unchanged_from}
+use Rattle.recovery.proofs.PartlyLoaded.{taken_more}
+use Rattle.crash_explorer.proofs.loading.load_first.Goals as goal
+
+pub loop-k-preserved : goal.loop-k-preserved
+loop-k-preserved c =
+    let old = state_of c.args.disk.now in
+    let mid = state_of c.loop-k.disk in
+    let all : List Cell = seen_cells 512 old in
+    let inside : c.loop-k.k < length all = omega (arith, seen_length 512 old, c.requires.inside) in
+    let same : seen_cells 512 mid ≡ all = ap (λ (m : Moment). cells_of 512 m.seen) c.loop-k.invariant.kept.same.now in
+    record {
+      room = omega arith;
+      long = omega arith;
+      kept = record {
+        same = unchanged_from old mid (state_of c.load_cell.new.disk) c.loop-k.invariant.kept.same c.load_cell.ensures.kept.same;
+        unfused = c.load_cell.ensures.kept.unfused;
+      };
+      loaded = taken_more all c.loop-k.cells.items _ c.load_cell.result c.loop-k.k inside c.loop-k.invariant.loaded c.push_reserved.ensures.items
+          (c.load_cell.ensures.cell ∙ ap (λ (l : List Cell). cell l c.loop-k.k) same);
+    }

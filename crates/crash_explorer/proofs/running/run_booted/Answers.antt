@@ -1,0 +1,47 @@
+use Rattle.std.proofs.Common.{◌≡◌, ◌≤◌, ℕ, true, List, length, drop, map, take, inl, sym, ◌∙◌, ap, subst}
+use Rattle.disk_model.specs.Cells.{Cell, MayBe}
+use Rattle.disk_model.specs.DiskState.{DiskState, size_of}
+use Rattle.disk_model.specs.MemDisk.{state_of}
+use Rattle.plant_core.specs.Events.{IsEventRun, all_fired}
+use Rattle.plant_core.specs.Plants.{definition_of, device_of, text_digest, view_of}
+use Rattle.plant_core.specs.Stops.{StandsForFront}
+use Rattle.plant_core.specs.View.{View}
+use Rattle.plant_core.specs.declared.events.Happened.{Happened}
+use Rattle.step_core.specs.Choice.{ChoiceDefinition}
+use Rattle.step_core.specs.Chosen.{choice_of}
+use Rattle.step_core.specs.Plant.{PlantDefinition}
+use Rattle.crash_explorer.specs.Judging.{IsRight, IsRunOf}
+use Rattle.crash_explorer.proofs.Stopped.{is-run, running-right, within}
+use Rattle.crash_explorer.proofs.running.run_booted.Goals as goal
+
+pub returns : goal.returns
+returns c =
+    let plant : PlantDefinition = definition_of c.args.plant in
+    let digest : List ℕ = text_digest c.args.plant in
+    let bytes : ℕ = size_of (device_of c.args.plant) in
+    let v : View = view_of c.args.plant in
+    let driven = c.drive.new.plant in
+    let w : View = view_of driven in
+    let hs : List Happened = c.in_ok-answers.answers.items in
+    let first = c.requires in
+    let run : IsEventRun plant v hs w = c.in_ok-answers.ensures.run in
+    let fired : List ChoiceDefinition = map choice_of c.in_ok-fired.fired.items in
+    let same : fired ≡ all_fired hs = c.in_ok-fired.ensures ∙ ap (λ (l : List Happened). all_fired l) c.deref.ensures.value in
+    let acked : c.front-acked.result.acked ≡ w.number = c.front-acked.ensures.acked in
+    let left : state_of c.into_disk.result.disk ≡ device_of driven = c.into_disk.ensures in
+    let keeps : (device_of driven).keeps ≡ true = ap (λ (s : DiskState). s.keeps) (sym left) in
+    let fronts : (cells : List Cell) → MayBe 512 (device_of driven) cells → StandsForFront plant digest bytes w cells =
+    subst (λ (n : ℕ). (cells : List Cell) → MayBe 512 (device_of driven) cells → StandsForFront plant digest n w cells) c.drive.ensures.size
+    (subst (λ (d : List ℕ). (cells : List Cell) → MayBe 512 (device_of driven) cells → StandsForFront plant d (size_of (device_of driven)) w cells) c.drive.ensures.digest
+    (subst (λ (p : PlantDefinition). (cells : List Cell) → MayBe 512 (device_of driven) cells → StandsForFront p (text_digest driven) (size_of (device_of driven)) w cells) c.drive.ensures.plant
+    (c.stands_for_a_front.ensures keeps))) in
+    record {
+      run = subst (λ (l : List ChoiceDefinition). IsRunOf plant l) (sym same) (is-run plant digest bytes v w hs first run);
+      acked = subst (λ (l : List ChoiceDefinition). c.front-acked.result.acked ≤ length l) (sym same) (subst (λ (n : ℕ). n ≤ length (all_fired hs)) (sym acked) (within plant digest bytes v w hs first run));
+      size = ap size_of left ∙ c.drive.ensures.size;
+      stops = λ cells may.
+          let right : IsRight plant digest bytes (take w.number (all_fired hs)) (drop w.number (all_fired hs)) cells =
+          running-right plant digest bytes v w hs first run cells (fronts cells (subst (λ (s : DiskState). MayBe 512 s cells) left may)) in
+          inl (subst (λ (n : ℕ). IsRight plant digest bytes (take n fired) (drop n fired) cells) (sym acked)
+          (subst (λ (l : List ChoiceDefinition). IsRight plant digest bytes (take w.number l) (drop w.number l) cells) (sym same) right));
+    }

@@ -1,0 +1,4 @@
+pub mod Judging
+pub mod Verdicts
+pub mod Running
+pub mod Exploring

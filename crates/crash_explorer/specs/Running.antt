@@ -1,0 +1,50 @@
+-- What a run comes to.
+use Rattle.std.specs.Prelude.{◌≡◌, ℕ, ◌+◌, ◌≤◌, Bool, true, false, List, [], drop, length, map, take}
+use Rattle.disk_model.specs.Cells.{Cell, MayBe}
+use Rattle.disk_model.specs.DiskState.{DiskState, size_of}
+use Rattle.disk_model.specs.MemDisk.{state_of}
+use Rattle.disk_model.specs.declared.cells.TheConstants.{BODY}
+use Rattle.step_core.specs.Choice.{ChoiceDefinition}
+use Rattle.step_core.specs.Chosen.{choice_of}
+use Rattle.step_core.specs.Plant.{PlantDefinition}
+use Rattle.step_core.specs.Step.{initial_states}
+use Rattle.plant_core.specs.View.{View}
+use Rattle.crash_explorer.specs.Judging.{IsRightStop, IsRunOf}
+use Rattle.crash_explorer.specs.declared.running.Ended.{Ended}
+use Rattle.crash_explorer.specs.declared.running.Stage.{Stage}
+use Rattle.crash_explorer.specs.declared.running.Stage.TheVariants.{Formatting, Booting, Running}
+
+-- the device was being formatted
+abbrev pub is_formatting : Stage → Bool
+is_formatting Formatting = true
+is_formatting Booting = false
+is_formatting Running = false
+
+-- the choices that a run fired, those of them that were acknowledged, and those that were not
+abbrev pub fired_in : Ended → List ChoiceDefinition
+fired_in e = map choice_of e.fired.items
+
+abbrev pub acked_in : Ended → List ChoiceDefinition
+acked_in e = take e.acked (fired_in e)
+
+abbrev pub tail_in : Ended → List ChoiceDefinition
+tail_in e = drop e.acked (fired_in e)
+
+-- its device
+abbrev pub device_in : Ended → DiskState
+device_in e = state_of e.disk.disk
+
+-- What was fired is a run of the plant from its first state, and no more of it is acknowledged. The device has so many bytes, and whatever a stop leaves of it
+-- is right.
+pub record IsEnded (plant : PlantDefinition) (digest : List ℕ) (bytes : ℕ) (e : Ended) : Type 0 where
+  pub run : IsRunOf plant (fired_in e)
+  pub acked : e.acked ≤ length (fired_in e)
+  pub size : size_of (device_in e) ≡ bytes
+  pub stops : (cells : List Cell) → MayBe (BODY + 1) (device_in e) cells → IsRightStop plant digest bytes (acked_in e) (tail_in e) (is_formatting e.stage) cells
+
+-- The view of a plant in its first state, which has fired nothing.
+pub record IsFirst (plant : PlantDefinition) (v : View) : Type 0 where
+  pub acked : v.acked ≡ initial_states plant
+  pub present : v.present ≡ initial_states plant
+  pub tail : v.tail ≡ []
+  pub number : v.number ≡ 0

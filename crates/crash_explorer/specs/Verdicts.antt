@@ -1,0 +1,25 @@
+-- What the cells of a device come to, and what it boots to.
+use Rattle.std.specs.Prelude.{◌≡◌, ◌↔◌, ℕ, IsTrue, List, None, Some, length}
+use Rattle.disk_model.specs.Cells.{Cell}
+use Rattle.plant_image.specs.Contents.{contents_of, last_number}
+use Rattle.plant_image.specs.Faults.{fault_of}
+use Rattle.step_core.specs.Choice.{ChoiceDefinition}
+use Rattle.step_core.specs.Plant.{PlantDefinition}
+use Rattle.crash_explorer.specs.Judging.{IsRight}
+use Rattle.crash_explorer.specs.declared.booting.Found.{Found}
+use Rattle.crash_explorer.specs.declared.booting.Found.TheVariants.{Booted, Refused}
+use Rattle.crash_explorer.specs.declared.judging.Verdict.{Verdict}
+use Rattle.crash_explorer.specs.declared.judging.Verdict.TheVariants.{Stands, Faulty}
+
+-- These cells stand for a state and this number, and it is told whether they are right; or this is wrong with them.
+abbrev pub IsVerdict : PlantDefinition → List ℕ → ℕ → List ChoiceDefinition → List ChoiceDefinition → List Cell → Verdict → Type 0
+IsVerdict plant digest bytes acked tail cells (Stands number right) =
+    (fault_of plant digest bytes cells ≡ None) × (number ≡ last_number (contents_of (length plant.atoms) cells))
+    × (IsTrue right ↔ IsRight plant digest bytes acked tail cells)
+IsVerdict plant digest bytes acked tail cells (Faulty fault) = fault_of plant digest bytes cells ≡ Some fault
+
+-- A device with these cells boots to a plant that has fired as many choices as they hold; or it is refused for what is wrong with them.
+abbrev pub IsFound : PlantDefinition → List ℕ → ℕ → List Cell → Found → Type 0
+IsFound plant digest bytes cells (Booted fired) =
+    (fault_of plant digest bytes cells ≡ None) × (fired ≡ last_number (contents_of (length plant.atoms) cells))
+IsFound plant digest bytes cells (Refused fault) = fault_of plant digest bytes cells ≡ Some fault

@@ -1,0 +1,249 @@
+//! All trials of a run.
+ghost use Rattle.std.specs.Prelude.{◌≡◌, ◌+◌, ◌*◌, ◌^◌, ◌≤◌, ◌<◌, ◌↔◌, ℕ, List, IsTrue, true, replicate, length, IfOk, OnErr, MatchOption};
+ghost use Rattle.disk_model.specs.Cells.{Cell};
+ghost use Rattle.disk_model.specs.MemDisk.{cell_of, fresh, state_of};
+ghost use Rattle.disk_model.specs.declared.cells.TheConstants.{BODY};
+ghost use Rattle.disk_model.specs.declared.change.Tear.{Tear};
+ghost use Rattle.plant_image.specs.declared.fault.ImageFault.TheVariants.{NotFormatted};
+ghost use Rattle.record_codec.specs.declared.layout.TheConstants.{LEAST_RING, MOST_RING};
+ghost use Rattle.record_codec.specs.Ring.{device_cells};
+ghost use Rattle.recovery.specs.Formatting.{formatted_size};
+ghost use Rattle.step_core.specs.Choice.{ChoiceDefinition};
+ghost use Rattle.step_core.specs.Plant.{PlantDefinition};
+ghost use Rattle.step_core.specs.System.{plant_of};
+ghost use Rattle.crash_explorer.specs.declared.explorer.TheConstants.{MOST_STOPS, TEARS};
+ghost use Rattle.crash_explorer.specs.Judging.{IsRightStop};
+ghost use Rattle.crash_explorer.specs.Running.{is_formatting};
+ghost use Rattle.crash_explorer.specs.Verdicts.{IsFound, IsVerdict};
+
+use crate::booting::{Found, found_on};
+use crate::fault::ExploreFault;
+use crate::judging::{Verdict, verdict_on};
+use crate::loading::CELL;
+use crate::running::{Stage, run};
+use crate::watched::Cut;
+use disk_model::{MemDisk, Tear};
+use plant_core::Event;
+use plant_image::ImageFault;
+use record_codec::ring::device_cells;
+use std::alloc::{AllocError, Global};
+use step_core::System;
+
+/// The ways in which a stop tears what is pending, in the order in which they are tried.
+pub const TEARS: [Tear; 4] = [Tear::Old, Tear::New, Tear::Gates, Tear::Mixed];
+
+/// The most stops of which all trials can be counted.
+const MOST_STOPS: u64 = u64::MAX / 4;
+
+/// No event makes more writes and syncs than this, with those that it is the cause of later; and formatting and booting make no more for each
+/// cell.
+const CHANGES: usize = 8;
+
+/// What was found of a run.
+#[derive(Clone, Copy, Debug, PartialEq, Eq)]
+pub struct Report {
+    /// How many writes and syncs the run makes: it is stopped at each.
+    pub stops: u64,
+    /// How many devices that a stop left were booted: four of each stop.
+    pub boots: u64,
+    /// How many of these were not right.
+    pub bad: u64,
+}
+
+/// One stop of a run, under one tear.
+#[derive(Clone, Copy)]
+pub struct Trial {
+    /// At which write or sync of the run it fell, from 1 on.
+    pub stop: u64,
+    /// What that was, where the run made as many.
+    pub cut: Option<Cut>,
+    /// How it tore what was pending.
+    pub tear: Tear,
+    /// How far the run had come.
+    pub stage: Stage,
+    /// How many choices were fired.
+    pub fired: u64,
+    /// How many of these were acknowledged.
+    pub acked: u64,
+    /// What the device boots to.
+    pub found: Found,
+    /// Whether it is right.
+    pub right: bool,
+}
+
+/// Makes a run again and again, each time stopped at its next write or sync.
+#[derive(Drop)]
+pub struct Explorer<'a> {
+    system: &'a System,
+    ring: u32,
+    events: &'a [Event],
+    stops: u64,
+    stop: u64,
+    tear: usize,
+    ghost ring_from: { LEAST_RING ≤ ring },
+    ghost ring_to: { ring ≤ MOST_RING },
+    ghost countable: { stops ≤ MOST_STOPS },
+    ghost within: { stop ≤ stops },
+    ghost torn: { tear < length TEARS },
+}
+
+impl<'a> Explorer<'a> {
+    ghost use Rattle.crash_explorer.specs.Exploring.{IsExplorerOf, IsNextTrial, IsTrial, stops_of, trials_left};
+    ghost use Rattle.step_core.specs.System.{digest_of};
+
+    /// The explorer of the run that formats a device with a ring of so many records, boots the plant, and makes these events.
+    pub fn new(
+        alloc: Global,
+        system: &'a System,
+        ring: u32,
+        events: &'a [Event],
+    ) -> Result<Self, ExploreFault>
+        requires ring_from { LEAST_RING ≤ ring }
+        requires ring_to { ring ≤ MOST_RING }
+        ensures run { IfOk result (IsExplorerOf system.now ring events.now) }
+        ensures trials { IfOk result (λ e. trials_left e ≡ 4 * stops_of e) }
+    {
+        let disk = device(alloc, system, ring, events.len())?;
+        let whole = run(alloc, system, ring, events, disk)?;
+        // A device that failed had no room for its record of changes.
+        if whole.disk.cut().is_some() {
+            return Err(ExploreFault::Memory);
+        }
+        let stops = whole.disk.into_memory().changes();
+        if stops > MOST_STOPS {
+            return Err(ExploreFault::Memory);
+        }
+        Ok(Explorer {
+            system,
+            ring,
+            events,
+            stops,
+            stop: 0,
+            tear: 0,
+        })
+    }
+
+    /// How many writes and syncs the run makes.
+    pub fn stops(&self) -> u64
+        ensures { result ≡ stops_of self.now }
+    {
+        self.stops
+    }
+
+    /// The next trial; none where all were made.
+    pub fn next_trial(&mut self, alloc: Global) -> Result<Option<Trial>, ExploreFault>
+        ensures trial { IfOk result (λ next. MatchOption next (trials_left self.old ≡ 0) (IsNextTrial self.old)) }
+        ensures left { IfOk result (λ next. MatchOption next (self.new ≡ self.old) (λ _. trials_left self.new + 1 ≡ trials_left self.old)) }
+        ensures run { IsExplorerOf self.old.system.now self.old.ring self.old.events.now self.new }
+        ensures stops { stops_of self.new ≡ stops_of self.old }
+        ensures err { OnErr result (self.new ≡ self.old) }
+    {
+        if self.stop == self.stops {
+            return Ok(None);
+        }
+        let trial = self.trial(alloc, self.stop + 1, TEARS[self.tear])?;
+        self.tear += 1;
+        if self.tear == TEARS.len() {
+            self.tear = 0;
+            self.stop += 1;
+        }
+        Ok(Some(trial))
+    }
+
+    /// The run, stopped at its `stop`-th write or sync, and what that leaves.
+    fn trial(&self, alloc: Global, stop: u64, tear: Tear) -> Result<Trial, ExploreFault>
+        ensures { IfOk result (IsTrial (plant_of self.now.system.now) (digest_of self.now.system.now) self.now.ring stop tear) }
+    {
+        let mut disk = device(alloc, self.system, self.ring, self.events.len())?;
+        disk.fuse_change(stop);
+        let ended = run(alloc, self.system, self.ring, self.events, disk)?;
+        let cut = ended.disk.cut();
+        let stage = ended.stage;
+        let mut left = ended.disk.into_memory().stop(tear);
+        let (acked, tail) = ended.fired.split_at(ended.acked);
+        let verdict = verdict_on(alloc, self.system, acked, tail, &mut left)?;
+        let found = found_on(alloc, self.system, left)?;
+        Ok(Trial {
+            stop,
+            cut,
+            tear,
+            stage,
+            fired: ended.fired.len() as u64,
+            acked: ended.acked as u64,
+            found,
+            right: is_right(stage, verdict, found),
+        })
+    }
+}
+
+/// Whether what a stop left is right, by its verdict and by what it boots to.
+fn is_right(stage: Stage, verdict: Verdict, found: Found) -> bool
+    ensures { (plant : PlantDefinition) (digest : List ℕ) (bytes : ℕ) (acked tail : List ChoiceDefinition) (cells : List Cell)
+        → IsVerdict plant digest bytes acked tail cells verdict → IsFound plant digest bytes cells found
+        → IsTrue result ↔ IsRightStop plant digest bytes acked tail (is_formatting stage) cells }
+{
+    match verdict {
+        Verdict::Stands(number, right) => right && found == Found::Booted(number),
+        Verdict::Faulty(fault) => is_unformatted(stage, fault) && found == Found::Refused(fault),
+    }
+}
+
+/// Whether nothing else is wrong than that formatting did not come to its end.
+fn is_unformatted(stage: Stage, fault: ImageFault) -> bool
+    ensures { IsTrue result ↔ ((is_formatting stage ≡ true) × (fault ≡ NotFormatted)) }
+{
+    match stage {
+        Stage::Formatting => fault == ImageFault::NotFormatted,
+        Stage::Booting | Stage::Running => false,
+    }
+}
+
+/// A device for the plant and a ring of so many records, with room for the changes of a run of so many events.
+fn device(alloc: Global, system: &System, ring: u32, events: usize) -> Result<MemDisk, AllocError>
+    ensures zeros { IfOk result (λ disk. state_of disk ≡ fresh (replicate (formatted_size (plant_of system.now) ring) 0)) }
+    ensures cells { IfOk result (λ disk. cell_of disk ≡ BODY + 1) }
+{
+    let cells = cells_for(system, ring);
+    let room = events
+        .saturating_add(cells as usize)
+        .saturating_mul(CHANGES);
+    MemDisk::new(alloc, CELL * cells, room)
+}
+
+/// How many cells the device has for the plant and a ring of so many records.
+fn cells_for(system: &System, ring: u32) -> u64
+    ensures cells { result ≡ device_cells (length (plant_of system.now).atoms) ring }
+    ensures few { result < 2 ^ 34 }
+{
+    system.keeps_its_rules();
+    device_cells(system.atoms().len() as u16, ring)
+}
+
+/// Stops the run that formats a device with a ring of so many records, boots the plant, and makes these events, at each of its writes and syncs under
+/// each of four tears; boots what each stop left, and judges it.
+pub fn explore(
+    alloc: Global,
+    system: &System,
+    ring: u32,
+    events: &[Event],
+) -> Result<Report, ExploreFault>
+    requires ring_from { LEAST_RING ≤ ring }
+    requires ring_to { ring ≤ MOST_RING }
+    ensures boots { IfOk result (λ report. report.boots ≡ 4 * report.stops) }
+    ensures bad { IfOk result (λ report. report.bad ≡ 0) }
+{
+    let mut explorer = Explorer::new(alloc, system, ring, events)?;
+    let mut boots = 0;
+    let mut bad = 0;
+    while let Some(trial) = explorer.next_trial(alloc)? {
+        boots += 1;
+        if !trial.right {
+            bad += 1;
+        }
+    }
+    Ok(Report {
+        stops: explorer.stops(),
+        boots,
+        bad,
+    })
+}

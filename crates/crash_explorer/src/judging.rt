@@ -1,0 +1,78 @@
+//! When a device is right.
+ghost use Rattle.std.specs.Prelude.{◌≡◌, ◌+◌, ◌++◌, ◌↔◌, IsTrue, IfOk, map};
+ghost use Rattle.disk_model.specs.Cells.{seen_cells};
+ghost use Rattle.disk_model.specs.DiskState.{size_of};
+ghost use Rattle.disk_model.specs.MemDisk.{fuse_of, state_of};
+ghost use Rattle.disk_model.specs.declared.cells.TheConstants.{BODY};
+ghost use Rattle.disk_model.specs.declared.fuse.Fuse.TheVariants.{Off};
+ghost use Rattle.step_core.specs.Chosen.{choice_of};
+ghost use Rattle.step_core.specs.System.{digest_of, plant_of};
+ghost use Rattle.crash_explorer.specs.Judging.{IsKept, IsRight, IsRunOf};
+ghost use Rattle.crash_explorer.specs.Verdicts.{IsVerdict};
+
+use crate::fault::ExploreFault;
+use crate::loading::{load, size};
+use crate::states::are_behind_front;
+use disk_model::MemDisk;
+use plant_image::{ImageFault, read_image};
+use std::alloc::Global;
+use step_core::{Choice, System};
+
+/// What the cells of a device come to.
+#[derive(Clone, Copy)]
+pub(crate) enum Verdict {
+    /// They stand for a state and this number, and whether it is right that they do.
+    Stands(u64, bool),
+    /// This is wrong with them.
+    Faulty(ImageFault),
+}
+
+/// Whether what the device reads stands for the state of the plant behind all of the acknowledged choices and some front of the tail, and for how
+/// many choices that is.
+pub fn judge(
+    alloc: Global,
+    system: &System,
+    acked: &[Choice],
+    tail: &[Choice],
+    disk: MemDisk,
+) -> Result<bool, ExploreFault>
+    requires fuse { fuse_of disk ≡ Off }
+    requires run { IsRunOf (plant_of system.now) (map choice_of acked.now ++ map choice_of tail.now) }
+    ensures { IfOk result (λ right. IsTrue right ↔ IsRight (plant_of system.now) (digest_of system.now) (size_of (state_of disk))
+        (map choice_of acked.now) (map choice_of tail.now) (seen_cells (BODY + 1) (state_of disk))) }
+{
+    let mut disk = disk;
+    match verdict_on(alloc, system, acked, tail, &mut disk)? {
+        Verdict::Stands(_, right) => Ok(right),
+        Verdict::Faulty(_) => Ok(false),
+    }
+}
+
+/// What the cells that a read gives come to.
+pub(crate) fn verdict_on(
+    alloc: Global,
+    system: &System,
+    acked: &[Choice],
+    tail: &[Choice],
+    disk: &mut MemDisk,
+) -> Result<Verdict, ExploreFault>
+    requires fuse { fuse_of disk.old ≡ Off }
+    requires run { IsRunOf (plant_of system.now) (map choice_of acked.now ++ map choice_of tail.now) }
+    ensures verdict { IfOk result (IsVerdict (plant_of system.now) (digest_of system.now) (size_of (state_of disk.old))
+        (map choice_of acked.now) (map choice_of tail.now) (seen_cells (BODY + 1) (state_of disk.old))) }
+    ensures kept { IsKept disk.old disk.new }
+{
+    let bytes = size(disk);
+    let cells = load(alloc, disk)?;
+    match read_image(alloc, system, bytes, &cells) {
+        Ok(standing) => {
+            let number = standing.held.base + standing.held.records.len() as u64 - 1;
+            let right = are_behind_front(alloc, system, acked, tail, &standing.states, number)?;
+            Ok(Verdict::Stands(number, right))
+        }
+        Err(fault) => match fault {
+            ImageFault::Memory => Err(ExploreFault::Memory),
+            wrong => Ok(Verdict::Faulty(wrong)),
+        },
+    }
+}

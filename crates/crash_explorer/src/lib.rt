@@ -1,0 +1,32 @@
+//! What a power cut at each moment of a run does.
+//!
+//! [`explore`] formats a device in memory for a plant, boots the plant and makes some events. Then it does so again for each write and each sync
+//! of that run, and for each of four ways in which a cut tears what was being written: it stops the run there, boots what the stop left, and
+//! judges it. An [`Explorer`] tells one such [`Trial`] after another, for those who want to see each. [`judge`] judges any device.
+//!
+//! What a stop leaves is right where it stands for the state of the plant behind all that was acknowledged and some front of what was fired since
+//! (`specs/Judging.antt`). While the device is formatted it may also be one that reads as never formatted.
+//!
+//! That each stop is right is what the contracts of formatting, booting and running say, of every device that keeps the disk model. This crate
+//! shows it by running, for who does not read proofs, on one such device: `disk_model::MemDisk`.
+//!
+//! - `judging`: when a device is right. `loading`: its cells. `states`: the state behind some choices.
+//! - `watched`: a device in memory that remembers what of it was stopped. `running`: one run, stopped or not. `booting`: what a device boots to.
+//! - `explorer`: all trials of a run. `fault`: why there is no answer.
+#![tactic(auto)]
+
+mod booting;
+mod explorer;
+mod fault;
+mod judging;
+mod loading;
+mod running;
+mod states;
+mod watched;
+
+pub use booting::Found;
+pub use explorer::{Explorer, Report, TEARS, Trial, explore};
+pub use fault::ExploreFault;
+pub use judging::judge;
+pub use running::Stage;
+pub use watched::Cut;

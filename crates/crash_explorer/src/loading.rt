@@ -1,0 +1,92 @@
+// The cells of a device in memory, as a read gives them. Its calls are made at its own type: no contract of any device says that a call succeeds,
+// and this one's does while no fuse is set.
+ghost use Rattle.std.specs.Prelude.{◌≡◌, ◌+◌, ◌*◌, ◌<◌, ◌≤◌, ◌==◌, length, take, drop, slice_index, IfOk};
+ghost use Rattle.disk_model.specs.Cells.{cell, cell_count, seen_cells};
+ghost use Rattle.disk_model.specs.DiskState.{size_of};
+ghost use Rattle.disk_model.specs.MemDisk.{fuse_of, state_of};
+ghost use Rattle.disk_model.specs.declared.cells.TheConstants.{BODY};
+ghost use Rattle.disk_model.specs.declared.fuse.Fuse.TheVariants.{Off};
+ghost use Rattle.crash_explorer.specs.Judging.{IsKept};
+
+use disk_model::{BODY, Disk, MemDisk};
+use std::alloc::{AllocError, Global};
+
+/// How many bytes a cell has: its gate and its body.
+pub(crate) const CELL: u64 = BODY as u64 + 1;
+
+/// The gate of a full cell.
+const OPEN: u8 = 0xA5;
+
+/// All cells.
+pub(crate) fn load(alloc: Global, disk: &mut MemDisk) -> Result<Vec<Option<[u8; BODY]>>, AllocError>
+    requires { fuse_of disk.old ≡ Off }
+    ensures cells { IfOk result (λ cells. cells.items ≡ seen_cells (BODY + 1) (state_of disk.old)) }
+    ensures kept { IsKept disk.old disk.new }
+{
+    let count = size(disk) / CELL;
+    load_first(alloc, disk, count)
+}
+
+/// The first cells.
+fn load_first(
+    alloc: Global,
+    disk: &mut MemDisk,
+    count: u64,
+) -> Result<Vec<Option<[u8; BODY]>>, AllocError>
+    requires fuse { fuse_of disk.old ≡ Off }
+    requires inside { count ≤ cell_count (BODY + 1) (state_of disk.old) }
+    ensures cells { IfOk result (λ cells. cells.items ≡ take count (seen_cells (BODY + 1) (state_of disk.old))) }
+    ensures kept { IsKept disk.old disk.new }
+{
+    let mut cells = Vec::with_capacity(alloc, count as usize)?;
+    for k in 0..count {
+        cells.push_reserved(load_cell(disk, k));
+    }
+    Ok(cells)
+}
+
+/// The body of cell `k`, where it is full.
+fn load_cell(disk: &mut MemDisk, k: u64) -> Option<[u8; BODY]>
+    requires fuse { fuse_of disk.old ≡ Off }
+    requires inside { k < cell_count (BODY + 1) (state_of disk.old) }
+    ensures cell { result ≡ cell (seen_cells (BODY + 1) (state_of disk.old)) k }
+    ensures kept { IsKept disk.old disk.new }
+{
+    if !is_open(disk, k) {
+        return None;
+    }
+    let mut body = [0; BODY];
+    read(disk, CELL * k + 1, &mut body);
+    Some(body)
+}
+
+/// Whether the gate of cell `k` is open.
+fn is_open(disk: &mut MemDisk, k: u64) -> bool
+    requires fuse { fuse_of disk.old ≡ Off }
+    requires inside { k < cell_count (BODY + 1) (state_of disk.old) }
+    ensures gate { result ≡ (slice_index (state_of disk.old).now.seen ((BODY + 1) * k) == 165) }
+    ensures kept { IsKept disk.old disk.new }
+{
+    let mut gate = [0];
+    read(disk, CELL * k, &mut gate);
+    gate[0] == OPEN
+}
+
+/// How many bytes the device has.
+pub(crate) fn size(disk: &mut MemDisk) -> u64
+    requires { fuse_of disk.old ≡ Off }
+    ensures size { result ≡ size_of (state_of disk.old) }
+    ensures kept { IsKept disk.old disk.new }
+{
+    disk.size().unwrap()
+}
+
+/// Fills `into` with the bytes from number `at` on.
+fn read(disk: &mut MemDisk, at: u64, into: &mut [u8])
+    requires fuse { fuse_of disk.old ≡ Off }
+    requires inside { at + length into.old ≤ size_of (state_of disk.old) }
+    ensures bytes { into.new ≡ take (length into.old) (drop at (state_of disk.old).now.seen) }
+    ensures kept { IsKept disk.old disk.new }
+{
+    disk.read_at(at, into).unwrap();
+}

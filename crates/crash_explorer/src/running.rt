@@ -1,0 +1,151 @@
+// One run: a device is formatted, the plant booted from it, and some events made.
+ghost use Rattle.std.specs.Prelude.{◌≡◌, ◌+◌, ◌≤◌, [], List, IfOk, map, replicate};
+ghost use Rattle.disk_model.specs.Cells.{Cell, MayBe};
+ghost use Rattle.disk_model.specs.DiskState.{size_of};
+ghost use Rattle.disk_model.specs.MemDisk.{cell_of, fresh, state_of};
+ghost use Rattle.disk_model.specs.declared.cells.TheConstants.{BODY};
+ghost use Rattle.plant_core.specs.Events.{all_fired};
+ghost use Rattle.plant_core.specs.Plants.{definition_of, device_of, text_digest, view_of};
+ghost use Rattle.plant_image.specs.Standing.{StandsFor};
+ghost use Rattle.record_codec.specs.declared.layout.TheConstants.{LEAST_RING, MOST_RING};
+ghost use Rattle.recovery.specs.Formatting.{formatted_size};
+ghost use Rattle.step_core.specs.Chosen.{choice_of};
+ghost use Rattle.step_core.specs.Step.{initial_states};
+ghost use Rattle.step_core.specs.System.{digest_of, plant_of};
+ghost use Rattle.crash_explorer.specs.Running.{IsEnded, IsFirst};
+
+use crate::fault::ExploreFault;
+use crate::watched::Watched;
+use disk_model::MemDisk;
+use plant_core::{Event, Hands, Happened, Plant, drive};
+use plant_image::ImageFault;
+use recovery::{BootFault, FormatFault, boot, format};
+use std::alloc::{AllocError, Global};
+use step_core::{Choice, System};
+
+/// What of a run a stop falls in.
+#[derive(Clone, Copy, Debug, PartialEq, Eq)]
+pub enum Stage {
+    /// The device was being formatted.
+    Formatting,
+    /// The plant was being booted for the first time.
+    Booting,
+    /// The plant was there.
+    Running,
+}
+
+/// What a run comes to, wherever it ends.
+#[derive(Drop)]
+pub(crate) struct Ended {
+    pub(crate) disk: Watched,
+    /// How far it came.
+    pub(crate) stage: Stage,
+    /// The choices that were fired, in order.
+    pub(crate) fired: Vec<Choice>,
+    /// How many of them are acknowledged.
+    pub(crate) acked: usize,
+}
+
+impl Ended {
+    /// A run that ended before anything was fired.
+    fn before_the_first(alloc: Global, disk: Watched, stage: Stage) -> Ended
+        ensures disk { result.disk ≡ disk }
+        ensures stage { result.stage ≡ stage }
+        ensures fired { result.fired.items ≡ [] }
+        ensures acked { result.acked ≡ 0 }
+    {
+        Ended {
+            disk,
+            stage,
+            fired: Vec::new(alloc),
+            acked: 0,
+        }
+    }
+}
+
+/// Formats the device with a ring of so many records, boots the plant, and makes the events. It ends where the device fails.
+pub(crate) fn run(
+    alloc: Global,
+    system: &System,
+    ring: u32,
+    events: &[Event],
+    disk: MemDisk,
+) -> Result<Ended, ExploreFault>
+    requires ring_from { LEAST_RING ≤ ring }
+    requires ring_to { ring ≤ MOST_RING }
+    requires cells { cell_of disk ≡ BODY + 1 }
+    requires zeros { state_of disk ≡ fresh (replicate (formatted_size (plant_of system.now) ring) 0) }
+    ensures { IfOk result (IsEnded (plant_of system.now) (digest_of system.now) (formatted_size (plant_of system.now) ring)) }
+{
+    match format(alloc, Watched::over(disk), system, ring) {
+        Ok(disk) => run_formatted(alloc, system, events, disk),
+        Err(refused) => match refused.fault {
+            FormatFault::Memory => Err(ExploreFault::Memory),
+            FormatFault::WrongSize | FormatFault::Disk => Ok(Ended::before_the_first(
+                alloc,
+                refused.disk,
+                Stage::Formatting,
+            )),
+        },
+    }
+}
+
+/// The same from a formatted device on.
+fn run_formatted(
+    alloc: Global,
+    system: &System,
+    events: &[Event],
+    disk: Watched,
+) -> Result<Ended, ExploreFault>
+    requires { (cells : List Cell) → MayBe (BODY + 1) (state_of disk.disk) cells
+        → StandsFor (plant_of system.now) (digest_of system.now) (size_of (state_of disk.disk)) cells (initial_states (plant_of system.now)) 0 }
+    ensures { IfOk result (IsEnded (plant_of system.now) (digest_of system.now) (size_of (state_of disk.disk))) }
+{
+    match boot(alloc, disk, system) {
+        Ok(plant) => run_booted(alloc, plant, events),
+        Err(refused) => match refused.fault {
+            BootFault::Image(ImageFault::Memory) => Err(ExploreFault::Memory),
+            BootFault::Image(_) | BootFault::Disk => Ok(Ended::before_the_first(
+                alloc,
+                refused.disk,
+                Stage::Booting,
+            )),
+        },
+    }
+}
+
+/// The same from a plant on that has fired nothing.
+fn run_booted(
+    alloc: Global,
+    plant: Plant<'_, Watched>,
+    events: &[Event],
+) -> Result<Ended, ExploreFault>
+    requires { IsFirst (definition_of plant) (view_of plant) }
+    ensures { IfOk result (IsEnded (definition_of plant.entry) (text_digest plant.entry) (size_of (device_of plant.entry))) }
+{
+    let mut plant = plant;
+    let mut hands = Hands::new(alloc, plant.system().atoms().len())?;
+    let answers = drive(alloc, &mut plant, events, &mut hands)?;
+    let fired = fired_in(alloc, &answers)?;
+    let acked = plant.front().acked as usize;
+    plant.stands_for_a_front();
+    Ok(Ended {
+        disk: plant.into_disk(),
+        stage: Stage::Running,
+        fired,
+        acked,
+    })
+}
+
+/// The choices that were fired.
+fn fired_in(alloc: Global, answers: &[Happened]) -> Result<Vec<Choice>, AllocError>
+    ensures { IfOk result (λ fired. map choice_of fired.items ≡ all_fired answers.now) }
+{
+    let mut fired = Vec::new(alloc);
+    for happened in answers {
+        if let Happened::Fire(_, Ok(step)) = happened {
+            fired.push(step.choice.copy())?;
+        }
+    }
+    Ok(fired)
+}

@@ -1,0 +1,64 @@
+// The state of a plant behind some choices.
+ghost use Rattle.std.specs.Prelude.{◌≡◌, ◌+◌, ◌≤◌, ◌↔◌, ◌++◌, ℕ, IsTrue, IfOk, length, map, take};
+ghost use Rattle.step_core.specs.Chosen.{choice_of};
+ghost use Rattle.step_core.specs.Running.{plant_in, states_in};
+ghost use Rattle.step_core.specs.Runs.{IsRun, fold};
+ghost use Rattle.step_core.specs.System.{plant_of};
+ghost use Rattle.step_core.specs.declared.limits.TheConstants.{MAX_ATOMS};
+ghost use Rattle.crash_explorer.specs.Judging.{IsRunOf, state_behind};
+
+use std::alloc::{AllocError, Global};
+use step_core::{Choice, PlantState, Stepper, System};
+
+/// Whether these are the states behind all of the acknowledged choices and a front of the tail, and `number` is how many choices that is.
+pub(crate) fn are_behind_front(
+    alloc: Global,
+    system: &System,
+    acked: &[Choice],
+    tail: &[Choice],
+    states: &PlantState,
+    number: u64,
+) -> Result<bool, AllocError>
+    requires { IsRunOf (plant_of system.now) (map choice_of acked.now ++ map choice_of tail.now) }
+    ensures { IfOk result (λ are. IsTrue are ↔ ((k : ℕ) × (k ≤ length (map choice_of tail.now))
+        × (states.now ≡ state_behind (plant_of system.now) (map choice_of acked.now ++ take k (map choice_of tail.now)))
+        × (number ≡ length (map choice_of acked.now) + k))) }
+{
+    let least = acked.len() as u64;
+    if number < least || number - least > tail.len() as u64 {
+        return Ok(false);
+    }
+    let front = (number - least) as usize;
+    system.keeps_its_rules();
+    let mut stepper = Stepper::first(alloc, system)?;
+    fire_all(&mut stepper, acked);
+    fire_all(&mut stepper, &tail[..front]);
+    Ok(are_same(stepper.states(), states))
+}
+
+/// Fires the choices, one after another.
+fn fire_all(stepper: &mut Stepper<'_>, choices: &[Choice])
+    requires { IsRun (plant_in stepper.old) (states_in stepper.old) (map choice_of choices.now) (fold (plant_in stepper.old) (states_in stepper.old) (map choice_of choices.now)) }
+    ensures plant { plant_in stepper.new ≡ plant_in stepper.old }
+    ensures states { states_in stepper.new ≡ fold (plant_in stepper.old) (states_in stepper.old) (map choice_of choices.now) }
+{
+    for choice in choices {
+        stepper.fire(choice);
+    }
+}
+
+/// Whether the two are the same state of each atom.
+fn are_same(one: &PlantState, other: &PlantState) -> bool
+    requires { length one.now ≤ MAX_ATOMS }
+    ensures { IsTrue result ↔ (one.now ≡ other.now) }
+{
+    if one.len() != other.len() {
+        return false;
+    }
+    for atom in 0..one.len() {
+        if !one.state(atom as u16).same(other.state(atom as u16)) {
+            return false;
+        }
+    }
+    true
+}
