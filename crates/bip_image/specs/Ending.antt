@@ -8,13 +8,16 @@ use Rattle.image_commands.specs.Refusals.{advice_for, refusal_line}
 use Rattle.image_commands.specs.Endings.{status_at}
 use Rattle.image_commands.specs.declared.ending.ImageEnding.{ImageEnding}
 use Rattle.image_commands.specs.declared.ending.ImageEnding.TheVariants as image
+use Rattle.image_commands.specs.declared.exploring.ExploreEnding.{ExploreEnding}
+use Rattle.image_commands.specs.declared.exploring.ExploreEnding.TheVariants as exploring
+use Rattle.plant_tasks.specs.declared.ending.PlantEnding.TheVariants.{Memory}
 use Rattle.plant_tasks.specs.Ending as plant
 use Rattle.plant_tasks.specs.Paths.{plant_alone}
 use Rattle.bip_image.specs.declared.ending.Paths.{Paths}
 use Rattle.bip_image.specs.declared.ending.Ending.{Ending}
-use Rattle.bip_image.specs.declared.ending.Ending.TheVariants.{OfPlant, Script, ScriptUnread, ImageUnopened, Image}
+use Rattle.bip_image.specs.declared.ending.Ending.TheVariants.{OfPlant, Script, ScriptUnread, ImageUnopened, Image, NotRight}
 
--- the exit status of the program: 0 done, 1 a refused plant, script or image, 2 usage, 3 a file, a device, the memory or the output
+-- the exit status of the program: 0 done, 1 a refused plant, script or image, or a stop that left what is not right, 2 usage, 3 a file, a device, the memory or the output
 abbrev pub status_of : {A : Type 0} → Result A Ending → ℕ
 status_of (Ok done) = 0
 status_of (Err (OfPlant ending)) = plant.status_at ending
@@ -22,6 +25,12 @@ status_of (Err (Script line)) = 1
 status_of (Err ScriptUnread) = 3
 status_of (Err (ImageUnopened fault)) = 3
 status_of (Err (Image ending)) = status_at ending
+status_of (Err NotRight) = 1
+
+-- the ending where an exploration has no answer
+abbrev pub of_exploring : ExploreEnding → Ending
+of_exploring exploring.Memory = OfPlant Memory
+of_exploring exploring.Unwritten = Image image.Unwritten
 
 -- what is told of an image's file that can't be opened or made
 abbrev pub unopened_text : List ℕ → FileFault → List ℕ
@@ -41,6 +50,7 @@ told_text paths (Script line) = codes "script line " ++ decimal line ++ codes "\
 told_text paths ScriptUnread = plant.file_line paths.script.now
 told_text paths (ImageUnopened fault) = unopened_text paths.image.now fault
 told_text paths (Image ending) = image_text ending
+told_text paths NotRight = []
 
 -- a sentence behind the line of an ending
 abbrev pub behind_line : List ℕ → List ℕ
@@ -57,4 +67,5 @@ abbrev pub more_text : Ending → List ℕ
 more_text (Script line) = behind_line (line_message line)
 more_text (ImageUnopened fault) = behind_line (message_of fault)
 more_text (Image ending) = more_of_image ending
+more_text NotRight = behind_line (codes "a power cut left what it must not leave: '--list' tells which; keep the plant and the script, and run this plant on no image")
 more_text ending = []

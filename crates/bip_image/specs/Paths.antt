@@ -3,7 +3,7 @@ use Rattle.std.specs.Prelude.{ℕ, List, []}
 use Rattle.command_line.specs.declared.request.ImageTask.{ImageTask}
 use Rattle.command_line.specs.declared.request.ImageTask.TheVariants.{Format, Run, Recover}
 use Rattle.command_line.specs.declared.request.Work.{Work}
-use Rattle.command_line.specs.declared.request.Work.TheVariants.{OfPlant, ByHand, OnImage}
+use Rattle.command_line.specs.declared.request.Work.TheVariants.{OfPlant, ByHand, OnImage, Explored}
 
 -- where the script is of a task on an image; only a run has one
 abbrev pub script_of : ImageTask → List ℕ
@@ -16,9 +16,11 @@ abbrev pub script_in : Work → List ℕ
 script_in (OfPlant task) = []
 script_in ByHand = []
 script_in (OnImage image task) = script_of task
+script_in (Explored exploration) = exploration.script.now
 
 -- where the image is, if it has one
 abbrev pub image_in : Work → List ℕ
 image_in (OfPlant task) = []
 image_in ByHand = []
 image_in (OnImage image task) = image.now
+image_in (Explored exploration) = []

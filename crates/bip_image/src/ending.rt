@@ -4,7 +4,7 @@ ghost use Rattle.bip_image.specs.Ending.{status_of};
 
 use command_line::{ImageTask, Request, Work};
 use file_disk::FileFault;
-use image_commands::ImageEnding;
+use image_commands::{ExploreEnding, ImageEnding};
 use plant_tasks::{PlantEnding, PlantTold, TaskPaths, shown_path};
 use script_lines::ScriptFault;
 use std::alloc::{AllocError, Global};
@@ -23,10 +23,16 @@ pub(crate) enum Ending {
     ImageUnopened(FileFault),
     /// The command on the image ended early.
     Image(ImageEnding),
+    /// A stop of a run that was explored left what is not right.
+    NotRight,
 }
 
-/// The exit status of the program: 0 where it did what it was asked for, 1 where the plant, the script or the image is refused,
-/// 2 where the words of the command line were not understood, and 3 where a file, a device, the memory or the output failed.
+/// What more is told where a stop left what is not right.
+const NOT_RIGHT: &str =
+    "a power cut left what it must not leave: '--list' tells which; keep the plant and the script, and run this plant on no image";
+
+/// The exit status of the program: 0 where it did what it was asked for, 1 where the plant, the script or the image is refused or a stop
+/// left what is not right, 2 where the words of the command line were not understood, and 3 where a file, a device, the memory or the output failed.
 pub(crate) fn exit_status(ended: &Result<(), Ending>) -> u8
     ensures { result ≡ status_of ended.now }
 {
@@ -37,6 +43,7 @@ pub(crate) fn exit_status(ended: &Result<(), Ending>) -> u8
         Err(Ending::ScriptUnread) => 3,
         Err(Ending::ImageUnopened(_)) => 3,
         Err(Ending::Image(ending)) => ending.exit_status(),
+        Err(Ending::NotRight) => 1,
     }
 }
 
@@ -78,6 +85,7 @@ impl<'a> Paths<'a> {
             Work::OfPlant(_) | Work::ByHand => ("", ""),
             Work::OnImage(image, ImageTask::Run(script)) => (*script, *image),
             Work::OnImage(image, _) => ("", *image),
+            Work::Explored(exploration) => (exploration.script, ""),
         };
         Paths {
             plant: request.plant,
@@ -126,7 +134,7 @@ impl ShownPaths {
     }
 }
 
-/// What is told of an ending: a line, or nothing where `clap` or the answers of a run told it, and where the output failed.
+/// What is told of an ending: a line, or nothing where `clap` or what was printed told it, and where the output failed.
 #[derive(Clone, Copy)]
 pub(crate) struct Told<'a> {
     /// Why the program ends early.
@@ -157,7 +165,7 @@ impl<'a> fmt::Display for Told<'a> {
             }
             Ending::ImageUnopened(_) => writeln!(f, "file {}", self.paths.image),
             Ending::Image(ImageEnding::Refused(refusal)) => writeln!(f, "{refusal}"),
-            Ending::Image(_) => Ok(()),
+            Ending::Image(_) | Ending::NotRight => Ok(()),
         }
     }
 }
@@ -181,6 +189,7 @@ impl fmt::Display for More {
             Ending::Script(line) => writeln!(f, "  {}", ScriptFault::Line(line)),
             Ending::ImageUnopened(fault) => writeln!(f, "  {fault}"),
             Ending::Image(ImageEnding::Refused(refusal)) => writeln!(f, "  {}", refusal.advice()),
+            Ending::NotRight => writeln!(f, "  {NOT_RIGHT}"),
             _ => Ok(()),
         }
     }
@@ -216,5 +225,18 @@ impl From<ImageEnding> for Ending {
 
     fn from(ending: ImageEnding) -> Self {
         Ending::Image(ending)
+    }
+}
+
+impl From<ExploreEnding> for Ending {
+    ghost use Rattle.bip_image.specs.Ending.{of_exploring};
+
+    ghost from_gives = { λ told ending. ending ≡ of_exploring told };
+
+    fn from(ending: ExploreEnding) -> Self {
+        match ending {
+            ExploreEnding::Memory => Ending::OfPlant(PlantEnding::Memory),
+            ExploreEnding::Unwritten => Ending::Image(ImageEnding::Unwritten),
+        }
     }
 }

@@ -1,12 +1,12 @@
 //! The program for a plant on its image, a file that keeps the plant over any stop: it makes the image, runs the plant from where it
-//! stands, and tells where that is.
+//! stands, tells where that is, and what a stop at each moment of a run leaves.
 //!
 //! `main` only asks whether a terminal shows the standard error, and hands the rest to `process`. What is told where a task ends early,
 //! and which status the program then ends with are definitions in `specs/`, to which contracts tie the functions that do it:
 //!
 //! - `process`: the words, the files, the standard input, output and error. What the words ask for is read by the crate
 //!   `command_line`, the plant by the crate `plant_tasks`, and what is done on an image by the crate `image_commands`.
-//! - `script`: the script of a run.
+//! - `script`: the script of a run. `progress`: how far an exploration is, on a terminal.
 //! - `ending`: why the program ends early, what it tells then, and its exit status.
 //!
 //! A task of a plant alone is done by the program `bip_run`; the launcher at the top of the repository runs whichever the words ask for.
@@ -14,6 +14,7 @@
 
 mod ending;
 mod process;
+mod progress;
 mod script;
 
 use std::io::IsTerminal;

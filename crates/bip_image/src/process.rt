@@ -3,10 +3,13 @@ ghost use Rattle.std.specs.Prelude.{◌≡◌};
 ghost use Rattle.bip_image.specs.Ending.{status_of};
 
 use crate::ending::{Ending, More, Paths, ShownPaths, Told, exit_status};
+use crate::progress::ProgressLine;
 use crate::script::read_events;
-use command_line::{ImageTask, Request, Work, is_standard_input, read_request};
+use command_line::{Exploration, ImageTask, Request, Work, is_standard_input, read_request};
 use file_disk::{FileDisk, FileFault};
-use image_commands::{ImageEnding, format_image, image_bytes, recover_image, run_image};
+use image_commands::{
+    ImageEnding, Progress, explore_plant, format_image, image_bytes, recover_image, run_image,
+};
 use plant_core::Event;
 use plant_tasks::{
     PlantEnding, Watched, ended, read_plant, tell_file_failure, tell_more, tell_output_failure,
@@ -15,79 +18,130 @@ use plant_tasks::{
 use std::alloc::Global;
 use std::fs::File;
 use std::io::{BufWriter, Read, Write};
-use std::rt::{Env, Files};
+use std::rt::{Clock, Env, Files};
 use std::{fs, io};
 use step_core::System;
 
-/// Does what the words of the command line ask for, and gives the exit status. More is told of a fault where `explain` says so or
-/// the words ask for it.
-pub(crate) fn run<R: Env + Files<File = File> + Input + Print + Eprint + AllocGlobal>(
+/// Does what the words of the command line ask for, and gives the exit status. Where a terminal shows the standard error, it is told there how far
+/// a long task is, and more of a fault; of a fault also where the words ask for it.
+pub(crate) fn run<R: Env + Files<File = File> + Input + Print + Eprint + Clock + AllocGlobal>(
     rt: &R,
-    explain: bool,
+    is_terminal: bool,
 ) -> u8 {
     match words_of_process(rt) {
-        Ok(words) => answer(rt, words.as_slice(), explain),
+        Ok(words) => answer(rt, words.as_slice(), is_terminal),
         Err(ending) => end(rt, Paths::none(), Err(Ending::OfPlant(ending))),
     }
 }
 
 /// Answers the words of the command line.
-fn answer<R: Files<File = File> + Input + Print + Eprint + AllocGlobal>(
+fn answer<R: Files<File = File> + Input + Print + Eprint + Clock + AllocGlobal>(
     rt: &R,
     words: &[String],
-    explain: bool,
+    is_terminal: bool,
 ) -> u8 {
     match read_request(rt, words) {
-        Ok(request) => serve(rt, &request, explain),
+        Ok(request) => serve(rt, &request, is_terminal),
         Err(answered) => end(rt, Paths::none(), ended(answered).map_err(Ending::OfPlant)),
     }
 }
 
 /// Does what was asked for, tells why not where it ends early, and gives the exit status.
-fn serve<R: Files<File = File> + Input + Print + Eprint + AllocGlobal>(
+fn serve<R: Files<File = File> + Input + Print + Eprint + Clock + AllocGlobal>(
     rt: &R,
     request: &Request<'_>,
-    explain: bool,
+    is_terminal: bool,
 ) -> u8 {
     let Ok(paths) = ShownPaths::of(rt.alloc(), Paths::of(request)) else {
         return end(rt, Paths::none(), Err(Ending::OfPlant(PlantEnding::Memory)));
     };
     let mut text = Vec::new(rt.alloc());
     let mut failure = None;
-    let ended = work(rt, request, &mut text, &mut failure);
+    let ended = work(rt, request, is_terminal, &mut text, &mut failure);
     let status = end(rt, paths.lend(), ended);
     if let Err(ending) = ended
-        && (explain || request.explain)
+        && (is_terminal || request.explain)
     {
         tell_all(rt, ending, request.plant, &text, failure);
     }
     status
 }
 
-/// Does what was asked for, where it is a task on an image. The text of the plant is put into `text`, and a failure of the system into
+/// Does what was asked for, where it is no task of the plant alone. The text of the plant is put into `text`, and a failure of the system into
 /// `failure`.
-fn work<R: Files<File = File> + Input + Print + Eprint + AllocGlobal>(
+fn work<R: Files<File = File> + Input + Print + Eprint + Clock + AllocGlobal>(
     rt: &R,
     request: &Request<'_>,
+    is_terminal: bool,
     text: &mut Vec<u8>,
     failure: &mut Option<io::Error>,
 ) -> Result<(), Ending> {
+    if let Work::OfPlant(_) | Work::ByHand = request.work {
+        let _ = eprintln!(rt; "error: a task of a plant alone is done by the program bip_run");
+        return Err(Ending::OfPlant(PlantEnding::Usage));
+    }
+    let mut output = BufWriter::new(rt.alloc(), Watched::new(io::writer(rt))).map_err(
+        |_| PlantEnding::Memory,
+    )?;
+    let system = plant_at(rt, request.plant, text, failure)?;
+    let ended = work_with(rt, request, is_terminal, &system, &mut output, failure);
+    if let Some(error) = output.get_ref().failure() {
+        *failure = Some(error);
+    }
+    ended
+}
+
+/// Does what was asked for with the plant that was read.
+fn work_with<R: Files<File = File> + Input + Eprint + Clock + AllocGlobal, W: Write>(
+    rt: &R,
+    request: &Request<'_>,
+    is_terminal: bool,
+    system: &System,
+    output: &mut W,
+    failure: &mut Option<io::Error>,
+) -> Result<(), Ending> {
     match &request.work {
-        Work::OfPlant(_) | Work::ByHand => {
-            let _ = eprintln!(rt; "error: a task of a plant alone is done by the program bip_run");
-            Err(Ending::OfPlant(PlantEnding::Usage))
+        Work::OfPlant(_) | Work::ByHand => Err(Ending::OfPlant(PlantEnding::Usage)),
+        Work::OnImage(image, task) => work_on_image(rt, *task, system, image, output, failure),
+        Work::Explored(exploration) => {
+            let events = script_at(rt, system, exploration.script, failure)?;
+            let mut progress = ProgressLine::new(rt, is_terminal);
+            explore(
+                rt.alloc(),
+                system,
+                exploration,
+                &events,
+                output,
+                &mut progress,
+            )
         }
-        Work::OnImage(image, task) => {
-            let mut output = BufWriter::new(rt.alloc(), Watched::new(io::writer(rt))).map_err(
-                |_| PlantEnding::Memory,
-            )?;
-            let system = plant_at(rt, request.plant, text, failure)?;
-            let ended = work_on_image(rt, *task, &system, image, &mut output, failure);
-            if let Some(error) = output.get_ref().failure() {
-                *failure = Some(error);
-            }
-            ended
-        }
+    }
+}
+
+/// Tells what a stop at each moment of a run leaves.
+fn explore<W: Write, P: Progress>(
+    alloc: Global,
+    system: &System,
+    exploration: &Exploration<'_>,
+    events: &[Event],
+    output: &mut W,
+    progress: &mut P,
+) -> Result<(), Ending> {
+    let ring = exploration.ring.records;
+    let explored = explore_plant(
+        alloc,
+        system,
+        ring,
+        events,
+        exploration.list,
+        output,
+        progress,
+    );
+    progress.hide();
+    if explored? == 0 {
+        Ok(())
+    } else {
+        Err(Ending::NotRight)
     }
 }
 
@@ -214,7 +268,7 @@ fn tell_all<R: Eprint + AllocGlobal>(
         Ending::OfPlant(ending) => tell_more(rt, ending, plant, text, failure),
         Ending::ScriptUnread => tell_file_failure(rt, failure),
         Ending::Image(ImageEnding::Unwritten) => tell_output_failure(rt, failure),
-        Ending::Script(_) | Ending::ImageUnopened(_) | Ending::Image(_) => {
+        Ending::Script(_) | Ending::ImageUnopened(_) | Ending::Image(_) | Ending::NotRight => {
             let _ = rt.eprint(More { ending });
         }
     }

@@ -84,7 +84,7 @@ fn work<R: Files<File = File> + Input + Print + Eprint + AllocGlobal>(
     text: &mut Vec<u8>,
     failure: &mut Option<io::Error>,
 ) -> Result<(), PlantEnding> {
-    if let Work::OnImage(_, _) = request.work {
+    if let Work::OnImage(_, _) | Work::Explored(_) = request.work {
         let _ = eprintln!(rt; "error: a task on an image is done by the program bip_image");
         return Err(PlantEnding::Usage);
     }
@@ -164,7 +164,7 @@ fn work_on<R: Files<File = File> + Input + AllocGlobal, W: Write>(
     match &request.work {
         Work::OfPlant(task) => work_by(rt, request, task, plant, output, failure),
         Work::ByHand => step_typed(rt, request.plant, plant, terminals.typed, output, failure),
-        Work::OnImage(_, _) => Err(PlantEnding::Usage),
+        Work::OnImage(_, _) | Work::Explored(_) => Err(PlantEnding::Usage),
     }
 }
 

@@ -16,8 +16,9 @@ use Rattle.command_line.specs.declared.request.Task.{Task}
 use Rattle.command_line.specs.declared.request.Task.TheVariants as task
 use Rattle.command_line.specs.declared.request.ImageTask.{ImageTask}
 use Rattle.command_line.specs.declared.request.ImageTask.TheVariants as image
+use Rattle.command_line.specs.declared.request.Exploration.{Exploration}
 use Rattle.command_line.specs.declared.request.Work.{Work}
-use Rattle.command_line.specs.declared.request.Work.TheVariants.{OfPlant, ByHand, OnImage}
+use Rattle.command_line.specs.declared.request.Work.TheVariants.{OfPlant, ByHand, OnImage, Explored}
 use Rattle.command_line.specs.declared.request.Request.{Request}
 use Rattle.command_line.specs.declared.said.Said.{Said}
 
@@ -67,6 +68,7 @@ IsTask command.Draw asked said = (drawing : Drawing) × (asked ≡ task.Draw dra
 IsTask command.Format asked said = ⊥
 IsTask command.Run asked said = ⊥
 IsTask command.Recover asked said = ⊥
+IsTask command.Explore asked said = ⊥
 
 -- the words of a command on an image ask for this task
 abbrev pub IsImageTask : CommandName → ImageTask → Said → Type 0
@@ -75,11 +77,18 @@ IsImageTask command.Run (image.Run script) said = word_of said.script ≡ Some s
 IsImageTask command.Recover image.Recover said = Unit {0}
 IsImageTask command asked said = ⊥
 
+-- the words ask for this run to be explored: the script that it has, the length of the ring, and whether each trial is told
+abbrev pub IsExploration : Exploration → Said → Type 0
+IsExploration asked said =
+    (word_of said.script ≡ Some asked.script.now) × (ring_in (unwrap_or (word_of said.ring) (codes "64")) ≡ Some asked.ring.records) ×
+    (asked.list ≡ said.list)
+
 -- the words ask for this to be done
 abbrev pub IsWork : Work → Said → Type 0
 IsWork (OfPlant asked) said = IsTask said.command asked said
 IsWork ByHand said = said.command ≡ command.Step
 IsWork (OnImage path asked) said = (word_of said.image ≡ Some path.now) × IsImageTask said.command asked said
+IsWork (Explored asked) said = (said.command ≡ command.Explore) × IsExploration asked said
 
 -- the words are this request: its plant and what is done with it, and the files of it that stand apart
 pub record IsAsked (request : Request) (said : Said) : Type 0 where

@@ -10,7 +10,7 @@ use Rattle.command_line.specs.declared.request.Task.TheVariants.{Check, Warn, Tr
 use Rattle.command_line.specs.declared.request.ImageTask.{ImageTask}
 use Rattle.command_line.specs.declared.request.ImageTask.TheVariants as image
 use Rattle.command_line.specs.declared.request.Work.{Work}
-use Rattle.command_line.specs.declared.request.Work.TheVariants.{OfPlant, ByHand, OnImage}
+use Rattle.command_line.specs.declared.request.Work.TheVariants.{OfPlant, ByHand, OnImage, Explored}
 
 -- the text that has the picks of a run, if a text has them
 abbrev pub recorded_in : Picking → Option (List ℕ)
@@ -51,9 +51,11 @@ read_beside ByHand = Some (codes "-")
 read_beside (OnImage path (image.Format ring)) = None
 read_beside (OnImage path (image.Run script)) = Some script.now
 read_beside (OnImage path image.Recover) = None
+read_beside (Explored exploration) = Some exploration.script.now
 
 -- the file in which is saved what is fired
 abbrev pub saved_in : Work → Option (List ℕ)
 saved_in (OfPlant task) = saved_by task
 saved_in ByHand = None
 saved_in (OnImage path task) = None
+saved_in (Explored exploration) = None

@@ -1,6 +1,6 @@
 //! The arguments and the options of the commands.
 use crate::names::{
-    AFTER, EXPLAIN, FORMATS, IMAGE, LINES, ONLY, OUTLINE, PICK, PICKS, PLANT, RANDOM, RING,
+    AFTER, EXPLAIN, FORMATS, IMAGE, LINES, LIST, ONLY, OUTLINE, PICK, PICKS, PLANT, RANDOM, RING,
     RUN_FORMAT, SAVE_PICKS, SCRIPT, SEED, STATES, STRICT, USUAL_RING, WARN,
 };
 use clap::builder::ValueParser;
@@ -42,6 +42,14 @@ pub(crate) fn ring_argument<'a>(alloc: Global) -> Arg<'a> {
         .value_name("N")
         .default_value(USUAL_RING)
         .help("For how many records the image has room")
+}
+
+/// The option that has each trial of a run told.
+pub(crate) fn list_argument<'a>(alloc: Global) -> Arg<'a> {
+    Arg::new(alloc, LIST)
+        .long(LIST)
+        .action(ArgAction::SetTrue)
+        .help("Prints a line for each trial, too")
 }
 
 /// The option that has more told of a fault.

@@ -1,6 +1,6 @@
 //! What the words of a command ask for.
 ghost use Rattle.std.specs.Prelude.{◌≡◌, IfOk, Some, codes, if◌then◌else◌, unwrap_or};
-ghost use Rattle.command_line.specs.Asked.{has_picks, IsAsked, IsDrawing, IsPicked, IsPickedBehind, IsTrace, IsWork};
+ghost use Rattle.command_line.specs.Asked.{has_picks, IsAsked, IsDrawing, IsExploration, IsPicked, IsPickedBehind, IsTrace, IsWork};
 ghost use Rattle.command_line.specs.Rings.{ring_in};
 ghost use Rattle.command_line.specs.Said.{word_of};
 ghost use Rattle.command_line.specs.declared.request.Task.TheVariants.{Check, Warn};
@@ -8,7 +8,7 @@ ghost use Rattle.command_line.specs.declared.request.Task.TheVariants.{Check, Wa
 use crate::apart::{ApartFault, stand_apart};
 use crate::names::{CommandName, LINES, USUAL_RING};
 use crate::picking::{PickingFault, picking_named};
-use crate::request::{Drawing, ImageTask, Picking, Request, Task, Trace, Work};
+use crate::request::{Drawing, Exploration, ImageTask, Picking, Request, Task, Trace, Work};
 use crate::ring::{RingLength, ring_named};
 use crate::runs::shape_named;
 use crate::said::Said;
@@ -122,7 +122,21 @@ fn work_asked<'a>(alloc: Global, said: &Said<'_, 'a>) -> Result<Work<'a>, Asking
             Ok(Work::OnImage(path_in(said.image)?, ImageTask::Run(script)))
         }
         CommandName::Recover => Ok(Work::OnImage(path_in(said.image)?, ImageTask::Recover)),
+        CommandName::Explore => Ok(Work::Explored(exploration_asked(said)?)),
     }
+}
+
+/// The run that is to be explored.
+fn exploration_asked<'a>(said: &Said<'_, 'a>) -> Result<Exploration<'a>, AskingFault<'a>>
+    ensures { IfOk result (λ exploration. IsExploration exploration said.now) }
+{
+    let script = path_in(said.script)?;
+    let ring = ring_asked(said.ring)?;
+    Ok(Exploration {
+        script,
+        ring,
+        list: said.list,
+    })
 }
 
 /// The path that stands for an argument.

@@ -1,18 +1,20 @@
 //! The commands of the program, with their arguments and options.
 use crate::arguments::{
-    after_argument, explain_argument, image_argument, only_argument, outline_argument,
-    pick_argument, picks_argument, plant_argument, plant_file_argument, random_argument,
-    ring_argument, run_format_argument, save_picks_argument, script_argument, seed_argument,
-    states_argument, strict_argument, warn_argument,
+    after_argument, explain_argument, image_argument, list_argument, only_argument,
+    outline_argument, pick_argument, picks_argument, plant_argument, plant_file_argument,
+    random_argument, ring_argument, run_format_argument, save_picks_argument, script_argument,
+    seed_argument, states_argument, strict_argument, warn_argument,
 };
 use crate::help::{
     ABOUT, AFTER, BRIEF, CHECK_ABOUT, CHECK_AFTER, CHECK_BRIEF, CHOICES_ABOUT, CHOICES_AFTER,
-    CHOICES_BRIEF, DRAW_ABOUT, DRAW_AFTER, DRAW_BRIEF, DRAW_USAGE, FORMAT_ABOUT, FORMAT_AFTER,
-    FORMAT_BRIEF, RECOVER_ABOUT, RECOVER_AFTER, RECOVER_BRIEF, RUN_ABOUT, RUN_AFTER, RUN_BRIEF,
-    STEP_ABOUT, STEP_AFTER, STEP_BRIEF, TRACE_ABOUT, TRACE_AFTER, TRACE_BRIEF, VERSION, WHY_ABOUT,
-    WHY_AFTER, WHY_BRIEF,
+    CHOICES_BRIEF, DRAW_ABOUT, DRAW_AFTER, DRAW_BRIEF, DRAW_USAGE, EXPLORE_ABOUT, EXPLORE_AFTER,
+    EXPLORE_BRIEF, FORMAT_ABOUT, FORMAT_AFTER, FORMAT_BRIEF, RECOVER_ABOUT, RECOVER_AFTER,
+    RECOVER_BRIEF, RUN_ABOUT, RUN_AFTER, RUN_BRIEF, STEP_ABOUT, STEP_AFTER, STEP_BRIEF,
+    TRACE_ABOUT, TRACE_AFTER, TRACE_BRIEF, VERSION, WHY_ABOUT, WHY_AFTER, WHY_BRIEF,
 };
-use crate::names::{CHECK, CHOICES, CommandName, DRAW, FORMAT, RECOVER, RUN, STEP, TRACE, WHY};
+use crate::names::{
+    CHECK, CHOICES, CommandName, DRAW, EXPLORE, FORMAT, RECOVER, RUN, STEP, TRACE, WHY,
+};
 use clap::{Arg, Command};
 use std::alloc::{AllocError, Global};
 
@@ -33,7 +35,8 @@ pub(crate) fn program<'a>(alloc: Global) -> Result<Command<'a>, AllocError> {
     let program = with_command(program, draw_command(alloc));
     let program = with_command(program, format_command(alloc));
     let program = with_command(program, run_command(alloc));
-    with_command(program, recover_command(alloc))
+    let program = with_command(program, recover_command(alloc));
+    with_command(program, explore_command(alloc))
 }
 
 /// The command with this name alone, as a part of the program: what it answers shows how it is used.
@@ -51,6 +54,7 @@ pub(crate) fn command_alone<'a>(
         CommandName::Format => format_command(alloc)?.bin_name("bip_run format"),
         CommandName::Run => run_command(alloc)?.bin_name("bip_run run"),
         CommandName::Recover => recover_command(alloc)?.bin_name("bip_run recover"),
+        CommandName::Explore => explore_command(alloc)?.bin_name("bip_run explore"),
     }
 }
 
@@ -180,4 +184,14 @@ fn recover_command<'a>(alloc: Global) -> Result<Command<'a>, AllocError> {
     let command = with_argument(Ok(command), explain_argument(alloc));
     let command = with_argument(command, plant_argument(alloc));
     with_argument(command, image_argument(alloc))
+}
+
+/// The command that tells what a power cut at each moment of a run leaves.
+fn explore_command<'a>(alloc: Global) -> Result<Command<'a>, AllocError> {
+    let command = described(alloc, EXPLORE, EXPLORE_BRIEF, EXPLORE_ABOUT, EXPLORE_AFTER);
+    let command = with_argument(Ok(command), ring_argument(alloc));
+    let command = with_argument(command, list_argument(alloc));
+    let command = with_argument(command, explain_argument(alloc));
+    let command = with_argument(command, plant_argument(alloc));
+    with_argument(command, script_argument(alloc))
 }

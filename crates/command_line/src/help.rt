@@ -11,7 +11,7 @@ pub(crate) const ABOUT: &str =
 
 With an image, a file that holds what was fired, a plant goes on from there after any
 stop: 'format' makes an image, 'run' runs the plant on it, and 'recover' tells where the
-plant stands.
+plant stands. 'explore' tries a run with a power cut at each of its moments.
 
 A plant is atoms (machines with places, variables and ports), connectors (which ports
 move together, under which guards, and what data passes between them) and priorities
@@ -22,7 +22,7 @@ pub(crate) const AFTER: &str = "Exit status:
   0  what was asked for is done
   1  the plant, a pick, the script or the image is refused; the standard error has
      'plant line L: fault K NAME', 'error: FILE:LINE: WHY', 'script line L' or
-     'image: refusal K NAME'
+     'image: refusal K NAME'; or 'explore' found what is not right
   2  the words of the command line were not understood
   3  a file ('file PATH'), the device below an image ('image: refusal 8 Disk'), the
      memory ('memory', 'plant line 0: fault 15 Memory' or 'image: refusal 9 Memory')
@@ -320,3 +320,40 @@ Exit status:
   3  a file ('file PATH'; 'file PATH in use' where another program has the image open),
      the device below the image ('image: refusal 8 Disk'), the memory ('memory', 'plant
      line 0: fault 15 Memory' or 'image: refusal 9 Memory') or the standard output failed";
+
+pub(crate) const EXPLORE_BRIEF: &str = "Tells what a power cut at each moment of a run leaves";
+
+pub(crate) const EXPLORE_ABOUT: &str = "Tells what a power cut at each moment of a run leaves.
+
+Formats an image in memory, runs the plant on it by the script, and counts the writes and
+syncs of all that. Then it does the same again for each of them, with the power cut at
+that very moment, and starts the plant from what the cut left. No file but PLANT and
+SCRIPT is touched. A script is one of 'run'.
+
+A cut is tried in four ways, by what becomes of each byte that was written and not yet
+synced: 'Old', it is as it was before; 'New', as it was written; 'Gates', it is the byte
+that tells that a cell is full; 'Mixed', new in each second cell, and old in the others.
+
+What a cut left is right if the plant starts in the state after some of what was fired,
+from the first on: after all that a flush told to be saved, at least. While the image is
+formatted it may also read as never formatted. Prints one line: how many writes and syncs
+there are to stop at, how many starts, and how many of these were not right.
+
+With --list there is a line before for each start: which write or sync was cut, in which
+way, the number of the last interaction that the plant starts with, and the number of the
+last that was told to be saved. One that is not right begins with 'NOT RIGHT: '.
+
+On a terminal the number of stops and starts is told first, and then how far it is.";
+
+pub(crate) const EXPLORE_AFTER: &str = "Example:
+  printf 'fire 0\\nflush\\n' | bip_run explore examples/sample.plant - --ring 8
+prints
+  stops 24 boots 96 bad 0
+
+Exit status:
+  0  all that was left is right
+  1  something is not, or the plant or the script is refused; the standard error has
+     'plant line L: fault K NAME' or 'script line L'
+  2  the words of the command line were not understood
+  3  a file ('file PATH'), the memory ('memory', or 'plant line 0: fault 15 Memory')
+     or the standard output failed";

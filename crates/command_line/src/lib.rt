@@ -32,6 +32,8 @@ mod words;
 
 pub use answer::Answered;
 pub use input::is_standard_input;
-pub use request::{Drawing, ImageTask, Numbers, Picking, Request, Shape, Task, Trace, Work};
+pub use request::{
+    Drawing, Exploration, ImageTask, Numbers, Picking, Request, Shape, Task, Trace, Work,
+};
 pub use ring::RingLength;
 pub use words::read_request;

@@ -20,6 +20,8 @@ pub(crate) const RUN: &str = "run";
 
 pub(crate) const RECOVER: &str = "recover";
 
+pub(crate) const EXPLORE: &str = "explore";
+
 pub(crate) const PLANT: &str = "PLANT";
 
 pub(crate) const PICK: &str = "PICK";
@@ -54,6 +56,8 @@ pub(crate) const AFTER: &str = "after";
 
 pub(crate) const RING: &str = "ring";
 
+pub(crate) const LIST: &str = "list";
+
 /// The format in which a run is printed if none is named.
 pub(crate) const LINES: &str = "lines";
 
@@ -84,6 +88,8 @@ pub(crate) enum CommandName {
     Run,
     /// Tells where a plant stands by its image.
     Recover,
+    /// Tells what a power cut at each moment of a run leaves.
+    Explore,
 }
 
 /// The command that the word names.
@@ -109,6 +115,8 @@ pub(crate) fn command_named(word: &str) -> Option<CommandName>
         Some(CommandName::Run)
     } else if word == RECOVER.as_bytes() {
         Some(CommandName::Recover)
+    } else if word == EXPLORE.as_bytes() {
+        Some(CommandName::Explore)
     } else {
         None
     }

@@ -146,6 +146,17 @@ pub enum ImageTask<'a> {
     Recover,
 }
 
+/// A run of a plant on a device in memory, which is stopped at each of its writes and syncs.
+#[derive(Clone, Copy)]
+pub struct Exploration<'a> {
+    /// Where the script of the run is: a file, or `-` for the standard input.
+    pub script: &'a str,
+    /// For how many records the device has room.
+    pub ring: RingLength,
+    /// Whether each trial is told, too.
+    pub list: bool,
+}
+
 /// What is to be done, and with what but the plant.
 #[derive(Drop)]
 pub enum Work<'a> {
@@ -155,6 +166,8 @@ pub enum Work<'a> {
     ByHand,
     /// A task of the plant and of its image, the file at this path.
     OnImage(&'a str, ImageTask<'a>),
+    /// A run of the plant, without an image, of which it is told what each stop leaves.
+    Explored(Exploration<'a>),
 }
 
 impl<'a> Work<'a> {
@@ -170,6 +183,7 @@ impl<'a> Work<'a> {
             Work::OfPlant(task) => task.recorded(),
             Work::ByHand => Some(STANDARD_INPUT),
             Work::OnImage(_, ImageTask::Run(script)) => Some(*script),
+            Work::Explored(exploration) => Some(exploration.script),
             Work::OnImage(_, ImageTask::Format(_) | ImageTask::Recover) => None,
         }
     }
@@ -180,7 +194,7 @@ impl<'a> Work<'a> {
     {
         match self {
             Work::OfPlant(task) => task.saved(),
-            Work::ByHand | Work::OnImage(_, _) => None,
+            Work::ByHand | Work::OnImage(_, _) | Work::Explored(_) => None,
         }
     }
 }

@@ -4,7 +4,7 @@ ghost use Rattle.clap.specs.Matches.{found_of};
 ghost use Rattle.command_line.specs.Read.{AreFound};
 
 use crate::names::{
-    AFTER, CommandName, EXPLAIN, IMAGE, ONLY, OUTLINE, PICK, PICKS, PLANT, RANDOM, RING,
+    AFTER, CommandName, EXPLAIN, IMAGE, LIST, ONLY, OUTLINE, PICK, PICKS, PLANT, RANDOM, RING,
     RUN_FORMAT, SAVE_PICKS, SCRIPT, SEED, STATES, STRICT, WARN,
 };
 use clap::ArgMatches;
@@ -46,6 +46,8 @@ pub(crate) struct Said<'m, 'a> {
     pub(crate) states: bool,
     /// Whether what is probably a mistake is told.
     pub(crate) warn: bool,
+    /// Whether each trial of a run is told.
+    pub(crate) list: bool,
     /// Whether more is told of a fault.
     pub(crate) explain: bool,
 }
@@ -73,6 +75,7 @@ pub(crate) fn said_in<'m, 'a>(command: CommandName, found: &'m ArgMatches<'a>) -
         outline: found.get_flag(OUTLINE),
         states: found.get_flag(STATES),
         warn: found.get_flag(WARN),
+        list: found.get_flag(LIST),
         explain: found.get_flag(EXPLAIN),
     }
 }

@@ -96,7 +96,7 @@ fn not_apart(
     fault: ApartFault,
 ) -> Result<Error, AllocError> {
     let message = match (fault, name) {
-        (ApartFault::OneInput, CommandName::Run) => {
+        (ApartFault::OneInput, CommandName::Run | CommandName::Explore) => {
             "the standard input cannot be both the plant and the script"
         }
         (ApartFault::OneInput, CommandName::Step) => {

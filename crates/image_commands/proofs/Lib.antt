@@ -1,3 +1,4 @@
 pub mod Told
 pub mod Appending
 pub mod Standing
+pub mod Trials

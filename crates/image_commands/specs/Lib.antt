@@ -2,3 +2,4 @@ pub mod Refusals
 pub mod Endings
 pub mod Printed
 pub mod Runs
+pub mod Trials

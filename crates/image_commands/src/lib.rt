@@ -14,13 +14,16 @@
 
 mod booting;
 mod ending;
+mod exploring;
 mod formatting;
 mod printing;
 mod recovering;
 mod refusal;
 mod running;
+mod trial_line;
 
 pub use ending::ImageEnding;
+pub use exploring::{ExploreEnding, Progress, explore_plant};
 pub use formatting::{format_image, image_bytes};
 pub use recovering::recover_image;
 pub use refusal::ImageRefusal;

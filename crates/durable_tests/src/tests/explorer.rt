@@ -81,7 +81,13 @@ fn a_trial_tells_what_a_stop_does(rt: HostRuntime) -> Result<(), Fail> {
             };
             assert_eq!(rt; trial.found, Found::Booted(boots));
             assert_eq!(rt;
-                (trial.cut, trial.stage, trial.fired, trial.acked, trial.right),
+                (
+                    trial.cut,
+                    trial.stage,
+                    trial.fired,
+                    trial.acked,
+                    trial.right
+                ),
                 (Some(Cut::Sync), Stage::Running, 4, 2, true)
             );
             seen = seen.saturating_add(1);
@@ -113,7 +119,10 @@ fn a_device_is_right_with_all_that_was_acknowledged_and_a_front_of_the_rest(
             return Err(Fail::new("too few choices"));
         }
         let (front, rest) = four.split_at(acked);
-        assert_eq!(rt; judge(alloc, &system, front, rest, left.stop(Tear::New))?, wanted);
+        assert_eq!(rt;
+            judge(alloc, &system, front, rest, left.stop(Tear::New))?,
+            wanted
+        );
     }
     Ok(())
 }
