@@ -36,7 +36,7 @@ dependent_rows-requires-clause-atoms c =
     let plant = plant_by atoms wires c.args.rules.now in
     let none : first_fault plant ≡ None =
     ap (λ xs. first_fault (plant_by xs wires c.args.rules.now)) (sym c.deref.ensures.value) ∙ ap (λ ws. first_fault (plant_by c.deref.result.now ws c.args.rules.now)) (sym c.deref-2.ensures.value) ∙ sym c.first_fault.ensures ∙ c.in_default.is in
-    omega (arith, few_atoms plant (first_none (early_fault plant) (fault_of_wires plant) none), length-map atoms definition_of, c.len-3.ensures, c.args.atoms.ok.0)
+    omega (arith, few_atoms plant (first_none (early_fault plant) (fault_of_wires plant) none), length-map atoms definition_of, c.len-4.ensures, c.args.atoms.ok.0)
 
 pub invariant_of-result : goal.invariant_of-result
 invariant_of-result c =
@@ -66,7 +66,8 @@ invariant_of-result c =
           (subst (λ xs. AreDelivering (map definition_of xs) (map wire_of c.deref-5.result.now) bound) c.deref-4.ensures.value c.in_ok-bound.ensures.delivering);
       listed = listed;
       ordered = order.ensures.interactions ∙ ap (λ xs. map named (map interaction_of xs)) c.deref-7.ensures.value;
-      rows = omega (arith, c.in_ok-dependents.ensures.rows, c.len-3.ensures, c.args.atoms.ok.0);
+      unruled = c.never_overruled_interactions-free.ensures;
+      rows = omega (arith, c.in_ok-dependents.ensures.rows, c.len-4.ensures, c.args.atoms.ok.0);
       touched = subst (λ ws. AreDependents (map wire_of ws) (map interaction_of all.items) rows) c.deref-8.ensures.value
           (subst (λ is. AreDependents (map wire_of c.deref-8.result.now) (map interaction_of is) rows) c.deref-10.ensures.value c.in_ok-dependents.ensures.dependents);
       on_ports = subst (λ is. AreOnPorts (map interaction_of is) rows) c.deref-10.ensures.value c.in_ok-dependents.ensures.only;

@@ -1,0 +1,10 @@
+use Rattle.std.proofs.Common.{◌≡◌, ℕ, ◌*◌, ◌<◌, ◌≤◌, ◌&&◌, not}
+use Rattle.std.specs.FinSet.{contains}
+use Rattle.priority_filter.specs.Decided.{is_overruled}
+use Rattle.priority_filter.proofs.order.Order.filter.Given as goal
+
+-- the words so far are right, and the others are as they were
+abbrev pub invariant-loop-place : goal.invariant-loop-place
+invariant-loop-place l =
+    ((n : ℕ) → n < 64 * l.place → contains l.allowed n ≡ (contains l.possible n && not (is_overruled l.self.rules l.self.interactions (contains l.possible) n))) ×
+    ((n : ℕ) → 64 * l.place ≤ n → contains l.allowed n ≡ contains l.initial.allowed n)
