@@ -18,3 +18,4 @@ pub mod Exits
 pub mod Deciding
 pub mod Listing
 pub mod Meant
+pub mod Legal
