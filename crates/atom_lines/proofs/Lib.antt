@@ -10,4 +10,3 @@ pub mod Bounds
 pub mod SoundParts
 pub mod Rules
 pub mod Exports
-pub mod Legal

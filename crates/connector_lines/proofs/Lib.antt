@@ -12,4 +12,3 @@ pub mod WantingLines
 pub mod NamedExports
 mod WireRows
 mod RuleRows
-pub mod Legal

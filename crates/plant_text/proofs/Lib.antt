@@ -18,4 +18,3 @@ pub mod Exits
 pub mod Deciding
 pub mod Listing
 pub mod Meant
-pub mod Legal

@@ -212,7 +212,7 @@ line_sound line plant next sound =
     (λ passed. let legal = led_on (check (is_legal_line line) NotAscii) (λ _. Ok plant) next passed in subst SoundText (same_end plant next legal.2) sound)
     (words_sound (words_of line) plant next sound)
 
-pub told_on_line : {A : Type 0} (number : ℕ) (r : Result A Fault) (x : A) → on_line number r ≡ Ok x → r ≡ Ok x
+told_on_line : {A : Type 0} (number : ℕ) (r : Result A Fault) (x : A) → on_line number r ≡ Ok x → r ≡ Ok x
 told_on_line number (Ok y) x is = cc
 told_on_line number (Err fault) x is = absurd (cc)
 

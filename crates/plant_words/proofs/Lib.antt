@@ -13,4 +13,3 @@ pub mod Steps
 pub mod Exits
 pub mod Early
 pub mod Taken
-pub mod Legal
