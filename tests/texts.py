@@ -279,8 +279,19 @@ class Reader:
         lower = self.read_side(words)
         words.take("<")
         higher = self.read_side(words)
-        words.end()
+        if words.left:
+            self.read_condition(words)
         self.rules.append((tuple(lower), tuple(higher)))
+
+    def read_condition(self, words):
+        """A place of an atom. Whether a rule counts in a state is no matter of the text: all are judged as if they did."""
+        words.take("when")
+        name = words.next()
+        atom = next((atom for atom in self.atoms if atom.name == name), None)
+        require(atom is not None, 7)
+        words.take("at")
+        require(words.next() in atom.parts["place"], 7)
+        words.end()
 
     def read_maximal(self, words):
         require(len(self.rules) < 1024, 13)
@@ -371,11 +382,33 @@ def change_word(chosen, words, others):
     elif kind == 3:
         words.insert(chosen.randrange(len(words)), words.pop(at))
     elif kind == 4:
-        words[at] = chosen.choice(["from", "to", "when", "do", ";", ":=", "<", "[", "]", "]'", "!", "+", "-", "&&", "x", "A.x", "a.b.c", "c:1", "c::1", ":", "12x", "-0", "99999999999999999999", "9223372036854775808", "#", "n" * 33])
+        words[at] = chosen.choice(["from", "to", "when", "at", "do", ";", ":=", "<", "[", "]", "]'", "!", "+", "-", "&&", "x", "A.x", "a.b.c", "c:1", "c::1", ":", "12x", "-0", "99999999999999999999", "9223372036854775808", "#", "n" * 33])
     else:
         place = chosen.randrange(len(words[at]))
         words[at] = words[at][:place] + chosen.choice("aA0_.:'-+<[];#") + words[at][place + chosen.randrange(2) :]
     return words
+
+
+def places_of(text):
+    """Each place that the text declares, with the atom before it."""
+    found, atom = [], "x"
+    for words in map(str.split, text.decode("latin-1").split("\n")):
+        if words[:1] == ["atom"]:
+            atom = "".join(words[1:2])
+        elif words[:1] == ["place"]:
+            found.append((atom, "".join(words[1:2])))
+    return found or [("x", "x")]
+
+
+def rule_with_a_condition(chosen, text):
+    """A rule over names that the text declares. The place of every fourth is perhaps that of another atom, and every second has a word changed."""
+    connectors = re.findall(r"^[ \t]*connector[ \t]+([^ \t\r\n]+)", text.decode("latin-1"), re.M) or ["x"]
+    places = places_of(text)
+    atom, place = chosen.choice(places)
+    if not chosen.randrange(4):
+        place = chosen.choice(places)[1]
+    words = ["prio", chosen.choice(connectors), "<", chosen.choice(connectors), "when", atom, "at", place]
+    return " ".join(change_word(chosen, words, words) if chosen.randrange(2) else words).encode("latin-1")
 
 
 def changed(chosen, text):
@@ -383,7 +416,7 @@ def changed(chosen, text):
     lines = text.split(b"\n")
     for _ in range(chosen.randint(1, 3)):
         at, other = chosen.randrange(len(lines)), chosen.randrange(len(lines))
-        kind = chosen.randrange(10)
+        kind = chosen.randrange(11)
         if kind < 6:
             words = change_word(chosen, lines[at].decode("latin-1").split(), lines[other].decode("latin-1").split())
             lines[at] = chosen.choice([" ", " ", "\t", "  "]).join(words).encode("latin-1")
@@ -394,6 +427,8 @@ def changed(chosen, text):
         elif kind == 8:
             del lines[at]
             lines = lines or [b""]
+        elif kind == 9:
+            lines.insert(chosen.choice([other, len(lines)]), rule_with_a_condition(chosen, text))
         else:
             place = chosen.randrange(len(lines[at]) + 1)
             lines[at] = lines[at][:place] + bytes([chosen.randrange(256)]) + lines[at][place + chosen.randrange(2) :]

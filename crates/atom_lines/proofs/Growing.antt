@@ -1,6 +1,7 @@
--- What each line leaves as it is in an atom: its name, and the ports that it has.
-use Rattle.std.proofs.Common.{◌≡◌, refl, sym, subst, ℕ, ℤ, Bool, List, [], ◌∷◌, ◌++◌, append-nil, length, drop, Result, Ok}
+-- What each line leaves as it is in an atom: its name, the ports and the places that it has.
+use Rattle.std.proofs.Common.{◌≡◌, refl, sym, subst, arith, ℕ, ◌+◌, ◌≤◌, ℤ, Bool, List, [], ◌∷◌, ◌++◌, append-nil, length, drop, Result, Ok}
 use Rattle.std.specs.Prelude.{nat_lt, is_none}
+use Rattle.std.proofs.lemmas.List.{length-append}
 use Rattle.petri_atom.specs.Definition.{AtomDefinition, PortDefinition, TransitionDefinition}
 use Rattle.petri_atom.specs.declared.parts.Place.{Place}
 use Rattle.petri_atom.specs.declared.parts.Variable.{Variable}
@@ -15,24 +16,31 @@ use Rattle.atom_lines.specs.Rows.{place_row, variable_row, port_row, exports_in,
 use Rattle.atom_lines.specs.Transitions.{transition_row, transition_in, with_transition}
 use Rattle.plant_words.proofs.Steps.{led_on, same_end}
 
--- an atom that has the name and the ports of another, and may have more ports behind them
+-- an atom that has the name and the ports of another, and may have more ports behind them; it has no fewer places
 pub record Grows (a grown : AtomDefinition) : Type 0 where
   pub name : grown.name ≡ a.name
   pub more : List PortDefinition
   pub ports : grown.ports ≡ a.ports ++ more
+  pub places : length a.places ≤ length grown.places
+
+as_many : (n : ℕ) → n ≤ n
+as_many n = omega arith
 
 -- the atom with one part more
 more_places : (a : AtomDefinition) (place : Place) → Grows a (with_place a place)
-more_places a place = record { name = refl; more = []; ports = sym (append-nil a.ports) }
+more_places a place =
+    let count : length (a.places ++ place ∷ []) ≡ length a.places + 1 = length-append a.places (place ∷ []) in
+    let fewer : length a.places ≤ length (a.places ++ place ∷ []) = omega (arith, count) in
+    record { name = refl; more = []; ports = sym (append-nil a.ports); places = fewer }
 
 more_variables : (a : AtomDefinition) (variable : Variable) → Grows a (with_variable a variable)
-more_variables a variable = record { name = refl; more = []; ports = sym (append-nil a.ports) }
+more_variables a variable = record { name = refl; more = []; ports = sym (append-nil a.ports); places = as_many (length a.places) }
 
 more_ports : (a : AtomDefinition) (port : PortDefinition) → Grows a (with_port a port)
-more_ports a port = record { name = refl; more = port ∷ []; ports = refl }
+more_ports a port = record { name = refl; more = port ∷ []; ports = refl; places = as_many (length a.places) }
 
 more_transitions : (a : AtomDefinition) (transition : TransitionDefinition) → Grows a (with_transition a transition)
-more_transitions a transition = record { name = refl; more = []; ports = sym (append-nil a.ports) }
+more_transitions a transition = record { name = refl; more = []; ports = sym (append-nil a.ports); places = as_many (length a.places) }
 
 -- what a line came to is what it gives
 at_end : (a next grown : AtomDefinition) → ◌≡◌ {A = Result AtomDefinition LineFault} (Ok next) (Ok grown) → Grows a next → Grows a grown

@@ -10,3 +10,4 @@ pub mod Bounds
 pub mod SoundParts
 pub mod Rules
 pub mod Exports
+pub mod Legal

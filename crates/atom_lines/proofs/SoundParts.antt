@@ -212,16 +212,16 @@ updates_sound a (suc left) before true words us sound few told =
 -- ---- transitions
 
 -- the steps of a transition's line, each behind the ones before
-abbrev with_updates : AtomDefinition → ℕ → List ℕ → List ℕ → Tree ℕ × List (List ℕ) → Result TransitionDefinition LineFault
+abbrev pub with_updates : AtomDefinition → ℕ → List ℕ → List ℕ → Tree ℕ × List (List ℕ) → Result TransitionDefinition LineFault
 with_updates a port sources targets guard = updates_in a guard.1 >>= (λ updates. Ok (record { port = port; sources = sources; targets = targets; guard = guard.0; updates = updates }))
 
-abbrev with_guard : AtomDefinition → ℕ → List ℕ → List ℕ × List (List ℕ) → Result TransitionDefinition LineFault
+abbrev pub with_guard : AtomDefinition → ℕ → List ℕ → List ℕ × List (List ℕ) → Result TransitionDefinition LineFault
 with_guard a port sources targets = guard_in a targets.1 >>= with_updates a port sources targets.0
 
-abbrev with_targets : AtomDefinition → ℕ → List ℕ × List (List ℕ) → Result TransitionDefinition LineFault
+abbrev pub with_targets : AtomDefinition → ℕ → List ℕ × List (List ℕ) → Result TransitionDefinition LineFault
 with_targets a port sources = places_behind (codes "to") a sources.1 >>= with_guard a port sources.0
 
-abbrev with_sources : AtomDefinition → List (List ℕ) → ℕ → Result TransitionDefinition LineFault
+abbrev pub with_sources : AtomDefinition → List (List ℕ) → ℕ → Result TransitionDefinition LineFault
 with_sources a words port = places_behind (codes "from") a (drop 1 words) >>= with_targets a port
 
 -- a port that is named is there

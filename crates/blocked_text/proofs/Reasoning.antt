@@ -15,7 +15,7 @@ use Rattle.connector_tree.specs.Tree.{leaves}
 use Rattle.connector_tree.specs.declared.tree.Port.{Port}
 use Rattle.priority_filter.specs.Decided.{is_below, is_overruled}
 use Rattle.priority_filter.proofs.DecidedOrder.{told_below}
-use Rattle.step_core.specs.Choice.{Interaction, is_allowed_at, is_offered_port, is_possible, is_possible_at, named, passes_guards, plant_interactions}
+use Rattle.step_core.specs.Choice.{Interaction, active_in, is_allowed_at, is_offered_port, is_possible, is_possible_at, named, passes_guards, plant_interactions}
 use Rattle.step_core.specs.Exports.{clause_applies, guards_hold, value_at}
 use Rattle.step_core.specs.Plant.{PlantDefinition, WireDefinition}
 use Rattle.blocked_text.specs.Laws.{IsRight, IsZeroClause}
@@ -56,7 +56,7 @@ module _ (plant : PlantDefinition) (states : List Local) (interactions : List In
   possible = is_possible_at plant.atoms plant.wires states interactions
 
   -- no possible interaction is above where the interaction is not overruled
-  none-over : (n : ℕ) → is_none (first_over plant states interactions n) ≡ not (is_overruled plant.rules (map named interactions) possible n)
+  none-over : (n : ℕ) → is_none (first_over plant states interactions n) ≡ not (is_overruled (active_in plant states) (map named interactions) possible n)
   unfolding is_overruled
   none-over n =
       none-passes (is_over plant states interactions n) (range_with_len 0 (length interactions)) ∙
@@ -137,12 +137,12 @@ module _ (plant : PlantDefinition) (states : List Local) where
             subst (IsRight plant states n i) (same_Some (GuardIsZero k) r is) (zero-right i k zero)
         each None idle None zero (Some m) over r is =
             let found = found-passes (is_over plant states all n) (range_with_len 0 (length all)) m over in
-            let passes = and_parts (is_possible_at plant.atoms plant.wires states all m) (is_below plant.rules (map named all) n m) found.1 in
+            let passes = and_parts (is_possible_at plant.atoms plant.wires states all m) (is_below (active_in plant states) (map named all) n m) found.1 in
             let both : (is_none (first_idle plant.atoms states i.ports) && is_none (zero_of plant.atoms plant.wires states i)) ≡ true =
             ap (λ o. is_none o && is_none (zero_of plant.atoms plant.wires states i)) idle ∙ ap is_none zero in
             subst (IsRight plant states n i) (same_Some (GivesWay m) r is) (
               possible-there plant states all n i there ∙ sym (possible-told plant.atoms plant.wires states i) ∙ both,
               passes.0,
-              (told_below plant.rules (map named all) n m).0 passes.1,
+              (told_below (active_in plant states) (map named all) n m).0 passes.1,
             )
         each None idle None zero None over r is = absurd (none-some r is)

@@ -13,7 +13,7 @@ use Rattle.connector_tree.specs.Tree as connectors
 use Rattle.connector_tree.specs.Tree.{no_child, child, leaf}
 use Rattle.priority_filter.specs.Decided.{is_below, is_overruled}
 use Rattle.priority_filter.specs.declared.rule.Rule.{Rule}
-use Rattle.priority_filter.specs.declared.rule.Rule.TheVariants.{Under}
+use Rattle.priority_filter.specs.declared.rule.Rule.TheVariants.{Under, UnderAt}
 use Rattle.priority_filter.specs.declared.rule.Side.TheVariants.{Whole, One}
 use Rattle.step_core.specs.Plant.{PlantDefinition, WireDefinition}
 use Rattle.step_core.specs.declared.wire.Export.{Export}
@@ -166,6 +166,24 @@ above = refl
 top : reason_of (ordered low_mid_high) (moving 1) 2 ≡ None
 unfolding ordered is_below is_overruled
 top = refl
+
+-- the same two sides twice: while the place of M is marked, and always
+abbrev low_high_twice : List Rule
+low_high_twice = UnderAt (Whole 0) (One 2 1) (record { atom = 1; place = 0 }) ∷ Under (Whole 0) (One 2 1) ∷ []
+
+-- the first rule that counts is told
+while_marked : blocked_text (ordered low_high_twice) (moving 1) (7 ∷ 9 ∷ []) ≡ codes "low: possible, gives way to high:1 (line 7: prio low < high:1 when M at s)\n"
+unfolding ordered digits is_below is_overruled
+while_marked = refl
+
+while_not_marked : blocked_text (ordered low_high_twice) (moving 0) (7 ∷ 9 ∷ []) ≡ codes "low: possible, gives way to high:1 (line 9: prio low < high:1)\nmid: M.t offers nothing: place s is not marked\n"
+unfolding ordered digits is_below is_overruled
+while_not_marked = refl
+
+-- where none counts nothing gives way
+no_rule_counts : reason_of (ordered (UnderAt (Whole 0) (One 2 1) (record { atom = 1; place = 0 }) ∷ [])) (moving 0) 0 ≡ None
+unfolding ordered is_below is_overruled
+no_rule_counts = refl
 
 -- ---- each reason once
 

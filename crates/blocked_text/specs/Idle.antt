@@ -1,21 +1,18 @@
 -- What is said of a port that offers nothing.
-use Rattle.std.specs.Prelude.{ℕ, ◌==◌, nat_lt, nat_eq, if◌then◌else◌, List, [], ◌∷◌, ◌++◌, codes, decimal, count_by, slice_get}
+use Rattle.std.specs.Prelude.{ℕ, ◌==◌, nat_lt, nat_eq, if◌then◌else◌, List, [], ◌∷◌, ◌++◌, codes, decimal, count_by}
 use Rattle.std.specs.Option.{option_map_or}
 use Rattle.petri_atom.specs.Definition.{AtomDefinition, TransitionDefinition, variable_name}
 use Rattle.petri_atom.specs.Local.{Local, value_in}
 use Rattle.connector_tree.specs.declared.tree.Port.{Port}
 use Rattle.step_core.specs.Plant.{of_atom}
 use Rattle.text_io.specs.Numbered.{numbered}
+use Rattle.part_text.specs.Rule.{place_name}
 use Rattle.part_text.specs.Words.{leaf_word}
 use Rattle.blocked_text.specs.Hindrance.{hindrance_of}
 use Rattle.blocked_text.specs.Separated.{separated_after}
 use Rattle.blocked_text.specs.Zero.{zero_text}
 use Rattle.blocked_text.specs.declared.hindrance.Hindrance.{Hindrance}
 use Rattle.blocked_text.specs.declared.hindrance.Hindrance.TheVariants.{Unmarked, Marked, ZeroGuard}
-
--- the name of the place with a number; empty where it is not there
-abbrev pub place_name : AtomDefinition → ℕ → List ℕ
-place_name a place = option_map_or (λ p. p.name) (slice_get a.places place) []
 
 -- why a transition of an atom is not offered
 abbrev pub hindrance_text : AtomDefinition → Local → TransitionDefinition → Hindrance → List ℕ

@@ -5,7 +5,7 @@ use Rattle.petri_atom.specs.Expression.{Tree, value_of}
 use Rattle.petri_atom.specs.Local.{Local, has, is_in, value_in}
 use Rattle.connector_tree.specs.Tree.{leaves}
 use Rattle.priority_filter.specs.Order.{IsBelow}
-use Rattle.step_core.specs.Choice.{Interaction, is_offered_port, is_possible_at, named, plant_interactions}
+use Rattle.step_core.specs.Choice.{Interaction, active_in, is_offered_port, is_possible_at, named, plant_interactions}
 use Rattle.step_core.specs.Exports.{clause_applies, value_at}
 use Rattle.step_core.specs.Plant.{PlantDefinition, WireDefinition}
 use Rattle.step_core.specs.declared.wire.Export.{Export}
@@ -30,7 +30,7 @@ IsRight plant states n i (GuardIsZero k) = IsZeroClause plant states i k
 IsRight plant states n i (GivesWay m) =
     (is_possible_at plant.atoms plant.wires states (plant_interactions plant) n ≡ true) ×
     (is_possible_at plant.atoms plant.wires states (plant_interactions plant) m ≡ true) ×
-    IsBelow plant.rules (map named (plant_interactions plant)) n m
+    IsBelow (active_in plant states) (map named (plant_interactions plant)) n m
 
 -- a hindrance of a transition is right: the place is a source that is not marked, or is a target and no source, and is marked; or the guard is 0
 abbrev pub IsHindering : Local → TransitionDefinition → Hindrance → Type 0

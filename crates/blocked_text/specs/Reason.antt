@@ -8,7 +8,8 @@ use Rattle.petri_atom.specs.Local.{Local}
 use Rattle.connector_tree.specs.Tree.{leaves}
 use Rattle.connector_tree.specs.declared.tree.Port.{Port}
 use Rattle.priority_filter.specs.Decided.{is_below}
-use Rattle.step_core.specs.Choice.{Interaction, is_offered_port, is_possible_at, named, plant_interactions}
+use Rattle.priority_filter.specs.declared.rule.Rule.{Rule}
+use Rattle.step_core.specs.Choice.{Interaction, active_in, is_offered_port, is_possible_at, named, plant_interactions}
 use Rattle.step_core.specs.Exports.{clause_applies, value_at}
 use Rattle.step_core.specs.Plant.{PlantDefinition, WireDefinition}
 use Rattle.step_core.specs.declared.wire.Export.{Export}
@@ -33,14 +34,21 @@ abbrev pub zero_of : List AtomDefinition → List WireDefinition → List Local 
 zero_of atoms wires states i =
     option_map_or (λ w. first_zero atoms states (leaves w.connector) i.mask w.guards) (slice_get wires i.connector) None
 
--- the interaction with number m is possible, and above the one with number n
-abbrev pub is_over : PlantDefinition → List Local → List Interaction → ℕ → ℕ → Bool
-is_over plant states interactions n m =
-    is_possible_at plant.atoms plant.wires states interactions m && is_below plant.rules (map named interactions) n m
+-- the interaction with number m is possible, and above the one with number n by some rules
+abbrev pub is_over_by : List Rule → PlantDefinition → List Local → List Interaction → ℕ → ℕ → Bool
+is_over_by rules plant states interactions n m =
+    is_possible_at plant.atoms plant.wires states interactions m && is_below rules (map named interactions) n m
 
--- the first possible interaction that is above the one with number n
+-- the same by the rules that count
+abbrev pub is_over : PlantDefinition → List Local → List Interaction → ℕ → ℕ → Bool
+is_over plant states interactions n m = is_over_by (active_in plant states) plant states interactions n m
+
+-- the first possible interaction that is above the one with number n, by some rules and by those that count
+abbrev pub first_over_by : List Rule → PlantDefinition → List Local → List Interaction → ℕ → Option ℕ
+first_over_by rules plant states interactions n = find (is_over_by rules plant states interactions n) (range_with_len 0 (length interactions))
+
 abbrev pub first_over : PlantDefinition → List Local → List Interaction → ℕ → Option ℕ
-first_over plant states interactions n = find (is_over plant states interactions n) (range_with_len 0 (length interactions))
+first_over plant states interactions n = first_over_by (active_in plant states) plant states interactions n
 
 -- the first that holds of these: a port is not offered, a guard clause that applies is 0, a possible interaction is above
 abbrev pub reason_by : PlantDefinition → List Local → List Interaction → ℕ → Interaction → Option Reason

@@ -26,4 +26,4 @@ reason_text plant states interactions lines i (NotOffered port) = port_text plan
 reason_text plant states interactions lines i (GuardIsZero k) =
     option_map_or (λ w. clause_text plant.atoms states w k) (slice_get plant.wires i.connector) []
 reason_text plant states interactions lines i (GivesWay m) =
-    option_map_or (way_text plant interactions lines i) (slice_get interactions m) []
+    option_map_or (way_text plant states interactions lines i) (slice_get interactions m) []

@@ -8,13 +8,14 @@ ghost use Rattle.petri_atom.specs.Definition.{is_small_transition};
 ghost use Rattle.petri_atom.specs.Transition.{transition_of};
 ghost use Rattle.step_core.specs.Plant.{of_atom};
 ghost use Rattle.step_core.specs.System.{plant_of};
-ghost use Rattle.blocked_text.specs.Idle.{hindered_text, hindered_word, hindered_words, hindrance_text, idle_by, idle_text, number_text, place_name, port_text, transition_count};
+ghost use Rattle.blocked_text.specs.Idle.{hindered_text, hindered_word, hindered_words, hindrance_text, idle_by, idle_text, number_text, port_text, transition_count};
+ghost use Rattle.part_text.specs.Rule.{place_name};
 ghost use Rattle.blocked_text.specs.Separated.{after_words, separated_after};
 
 use crate::hindrance::{Hindrance, hindrance_of};
 use crate::zero::print_zero;
 use connector_tree::Port;
-use part_text::{Variables, print_port};
+use part_text::{Variables, place_name, print_port};
 use petri_atom::{Atom, AtomState, Transition};
 use std::io::Write;
 use step_core::{PlantState, System};
@@ -233,16 +234,6 @@ fn print_place<W: Write>(
         (codes "place " ++ place_name (definition_of atom.now) place ++ said.now)) }
 {
     print_text(output, b"place ")?;
-    print_text(output, place_name(atom, place))?;
+    print_text(output, place_name(atom, u16::from(place)))?;
     print_text(output, said)
-}
-
-/// The name of the place with this number; empty where it is not there.
-fn place_name(atom: &Atom, place: u8) -> &[u8]
-    ensures { result.now ≡ place_name (definition_of atom.now) place }
-{
-    match atom.places().get(usize::from(place)) {
-        Some(place) => place.name.as_bytes(),
-        None => &[],
-    }
 }

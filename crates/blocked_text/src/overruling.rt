@@ -1,15 +1,17 @@
 //! Which possible interactions are above one.
 ghost use Rattle.std.specs.Prelude.{◌≡◌, length};
+ghost use Rattle.priority_filter.specs.Active.{active, may_be_marked};
 ghost use Rattle.step_core.specs.Choice.{is_possible, is_possible_at, plant_interactions};
 ghost use Rattle.step_core.specs.Interaction.{interaction_of};
 
 use crate::offering::first_idle;
 use crate::reasons::Reasons;
+use priority_filter::{SEEN_ATOMS, Seen};
 use step_core::{Interaction, PlantState};
 
 impl Reasons<'_> {
     ghost use Rattle.blocked_text.specs.Asked.{plant_asked};
-    ghost use Rattle.blocked_text.specs.Reason.{first_over, is_over};
+    ghost use Rattle.blocked_text.specs.Reason.{first_over, first_over_by, is_over_by};
 
     /// How many interactions the plant has.
     pub(crate) fn count(&self) -> u16
@@ -23,14 +25,34 @@ impl Reasons<'_> {
     pub(crate) fn first_over(&self, states: &PlantState, number: u16) -> Option<u16>
         ensures { result ≡ first_over (plant_asked self.now) states.now (plant_interactions (plant_asked self.now)) number }
     {
-        (0..self.count()).find(|other| self.is_over(states, number, *other))
+        self.system.keeps_its_rules();
+        self.first_over_by(states, &states.seen(), number)
     }
 
-    /// Whether the other interaction is possible, and above the one with this number. The order is asked first: that costs less.
-    fn is_over(&self, states: &PlantState, number: u16, other: u16) -> bool
-        ensures { result ≡ is_over (plant_asked self.now) states.now (plant_interactions (plant_asked self.now)) number other }
+    /// The same by the rules that count as far as is seen.
+    fn first_over_by(
+        &self,
+        states: &PlantState,
+        seen: &[Seen; SEEN_ATOMS],
+        number: u16,
+    ) -> Option<u16>
+        ensures { result ≡ first_over_by (active (may_be_marked seen.now) (plant_asked self.now).rules) (plant_asked self.now) states.now (plant_interactions (plant_asked self.now)) number }
     {
-        self.order.below(number, other) && self.is_possible_at(states, other)
+        (0..self.count()).find(|other| self.is_over(states, seen, number, *other))
+    }
+
+    /// Whether the other interaction is possible, and above the one with this number by the rules that count as far as is seen. The
+    /// order is asked first: that costs less.
+    fn is_over(
+        &self,
+        states: &PlantState,
+        seen: &[Seen; SEEN_ATOMS],
+        number: u16,
+        other: u16,
+    ) -> bool
+        ensures { result ≡ is_over_by (active (may_be_marked seen.now) (plant_asked self.now).rules) (plant_asked self.now) states.now (plant_interactions (plant_asked self.now)) number other }
+    {
+        self.order.below_at(number, other, seen) && self.is_possible_at(states, other)
     }
 
     /// Whether the interaction with this number is there and possible.

@@ -1,15 +1,33 @@
-//! What one priority rule puts below what. An interaction is a connector and a mask.
+//! Whether one priority rule counts, and what it puts below what. An interaction is a connector and a mask.
 ghost use Rattle.std.specs.Prelude.{◌≡◌};
 ghost use Rattle.priority_filter.specs.Decided.{is_on, is_proper_subset, puts};
+ghost use Rattle.priority_filter.specs.Active.{is_active};
+ghost use Rattle.step_core.specs.Choice.{is_marked_at};
 ghost use Rattle.blocked_text.specs.Way.{first_rule};
 
 use priority_filter::{Rule, Side};
+use step_core::PlantState;
 
-/// The number of the first rule that puts the lower interaction below the higher.
-pub(crate) fn first_rule(rules: &[Rule], lower: (u16, u16), higher: (u16, u16)) -> Option<usize>
-    ensures { result ≡ first_rule rules.now lower higher }
+/// The number of the first rule that counts in the states and puts the lower interaction below the higher.
+pub(crate) fn first_rule(
+    rules: &[Rule],
+    states: &PlantState,
+    lower: (u16, u16),
+    higher: (u16, u16),
+) -> Option<usize>
+    ensures { result ≡ first_rule (is_marked_at states.now) rules.now lower higher }
 {
-    rules.iter().position(|rule| puts(*rule, lower, higher))
+    rules.iter().position(|rule| is_active(*rule, states) && puts(*rule, lower, higher))
+}
+
+/// Whether the rule counts in the states: it has no condition, or its place is marked.
+fn is_active(rule: Rule, states: &PlantState) -> bool
+    ensures { result ≡ is_active (is_marked_at states.now) rule }
+{
+    match rule {
+        Rule::UnderAt(_, _, at) => states.is_marked(at),
+        Rule::Under(_, _) | Rule::Maximal(_) => true,
+    }
 }
 
 /// Whether the rule puts the lower interaction below the higher.
@@ -17,7 +35,9 @@ fn puts(rule: Rule, lower: (u16, u16), higher: (u16, u16)) -> bool
     ensures { result ≡ puts rule lower higher }
 {
     match rule {
-        Rule::Under(left, right) => is_on(left, lower) && is_on(right, higher),
+        Rule::Under(left, right) | Rule::UnderAt(left, right, _) => {
+            is_on(left, lower) && is_on(right, higher)
+        }
         Rule::Maximal(connector) => {
             lower.0 == connector && (higher.0 == connector && is_proper_subset(lower.1, higher.1))
         }

@@ -39,23 +39,24 @@ pub(crate) fn print_reason<W: Write>(
         Reason::GuardIsZero(clause) => {
             print_clause(system, states, interaction.connector, clause, output)
         }
-        Reason::GivesWay(above) => print_way_to(system, lines, interaction, above, output),
+        Reason::GivesWay(above) => print_way_to(system, states, lines, interaction, above, output),
     }
 }
 
 /// Prints that the interaction gives way to the one with this number; nothing where that one is not there.
 fn print_way_to<W: Write>(
     system: &System,
+    states: &PlantState,
     lines: &[u32],
     interaction: &Interaction,
     above: u16,
     output: &mut W,
 ) -> Result<(), WriteFault>
     ensures { OnOk result (Appends (W.contents output.old) (W.contents output.new)
-        (option_map_or (way_text (plant_of system.now) (plant_interactions (plant_of system.now)) lines.now (interaction_of interaction.now)) (slice_get (plant_interactions (plant_of system.now)) above) [])) }
+        (option_map_or (way_text (plant_of system.now) states.now (plant_interactions (plant_of system.now)) lines.now (interaction_of interaction.now)) (slice_get (plant_interactions (plant_of system.now)) above) [])) }
 {
     match system.interactions().get(usize::from(above)) {
-        Some(higher) => print_way(system, lines, interaction, higher, output),
+        Some(higher) => print_way(system, states, lines, interaction, higher, output),
         None => Ok(()),
     }
 }

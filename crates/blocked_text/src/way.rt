@@ -11,24 +11,25 @@ use crate::rules::first_rule;
 use part_text::print_rule;
 use priority_filter::Rule;
 use std::io::Write;
-use step_core::{Interaction, System};
+use step_core::{Interaction, PlantState, System};
 use text_io::{WriteFault, print_number, print_text};
 
 /// Prints that the lower interaction is possible and gives way to the higher, and which rule puts it below; `lines` are those of the
 /// rules.
 pub(crate) fn print_way<W: Write>(
     system: &System,
+    states: &PlantState,
     lines: &[u32],
     lower: &Interaction,
     higher: &Interaction,
     output: &mut W,
 ) -> Result<(), WriteFault>
     ensures { OnOk result (Appends (W.contents output.old) (W.contents output.new)
-        (way_text (plant_of system.now) (plant_interactions (plant_of system.now)) lines.now (interaction_of lower.now) (interaction_of higher.now))) }
+        (way_text (plant_of system.now) states.now (plant_interactions (plant_of system.now)) lines.now (interaction_of lower.now) (interaction_of higher.now))) }
 {
     print_text(output, b"possible, gives way to ")?;
     print_interaction(system, higher, output)?;
-    print_by(system, lines, lower, higher, output)
+    print_by(system, states, lines, lower, higher, output)
 }
 
 /// Prints an interaction by its connector's name, and by its mask too where the connector has more than one interaction.
@@ -68,19 +69,21 @@ fn has_several(interactions: &[Interaction], connector: u16) -> bool
         > 1
 }
 
-/// Prints the rule that puts the lower interaction below the higher, or that a chain of rules does.
+/// Prints the first rule that counts and puts the lower interaction below the higher, or that a chain of rules does.
 fn print_by<W: Write>(
     system: &System,
+    states: &PlantState,
     lines: &[u32],
     lower: &Interaction,
     higher: &Interaction,
     output: &mut W,
 ) -> Result<(), WriteFault>
     ensures { OnOk result (Appends (W.contents output.old) (W.contents output.new)
-        (by_text (plant_of system.now) lines.now (interaction_of lower.now) (interaction_of higher.now))) }
+        (by_text (plant_of system.now) states.now lines.now (interaction_of lower.now) (interaction_of higher.now))) }
 {
     let rule = first_rule(
         system.rules(),
+        states,
         (lower.connector, lower.mask),
         (higher.connector, higher.mask),
     );

@@ -12,3 +12,4 @@ pub mod WantingLines
 pub mod NamedExports
 mod WireRows
 mod RuleRows
+pub mod Legal

@@ -6,5 +6,6 @@ pub mod Rows
 pub mod Parts
 pub mod Draft
 pub mod Sides
+pub mod Conditions
 pub mod Rules
 pub mod TreeWordsFaults

@@ -1,7 +1,7 @@
 //! The lines of a plant text that describe one connector, and those that write a priority rule.
 //!
 //! A layer above cuts a line into words, knows by its first word which kind of line it is, and hands on the words behind it. It
-//! tells by a trait what there is to be named: [`Ports`], [`Exports`] and [`Connectors`].
+//! tells by a trait what there is to be named: [`Ports`], [`Exports`], [`Connectors`] and [`Places`].
 //!
 //! | Line | Says | Read by |
 //! |---|---|---|
@@ -9,6 +9,7 @@
 //! | `guard EXPR` | a guard clause of it; one that names no variable always applies | [`WireDraft::add_guard`] |
 //! | `move ATOM.VAR := EXPR` | a transfer of it, to a variable that is no target of the connector yet | [`WireDraft::add_transfer`] |
 //! | `prio SIDE < SIDE` | each interaction of the left side is below each of the right side | [`read_priority`] |
+//! | .. then `when ATOM at PLACE` | the rule counts only while this place of the atom is marked | [`read_priority`] |
 //! | `maximal NAME` | each interaction of the connector is below those that have all its leaves and more | [`read_maximal`] |
 //!
 //! What a line says, or which fault it has, is one definition for each kind, on its words: `tree_in` (`specs/Trees.antt`),
@@ -60,18 +61,24 @@
 //! Within `NAME:MASK` the name is at fault before the mask. A word that is not written `NAME:MASK`, as one with two colons, is
 //! looked up whole, and so is the word behind `maximal`: with a colon in it, it names nothing, since no connector's name has one.
 //!
+//! A condition names an atom, and a place of that atom: a place that another atom alone has is an unknown name. Which atoms
+//! there are, and which places they have, the layer above tells by [`Places`].
+//!
 //! # Modules
 //!
 //! - `token`: what one word of a tree says, and which ports there are. `tree`: the words of a line as a connector.
 //! - `shape`: the faults of a tree, as its tokens are read, without memory. `tree_words_fault`: why words are no tree.
 //! - `draft`: the connector so far, and its lines. `exports`: which variable a word names. `parts`: a guard clause, a transfer.
-//! - `connectors`: what rules may name. `side`: one side of a rule. `rule`: the lines of rules.
+//! - `connectors`: what rules may name, `places`: what their conditions may. `side`: one side of a rule. `condition`: what a rule asks for
+//!   where it does not count always. `rule`: the lines of rules.
 #![tactic(auto)]
 
+mod condition;
 mod connectors;
 mod draft;
 mod exports;
 mod parts;
+mod places;
 mod rule;
 mod shape;
 mod side;
@@ -82,6 +89,7 @@ mod tree_words_fault;
 pub use connectors::Connectors;
 pub use draft::WireDraft;
 pub use exports::Exports;
+pub use places::Places;
 pub use rule::{read_maximal, read_priority};
 pub use token::Ports;
 pub use tree::read_tree;

@@ -1,25 +1,45 @@
 //! The lines that write a rule, by the words behind their first.
 ghost use Rattle.std.specs.Prelude.{◌≡◌};
+ghost use Rattle.connector_lines.specs.Conditions.{rule_behind};
 ghost use Rattle.connector_lines.specs.Rules.{priority_in, maximal_in};
 
+use crate::condition::read_condition;
 use crate::connectors::Connectors;
+use crate::places::Places;
 use crate::side::read_side;
 use plant_words::reading::{end, next_keyword, next_word};
 use plant_words::{LineFault, Words};
-use priority_filter::Rule;
+use priority_filter::{Rule, Side};
 
-/// `prio SIDE < SIDE`: each interaction of the left side is below each of the right side. Which words stay is not said.
-pub fn read_priority<C: Connectors>(
+/// `prio SIDE < SIDE`, and behind it `when ATOM at PLACE` or nothing: each interaction of the left side is below each of the right
+/// side, while the place is marked or always. Which words stay is not said.
+pub fn read_priority<C: Connectors, P: Places>(
     words: &mut Words<'_>,
     connectors: &C,
+    places: &P,
 ) -> Result<Rule, LineFault>
-    ensures { result ≡ priority_in (C.connector_named connectors.now) (C.has_interaction connectors.now) words.old }
+    ensures { result ≡ priority_in (C.connector_named connectors.now) (C.has_interaction connectors.now) (P.atom_named places.now) (P.place_named places.now) words.old }
 {
     let left = read_side(words, connectors)?;
     next_keyword(words, b"<")?;
     let right = read_side(words, connectors)?;
-    end(words)?;
-    Ok(Rule::Under(left, right))
+    read_behind(left, right, words, places)
+}
+
+/// The rule of two sides that ends with these words.
+fn read_behind<P: Places>(
+    left: Side,
+    right: Side,
+    words: &mut Words<'_>,
+    places: &P,
+) -> Result<Rule, LineFault>
+    ensures { result ≡ rule_behind (P.atom_named places.now) (P.place_named places.now) left right words.old }
+{
+    if words.peek().is_none() {
+        return Ok(Rule::Under(left, right));
+    }
+    let at = read_condition(words, places)?;
+    Ok(Rule::UnderAt(left, right, at))
 }
 
 /// `maximal NAME`: each interaction of the connector is below each other one of it that has all its leaves. Which words

@@ -10,12 +10,12 @@ use Rattle.connector_tree.specs.Tree as connectors
 use Rattle.connector_tree.specs.Tokens.{tokens_of}
 use Rattle.connector_tree.specs.declared.tree.Port.{Port}
 use Rattle.priority_filter.specs.declared.rule.Side.TheVariants.{Whole, One}
-use Rattle.priority_filter.specs.declared.rule.Rule.TheVariants.{Under, Maximal}
+use Rattle.priority_filter.specs.declared.rule.Rule.TheVariants.{Under, UnderAt, Maximal}
 use Rattle.step_core.specs.Plant.{PlantDefinition}
 use Rattle.part_text.specs.Expression.{expression_text, is_one}
 use Rattle.part_text.specs.Export.{export_name}
 use Rattle.part_text.specs.Words.{leaf_word, spaced_word}
-use Rattle.part_text.specs.Rule.{rule_text, sides_text}
+use Rattle.part_text.specs.Rule.{condition_text, rule_text, sides_text}
 
 -- variables n and m
 abbrev variables : List Variable
@@ -87,11 +87,21 @@ tree_with_a_bracket : flat_map (spaced_word (sample ∷ exporter ∷ [])) (token
 unfolding sample exporter
 tree_with_a_bracket = refl
 
+-- an atom with two places
+abbrev switch : AtomDefinition
+switch = record {
+  name = codes "S";
+  places = record { name = codes "on"; marked = true } ∷ record { name = codes "off"; marked = false } ∷ [];
+  variables = [];
+  ports = [];
+  transitions = [];
+}
+
 -- rules between the connectors low and high
 module _ (connector : connectors.Tree) where
   abbrev plant : PlantDefinition
   plant = record {
-    atoms = [];
+    atoms = switch ∷ [];
     wires = record { name = codes "low"; connector = connector; guards = []; transfers = [] } ∷ record { name = codes "high"; connector = connector; guards = []; transfers = [] } ∷ [];
     rules = [];
   }
@@ -103,6 +113,14 @@ module _ (connector : connectors.Tree) where
   priority : rule_text plant (Under (One 1 3) (Whole 0)) ≡ codes "prio high:3 < low"
   unfolding digits
   priority = refl
+
+  -- while place 1 of atom 0 is marked; what is not there has no name
+  conditional : rule_text plant (UnderAt (One 1 3) (Whole 0) (record { atom = 0; place = 1 })) ≡ codes "prio high:3 < low when S at off"
+  unfolding digits
+  conditional = refl
+
+  condition_of_nothing : condition_text plant (record { atom = 1; place = 0 }) ≡ codes " when  at "
+  condition_of_nothing = refl
 
   maximal : rule_text plant (Maximal 1) ≡ codes "maximal high"
   maximal = refl

@@ -11,8 +11,9 @@
 //! | a variable that a connector's leaf exports | the names of its atom and its own: `A.n` | [`Exports`] |
 //! | a connector's tree | its words, with a space before each: ` A.t' [ B.u C.v ]'` | [`print_words`] |
 //! | a port | the names of its atom and its own: `A.t` | [`print_port`] |
-//! | a priority rule | `prio LEFT < RIGHT` or `maximal NAME` | [`print_rule`] |
+//! | a priority rule | `prio LEFT < RIGHT`, or with ` when ATOM at PLACE` behind it, or `maximal NAME` | [`print_rule`] |
 //! | its two sides | `LEFT < RIGHT`, each `NAME` or `NAME:MASK` | [`print_sides`] |
+//! | its condition | ` when ATOM at PLACE` | [`print_condition`] |
 //!
 //! What is not there (an atom, a leaf, a connector) has no name: nothing is printed in its place.
 //!
@@ -34,5 +35,5 @@ mod words;
 pub use expression::{is_one, operator_word, print_expression};
 pub use leaf::leaf_at;
 pub use names::{Exports, Names, Variables};
-pub use rule::{print_rule, print_sides};
+pub use rule::{place_name, print_condition, print_rule, print_sides};
 pub use words::{port_length, print_port, print_words};

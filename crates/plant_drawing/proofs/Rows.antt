@@ -9,7 +9,7 @@ use Rattle.petri_atom.specs.declared.parts.Variable.{Variable}
 use Rattle.connector_tree.specs.Tree as connectors
 use Rattle.connector_tree.specs.declared.tree.Port.{Port}
 use Rattle.priority_filter.specs.declared.rule.Side.TheVariants.{Whole, One}
-use Rattle.priority_filter.specs.declared.rule.Rule.TheVariants.{Under, Maximal}
+use Rattle.priority_filter.specs.declared.rule.Rule.TheVariants.{Under, UnderAt, Maximal}
 use Rattle.step_core.specs.Plant.{PlantDefinition, WireDefinition}
 use Rattle.step_core.specs.Choice.{ChoiceDefinition}
 use Rattle.plant_drawing.specs.declared.filling.Filling.TheVariants.{Alike}
@@ -177,6 +177,12 @@ whole_sides = refl
 sides_by_masks : rule_line plant (Under (One 1 3) (One 1 255)) ≡ codes "  connector_1 -> connector_1 [style=dashed, color=firebrick, fontcolor=firebrick, label=\" high:3 < high:255 \"];\n"
 unfolding digits
 sides_by_masks = refl
+
+-- while place 0 of atom 0 is marked
+while_marked : rule_line (record plant { atoms = record { name = codes "S"; places = record { name = codes "on"; marked = true } ∷ []; variables = []; ports = []; transitions = [] } ∷ [] }) (UnderAt (Whole 0) (Whole 1) (record { atom = 0; place = 0 }))
+    ≡ codes "  connector_0 -> connector_1 [style=dashed, color=firebrick, fontcolor=firebrick, label=\" low < high when S at on \"];\n"
+unfolding digits
+while_marked = refl
 
 maximal : rule_line plant (Maximal 1) ≡ codes "  connector_1 -> connector_1 [style=dashed, color=firebrick, fontcolor=firebrick, label=\" maximal \"];\n"
 unfolding digits

@@ -8,7 +8,7 @@ use Rattle.connector_tree.specs.declared.tree.Port.{Port}
 use Rattle.priority_filter.specs.declared.rule.Side.{Side}
 use Rattle.priority_filter.specs.declared.rule.Side.TheVariants.{Whole, One}
 use Rattle.priority_filter.specs.declared.rule.Rule.{Rule}
-use Rattle.priority_filter.specs.declared.rule.Rule.TheVariants.{Under, Maximal}
+use Rattle.priority_filter.specs.declared.rule.Rule.TheVariants.{Under, UnderAt, Maximal}
 use Rattle.step_core.specs.Plant.{PlantDefinition, WireDefinition}
 use Rattle.step_core.specs.Choice.{ChoiceDefinition, choices}
 use Rattle.plant_drawing.specs.declared.filling.Filling.{Filling}
@@ -34,6 +34,8 @@ side_connector (One connector mask) = connector
 -- a priority rule is drawn where the connectors that it names are
 abbrev pub is_drawn_rule : ℕ → PlantDefinition → Rule → Bool
 is_drawn_rule drawn plant (Under left right) =
+    is_drawn_at drawn plant (side_connector left) && is_drawn_at drawn plant (side_connector right)
+is_drawn_rule drawn plant (UnderAt left right at) =
     is_drawn_at drawn plant (side_connector left) && is_drawn_at drawn plant (side_connector right)
 is_drawn_rule drawn plant (Maximal connector) = is_drawn_at drawn plant connector
 

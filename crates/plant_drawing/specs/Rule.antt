@@ -1,9 +1,9 @@
 -- A priority rule as a dashed edge between connectors, from the lower to the higher.
 use Rattle.std.specs.Prelude.{ℕ, if◌then◌else◌, List, [], ◌++◌, codes}
 use Rattle.priority_filter.specs.declared.rule.Rule.{Rule}
-use Rattle.priority_filter.specs.declared.rule.Rule.TheVariants.{Under, Maximal}
+use Rattle.priority_filter.specs.declared.rule.Rule.TheVariants.{Under, UnderAt, Maximal}
 use Rattle.step_core.specs.Plant.{PlantDefinition}
-use Rattle.part_text.specs.Rule.{sides_text}
+use Rattle.part_text.specs.Rule.{condition_text, sides_text}
 use Rattle.plant_drawing.specs.Drawn.{is_drawn_rule, side_connector}
 use Rattle.plant_drawing.specs.Node.{connector_node}
 
@@ -24,6 +24,9 @@ abbrev pub rule_line : PlantDefinition → Rule → List ℕ
 rule_line plant (Under left right) =
     arrow (side_connector left) (side_connector right) ++ rule_style ++
     sides_text plant left right ++ codes " \"];\n"
+rule_line plant (UnderAt left right at) =
+    arrow (side_connector left) (side_connector right) ++ rule_style ++
+    sides_text plant left right ++ condition_text plant at ++ codes " \"];\n"
 rule_line plant (Maximal connector) = maximal_line connector
 
 -- the same where the rule is drawn; nothing of another

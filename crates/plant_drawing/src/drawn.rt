@@ -67,7 +67,7 @@ pub(crate) fn is_drawn_rule(drawn: u64, system: &System, rule: Rule) -> bool
     ensures { result ≡ is_drawn_rule drawn (plant_of system.now) rule }
 {
     match rule {
-        Rule::Under(left, right) => {
+        Rule::Under(left, right) | Rule::UnderAt(left, right, _) => {
             is_drawn_at(drawn, system, side_connector(left))
                 && is_drawn_at(drawn, system, side_connector(right))
         }

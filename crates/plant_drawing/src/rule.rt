@@ -2,14 +2,14 @@
 ghost use Rattle.std.specs.Prelude.{OnOk, flat_map};
 ghost use Rattle.std.specs.Io.KnownBytes.{Appends};
 ghost use Rattle.step_core.specs.System.{plant_of};
-ghost use Rattle.priority_filter.specs.declared.rule.Rule.TheVariants.{Under};
+ghost use Rattle.priority_filter.specs.declared.rule.Rule.TheVariants.{Under, UnderAt};
 ghost use Rattle.plant_drawing.specs.Drawn.{side_connector};
 ghost use Rattle.plant_drawing.specs.Rule.{arrow, drawn_rule, maximal_line, rule_line, rule_style};
 
 use crate::drawn::{is_drawn_rule, side_connector};
 use crate::node::print_connector;
-use part_text::print_sides;
-use priority_filter::{Rule, Side};
+use part_text::{print_condition, print_sides};
+use priority_filter::{At, Rule, Side};
 use std::io::Write;
 use step_core::System;
 use text_io::{WriteFault, print_text};
@@ -69,6 +69,7 @@ fn print_rule<W: Write>(system: &System, rule: Rule, output: &mut W) -> Result<(
 {
     match rule {
         Rule::Under(left, right) => print_under(system, left, right, output),
+        Rule::UnderAt(left, right, at) => print_under_at(system, left, right, at, output),
         Rule::Maximal(connector) => print_maximal(u64::from(connector), output),
     }
 }
@@ -86,6 +87,24 @@ fn print_under<W: Write>(
     print_between(left, right, output)?;
     print_style(output)?;
     print_sides(system, left, right, output)?;
+    print_text(output, b" \"];\n")
+}
+
+/// The same with the rule's condition.
+fn print_under_at<W: Write>(
+    system: &System,
+    left: Side,
+    right: Side,
+    at: At,
+    output: &mut W,
+) -> Result<(), WriteFault>
+    ensures { OnOk result (Appends (W.contents output.old) (W.contents output.new)
+        (rule_line (plant_of system.now) (UnderAt left right at))) }
+{
+    print_between(left, right, output)?;
+    print_style(output)?;
+    print_sides(system, left, right, output)?;
+    print_condition(system, at, output)?;
     print_text(output, b" \"];\n")
 }
 

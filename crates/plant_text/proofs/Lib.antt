@@ -4,6 +4,7 @@ pub mod Numbered
 pub mod SoundLists
 pub mod SoundAtoms
 pub mod SoundWires
+pub mod SoundRules
 pub mod SoundLines
 pub mod Sound
 mod Rows
@@ -18,3 +19,4 @@ pub mod Exits
 pub mod Deciding
 pub mod Listing
 pub mod Meant
+pub mod Legal

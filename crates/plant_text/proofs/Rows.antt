@@ -6,7 +6,7 @@ use Rattle.petri_atom.specs.Expression.{number, variable}
 use Rattle.connector_tree.specs.declared.faults.TreeFault.TheVariants.{SameAtom}
 use Rattle.priority_filter.specs.Decided.{order_fault, is_below}
 use Rattle.priority_filter.specs.declared.fault.OrderFault.TheVariants.{Cycle}
-use Rattle.priority_filter.specs.declared.rule.Rule.TheVariants.{Under, Maximal}
+use Rattle.priority_filter.specs.declared.rule.Rule.TheVariants.{Under, UnderAt, Maximal}
 use Rattle.priority_filter.specs.declared.rule.Side.TheVariants.{Whole, One}
 use Rattle.connector_tree.specs.declared.token.Token.TheVariants.{Leaf}
 use Rattle.plant_text.specs.Text.{WireText, PlantText}
@@ -167,6 +167,19 @@ a_priority = refl
 a_maximal_connector : line_row (codes "maximal two") (record sample { rules = Maximal 0 ∷ [] }) ≡ Ok (record sample { rules = Maximal 0 ∷ Maximal 1 ∷ [] })
 a_maximal_connector = refl
 
+a_priority_with_a_condition : line_row (codes "prio one < two:3 when B at s") sample ≡ Ok (record sample { rules = UnderAt (Whole 0) (One 1 3) (record { atom = 1; place = 0 }) ∷ [] })
+a_priority_with_a_condition = refl
+
+a_condition_of_an_unknown_atom : line_row (codes "prio one < two when C at s") sample ≡ Err UnknownName
+a_condition_of_an_unknown_atom = refl
+
+-- B has the place p, and A has not
+a_condition_of_a_place_of_another_atom : lines_row 1 (codes "place p" ∷ codes "prio one < two when A at p" ∷ []) sample ≡ Err (at 2 UnknownName)
+a_condition_of_a_place_of_another_atom = refl
+
+a_place_before_its_condition : lines_row 1 (codes "prio one < two when B at p" ∷ codes "place p" ∷ []) sample ≡ Err (at 1 UnknownName)
+a_place_before_its_condition = refl
+
 a_priority_of_no_interaction : line_row (codes "prio one:2 < two") sample ≡ Err UnknownName
 a_priority_of_no_interaction = refl
 
@@ -188,6 +201,13 @@ rules_with_an_order = refl
 rules_with_a_cycle : with_an_order (record sample { rules = Under (Whole 1) (One 1 3) ∷ [] }) ≡ Err (of_no_line (Order (Cycle 3)))
 unfolding order_fault is_below
 rules_with_a_cycle = refl
+
+-- though the two never count together
+conditional_rules_with_a_cycle : with_an_order (record sample {
+  rules = UnderAt (Whole 0) (Whole 1) (record { atom = 0; place = 0 }) ∷ UnderAt (Whole 1) (Whole 0) (record { atom = 1; place = 0 }) ∷ [];
+}) ≡ Err (of_no_line (Order (Cycle 0)))
+unfolding order_fault is_below
+conditional_rules_with_a_cycle = refl
 
 an_empty_text : meaning [] ≡ Err (of_no_line NoAtom)
 an_empty_text = refl

@@ -59,7 +59,7 @@ module _ (plant : PlantDefinition) (sound : SoundText (text_of plant)) where
       let small : list_all is_small_wire plant.wires ≡ true =
       each_passes Holds is_small_wire (λ before w holds. and_from _ _ holds.sound.guards.small holds.sound.transfers.small) [] plant.wires each in
       and_from _ _ (and_from _ _ (and_from _ _ (and_from _ _ (lt-ltb 0 (length plant.atoms) some) (le-leb (length plant.atoms) MAX_ATOMS sound.few_atoms))
-      (le-leb (length plant.wires) MAX_WIRES few_wires)) (le-leb (length plant.rules) MAX_RULES sound.few_rules)) small
+      (le-leb (length plant.wires) MAX_WIRES few_wires)) (and_from _ _ (le-leb (length plant.rules) MAX_RULES sound.few_rules) sound.conditions)) small
 
   early_sound : 0 < length plant.atoms → early_fault plant ≡ None
   early_sound some =

@@ -1,4 +1,4 @@
--- The ports and the exported variables that lines name are there, and stay there with each further line.
+-- The ports, the exported variables and the places that lines name are there, and stay there with each further line.
 use Rattle.std.proofs.Common.{◌≡◌, ◌∙◌, refl, sym, ap, subst, ℕ, zero, suc, ◌+◌, ◌<◌, arith, Bool, true, false, List, [], ◌∷◌, ◌++◌, length, Option, Some, None}
 use Rattle.std.specs.Prelude.{nat_lt, slice_get, option_map}
 use Rattle.std.specs.Option.{option_and_then, option_map_or}
@@ -8,15 +8,18 @@ use Rattle.petri_atom.specs.Definition.{AtomDefinition, PortDefinition, exports_
 use Rattle.petri_atom.specs.Expression.{Tree, number, variable, negation, operation, all_variables}
 use Rattle.petri_atom.specs.Name.{is_same_text}
 use Rattle.connector_tree.specs.declared.tree.Port.{Port}
-use Rattle.step_core.specs.Rules.{is_known_port, is_exported, is_known_export}
+use Rattle.priority_filter.specs.declared.rule.Rule.{Rule}
+use Rattle.priority_filter.specs.declared.rule.Rule.TheVariants.{Under, UnderAt, Maximal}
+use Rattle.priority_filter.specs.declared.seen.At.{At}
+use Rattle.step_core.specs.Rules.{is_known_port, is_exported, is_known_export, is_known_place, is_known_condition}
 use Rattle.step_core.specs.declared.wire.Export.{Export}
-use Rattle.atom_lines.specs.Lookup.{port_number, export_number, is_named}
+use Rattle.atom_lines.specs.Lookup.{place_number, port_number, export_number, is_named}
 use Rattle.atom_lines.proofs.Growing.{Grows}
 use Rattle.plant_words.proofs.Positions.{position-within}
 use Rattle.connector_lines.specs.Exports.{variable_in}
 use Rattle.connector_lines.specs.Parts.{Passes}
 use Rattle.connector_lines.proofs.NamedExports.{variables_pass}
-use Rattle.plant_text.specs.Names.{atom_number, port_at, port_named, export_named}
+use Rattle.plant_text.specs.Names.{atom_number, port_at, port_named, place_named, export_named}
 
 -- ---- what is named is there
 
@@ -61,11 +64,23 @@ variables_known atoms ports =
     variables_pass (is_known_export atoms ports) (atom_number atoms) (export_named atoms) ports
     (λ leaf port name export there named. ap (λ o. option_map_or (λ p. is_exported atoms p export) o false) there ∙ export-known atoms port name export named)
 
+-- a place that is named
+pub place_known : (atoms : List AtomDefinition) (at : At) (name : List ℕ) → place_named atoms at.atom name ≡ Some at.place → is_known_place atoms at ≡ true
+place_known atoms at name told = at_atom (slice_get atoms at.atom) refl told
+  where
+    at_atom : (found : Option AtomDefinition) → slice_get atoms at.atom ≡ found →
+        option_and_then (λ a. place_number a name) found ≡ Some at.place → is_known_place atoms at ≡ true
+    at_atom None there named = absurd (cc)
+    at_atom (Some a) there named =
+        ap (λ o. option_map_or (λ b. nat_lt at.place (length b.places)) o false) there ∙
+        lt-ltb at.place (length a.places) (position-within (λ p. is_same_text p.name name) a.places at.place named)
+
 -- ---- what is there stays there
 
--- each port and each exported variable of the first atoms is there among the second
+-- each port, each exported variable and each place of the first atoms is there among the second
 pub record Extends (atoms next : List AtomDefinition) : Type 0 where
   pub ports : (p : Port) → is_known_port atoms p ≡ true → is_known_port next p ≡ true
+  pub places : (at : At) → is_known_place atoms at ≡ true → is_known_place next at ≡ true
   pub exports : (p : Port) (e : ℕ) → is_exported atoms p e ≡ true → is_exported next p e ≡ true
 
 -- a test of the one with a number, with more behind
@@ -87,6 +102,7 @@ with_last_changed test (z ∷ front) x y (suc n) weaker passes = with_last_chang
 pub extended : (atoms : List AtomDefinition) (a : AtomDefinition) → Extends atoms (atoms ++ a ∷ [])
 extended atoms a = record {
   ports = λ p. with_more (λ b. nat_lt p.port (length b.ports)) atoms (a ∷ []) p.atom;
+  places = λ at. with_more (λ b. nat_lt at.place (length b.places)) atoms (a ∷ []) at.atom;
   exports = λ p e. with_more (λ b. nat_lt e (length (exports_of b p.port))) atoms (a ∷ []) p.atom;
 }
 
@@ -102,6 +118,7 @@ exports-more e (p ∷ ports) more (suc n) known = exports-more e ports more n kn
 pub extended_last : (front : List AtomDefinition) (a grown : AtomDefinition) → Grows a grown → Extends (front ++ a ∷ []) (front ++ grown ∷ [])
 extended_last front a grown grows = record {
   ports = λ p. with_last_changed (λ b. nat_lt p.port (length b.ports)) front a grown p.atom (more_ports p.port);
+  places = λ at. with_last_changed (λ b. nat_lt at.place (length b.places)) front a grown at.atom (more_places at.place);
   exports = λ p e. with_last_changed (λ b. nat_lt e (length (exports_of b p.port))) front a grown p.atom (more_exports p.port e);
 }
   where
@@ -110,9 +127,18 @@ extended_last front a grown grows = record {
         let count : length grown.ports ≡ length a.ports + length grows.more = ap length grows.ports ∙ length-append a.ports grows.more in
         lt-ltb n (length grown.ports) (omega (arith, count, ltb-true n (length a.ports) known))
 
+    more_places : (n : ℕ) → nat_lt n (length a.places) ≡ true → nat_lt n (length grown.places) ≡ true
+    more_places n known = lt-ltb n (length grown.places) (omega (arith, grows.places, ltb-true n (length a.places) known))
+
     more_exports : (n e : ℕ) → nat_lt e (length (exports_of a n)) ≡ true → nat_lt e (length (exports_of grown n)) ≡ true
     more_exports n e known =
         subst (λ ps. nat_lt e (length (option_map_or (λ p. p.exports) (slice_get ps n) [])) ≡ true) (sym grows.ports) (exports-more e a.ports grows.more n known)
+
+-- the conditions of rules
+pub condition_stays : (atoms next : List AtomDefinition) → Extends atoms next → (rule : Rule) → is_known_condition atoms rule ≡ true → is_known_condition next rule ≡ true
+condition_stays atoms next extends (Under left right) known = refl
+condition_stays atoms next extends (UnderAt left right at) known = extends.places at known
+condition_stays atoms next extends (Maximal connector) known = refl
 
 -- exported variables of leaves
 pub exports_stay : (atoms next : List AtomDefinition) → Extends atoms next → (ports : List Port) (e : Export) →

@@ -1,14 +1,16 @@
 -- What holds of a plant that lines write, line by line, where none has a fault.
-use Rattle.std.proofs.Common.{◌≡◌, ◌∙◌, sym, ap, subst, ℕ, ◌+◌, ◌<◌, ◌≤◌, arith, false, List, [], ◌∷◌, ◌++◌, length, drop, Result, Ok, Err, lit≤}
+use Rattle.std.proofs.Common.{◌≡◌, ◌∙◌, refl, sym, ap, subst, ℕ, ◌+◌, ◌<◌, ◌≤◌, arith, Bool, true, false, List, [], ◌∷◌, ◌++◌, length, drop, Result, Ok, Err, lit≤}
 use Rattle.std.specs.Prelude.{nat_lt, is_none}
-use Rattle.std.specs.List.{list_any}
+use Rattle.std.specs.List.{list_all, list_any}
 use Rattle.std.specs.Option.{ok_or}
-use Rattle.std.proofs.lemmas.Bool.{ltb-true, leb-true}
+use Rattle.std.proofs.lemmas.Bool.{and_from, and_parts, ltb-true, leb-true}
 use Rattle.std.proofs.lemmas.List.{length-append}
 use Rattle.petri_atom.specs.Definition.{AtomDefinition}
 use Rattle.petri_atom.specs.Name.{is_same_text}
 use Rattle.petri_atom.specs.Parts.{definition_by}
+use Rattle.petri_atom.proofs.Fitting.{all_weaker}
 use Rattle.priority_filter.specs.declared.rule.Rule.{Rule}
+use Rattle.step_core.specs.Rules.{is_known_condition}
 use Rattle.step_core.specs.declared.limits.TheConstants.{MAX_ATOMS, MAX_WIRES, MAX_RULES, MAX_INTERACTIONS}
 use Rattle.plant_words.specs.Lines.{is_legal_line}
 use Rattle.plant_words.specs.Words.{words_of, is_passed_over}
@@ -31,8 +33,9 @@ use Rattle.plant_text.specs.declared.fault.Fault.{Fault}
 use Rattle.plant_text.specs.declared.fault.Fault.TheVariants.{NotAscii, UnknownWord, Twice, Limit}
 use Rattle.plant_words.proofs.Exits.{room_for_one}
 use Rattle.plant_words.proofs.Steps.{led_on, passed, same_end, either_way}
-use Rattle.plant_text.proofs.SoundLists.{was_none, changed_last, EachBehind, each_of_none, each_and_one, each_before_last, each_weaker}
-use Rattle.plant_text.proofs.SoundAtoms.{Extends, extended, extended_last}
+use Rattle.plant_text.proofs.SoundLists.{was_none, was_told, changed_last, EachBehind, each_of_none, each_and_one, each_before_last, each_weaker}
+use Rattle.plant_text.proofs.SoundAtoms.{Extends, extended, extended_last, condition_stays}
+use Rattle.plant_text.proofs.SoundRules.{rule_known}
 use Rattle.plant_text.proofs.SoundWires.{SoundBehind, stays_behind, part_kept, connector_added, interactions_and_more, same_interactions}
 
 -- no atom before has the name of this one
@@ -47,6 +50,7 @@ pub record SoundText (plant : PlantText) : Type 0 where
   pub few_interactions : length (interactions_of plant.wires) ≤ MAX_INTERACTIONS
   pub names : EachBehind HasNewName [] plant.atoms
   pub wires : EachBehind (SoundBehind plant.atoms) [] plant.wires
+  pub conditions : list_all (is_known_condition plant.atoms) plant.rules ≡ true
 
 nothing_sound : SoundText nothing
 nothing_sound = record {
@@ -56,6 +60,7 @@ nothing_sound = record {
   few_interactions = lit≤ tt;
   names = each_of_none HasNewName [];
   wires = each_of_none (SoundBehind []) [];
+  conditions = refl;
 }
 
 -- as many, with another last one
@@ -77,6 +82,7 @@ with_atoms plant atoms sound extends few names = record {
   few_interactions = sound.few_interactions;
   names = names;
   wires = each_weaker (SoundBehind plant.atoms) (SoundBehind atoms) (stays_behind plant.atoms atoms extends) [] plant.wires sound.wires;
+  conditions = all_weaker (is_known_condition plant.atoms) (is_known_condition atoms) (condition_stays plant.atoms atoms extends) plant.rules sound.conditions;
 }
 
 atom_sound : (words : List (List ℕ)) (plant next : PlantText) → SoundText plant → atom_row words plant ≡ Ok next → SoundText next
@@ -136,6 +142,7 @@ with_wires plant wires sound few few_interactions each = record {
   few_interactions = few_interactions;
   names = sound.names;
   wires = each;
+  conditions = sound.conditions;
 }
 
 connector_sound : (words : List (List ℕ)) (plant next : PlantText) → SoundText plant → row_of Connector words plant ≡ Ok next → SoundText next
@@ -172,14 +179,21 @@ wire_part_sound part words plant next sound is =
 
 -- ---- rules
 
+all_and_one : {X : Type 0} (test : X → Bool) (xs : List X) (x : X) → list_all test xs ≡ true → test x ≡ true → list_all test (xs ++ x ∷ []) ≡ true
+all_and_one test [] x all one = and_from (test x) true one refl
+all_and_one test (y ∷ xs) x all one =
+    let parts = and_parts (test y) (list_all test xs) all in
+    and_from (test y) (list_all test (xs ++ x ∷ [])) parts.0 (all_and_one test xs x parts.1 one)
+
 rule_sound : (kind : RuleKind) (words : List (List ℕ)) (plant next : PlantText) → SoundText plant →
     rule_row kind words plant ≡ Ok next → SoundText next
 rule_sound kind words plant next sound is =
     let made : Rule → Result PlantText Fault = λ rule. Ok (record plant { rules = plant.rules ++ rule ∷ [] }) in
-    let room = led_on (check (nat_lt (length plant.rules) MAX_RULES) Limit) (λ _. told (rule_in kind plant.wires words) >>= made) next is in
-    let rule = led_on (told (rule_in kind plant.wires words)) made next room.2 in
+    let room = led_on (check (nat_lt (length plant.rules) MAX_RULES) Limit) (λ _. told (rule_in kind plant.atoms plant.wires words) >>= made) next is in
+    let rule = led_on (told (rule_in kind plant.atoms plant.wires words)) made next room.2 in
     let same : record plant { rules = plant.rules ++ rule.0 ∷ [] } ≡ next = same_end (record plant { rules = plant.rules ++ rule.0 ∷ [] }) next rule.2 in
     let few : length plant.rules < MAX_RULES = ltb-true (length plant.rules) MAX_RULES (passed (nat_lt (length plant.rules) MAX_RULES) Limit room.0 room.1) in
+    let known = rule_known plant.atoms kind plant.wires words rule.0 (was_told (rule_in kind plant.atoms plant.wires words) rule.0 rule.1) in
     subst SoundText same (record {
       few_atoms = sound.few_atoms;
       few_wires = sound.few_wires;
@@ -187,6 +201,7 @@ rule_sound kind words plant next sound is =
       few_interactions = sound.few_interactions;
       names = sound.names;
       wires = sound.wires;
+      conditions = all_and_one (is_known_condition plant.atoms) plant.rules rule.0 sound.conditions known;
     })
 
 -- ---- lines
@@ -212,7 +227,7 @@ line_sound line plant next sound =
     (λ passed. let legal = led_on (check (is_legal_line line) NotAscii) (λ _. Ok plant) next passed in subst SoundText (same_end plant next legal.2) sound)
     (words_sound (words_of line) plant next sound)
 
-told_on_line : {A : Type 0} (number : ℕ) (r : Result A Fault) (x : A) → on_line number r ≡ Ok x → r ≡ Ok x
+pub told_on_line : {A : Type 0} (number : ℕ) (r : Result A Fault) (x : A) → on_line number r ≡ Ok x → r ≡ Ok x
 told_on_line number (Ok y) x is = cc
 told_on_line number (Err fault) x is = absurd (cc)
 

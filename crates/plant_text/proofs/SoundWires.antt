@@ -135,7 +135,7 @@ no_guards test = record { small = refl; passing = refl }
 no_transfers : (test : Export → Bool) → SoundTransfers test []
 no_transfers test = record { small = refl; passing = refl; once = refl }
 
-tree_told : (read : Reading) (tokens : List Token) → told_tree read ≡ Ok tokens → read ≡ Ok tokens
+pub tree_told : (read : Reading) (tokens : List Token) → told_tree read ≡ Ok tokens → read ≡ Ok tokens
 tree_told (Ok other) tokens is = cc
 tree_told (Err fault) tokens is = absurd (cc)
 

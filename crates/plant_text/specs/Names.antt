@@ -4,7 +4,7 @@ use Rattle.std.specs.Option.{option_and_then}
 use Rattle.petri_atom.specs.Name.{is_same_text}
 use Rattle.petri_atom.specs.Definition.{AtomDefinition}
 use Rattle.connector_tree.specs.declared.tree.Port.{Port}
-use Rattle.atom_lines.specs.Lookup.{port_number, export_number}
+use Rattle.atom_lines.specs.Lookup.{place_number, port_number, export_number}
 use Rattle.plant_text.specs.Text.{WireText}
 use Rattle.plant_text.specs.declared.kinds.AtomPart.TheVariants.{Place, Variable, Port as PortPart, Transition}
 use Rattle.plant_text.specs.declared.kinds.WirePart.TheVariants.{Guard, Transfer}
@@ -43,6 +43,10 @@ port_at atoms name number =
 -- the port with the second name, of the first atom with the first name
 abbrev pub port_named : List AtomDefinition → List ℕ → List ℕ → Option Port
 port_named atoms atom port = option_and_then (port_at atoms port) (atom_number atoms atom)
+
+-- the place with the name, of the atom with the number
+abbrev pub place_named : List AtomDefinition → ℕ → List ℕ → Option ℕ
+place_named atoms number name = option_and_then (λ a. place_number a name) (slice_get atoms number)
 
 -- the place of the variable with the name, among those that the port exports
 abbrev pub export_named : List AtomDefinition → Port → List ℕ → Option ℕ

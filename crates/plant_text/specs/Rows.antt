@@ -21,7 +21,7 @@ use Rattle.connector_lines.specs.Exports.{variable_in}
 use Rattle.connector_lines.specs.Rows.{Named, guards_with, transfers_with}
 use Rattle.plant_text.specs.Text.{WireText, PlantText}
 use Rattle.plant_text.specs.Interactions.{interactions_of, has_interaction}
-use Rattle.plant_text.specs.Names.{kind_in, atom_number, wire_number, port_named, export_named}
+use Rattle.plant_text.specs.Names.{kind_in, atom_number, wire_number, port_named, place_named, export_named}
 use Rattle.plant_text.specs.Fault.{of_line, of_tree}
 use Rattle.plant_text.specs.declared.kinds.AtomPart.{AtomPart}
 use Rattle.plant_text.specs.declared.kinds.AtomPart.TheVariants.{Place, Variable, Port, Transition}
@@ -92,16 +92,16 @@ connector_row words plant = do
   _ ← check (has_room plant.wires tree) Limit
   Ok (record plant { wires = plant.wires ++ record { name = name; tree = tree; guards = []; transfers = [] } ∷ [] })
 
--- the rule that a line `prio` or `maximal` writes over the connectors so far, by the words behind its first
-abbrev pub rule_in : RuleKind → List WireText → List (List ℕ) → Result Rule LineFault
-rule_in Priority wires = priority_in (wire_number wires) (has_interaction wires)
-rule_in Maximal wires = maximal_in (wire_number wires)
+-- the rule that a line `prio` or `maximal` writes over the atoms and connectors so far, by the words behind its first
+abbrev pub rule_in : RuleKind → List AtomDefinition → List WireText → List (List ℕ) → Result Rule LineFault
+rule_in Priority atoms wires = priority_in (wire_number wires) (has_interaction wires) (atom_number atoms) (place_named atoms)
+rule_in Maximal atoms wires = maximal_in (wire_number wires)
 
--- `prio SIDE < SIDE`, `maximal NAME`: one more rule
+-- `prio SIDE < SIDE ..`, `maximal NAME`: one more rule
 abbrev pub rule_row : RuleKind → List (List ℕ) → PlantText → Result PlantText Fault
 rule_row kind words plant = do
   _ ← check (nat_lt (length plant.rules) MAX_RULES) Limit
-  rule ← told (rule_in kind plant.wires words)
+  rule ← told (rule_in kind plant.atoms plant.wires words)
   Ok (record plant { rules = plant.rules ++ rule ∷ [] })
 
 -- a line of a kind, by the words behind its first: a part is one of the latest atom or connector

@@ -238,13 +238,13 @@ impl PlantDraft {
         Ok(())
     }
 
-    /// Adds the rule of a line `prio SIDE < SIDE` or `maximal NAME`, by the words behind its first.
+    /// Adds the rule of a line `prio SIDE < SIDE ..` or `maximal NAME`, by the words behind its first.
     fn add_rule(&mut self, kind: RuleKind, words: &mut Words) -> Result<(), Fault>
         ensures added { OnOk result (rule_row kind words.old (drafted self.old) ≡ Ok (drafted self.new)) }
         ensures fault { IfErr result (IsFaultOf (rule_row kind words.old (drafted self.old))) }
     {
         check(self.rules.len() < MAX_RULES, Fault::Limit)?;
-        let rule = read_rule(kind, words, &self.wire_table())?;
+        let rule = read_rule(kind, words, &self.wire_table(), &self.table())?;
         self.rules.push(rule)?;
         Ok(())
     }

@@ -28,7 +28,7 @@ pub enum Fault {
     /// The name is declared already, or stands twice where each may stand once.
     Twice,
     /// No earlier line declares the name, or what has it may not stand here: a variable that no leaf exports, a mask that is no
-    /// interaction of its connector.
+    /// interaction of its connector, a place of another atom than the one before `at`.
     UnknownName,
     /// A word is no part of an expression, or an operand is missing.
     BadExpression,

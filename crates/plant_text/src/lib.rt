@@ -8,7 +8,7 @@
 //! | `place ..`, `var ..`, `port ..`, `trans ..` | a part of the latest atom, as `atom_lines` reads it |
 //! | `connector NAME TREE` | a connector, the 64th at most, whose tree `connector_lines` reads over ports of the atoms so far |
 //! | `guard ..`, `move ..` | a part of the latest connector, as `connector_lines` reads it |
-//! | `prio ..`, `maximal ..` | a priority rule over the connectors so far, the 1,024th at most, as `connector_lines` reads it |
+//! | `prio ..`, `maximal ..` | a priority rule over the connectors and atoms so far, the 1,024th at most, as `connector_lines` reads it |
 //!
 //! Parts of the latest atom may stand behind lines of connectors. Empty lines and comments say nothing, and count as
 //! lines. Each byte must be printed ASCII, a space or a tab, also in a comment.
@@ -26,7 +26,7 @@
 //!
 //! - `read`: the text, its lines and its system. `draft`: the plant so far, and its lines. `making`: the system of a draft.
 //! - `kinds`: the kinds of lines. `parts`: an atom, changed by a line. `listed`: a connector with its interactions.
-//! - `names`: the atoms by the names that connectors use. `wires`: the connectors by the names that rules use.
+//! - `names`: the atoms by the names that connectors and conditions use. `wires`: the connectors by the names that rules use.
 //! - `fault`: what is wrong with a text. `marks`: where in its line. `laws`: what follows of the meaning.
 #![tactic(auto)]
 

@@ -1,4 +1,4 @@
-//! The atoms so far, by the names that connectors use.
+//! The atoms so far, by the names that connectors and conditions use.
 ghost use Rattle.std.specs.Prelude.{◌≡◌, ◌<◌, ◌≤◌, length, map, IfSome};
 ghost use Rattle.step_core.specs.declared.limits.TheConstants.{MAX_ATOMS};
 ghost use Rattle.atom_lines.specs.Draft.{drafted};
@@ -6,7 +6,7 @@ ghost use Rattle.plant_text.specs.Index.{names_of_atoms};
 ghost use Rattle.plant_text.specs.Names.{atom_number};
 
 use atom_lines::AtomDraft;
-use connector_lines::{Exports, Ports};
+use connector_lines::{Exports, Places, Ports};
 use connector_tree::Port;
 use plant_words::NameIndex;
 use step_core::MAX_ATOMS;
@@ -64,5 +64,24 @@ impl Exports for AtomTable<'_> {
         self.drafts
             .get(usize::from(port.atom))?
             .find_export(port.port, variable)
+    }
+}
+
+impl Places for AtomTable<'_> {
+    ghost use Rattle.std.specs.Prelude.{map};
+    ghost use Rattle.atom_lines.specs.Draft.{drafted};
+    ghost use Rattle.plant_text.specs.Names as names;
+
+    ghost atom_named = { λ table name. names.atom_number (map drafted table.drafts.now) name };
+
+    ghost place_named = { λ table atom name. names.place_named (map drafted table.drafts.now) atom name };
+
+    fn find_atom(&self, name: &[u8]) -> Option<u16> {
+        Some(self.find(name)? as u16)
+    }
+
+    fn find_place(&self, atom: u16, name: &[u8]) -> Option<u16> {
+        let place = self.drafts.get(usize::from(atom))?.find_place(name)?;
+        Some(u16::from(place))
     }
 }

@@ -1,6 +1,7 @@
 //! The connectors so far, by the names that rules use.
 ghost use Rattle.std.specs.Prelude.{◌≡◌, ◌+◌, ◌<◌, ◌≤◌, length, nat_le, map, IfSome};
 ghost use Rattle.step_core.specs.declared.limits.TheConstants.{MAX_WIRES, MAX_INTERACTIONS};
+ghost use Rattle.atom_lines.specs.Draft.{drafted};
 ghost use Rattle.plant_text.specs.Index.{names_of_wires};
 ghost use Rattle.plant_text.specs.Interactions.{interactions_of};
 ghost use Rattle.plant_text.specs.Names.{wire_number};
@@ -9,6 +10,7 @@ ghost use Rattle.plant_text.specs.Rows.{rule_in};
 
 use crate::kinds::RuleKind;
 use crate::listed::ListedWire;
+use crate::names::AtomTable;
 use connector_lines::{Connectors, read_maximal, read_priority};
 use plant_words::{LineFault, NameIndex, Words};
 use priority_filter::Rule;
@@ -67,16 +69,17 @@ impl Connectors for WireTable<'_> {
     }
 }
 
-/// The rule that the words write over these connectors, behind the line's first.
+/// The rule that the words write over these connectors and atoms, behind the line's first.
 pub(crate) fn read_rule(
     kind: RuleKind,
     words: &mut Words,
-    table: &WireTable,
+    wires: &WireTable,
+    atoms: &AtomTable,
 ) -> Result<Rule, LineFault>
-    ensures { result ≡ rule_in kind (map wire_listed table.now.wires.now) words.old }
+    ensures { result ≡ rule_in kind (map drafted atoms.now.drafts.now) (map wire_listed wires.now.wires.now) words.old }
 {
     match kind {
-        RuleKind::Priority => read_priority(words, table),
-        RuleKind::Maximal => read_maximal(words, table),
+        RuleKind::Priority => read_priority(words, wires, atoms),
+        RuleKind::Maximal => read_maximal(words, wires),
     }
 }

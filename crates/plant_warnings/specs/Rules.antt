@@ -6,7 +6,7 @@ use Rattle.priority_filter.specs.Decided.{is_proper_subset}
 use Rattle.priority_filter.specs.declared.rule.Side.{Side}
 use Rattle.priority_filter.specs.declared.rule.Side.TheVariants.{Whole, One}
 use Rattle.priority_filter.specs.declared.rule.Rule.{Rule}
-use Rattle.priority_filter.specs.declared.rule.Rule.TheVariants.{Under, Maximal}
+use Rattle.priority_filter.specs.declared.rule.Rule.TheVariants.{Under, UnderAt, Maximal}
 use Rattle.step_core.specs.Choice.{Interaction, plant_interactions}
 use Rattle.step_core.specs.Plant.{PlantDefinition}
 use Rattle.plant_warnings.specs.Connectors.{is_dead}
@@ -43,6 +43,8 @@ orders_within plant connector = has_one_within (plant_interactions plant) connec
 -- has no interaction within another
 abbrev pub rule_warnings : PlantDefinition → ℕ → Rule → List Warning
 rule_warnings plant number (Under left right) =
+    option_map_or (λ connector. DeadSide number connector ∷ []) (dead_side plant left right) []
+rule_warnings plant number (UnderAt left right at) =
     option_map_or (λ connector. DeadSide number connector ∷ []) (dead_side plant left right) []
 rule_warnings plant number (Maximal connector) =
     warned_if (not (orders_within plant connector)) (NothingWithin number connector)

@@ -44,7 +44,9 @@ fn print_of_rule<W: Write>(
         (flat_map (told_in report.now) (rule_warnings (plant_of report.now.system.now) number rule))) }
 {
     match rule {
-        Rule::Under(left, right) => print_of_sides(report, number, left, right, output),
+        Rule::Under(left, right) | Rule::UnderAt(left, right, _) => {
+            print_of_sides(report, number, left, right, output)
+        }
         Rule::Maximal(connector) => print_if(
             report,
             !orders_within(report.system, connector),

@@ -18,7 +18,7 @@ use Rattle.plant_words.specs.Numbers.{is_numeric, int_in}
 use Rattle.plant_words.proofs.Steps.{either_way}
 
 -- what a change of the expressions makes, it makes of expressions that were read
-on_trees-ok : {V : Type 0} (change : List (Tree V) → List (Tree V)) (r : Reading V) (trees : List (Tree V)) (rest : List (List ℕ)) →
+pub on_trees-ok : {V : Type 0} (change : List (Tree V) → List (Tree V)) (r : Reading V) (trees : List (Tree V)) (rest : List (List ℕ)) →
     on_trees change r ≡ Ok (trees, rest) → (before : List (Tree V)) × (r ≡ Ok (before, rest)) × (change before ≡ trees)
 on_trees-ok {V = V} change (Ok (before, words)) trees rest read =
     let same : ◌≡◌ {A = List (Tree V) × List (List ℕ)} (change before, words) (trees, rest) = cc in
@@ -26,7 +26,7 @@ on_trees-ok {V = V} change (Ok (before, words)) trees rest read =
 on_trees-ok change (Err fault) trees rest read = absurd (cc)
 
 -- the one expression of a row stands first in it
-only-ok : {V : Type 0} (r : Reading V) (tree : Tree V) (rest : List (List ℕ)) →
+pub only-ok : {V : Type 0} (r : Reading V) (tree : Tree V) (rest : List (List ℕ)) →
     only r ≡ Ok (tree, rest) → (trees : List (Tree V)) × (r ≡ Ok (tree ∷ trees, rest))
 only-ok {V = V} (Ok ((e ∷ trees), words)) tree rest read =
     let same : ◌≡◌ {A = Tree V × List (List ℕ)} (e, words) (tree, rest) = cc in

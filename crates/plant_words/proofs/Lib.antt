@@ -13,3 +13,4 @@ pub mod Steps
 pub mod Exits
 pub mod Early
 pub mod Taken
+pub mod Legal

@@ -5,11 +5,13 @@ use Rattle.std.proofs.lemmas.Bool.{both_ways, false_from_ne_true, not-false, not
 use Rattle.priority_filter.specs.declared.rule.Side.{Side}
 use Rattle.priority_filter.specs.declared.rule.Side.TheVariants.{Whole, One}
 use Rattle.priority_filter.specs.declared.rule.Rule.{Rule}
-use Rattle.priority_filter.specs.declared.rule.Rule.TheVariants.{Under, Maximal}
+use Rattle.priority_filter.specs.declared.rule.Rule.TheVariants.{Under, UnderAt, Maximal}
+use Rattle.priority_filter.specs.declared.seen.At.{At}
+use Rattle.priority_filter.specs.declared.seen.TheConstants.{SEEN_ATOMS, SEEN_PLACES}
 use Rattle.priority_filter.specs.declared.fault.OrderFault.TheVariants.{Cycle, UnknownName, Memory}
 use Rattle.priority_filter.specs.Rule.{IsOn, Puts, IsProperSubset}
-use Rattle.priority_filter.specs.Order.{interaction_at, rule_at, IsRuleStep, IsBelow, IsStrict, IsFirstCyclic, IsKnownSide, IsKnown, AreKnown, IsFirstUnknown}
-use Rattle.priority_filter.specs.Decided.{is_on, is_proper_subset, puts, is_rule_step, is_below, is_overruled, is_known_side, is_known, first_unknown, first_cyclic, fault_from, order_fault}
+use Rattle.priority_filter.specs.Order.{interaction_at, rule_at, IsRuleStep, IsBelow, IsStrict, IsFirstCyclic, IsKnownSide, IsKnownPlace, IsKnown, AreKnown, IsFirstUnknown}
+use Rattle.priority_filter.specs.Decided.{is_on, is_proper_subset, puts, is_rule_step, is_below, is_overruled, is_known_side, is_known_place, is_known, first_unknown, first_cyclic, fault_from, order_fault}
 use Rattle.priority_filter.proofs.MaskLaws.{subset_and, proper_differs, proper_from_and}
 use Rattle.priority_filter.proofs.Chains.{Leads-within}
 use Rattle.priority_filter.proofs.DecidedTests.{told_eq, told_lt, told_and, told_not, told_any, told_any_below, told_least, told_none}
@@ -31,6 +33,8 @@ told_subset m n =
 
 pub told_puts : (rule : Rule) (i j : ℕ × ℕ) → IsTrue (puts rule i j) ↔ Puts rule i j
 told_puts (Under left right) i j =
+    told_and (is_on left i) (is_on right j) (IsOn left i) (IsOn right j) (told_on left i) (told_on right j)
+told_puts (UnderAt left right at) i j =
     told_and (is_on left i) (is_on right j) (IsOn left i) (IsOn right j) (told_on left i) (told_on right j)
 told_puts (Maximal connector) i j =
     let larger = told_and (eqb j.0 connector) (is_proper_subset i.1 j.1) (j.0 ≡ connector) (IsProperSubset i.1 j.1) (told_eq j.0 connector) (told_subset i.1 j.1) in
@@ -84,9 +88,20 @@ told_overruled rules interactions possible a =
 told_side : (interactions : List (ℕ × ℕ)) (side : Side) → IsTrue (is_known_side interactions side) ↔ IsKnownSide interactions side
 told_side interactions side = told_any (is_on side) (IsOn side) (told_on side) interactions (0, 0)
 
+told_place : (at : At) → IsTrue (is_known_place at) ↔ IsKnownPlace at
+told_place at =
+    told_and (ltb at.atom SEEN_ATOMS) (ltb at.place SEEN_PLACES) (at.atom < SEEN_ATOMS) (at.place < SEEN_PLACES) (told_lt at.atom SEEN_ATOMS) (told_lt at.place SEEN_PLACES)
+
 pub told_known : (interactions : List (ℕ × ℕ)) (rule : Rule) → IsTrue (is_known interactions rule) ↔ IsKnown interactions rule
 told_known interactions (Under left right) =
     told_and (is_known_side interactions left) (is_known_side interactions right) (IsKnownSide interactions left) (IsKnownSide interactions right) (told_side interactions left) (told_side interactions right)
+told_known interactions (UnderAt left right at) =
+    let Sides : Type 0 = IsKnownSide interactions left × IsKnownSide interactions right in
+    let sides : IsTrue (is_known_side interactions left && is_known_side interactions right) ↔ Sides = told_and (is_known_side interactions left) (is_known_side interactions right) (IsKnownSide interactions left) (IsKnownSide interactions right) (told_side interactions left) (told_side interactions right) in
+    let all = told_and (is_known_side interactions left && is_known_side interactions right) (is_known_place at) Sides (IsKnownPlace at) sides (told_place at) in (
+      λ yes. let both = all.0 yes in (both.0.0, both.0.1, both.1),
+      λ known. all.1 ((known.0, known.1), known.2),
+    )
 told_known interactions (Maximal connector) = told_side interactions (Whole connector)
 
 module _ (rules : List Rule) (interactions : List (ℕ × ℕ)) where

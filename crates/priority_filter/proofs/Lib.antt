@@ -6,6 +6,12 @@ pub mod TableLaws
 pub mod MaskLaws
 pub mod DecidedChains
 pub mod DecidedOrder
+pub mod Counting
+pub mod Overruling
 pub mod NoDeadlock
 pub mod Rows
 pub mod Words
+pub mod Fewer
+pub mod Lowering
+pub mod Keeping
+pub mod Watching

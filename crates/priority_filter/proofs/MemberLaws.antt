@@ -7,7 +7,7 @@ use Rattle.std.specs.Cmp.{nat_cmp_total, unsigned_tied}
 use Rattle.std.specs.FinSet as fin
 use Rattle.std.specs.FinSet.{from_list, contains-from_list_nat}
 use Rattle.std.proofs.Math.Bool.{and-true, and-false}
-use Rattle.std.proofs.lemmas.Bool.{cases_eq, cases_Bool, cases_lt, eq-eqb, ne_eqb, eqb-true, and_parts, and_from}
+use Rattle.std.proofs.lemmas.Bool.{cases_eq, cases_Bool, cases_lt, eq-eqb, ne_eqb, eqb-true, and_parts, and_from, both_ways}
 use Rattle.std.proofs.lemmas.Bool.Decides.{nat_tests}
 use Rattle.std.proofs.lemmas.List.{get_or_past, length-replicate, get_or-replicate}
 use Rattle.std.proofs.lemmas.Nat.Bits.{bit_at-zero, bit_at_set_same, bit_at_set_other, bit_at_clear_same, bit_at_clear_other, shr_and_one}
@@ -52,6 +52,15 @@ contains-members_of words q =
     ∙ ⊎_elim (λ within. ap (λ b. holds words q && b) (any-range q 0 (64 * length words) (omega arith) (omega arith)) ∙ and-true (holds words q))
     (λ past. ap (λ b. b && list_any (λ y. eqb y q) (range_with_len 0 (64 * length words))) (holds_past words q past) ∙ sym (holds_past words q past))
     (cases_lt q (64 * length words))
+
+-- the same of the set of which they are the words
+pub held : (words : List ℕ) (set : fin.FinSet nat_cmp) → members_of words ≡ set → (q : ℕ) → holds words q ≡ fin.contains set q
+held words set same q = sym (contains-members_of words q) ∙ ap (λ s. fin.contains s q) same
+
+-- what is held is among the numbers of the words
+pub holds_within : (words : List ℕ) (q : ℕ) → IsTrue (holds words q) → q < 64 * length words
+holds_within words q there =
+    ⊎_elim (λ within. within) (λ past. absurd (both_ways (holds words q) (holds_past words q past) there)) (cases_lt q (64 * length words))
 
 -- words and a set with the same members
 pub members_of-same : (words : List ℕ) (s : fin.FinSet nat_cmp) → ((q : ℕ) → holds words q ≡ fin.contains s q) → members_of words ≡ s

@@ -6,11 +6,14 @@ use Rattle.std.specs.Cmp.{nat_cmp_total}
 use Rattle.std.specs.FinSet.{FinSet, contains, empty, remove, len, from_list, empty_of_len, contains-empty, len-remove}
 use Rattle.std.proofs.lemmas.Bool.{false≢true, false_from_ne_true}
 use Rattle.priority_filter.specs.declared.rule.Rule.{Rule}
+use Rattle.priority_filter.specs.declared.seen.At.{At}
+use Rattle.priority_filter.specs.Active.{active}
 use Rattle.priority_filter.specs.Order.{IsRuleStep, IsBelow, IsStrict}
 use Rattle.priority_filter.specs.Decided.{is_overruled, order_fault}
 use Rattle.priority_filter.proofs.Chains.{Leads-join}
 use Rattle.priority_filter.proofs.MemberLaws.{contains-remove_other, contains_passing}
 use Rattle.priority_filter.proofs.DecidedTests.{decided_by}
+use Rattle.priority_filter.proofs.Counting.{strict-counted}
 use Rattle.priority_filter.proofs.DecidedOrder.{told_overruled, told_no_fault, below_inside}
 
 -- ---- the ascent
@@ -57,21 +60,21 @@ module _ (rules : List Rule) (interactions : List (ℕ × ℕ)) (possible : FinS
 
 -- ---- in computed words
 
--- where rules without fault leave something possible, something possible is not overruled
-pub top_is_not_overruled : (rules : List Rule) (interactions : List (ℕ × ℕ)) (possible : ℕ → Bool) → order_fault rules interactions ≡ None
+-- where rules without fault leave something possible, something possible is not overruled, whichever conditions hold
+pub top_is_not_overruled : (rules : List Rule) (interactions : List (ℕ × ℕ)) (holds : At → Bool) (possible : ℕ → Bool) → order_fault rules interactions ≡ None
     → (a : ℕ) → a < length interactions → IsTrue (possible a)
-    → (top : ℕ) × (top < length interactions) × IsTrue (possible top) × (is_overruled rules interactions possible top ≡ false)
-top_is_not_overruled rules interactions possible sound a within is_possible =
+    → (top : ℕ) × (top < length interactions) × IsTrue (possible top) × (is_overruled (active holds rules) interactions possible top ≡ false)
+top_is_not_overruled rules interactions holds possible sound a within is_possible =
     let n : ℕ = length interactions in
     let members : FinSet nat_cmp = from_list (filter possible (range_with_len 0 n)) in
-    let strict : IsStrict rules interactions = ((told_no_fault rules interactions).0 sound).1 in
-    let found : HasTop rules interactions members = has_top rules interactions members strict a ((contains_passing possible n a).1 (is_possible, within)) in
+    let strict : IsStrict (active holds rules) interactions = strict-counted rules interactions holds ((told_no_fault rules interactions).0 sound).1 in
+    let found : HasTop (active holds rules) interactions members = has_top (active holds rules) interactions members strict a ((contains_passing possible n a).1 (is_possible, within)) in
     let top : ℕ = found.0 in
     let facts = (contains_passing possible n top).0 found.1 in (
       top,
       facts.1,
       facts.0,
-      false_from_ne_true (is_overruled rules interactions possible top) (λ yes.
-          let above = (told_overruled rules interactions possible top).0 yes in
-          found.2 above.0 ((contains_passing possible n above.0).1 (above.1, (below_inside rules interactions top above.0 above.2).1)) above.2),
+      false_from_ne_true (is_overruled (active holds rules) interactions possible top) (λ yes.
+          let above = (told_overruled (active holds rules) interactions possible top).0 yes in
+          found.2 above.0 ((contains_passing possible n above.0).1 (above.1, (below_inside (active holds rules) interactions top above.0 above.2).1)) above.2),
     )

@@ -1,13 +1,16 @@
 -- Worked examples of the definitions: connector 0 is `tick`, connector 1 is `send`, connector 2 is `stop`.
-use Rattle.std.proofs.Common.{◌≡◌, ◌==◌, ◌+◌, ◌^◌, ℕ, List, [], ◌∷◌, map, filter, codes, true, false, Some, None, refl, ⊎_elim, subst, arith}
+use Rattle.std.proofs.Common.{◌≡◌, ◌==◌, ◌+◌, ◌^◌, ℕ, Bool, List, [], ◌∷◌, map, filter, codes, true, false, Some, None, refl, ⊎_elim, subst, arith}
 use Rattle.std.specs.FinSet.{contains}
 use Rattle.std.specs.Fmt.{digits}
 use Rattle.std.proofs.lemmas.Bool.{cases_eq}
 use Rattle.priority_filter.specs.declared.rule.Side.TheVariants.{Whole, One}
 use Rattle.priority_filter.specs.declared.rule.Rule.{Rule}
-use Rattle.priority_filter.specs.declared.rule.Rule.TheVariants.{Under, Maximal}
+use Rattle.priority_filter.specs.declared.rule.Rule.TheVariants.{Under, UnderAt, Maximal}
+use Rattle.priority_filter.specs.declared.seen.At.{At}
+use Rattle.priority_filter.specs.declared.seen.Seen.{Seen}
 use Rattle.priority_filter.specs.declared.fault.OrderFault.TheVariants.{Cycle, UnknownName, Memory}
 use Rattle.priority_filter.specs.declared.interaction_set.TheConstants.{INTERACTION_LIMIT, ROW_WORDS}
+use Rattle.priority_filter.specs.Active.{active, may_be_marked}
 use Rattle.priority_filter.specs.Fault.{message_of}
 use Rattle.priority_filter.specs.Members.{holds, members_of}
 use Rattle.priority_filter.specs.Rule.{IsProperSubset, IsOn, Puts}
@@ -228,6 +231,57 @@ computed_one_under_whole = refl
 computed_unknown_sides : (order_fault (Under (One 0 2) (Whole 0) ∷ []) ((0, 1) ∷ (0, 3) ∷ []) ≡ Some (UnknownName 0)) × (order_fault (Maximal 0 ∷ []) [] ≡ Some (UnknownName 0)) × (order_fault (Maximal 0 ∷ Maximal 8 ∷ Maximal 9 ∷ []) ((0, 1) ∷ (0, 3) ∷ []) ≡ Some (UnknownName 1))
 unfolding is_below order_fault
 computed_unknown_sides = (refl, refl, refl)
+
+-- ---- rules with a condition
+
+abbrev place : ℕ → ℕ → At
+place atom number = record { atom = atom; place = number }
+
+-- other < tick when place 0 of atom 0 is marked, of tick and other
+abbrev others : List Rule
+others = UnderAt (Whole 1) (Whole 0) (place 0 0) ∷ []
+
+abbrev tick_and_other : List (ℕ × ℕ)
+tick_and_other = tick ∷ (1, 1) ∷ []
+
+-- other is below tick while the place is marked, and not else
+computed_while_marked : (is_below (active (λ at. true) others) tick_and_other 1 0 ≡ true) × (is_below (active (λ at. false) others) tick_and_other 1 0 ≡ false) × (is_below (active (λ at. true) others) tick_and_other 0 1 ≡ false)
+unfolding is_below
+computed_while_marked = (refl, refl, refl)
+
+-- tick < send, and send < stop while place 1 of atom 2 is marked
+abbrev ladder_at : List Rule
+ladder_at = Under (Whole 0) (Whole 1) ∷ UnderAt (Whole 1) (Whole 2) (place 2 1) ∷ []
+
+-- a chain ends at a rule that does not count
+computed_broken_chain : (is_below (active (λ at. true) ladder_at) plant 0 2 ≡ true) × (is_below (active (λ at. false) ladder_at) plant 0 2 ≡ false) × (is_below (active (λ at. false) ladder_at) plant 0 1 ≡ true)
+unfolding is_below
+computed_broken_chain = (refl, refl, refl)
+
+-- tick is overruled by stop alone while the place is marked
+computed_overruled_while_marked : (is_overruled (active (λ at. true) ladder_at) plant (λ b. b == 2) 0 ≡ true) × (is_overruled (active (λ at. false) ladder_at) plant (λ b. b == 2) 0 ≡ false)
+unfolding is_below is_overruled
+computed_overruled_while_marked = (refl, refl)
+
+-- two rules that never count together are refused as a circle
+computed_circle_of_conditions : order_fault (UnderAt (Whole 1) (Whole 0) (place 0 0) ∷ UnderAt (Whole 0) (Whole 1) (place 0 1) ∷ []) tick_and_other ≡ Some (Cycle 0)
+unfolding is_below order_fault
+computed_circle_of_conditions = refl
+
+-- a place past a row, and an atom past all rows
+computed_unknown_place : (order_fault (UnderAt (Whole 1) (Whole 0) (place 0 64) ∷ []) tick_and_other ≡ Some (UnknownName 0)) × (order_fault (UnderAt (Whole 1) (Whole 0) (place 64 0) ∷ []) tick_and_other ≡ Some (UnknownName 0)) × (order_fault (UnderAt (Whole 1) (Whole 0) (place 63 63) ∷ []) tick_and_other ≡ None)
+unfolding is_below order_fault
+computed_unknown_place = (refl, refl, refl)
+
+abbrev sight : Bool → ℕ → Seen
+sight known places = record { known = known; places = places }
+
+-- atom 0 with place 0 marked, atom 1 with place 1 marked, and atom 2, of which nothing is known
+abbrev three_sights : List Seen
+three_sights = sight true 1 ∷ sight true 2 ∷ sight false 0 ∷ []
+
+computed_sights : map (may_be_marked three_sights) (place 0 0 ∷ place 0 1 ∷ place 1 0 ∷ place 1 1 ∷ place 2 0 ∷ place 2 63 ∷ place 3 0 ∷ []) ≡ true ∷ false ∷ false ∷ true ∷ true ∷ true ∷ false ∷ []
+computed_sights = refl
 
 -- what the faults say
 messages : (message_of (Cycle 5) ≡ codes "the rules put interaction 5 below itself") × (message_of (UnknownName 2) ≡ codes "rule 2 names no interaction of the plant") × (message_of Memory ≡ codes "out of memory")

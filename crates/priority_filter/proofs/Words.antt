@@ -1,8 +1,9 @@
 -- Words of 64 bits as sets: which bits two of them have together, and what is left of one without its lowest.
-use Rattle.std.proofs.Common.{◌≡◌, ℕ, ◌-◌, ◌*◌, ◌%◌, ◌^◌, ◌<◌, min, max, Bool, true, false, not, ◌&&◌, ◌||◌, eqb, refl, sym, ap, ◌∙◌, ⊎_elim, w64, arith}
+use Rattle.std.proofs.Common.{◌≡◌, ℕ, ◌-◌, ◌*◌, ◌%◌, ◌^◌, ◌<◌, ◌≤◌, min, max, Bool, true, false, not, ◌&&◌, ◌||◌, eqb, refl, sym, ap, ◌∙◌, ⊎_elim, w64, arith}
 use Rattle.std.specs.Prelude.{bit_and, bit_or}
 use Rattle.std.specs.Int.{bit_at, bit_not, trailing_zeros}
 use Rattle.std.proofs.Math.Bool.{and-false}
+use Rattle.std.proofs.Math.Nat.{div-eq_of_lt, pow-le-pow_right}
 use Rattle.std.proofs.lemmas.Bool.{cases_eq}
 use Rattle.std.proofs.lemmas.Bool.Decides.{nat_tests}
 use Rattle.std.proofs.lemmas.Nat.{and_le_l}
@@ -26,6 +27,13 @@ bit-or a b k = ap (λ x. eqb x 1) (bit_at_or a b k) ∙ either_bit _ _ (bit_at-l
 
 pub bit-not : (a k : ℕ) → a < 2 ^ 64 → k < 64 → has_bit (bit_not w64 a) k ≡ not (has_bit a k)
 bit-not a k p q = ap (λ x. eqb x 1) (bit_at_not w64 a k p q) ∙ other_bit _ (bit_at-lt a k)
+
+-- a word of 64 bits has no bit past them
+pub no-bit-past : (a k : ℕ) → a < 2 ^ 64 → 64 ≤ k → has_bit a k ≡ false
+no-bit-past a k small past =
+    let more : 2 ^ 64 ≤ 2 ^ k = pow-le-pow_right (omega arith) past in
+    let larger : a < 2 ^ k = omega arith in
+    ap (λ n. eqb (n % 2) 1) (div-eq_of_lt larger)
 
 -- what is kept unasked, and what is kept of the others
 picked : (here unasked over : Bool) → (unasked ≡ true → over ≡ false) → (here && unasked || (here && not (here && unasked)) && not over) ≡ (here && not over)

@@ -4,7 +4,9 @@ use Rattle.std.specs.List.{list_any, find, range_with_len}
 use Rattle.priority_filter.specs.declared.rule.Side.{Side}
 use Rattle.priority_filter.specs.declared.rule.Side.TheVariants.{Whole, One}
 use Rattle.priority_filter.specs.declared.rule.Rule.{Rule}
-use Rattle.priority_filter.specs.declared.rule.Rule.TheVariants.{Under, Maximal}
+use Rattle.priority_filter.specs.declared.rule.Rule.TheVariants.{Under, UnderAt, Maximal}
+use Rattle.priority_filter.specs.declared.seen.At.{At}
+use Rattle.priority_filter.specs.declared.seen.TheConstants.{SEEN_ATOMS, SEEN_PLACES}
 use Rattle.priority_filter.specs.declared.fault.OrderFault.{OrderFault}
 use Rattle.priority_filter.specs.declared.fault.OrderFault.TheVariants.{Cycle, UnknownName}
 use Rattle.priority_filter.specs.Order.{interaction_at, rule_at}
@@ -23,6 +25,7 @@ is_proper_subset m n = (bit_and m n == m) && not (m == n)
 -- whether the rule puts the first interaction below the second
 abbrev pub puts : Rule → ℕ × ℕ → ℕ × ℕ → Bool
 puts (Under left right) i j = is_on left i && is_on right j
+puts (UnderAt left right at) i j = is_on left i && is_on right j
 puts (Maximal connector) i j = (i.0 == connector) && ((j.0 == connector) && is_proper_subset i.1 j.1)
 
 -- whether both numbers are of the list, and some rule puts the one below the other
@@ -58,9 +61,14 @@ least_below n test = find test (range_with_len 0 n)
 abbrev pub is_known_side : List (ℕ × ℕ) → Side → Bool
 is_known_side interactions side = list_any (is_on side) interactions
 
--- whether all that the rule names is in the list
+-- whether the atom and the place of a condition are among those that a row can show
+abbrev pub is_known_place : At → Bool
+is_known_place at = nat_lt at.atom SEEN_ATOMS && nat_lt at.place SEEN_PLACES
+
+-- whether all that the rule names is in the list, and its condition can be shown
 abbrev pub is_known : List (ℕ × ℕ) → Rule → Bool
 is_known interactions (Under left right) = is_known_side interactions left && is_known_side interactions right
+is_known interactions (UnderAt left right at) = is_known_side interactions left && is_known_side interactions right && is_known_place at
 is_known interactions (Maximal connector) = is_known_side interactions (Whole connector)
 
 -- the index of the first rule that names something which is not in the list

@@ -1,11 +1,13 @@
 -- Laws of the order, over the definitions alone.
-use Rattle.std.specs.Prelude.{◌≡◌, ◌≢◌, ◌↔◌, ℕ, ◌<◌, Bool, false, List, length, Some, None, IsTrue}
+use Rattle.std.specs.Prelude.{◌≡◌, ◌≢◌, ◌↔◌, ℕ, ◌<◌, Bool, true, false, List, length, Some, None, IsTrue}
 use Rattle.std.specs.Ordering.{nat_cmp}
 use Rattle.std.specs.FinSet.{FinSet, contains}
 use Rattle.priority_filter.specs.declared.rule.Rule.{Rule}
+use Rattle.priority_filter.specs.declared.seen.At.{At}
 use Rattle.priority_filter.specs.declared.fault.OrderFault.TheVariants.{Cycle, UnknownName, Memory}
 use Rattle.priority_filter.specs.Order.{IsBelow, IsStrict, IsFirstCyclic, AreKnown, IsFirstUnknown}
 use Rattle.priority_filter.specs.Decided.{is_below, is_overruled, order_fault}
+use Rattle.priority_filter.specs.Active.{active}
 
 -- what is below something is an interaction of the list, and so is what it is below
 abbrev pub BelowIsWithin : Type 0
@@ -50,10 +52,29 @@ pub record FaultIsComputed : Type 0 where
       → (order_fault rules interactions ≡ None) ↔ (AreKnown rules interactions × IsStrict rules interactions)
   pub memory : (rules : List Rule) (interactions : List (ℕ × ℕ)) → order_fault rules interactions ≢ Some Memory
 
--- under rules without fault, where something of the list is possible, something possible is not overruled
+-- what is below something by the rules that count is so still where more conditions hold
+abbrev pub MoreCountsMore : Type 0
+MoreCountsMore =
+    (rules : List Rule) (interactions : List (ℕ × ℕ)) (holds more : At → Bool) (a b : ℕ)
+    → ((at : At) → holds at ≡ true → more at ≡ true)
+    → IsBelow (active holds rules) interactions a b → IsBelow (active more rules) interactions a b
+
+-- what is below something by the rules that count is below it by all rules
+abbrev pub WhatCountsIsBelow : Type 0
+WhatCountsIsBelow =
+    (rules : List Rule) (interactions : List (ℕ × ℕ)) (holds : At → Bool) (a b : ℕ)
+    → IsBelow (active holds rules) interactions a b → IsBelow rules interactions a b
+
+-- an order that is strict where all rules count is strict whichever conditions hold
+abbrev pub IsStrictInEveryState : Type 0
+IsStrictInEveryState =
+    (rules : List Rule) (interactions : List (ℕ × ℕ)) (holds : At → Bool)
+    → IsStrict rules interactions → IsStrict (active holds rules) interactions
+
+-- under rules without fault, where something of the list is possible, something possible is not overruled, whichever conditions hold
 abbrev pub SomethingIsNotOverruled : Type 0
 SomethingIsNotOverruled =
-    (rules : List Rule) (interactions : List (ℕ × ℕ)) (possible : ℕ → Bool)
+    (rules : List Rule) (interactions : List (ℕ × ℕ)) (holds : At → Bool) (possible : ℕ → Bool)
     → order_fault rules interactions ≡ None
     → (a : ℕ) → a < length interactions → IsTrue (possible a)
-    → (top : ℕ) × (top < length interactions) × IsTrue (possible top) × (is_overruled rules interactions possible top ≡ false)
+    → (top : ℕ) × (top < length interactions) × IsTrue (possible top) × (is_overruled (active holds rules) interactions possible top ≡ false)

@@ -2,6 +2,8 @@ pub mod Members
 pub mod Rule
 pub mod Order
 pub mod Decided
+pub mod Active
+pub mod Conditions
 pub mod Table
 pub mod Fault
 pub mod Laws

@@ -3,7 +3,9 @@ use Rattle.std.specs.Prelude.{ℕ, ◌<◌, List, [], ◌∷◌, length, slice_i
 use Rattle.priority_filter.specs.declared.rule.Side.{Side}
 use Rattle.priority_filter.specs.declared.rule.Side.TheVariants.{Whole}
 use Rattle.priority_filter.specs.declared.rule.Rule.{Rule}
-use Rattle.priority_filter.specs.declared.rule.Rule.TheVariants.{Under, Maximal}
+use Rattle.priority_filter.specs.declared.rule.Rule.TheVariants.{Under, UnderAt, Maximal}
+use Rattle.priority_filter.specs.declared.seen.At.{At}
+use Rattle.priority_filter.specs.declared.seen.TheConstants.{SEEN_ATOMS, SEEN_PLACES}
 use Rattle.priority_filter.specs.Rule.{IsOn, Puts}
 
 -- the rules and the interactions that an order was made from
@@ -55,9 +57,14 @@ abbrev pub IsKnownSide : List (ℕ × ℕ) → Side → Type 0
 IsKnownSide interactions side =
     (a : ℕ) × (a < length interactions) × IsOn side (interaction_at interactions a)
 
--- what the rule names is in the list
+-- the atom and the place of a condition are among those that a row can show
+abbrev pub IsKnownPlace : At → Type 0
+IsKnownPlace at = (at.atom < SEEN_ATOMS) × (at.place < SEEN_PLACES)
+
+-- what the rule names is in the list, and its condition can be shown
 abbrev pub IsKnown : List (ℕ × ℕ) → Rule → Type 0
 IsKnown interactions (Under left right) = IsKnownSide interactions left × IsKnownSide interactions right
+IsKnown interactions (UnderAt left right at) = IsKnownSide interactions left × IsKnownSide interactions right × IsKnownPlace at
 IsKnown interactions (Maximal connector) = IsKnownSide interactions (Whole connector)
 
 -- what each rule names is in the list

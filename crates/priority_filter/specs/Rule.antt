@@ -3,7 +3,7 @@ use Rattle.std.specs.Prelude.{◌≡◌, ℕ, IsBitSet}
 use Rattle.priority_filter.specs.declared.rule.Side.{Side}
 use Rattle.priority_filter.specs.declared.rule.Side.TheVariants.{Whole, One}
 use Rattle.priority_filter.specs.declared.rule.Rule.{Rule}
-use Rattle.priority_filter.specs.declared.rule.Rule.TheVariants.{Under, Maximal}
+use Rattle.priority_filter.specs.declared.rule.Rule.TheVariants.{Under, UnderAt, Maximal}
 
 -- the leaf takes part in an interaction with this mask
 abbrev pub HasLeaf : ℕ → ℕ → Type 0
@@ -23,7 +23,9 @@ IsOn (Whole connector) i = i.0 ≡ connector
 IsOn (One connector mask) i = (i.0 ≡ connector) × (i.1 ≡ mask)
 
 -- the rule puts the first interaction below the second: one of the left side below one of the right,
--- or, in a connector that is to be maximal, an interaction below each that has its leaves and more
+-- or, in a connector that is to be maximal, an interaction below each that has its leaves and more; by itself a rule says nothing of
+-- its condition
 abbrev pub Puts : Rule → ℕ × ℕ → ℕ × ℕ → Type 0
 Puts (Under left right) i j = IsOn left i × IsOn right j
+Puts (UnderAt left right at) i j = IsOn left i × IsOn right j
 Puts (Maximal connector) i j = (i.0 ≡ connector) × (j.0 ≡ connector) × IsProperSubset i.1 j.1

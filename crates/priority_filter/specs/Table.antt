@@ -1,5 +1,5 @@
 -- A table of sets, one for each interaction: row a holds what stands above interaction a.
-use Rattle.std.specs.Prelude.{◌≡◌, ℕ, ◌<◌, ◌≤◌, ◌⊎◌, ◌↔◌, List, length, slice_index_or, None, IsTrue, if◌then◌else◌}
+use Rattle.std.specs.Prelude.{◌≡◌, ℕ, ◌<◌, ◌≤◌, ◌⊎◌, ◌↔◌, true, List, length, slice_index_or, None, IsTrue, if◌then◌else◌}
 use Rattle.std.specs.Ordering.{nat_cmp}
 use Rattle.std.specs.FinSet.{FinSet, contains, empty, union}
 use Rattle.priority_filter.specs.declared.rule.Side.{Side}
@@ -7,6 +7,9 @@ use Rattle.priority_filter.specs.declared.rule.Rule.{Rule}
 use Rattle.priority_filter.specs.Rule.{IsOn, Puts, IsProperSubset}
 use Rattle.priority_filter.specs.Order.{interaction_at, IsBelow}
 use Rattle.priority_filter.specs.Decided.{order_fault}
+use Rattle.priority_filter.specs.Active.{unconditional}
+use Rattle.priority_filter.specs.Conditions.{AreConditions, AreWatched}
+use Rattle.priority_filter.specs.declared.condition.Condition.{Condition}
 use Rattle.priority_filter.specs.declared.interaction_set.TheConstants.{INTERACTION_LIMIT}
 
 -- row a, which is empty past the table
@@ -40,9 +43,20 @@ Gains interactions rule old new = (a b : ℕ) → Above new a b ↔ (Above old a
 abbrev pub row_through : ℕ → FinSet nat_cmp → FinSet nat_cmp → FinSet nat_cmp
 row_through station through row = if contains row station then union row through else row
 
--- the table is the order that the rules put on the interactions, and the rules are without fault
+-- the table is the order that the rules without a condition put on the interactions, and all rules are without fault
 pub record IsOrderTable (rules : List Rule) (interactions : List (ℕ × ℕ)) (rows : List (FinSet nat_cmp)) : Type 0 where
   pub limit : length interactions ≤ INTERACTION_LIMIT
   pub size : length rows ≡ length interactions
-  pub exact : (a b : ℕ) → Above rows a b ↔ IsBelow rules interactions a b
+  pub exact : (a b : ℕ) → Above rows a b ↔ IsBelow (unconditional rules) interactions a b
   pub sound : order_fault rules interactions ≡ None
+
+-- no interaction is above one of the set, where all rules count
+abbrev pub AreFree : List Rule → List (ℕ × ℕ) → FinSet nat_cmp → Type 0
+AreFree rules interactions set = (n : ℕ) → contains set n ≡ true → (b : ℕ) → ¬ IsBelow rules interactions n b
+
+-- what an order keeps: the table, the interactions that none is above, the rules with a condition, and the places that these ask for
+pub record IsOrder (rules : List Rule) (interactions : List (ℕ × ℕ)) (rows : List (FinSet nat_cmp)) (unruled : FinSet nat_cmp) (kept : List Condition) (places : List ℕ) : Type 0 where
+  pub table : IsOrderTable rules interactions rows
+  pub free : AreFree rules interactions unruled
+  pub conditions : AreConditions rules interactions kept
+  pub watched : AreWatched rules places

@@ -1,5 +1,5 @@
 //! A set of interaction numbers, kept as a row of bits.
-ghost use Rattle.std.specs.Prelude.{◌≡◌, ℕ, ◌*◌, ◌/◌, ◌%◌, ◌||◌, ◌<◌, ◌≤◌, ◌↔◌, false, IsTrue, bit_or, slice_index};
+ghost use Rattle.std.specs.Prelude.{◌≡◌, ℕ, ◌*◌, ◌/◌, ◌%◌, ◌&&◌, ◌||◌, ◌<◌, ◌≤◌, ◌↔◌, true, false, not, IsTrue, bit_or, slice_index};
 ghost use Rattle.std.specs.Ordering.{nat_cmp};
 ghost use Rattle.std.specs.FinSet as set;
 ghost use Rattle.std.specs.Coded.{coded_ℕ};
@@ -112,7 +112,47 @@ impl InteractionSet {
             ↔ ((a : ℕ) × IsTrue (set.contains self.now a) × IsTrue (set.contains other.now a)) }
     {
         have_common_bit_at(&self.words, &other.words, likely)
-            || have_common_bit(&self.words, &other.words)
+            || have_common_bit(&self.words, &other.words, ROW_WORDS)
+    }
+
+    /// Whether some interaction below 64 for each of the words is in both sets.
+    pub(crate) fn meets(&self, other: &InteractionSet, words: usize) -> bool
+        requires { words ≤ ROW_WORDS }
+        ensures { IsTrue result
+            ↔ ((a : ℕ) × (a < 64 * words) × IsTrue (set.contains self.now a) × IsTrue (set.contains other.now a)) }
+    {
+        have_common_bit(&self.words, &other.words, words)
+    }
+
+    /// Whether no interaction is in the set.
+    pub(crate) fn is_empty(&self) -> bool
+        ensures { IsTrue result ↔ ((a : ℕ) → set.contains self.now a ≡ false) }
+    {
+        !self.intersects(self, ROW_WORDS)
+    }
+
+    /// Puts in each interaction of the other set below 64 for each of the words, and says whether one was not in before.
+    pub(crate) fn add_words(&mut self, other: &InteractionSet, words: usize) -> bool
+        requires { words ≤ ROW_WORDS }
+        ensures within { (n : ℕ) → n < 64 * words → set.contains self.new n ≡ (set.contains self.old n || set.contains other.now n) }
+        ensures past { (n : ℕ) → 64 * words ≤ n → set.contains self.new n ≡ set.contains self.old n }
+        ensures same { result ≡ false → self.new ≡ self.old }
+        ensures more { result ≡ true → ((n : ℕ) × (n < 64 * words) × (set.contains self.old n ≡ false) × (set.contains self.new n ≡ true)) }
+    {
+        let added = has_other_bit(&other.words, &self.words, words);
+        if added {
+            self.union_words(other, words);
+        }
+        added
+    }
+
+    /// Takes out each interaction of the other set below 64 for each of the words.
+    pub(crate) fn remove_words(&mut self, other: &InteractionSet, words: usize)
+        requires { words ≤ ROW_WORDS }
+        ensures within { (n : ℕ) → n < 64 * words → set.contains self.new n ≡ (set.contains self.old n && not (set.contains other.now n)) }
+        ensures past { (n : ℕ) → 64 * words ≤ n → set.contains self.new n ≡ set.contains self.old n }
+    {
+        subtract(&mut self.words, &other.words, words);
     }
 }
 
@@ -140,15 +180,41 @@ fn have_common_bit_at(words: &[u64; ROW_WORDS], other: &[u64; ROW_WORDS], place:
     place < ROW_WORDS && words[place] & other[place] != 0
 }
 
-/// Whether some bit is set in both.
-fn have_common_bit(words: &[u64; ROW_WORDS], other: &[u64; ROW_WORDS]) -> bool
-    ensures { IsTrue result ↔ ((a : ℕ) × IsTrue (holds words.now a) × IsTrue (holds other.now a)) }
+/// Whether some bit of the first words is set in both.
+fn have_common_bit(words: &[u64; ROW_WORDS], other: &[u64; ROW_WORDS], count: usize) -> bool
+    requires { count ≤ ROW_WORDS }
+    ensures { IsTrue result ↔ ((a : ℕ) × (a < 64 * count) × IsTrue (holds words.now a) × IsTrue (holds other.now a)) }
 {
-    for k in 0..ROW_WORDS {
+    for k in 0..count {
         let common = words[k] & other[k];
         if common != 0 {
             return true;
         }
     }
     false
+}
+
+/// Whether some bit of the first words is set and is not set in the others.
+fn has_other_bit(words: &[u64; ROW_WORDS], other: &[u64; ROW_WORDS], count: usize) -> bool
+    requires { count ≤ ROW_WORDS }
+    ensures { IsTrue result ↔ ((a : ℕ) × (a < 64 * count) × IsTrue (holds words.now a) × (holds other.now a ≡ false)) }
+{
+    for k in 0..count {
+        let more = words[k] & !other[k];
+        if more != 0 {
+            return true;
+        }
+    }
+    false
+}
+
+/// Clears each bit of the first words that is set in the other words.
+fn subtract(words: &mut [u64; ROW_WORDS], other: &[u64; ROW_WORDS], count: usize)
+    requires { count ≤ ROW_WORDS }
+    ensures cleared { (n : ℕ) → n < 64 * count → holds words.new n ≡ (holds words.old n && not (holds other.now n)) }
+    ensures rest { (k : ℕ) → count ≤ k → slice_index words.new k ≡ slice_index words.old k }
+{
+    for k in 0..count {
+        words[k] &= !other[k];
+    }
 }

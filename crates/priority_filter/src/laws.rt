@@ -1,5 +1,5 @@
 //! Laws of the order. Each is a function without code whose contract is the law.
-ghost use Rattle.priority_filter.specs.Laws.{BelowIsWithin, BelowIsTransitive, PrioritiesBringNoDeadlock, BelowIsComputed, OverruledIsComputed, FaultIsComputed, SomethingIsNotOverruled};
+ghost use Rattle.priority_filter.specs.Laws.{BelowIsWithin, BelowIsTransitive, PrioritiesBringNoDeadlock, BelowIsComputed, OverruledIsComputed, FaultIsComputed, MoreCountsMore, WhatCountsIsBelow, IsStrictInEveryState, SomethingIsNotOverruled};
 
 /// What is below something is an interaction of the list, and so is what it is below.
 pub fn below_is_within()
@@ -31,7 +31,22 @@ pub fn fault_is_computed()
     ensures { FaultIsComputed }
 {}
 
-/// Where rules without fault leave something possible, something possible is not overruled.
+/// What is below something is so still where more conditions hold.
+pub fn more_counts_more()
+    ensures { MoreCountsMore }
+{}
+
+/// What is below something by the rules that count is below it by all rules.
+pub fn what_counts_is_below()
+    ensures { WhatCountsIsBelow }
+{}
+
+/// An order that is written is strict in every state: rules are refused as if all of them counted.
+pub fn a_written_order_is_strict_in_every_state()
+    ensures { IsStrictInEveryState }
+{}
+
+/// Where rules without fault leave something possible, something possible is not overruled, whichever conditions hold.
 pub fn something_is_not_overruled()
     ensures { SomethingIsNotOverruled }
 {}

@@ -11,18 +11,21 @@
 //!
 //! - [`Order::new`] refuses the first rule that names something unknown, and then the first
 //!   interaction that is below itself. So an order that was made is strict.
-//! - [`Order::below`] is exactly that order, and costs the test of one bit.
-//! - [`Order::is_overruled`] says whether some possible interaction is above, word by word. [`Order::filter`] leaves those
-//!   of the possible interactions of which this is false, 64 at a time.
-//! - [`laws`] has what follows from the definitions: below is transitive, and where something is
-//!   possible, some possible interaction has no possible one above it.
+//! - A rule may have a condition: a place of an atom. It counts while the place is marked, and where nothing is known of the atom it
+//!   may. The order of a state is the one that the rules that count put; a row of [`Seen`] tells which they are.
+//! - [`Order::below_at`] is exactly that order. [`Order::filter`] leaves those of some candidates that have no rival above them,
+//!   64 at a time.
+//! - [`laws`] has what follows from the definitions: below is transitive, an order that was made is strict whichever conditions
+//!   hold, and where something is possible, some possible interaction has no possible one above it.
 //!
-//! The definitions: `specs/Rule.antt` says what one rule puts below what, and `specs/Order.antt` what
-//! a chain is. `specs/Decided.antt` says the same as tests and searches that compute, for definitions
+//! The definitions: `specs/Rule.antt` says what one rule puts below what, `specs/Order.antt` what
+//! a chain is, and `specs/Active.antt` which rules count. `specs/Decided.antt` says the same as tests and searches that compute, for definitions
 //! that count or list; laws tie each to its relation, and the contracts cite both. `table` builds the
-//! order as one row of bits for each interaction.
+//! order of the rules without a condition as one row of bits for each interaction, and `condition` keeps two sets for each rule
+//! with one.
 #![tactic(auto)]
 
+mod condition;
 pub mod fault;
 mod filter;
 pub mod interaction_set;
@@ -30,9 +33,12 @@ pub mod laws;
 mod mask;
 pub mod order;
 pub mod rule;
+pub mod seen;
 mod table;
+mod watched;
 
 pub use fault::OrderFault;
 pub use interaction_set::{INTERACTION_LIMIT, InteractionSet, ROW_WORDS};
 pub use order::Order;
 pub use rule::{Rule, Side};
+pub use seen::{At, SEEN_ATOMS, SEEN_PLACES, Seen};

@@ -1,41 +1,55 @@
 //! The order that rules put on the interactions of a plant.
-ghost use Rattle.std.specs.Prelude.{◌≡◌, ◌≢◌, ℕ, ◌<◌, ◌≤◌, ◌↔◌, length, IfOk, IfErr, OnOk, IsTrue, IfSome, IfNone, Some, None};
+ghost use Rattle.std.specs.Prelude.{◌≡◌, ◌≢◌, ℕ, ◌/◌, ◌%◌, ◌<◌, ◌≤◌, ◌↔◌, ◌||◌, Bool, true, false, length, vec_len, IfOk, IfErr, OnOk, IsTrue, IfSome, IfNone, Some, None, Contains};
 ghost use Rattle.std.specs.FinSet as set;
+ghost use Rattle.priority_filter.specs.Active.{active, unconditional, may_be_marked};
+ghost use Rattle.priority_filter.specs.Members.{has_bit};
 ghost use Rattle.priority_filter.specs.Order.{IsBelow, IsStrict, IsFirstCyclic, AreKnown, IsFirstUnknown};
 ghost use Rattle.priority_filter.specs.Decided.{is_below, is_overruled, order_fault};
+ghost use Rattle.priority_filter.specs.Conditions.{AreConditions, IsLeastClosed};
+ghost use Rattle.priority_filter.specs.Table.{Above};
+ghost use Rattle.priority_filter.specs.declared.rule.Side.{Side};
+ghost use Rattle.priority_filter.specs.declared.seen.At.{At};
+ghost use Rattle.priority_filter.specs.declared.interaction_set.TheConstants.{ROW_WORDS};
 
+use crate::condition::{self, Condition};
 use crate::fault::OrderFault;
-use crate::interaction_set::{INTERACTION_LIMIT, InteractionSet};
+use crate::interaction_set::{INTERACTION_LIMIT, InteractionSet, ROW_WORDS};
 use crate::rule::Rule;
-use crate::table;
-use std::alloc::Global;
+use crate::seen::{SEEN_ATOMS, Seen};
+use crate::{table, watched};
+use std::alloc::{AllocError, Global};
 use std::marker::Model;
 
 /// Which interactions are below which. An interaction is named by its number, its place in the list
 /// that the order was made from.
+///
+/// The table `above` is of the rules without a condition. What those with one add is kept beside it, one entry for each.
 #[derive(Drop)]
 pub struct Order {
     rules: Vec<Rule>,
     interactions: Vec<(u16, u16)>,
     above: Vec<InteractionSet>,
+    free: InteractionSet,
+    conditions: Vec<Condition>,
+    watched: [u64; SEEN_ATOMS],
 }
 
 impl Model for Order {
     ghost use Rattle.priority_filter.specs.Order.{Priorities};
-    ghost use Rattle.priority_filter.specs.Table.{IsOrderTable};
+    ghost use Rattle.priority_filter.specs.Table.{IsOrder};
 
     ghost Value = { Priorities };
 
     ghost view = { λ o. record { rules = o.rules.items; interactions = o.interactions.items } };
 
-    ghost invariant = { λ o. IsOrderTable o.rules.items o.interactions.items o.above.items };
+    ghost invariant = { λ o. IsOrder o.rules.items o.interactions.items o.above.items o.free o.conditions.items o.watched };
 }
 
 impl Order {
     /// The order of the rules on the interactions, each a connector and a leaf mask.
     ///
     /// An unknown name is told before a cycle, and of each kind the first. An unknown name takes no memory to find, so want of
-    /// memory is told only where all names are known.
+    /// memory is told only where all names are known. A cycle is told as if all conditions held.
     pub fn new(
         alloc: Global,
         rules: &[Rule],
@@ -62,10 +76,34 @@ impl Order {
         if let Some(interaction) = table::first_cyclic(&above) {
             return Err(OrderFault::Cycle(interaction));
         }
+        Ok(Order::of(alloc, rules, interactions, above)?)
+    }
+
+    /// The order of rules without fault, where this is the table of all of them.
+    fn of(
+        alloc: Global,
+        rules: &[Rule],
+        interactions: &[(u16, u16)],
+        all: Vec<InteractionSet>,
+    ) -> Result<Self, AllocError>
+        requires limit { length interactions.now ≤ INTERACTION_LIMIT }
+        requires size { vec_len all ≡ length interactions.now }
+        requires below { (a b : ℕ) → Above all.items a b ↔ IsBelow rules.now interactions.now a b }
+        requires known { AreKnown rules.now interactions.now }
+        requires sound { order_fault rules.now interactions.now ≡ None }
+        ensures rules { IfOk result (λ order. order.rules ≡ rules.now) }
+        ensures interactions { IfOk result (λ order. order.interactions ≡ interactions.now) }
+    {
+        let free = table::free_rows(&all);
+        let above = table::table_without_conditions(alloc, rules, interactions, all)?;
+        let conditions = conditions_of(alloc, rules, interactions, &above)?;
         Ok(Order {
             rules: Vec::from_slice(alloc, rules)?,
             interactions: Vec::from_slice(alloc, interactions)?,
             above,
+            free,
+            conditions,
+            watched: watched::watched_places(rules),
         })
     }
 
@@ -83,35 +121,92 @@ impl Order {
         self.interactions.as_slice()
     }
 
-    /// Whether a chain of rules leads from interaction a up to interaction b. None does where either
-    /// number is of no interaction of the order.
-    pub fn below(&self, a: u16, b: u16) -> bool
-        ensures below { IsTrue result ↔ IsBelow self.now.rules self.now.interactions a b }
-        ensures value { result ≡ is_below self.now.rules self.now.interactions a b }
-        ensures strict { IsStrict self.now.rules self.now.interactions }
-        ensures sound { order_fault self.now.rules self.now.interactions ≡ None }
+    /// Whether some rule has a condition.
+    pub fn has_conditions(&self) -> bool
+        ensures { result ≡ false → (left right : Side) (at : At) → ¬ Contains self.now.rules (Rule.UnderAt left right at) }
     {
-        match self.above.get(usize::from(a)) {
-            Some(row) => row.contains(b),
-            None => false,
+        !self.conditions.is_empty()
+    }
+
+    /// The places of an atom that rules ask for, bit k for place k.
+    pub fn watched(&self, atom: u16) -> u64
+        ensures { (left right : Side) (at : At) → Contains self.now.rules (Rule.UnderAt left right at) → at.atom ≡ atom → has_bit result at.place ≡ true }
+    {
+        match self.watched.get(usize::from(atom)) {
+            Some(places) => *places,
+            None => 0,
         }
     }
 
-    /// Whether some possible interaction is above this one. None is above a number of no interaction
-    /// of the order.
-    pub fn is_overruled(&self, interaction: u16, possible: &InteractionSet) -> bool
-        ensures overruled { IsTrue result ↔ ((b : ℕ) × IsTrue (set.contains possible.now b)
-            × IsBelow self.now.rules self.now.interactions interaction b) }
-        ensures value { result ≡ is_overruled self.now.rules self.now.interactions (set.contains possible.now) interaction }
+    /// Whether a chain of rules leads from interaction a up to interaction b, by the rules that count as far as is seen: those
+    /// without a condition, and those whose place is marked or not known. None does where either number is of no interaction of
+    /// the order.
+    pub fn below_at(&self, a: u16, b: u16, seen: &[Seen; SEEN_ATOMS]) -> bool
+        ensures below { IsTrue result ↔ IsBelow (active (may_be_marked seen.now) self.now.rules) self.now.interactions a b }
+        ensures value { result ≡ is_below (active (may_be_marked seen.now) self.now.rules) self.now.interactions a b }
         ensures strict { IsStrict self.now.rules self.now.interactions }
+        ensures sound { order_fault self.now.rules self.now.interactions ≡ None }
+    {
+        let mut upper = InteractionSet::new();
+        upper.insert(b);
+        self.is_overruled_at(a, &upper, seen)
+    }
+
+    /// Whether a rival is above this interaction, by the rules that count as far as is seen.
+    fn is_overruled_at(
+        &self,
+        interaction: u16,
+        rivals: &InteractionSet,
+        seen: &[Seen; SEEN_ATOMS],
+    ) -> bool
+        ensures value { result ≡ is_overruled (active (may_be_marked seen.now) self.now.rules) self.now.interactions (set.contains rivals.now) interaction }
+        ensures limit { length self.now.interactions ≤ INTERACTION_LIMIT }
+        ensures sound { order_fault self.now.rules self.now.interactions ≡ None }
+    {
+        if self.has_conditions() {
+            self.is_overruled_always(interaction, rivals)
+                || self
+                    .overruled_by_conditions(seen, rivals)
+                    .contains(interaction)
+        } else {
+            self.is_overruled_always(interaction, rivals)
+        }
+    }
+
+    /// Whether a rival is above this interaction, by the rules without a condition. None is above a number of no interaction of
+    /// the order.
+    pub(crate) fn is_overruled_always(&self, interaction: u16, rivals: &InteractionSet) -> bool
+        ensures value { result ≡ is_overruled (unconditional self.now.rules) self.now.interactions (set.contains rivals.now) interaction }
+        ensures limit { length self.now.interactions ≤ INTERACTION_LIMIT }
         ensures sound { order_fault self.now.rules self.now.interactions ≡ None }
     {
         let place = usize::from(interaction);
         match self.above.get(place) {
             // Under `maximal` those above follow closely, so that the own word most likely has one.
-            Some(row) => row.intersects(possible, place / 64),
+            Some(row) => row.intersects(rivals, place / 64),
             None => false,
         }
+    }
+
+    /// Those of 64 interactions that nothing is above, where all rules count.
+    pub(crate) fn free_word(&self, place: usize) -> u64
+        requires { place < ROW_WORDS }
+        ensures { (n : ℕ) → n / 64 ≡ place → has_bit result (n % 64) ≡ true → (rivals : ℕ → Bool) → is_overruled (unconditional self.now.rules) self.now.interactions rivals n ≡ false }
+    {
+        self.free.word(place)
+    }
+
+    /// What the rules with a condition that may hold add: with what they put in the set, and what the rules without a condition
+    /// put below a rival, an interaction is below a rival by the rules that count.
+    pub(crate) fn overruled_by_conditions(
+        &self,
+        seen: &[Seen; SEEN_ATOMS],
+        rivals: &InteractionSet,
+    ) -> InteractionSet
+        ensures { (n : ℕ) → is_overruled (active (may_be_marked seen.now) self.now.rules) self.now.interactions (set.contains rivals.now) n ≡ (is_overruled (unconditional self.now.rules) self.now.interactions (set.contains rivals.now) n || set.contains result n) }
+    {
+        let words = self.interactions.len().div_ceil(64);
+        condition::overruled_by(&self.conditions, seen, rivals, words)
     }
 }
 
@@ -126,4 +221,29 @@ fn first_unknown(rules: &[Rule], interactions: &[(u16, u16)]) -> Option<usize>
         }
     }
     None
+}
+
+/// The rules with a condition, by the table of those without.
+fn conditions_of(
+    alloc: Global,
+    rules: &[Rule],
+    interactions: &[(u16, u16)],
+    above: &[InteractionSet],
+) -> Result<Vec<Condition>, AllocError>
+    requires limit { length interactions.now ≤ INTERACTION_LIMIT }
+    requires size { length above.now ≡ length interactions.now }
+    requires below { (a b : ℕ) → Above above.now a b ↔ IsBelow (unconditional rules.now) interactions.now a b }
+    ensures { IfOk result (λ conditions. AreConditions rules.now interactions.now conditions.items) }
+{
+    let mut conditions = Vec::new(alloc);
+    for k in 0..rules.len() {
+        if let Rule::UnderAt(left, right, at) = rules[k] {
+            conditions.push(Condition {
+                at,
+                below: table::up_to_side(above, interactions, left),
+                above: table::from_side(above, interactions, right),
+            })?;
+        }
+    }
+    Ok(conditions)
 }

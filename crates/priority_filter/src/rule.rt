@@ -1,6 +1,8 @@
 //! Priority rules as they are written, and what one of them says of two interactions.
 ghost use Rattle.std.specs.Prelude.{◌≡◌, ℕ, ◌↔◌, List, IsTrue};
 
+use crate::seen::At;
+
 /// One side of a rule.
 #[derive(Clone, Copy, Debug, PartialEq, Eq)]
 pub enum Side {
@@ -42,20 +44,34 @@ impl Side {
 pub enum Rule {
     /// Each interaction of the first side is below each of the second.
     Under(Side, Side),
+    /// Each interaction of the first side is below each of the second while the place is marked.
+    UnderAt(Side, Side, At),
     /// Each interaction of this connector is below each other one of it that has all its leaves.
     Maximal(u16),
 }
 
 impl Rule {
+    ghost use Rattle.std.specs.Prelude.{false};
+    ghost use Rattle.priority_filter.specs.Active.{is_active};
     ghost use Rattle.priority_filter.specs.Order.{IsKnown};
 
-    /// Whether all that the rule names is in the list.
+    /// Whether it counts whatever is marked: it has no condition.
+    pub(crate) fn counts_always(self) -> bool
+        ensures { result ≡ is_active (λ _. false) self }
+    {
+        !matches!(self, Rule::UnderAt(_, _, _))
+    }
+
+    /// Whether all that the rule names is in the list, and its condition is one that can be shown.
     pub(crate) fn is_known(self, interactions: &[(u16, u16)]) -> bool
         ensures { IsTrue result ↔ IsKnown interactions.now self }
     {
         match self {
             Rule::Under(left, right) => {
                 left.is_known(interactions) && right.is_known(interactions)
+            }
+            Rule::UnderAt(left, right, at) => {
+                left.is_known(interactions) && right.is_known(interactions) && at.is_known()
             }
             Rule::Maximal(connector) => Side::Whole(connector).is_known(interactions),
         }

@@ -1,8 +1,11 @@
 //! The table of an order: for each interaction the set of those that stand above it.
 //!
 //! It is filled with the rule steps, rule by rule, and then closed through one station after another.
-ghost use Rattle.std.specs.Prelude.{◌≡◌, ℕ, ◌<◌, ◌≤◌, ◌↔◌, length, vec_len, IfOk, IfSome, IfNone, IsTrue};
+ghost use Rattle.std.specs.Prelude.{◌≡◌, ℕ, ◌<◌, ◌≤◌, ◌↔◌, Bool, true, false, length, vec_len, IfOk, IfSome, IfNone, IsTrue};
 ghost use Rattle.std.specs.FinSet as set;
+ghost use Rattle.std.specs.List.{list_all};
+ghost use Rattle.priority_filter.specs.Active.{is_active, unconditional};
+ghost use Rattle.priority_filter.specs.Conditions.{IsUpTo, IsFrom};
 ghost use Rattle.priority_filter.specs.Rule.{IsOn, Puts, IsProperSubset};
 ghost use Rattle.priority_filter.specs.Order.{rule_at, IsRuleStep, Leads, IsBelow};
 ghost use Rattle.priority_filter.specs.Table.{row_at, Above, IsSideSet, IsLargerSet, Gains, row_through};
@@ -83,7 +86,9 @@ fn add_rule(rows: &mut [InteractionSet], interactions: &[(u16, u16)], rule: Rule
     ensures { Gains interactions.now rule rows.old rows.new }
 {
     match rule {
-        Rule::Under(left, right) => add_under(rows, interactions, left, right),
+        Rule::Under(left, right) | Rule::UnderAt(left, right, _) => {
+            add_under(rows, interactions, left, right)
+        }
         Rule::Maximal(connector) => add_maximal(rows, interactions, connector),
     }
 }
@@ -186,4 +191,94 @@ pub fn first_cyclic(rows: &[InteractionSet]) -> Option<u16>
         }
     }
     None
+}
+
+/// Whether no rule has a condition.
+fn count_always(rules: &[Rule]) -> bool
+    ensures { result ≡ list_all (is_active (λ _. false)) rules.now }
+{
+    rules.iter().all(|rule| rule.counts_always())
+}
+
+/// The rules without a condition.
+fn rules_without_condition(alloc: Global, rules: &[Rule]) -> Result<Vec<Rule>, AllocError>
+    ensures { IfOk result (λ kept. kept.items ≡ unconditional rules.now) }
+{
+    let mut kept = Vec::new(alloc);
+    for rule in rules {
+        if rule.counts_always() {
+            kept.push(*rule)?;
+        }
+    }
+    Ok(kept)
+}
+
+/// The table of the order by the rules without a condition, where this is the one by all of them.
+pub fn table_without_conditions(
+    alloc: Global,
+    rules: &[Rule],
+    interactions: &[(u16, u16)],
+    all: Vec<InteractionSet>,
+) -> Result<Vec<InteractionSet>, AllocError>
+    requires limit { length interactions.now ≤ INTERACTION_LIMIT }
+    requires size { vec_len all ≡ length interactions.now }
+    requires below { (a b : ℕ) → Above all.items a b ↔ IsBelow rules.now interactions.now a b }
+    ensures size { IfOk result (λ rows. vec_len rows ≡ length interactions.now) }
+    ensures below { IfOk result (λ rows. (a b : ℕ) →
+        Above rows.items a b ↔ IsBelow (unconditional rules.now) interactions.now a b) }
+{
+    if count_always(rules) {
+        return Ok(all);
+    }
+    order_table(alloc, &rules_without_condition(alloc, rules)?, interactions)
+}
+
+/// The interactions that nothing stands above.
+pub fn free_rows(rows: &[InteractionSet]) -> InteractionSet
+    requires { length rows.now ≤ INTERACTION_LIMIT }
+    ensures { (n : ℕ) → set.contains result n ≡ true → (b : ℕ) → ¬ Above rows.now n b }
+{
+    let mut free = InteractionSet::new();
+    for number in 0..rows.len() {
+        if rows[number].is_empty() {
+            free.insert(number as u16);
+        }
+    }
+    free
+}
+
+/// The interactions on a side, and those that one of them stands above.
+pub fn up_to_side(
+    rows: &[InteractionSet],
+    interactions: &[(u16, u16)],
+    side: Side,
+) -> InteractionSet
+    requires limit { length interactions.now ≤ INTERACTION_LIMIT }
+    requires size { length rows.now ≡ length interactions.now }
+    ensures { (n : ℕ) → IsTrue (set.contains result n) ↔ IsUpTo (Above rows.now) interactions.now side n }
+{
+    let on = on_side(interactions, side);
+    let mut found = on.copy();
+    for number in 0..rows.len() {
+        if rows[number].intersects(&on, number / 64) {
+            found.insert(number as u16);
+        }
+    }
+    found
+}
+
+/// The interactions on a side, and those that stand above one of them.
+pub fn from_side(rows: &[InteractionSet], interactions: &[(u16, u16)], side: Side) -> InteractionSet
+    requires limit { length interactions.now ≤ INTERACTION_LIMIT }
+    requires size { length rows.now ≡ length interactions.now }
+    ensures { (n : ℕ) → IsTrue (set.contains result n) ↔ IsFrom (Above rows.now) interactions.now side n }
+{
+    let on = on_side(interactions, side);
+    let mut found = on.copy();
+    for number in 0..rows.len() {
+        if on.contains(number as u16) {
+            found.union_with(&rows[number]);
+        }
+    }
+    found
 }

@@ -9,6 +9,7 @@ pub mod Variables
 pub mod Exports
 pub mod Tokens
 pub mod Trees
+pub mod Conditions
 pub mod Sides
 pub mod OwnRules
 pub mod OnePart

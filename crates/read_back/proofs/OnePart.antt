@@ -1,22 +1,28 @@
 -- The names of a plant that breaks no rule of plants are each of one part alone among those of its kind.
-use Rattle.std.proofs.Common.{◌≡◌, ◌∙◌, refl, sym, ap, ℕ, zero, suc, ◌+◌, Bool, true, false, not, ◌&&◌, if◌then◌else◌, List, [], ◌∷◌, length, take, Option, Some, None, option_map, slice_get, arith}
+use Rattle.std.proofs.Common.{◌≡◌, ◌∙◌, refl, sym, ap, ℕ, zero, suc, ◌+◌, Bool, true, false, not, ◌&&◌, if◌then◌else◌, List, [], ◌∷◌, length, take, Option, Some, None, option_map, slice_get, nat_lt, Contains, arith}
 use Rattle.std.specs.Cmp.Lexicographic.{nat_list_eq_equiv}
 use Rattle.std.specs.List.{list_all, list_any}
+use Rattle.std.specs.Option.{option_map_or}
 use Rattle.std.proofs.lemmas.Bool.{and_parts, and_from, false≢true, or_parts, or_from, not_from_false}
 use Rattle.std.proofs.lemmas.Option.{same_Some, none-some}
 use Rattle.petri_atom.specs.Definition.{AtomDefinition, is_each_once, exports_once, has_each_place_once, has_each_once, is_well_formed}
 use Rattle.petri_atom.specs.Expression.{all_variables}
 use Rattle.petri_atom.specs.Name.{is_name, is_same_text}
-use Rattle.petri_atom.proofs.Fitting.{all_weaker}
+use Rattle.petri_atom.proofs.Fitting.{all_get, all_weaker}
 use Rattle.connector_tree.specs.Tree.{leaves}
+use Rattle.priority_filter.specs.declared.rule.Rule.{Rule}
+use Rattle.priority_filter.specs.declared.rule.Rule.TheVariants.{Under, UnderAt, Maximal}
 use Rattle.step_core.specs.Choice.{plant_interactions}
 use Rattle.step_core.specs.Plant.{WireDefinition, PlantDefinition}
-use Rattle.step_core.specs.Rules.{first_of, first_told, first_broken, atom_fault, tree_fault, wire_fault, fault_of_wire, fault_of_wires, fault_of_count, fault_of_order, is_within_limits, early_fault, late_fault, fault_of, is_known_port, is_known_export, names_known}
+use Rattle.step_core.specs.Rules.{first_of, first_told, is_known_condition, first_broken, atom_fault, tree_fault, wire_fault, fault_of_wire, fault_of_wires, fault_of_count, fault_of_order, is_within_limits, early_fault, late_fault, fault_of, is_known_port, is_known_export, names_known}
 use Rattle.step_core.specs.declared.fault.SystemFault.{SystemFault}
 use Rattle.step_core.specs.declared.fault.SystemFault.TheVariants.{Limit, BadAtom, BadWire}
 use Rattle.step_core.specs.declared.fault.WireFault.{WireFault}
+use Rattle.step_core.proofs.Membership.{all-in}
 use Rattle.step_core.proofs.TreeRules.{first_none, second_none}
 use Rattle.read_back.specs.Names.{have_names, are_named, names_its_parts, are_named_atoms, has_names, plant_has_names}
+use Rattle.read_back.specs.Rules.{has_named_condition}
+use Rattle.read_back.proofs.Found.{passing}
 
 -- ---- names that none before has
 
@@ -48,25 +54,43 @@ all_both f g h both (x ∷ xs) one other =
     let second = and_parts (g x) (list_all g xs) other in
     and_from (h x) (list_all h xs) (both x first.0 second.0) (all_both f g h both xs first.1 second.1)
 
--- the second and the third of five tests
-second_and_third : (a b c d e : Bool) → a && b && c && d && e ≡ true → (b ≡ true) × (c ≡ true)
-second_and_third true true true d e all = (refl, refl)
-second_and_third false b c d e all = absurd (false≢true all)
-second_and_third true false c d e all = absurd (false≢true all)
-second_and_third true true false d e all = absurd (false≢true all)
+-- the first three of five tests
+first_three : (a b c d e : Bool) → a && b && c && d && e ≡ true → (a ≡ true) × (b ≡ true) × (c ≡ true)
+first_three true true true d e all = (refl, refl, refl)
+first_three false b c d e all = absurd (false≢true all)
+first_three true false c d e all = absurd (false≢true all)
+first_three true true false d e all = absurd (false≢true all)
+
+-- the names of places, of variables and of ports stand once each
+once_each : (a : AtomDefinition) → is_well_formed a ≡ true →
+    (is_each_once (λ x y. is_same_text x.name y.name) a.places ≡ true) × (is_each_once (λ x y. is_same_text x.name y.name) a.variables ≡ true)
+    × (is_each_once (λ x y. is_same_text x.name y.name) a.ports ≡ true)
+once_each a formed =
+    let each : has_each_once a ≡ true = (and_parts _ _ (and_parts _ _ (and_parts _ _ formed).0).0).1 in
+    first_three (is_each_once (λ x y. is_same_text x.name y.name) a.places) (is_each_once (λ x y. is_same_text x.name y.name) a.variables)
+    (is_each_once (λ x y. is_same_text x.name y.name) a.ports) (list_all exports_once a.ports) (list_all has_each_place_once a.transitions) each
 
 -- the names of an atom's parts
 parts_named : (a : AtomDefinition) → is_well_formed a ≡ true → has_names a ≡ true → names_its_parts a ≡ true
 parts_named a formed names =
     let variables_once : Bool = is_each_once (λ x y. is_same_text x.name y.name) a.variables in
     let ports_once : Bool = is_each_once (λ x y. is_same_text x.name y.name) a.ports in
+    let places_legal : Bool = have_names (λ p. p.name) a.places in
     let variables_legal : Bool = have_names (λ v. v.name) a.variables in
     let ports_legal : Bool = have_names (λ p. p.name) a.ports in
-    let each : has_each_once a ≡ true = (and_parts _ _ (and_parts _ _ (and_parts _ _ formed).0).0).1 in
-    let once = second_and_third (is_each_once (λ x y. is_same_text x.name y.name) a.places) variables_once ports_once (list_all exports_once a.ports) (list_all has_each_place_once a.transitions) each in
-    let legal = and_parts (is_name a.name && variables_legal) ports_legal names in
-    let own = and_parts (is_name a.name) variables_legal legal.0 in
-    and_from (are_named (λ v. v.name) a.variables) (are_named (λ p. p.name) a.ports) (and_from variables_legal variables_once own.1 once.0) (and_from ports_legal ports_once legal.1 once.1)
+    let once = once_each a formed in
+    let legal = and_parts (is_name a.name && places_legal && variables_legal) ports_legal names in
+    let own = and_parts (is_name a.name && places_legal) variables_legal legal.0 in
+    and_from (are_named (λ v. v.name) a.variables) (are_named (λ p. p.name) a.ports) (and_from variables_legal variables_once own.1 once.1) (and_from ports_legal ports_once legal.1 once.2)
+
+-- and of its places
+places_named : (a : AtomDefinition) → is_well_formed a ≡ true → has_names a ≡ true → are_named (λ p. p.name) a.places ≡ true
+places_named a formed names =
+    let places_legal : Bool = have_names (λ p. p.name) a.places in
+    let variables_legal : Bool = have_names (λ v. v.name) a.variables in
+    let legal = and_parts (is_name a.name && places_legal && variables_legal) (have_names (λ p. p.name) a.ports) names in
+    let own = and_parts (is_name a.name && places_legal) variables_legal legal.0 in
+    and_from places_legal (is_each_once (λ x y. is_same_text x.name y.name) a.places) (and_parts (is_name a.name) places_legal own.0).1 (once_each a formed).0
 
 -- ---- what a plant keeps
 
@@ -140,7 +164,29 @@ module _ (plant : PlantDefinition) (valid : fault_of plant ≡ None) where
   atoms_named names formed =
       let legal : list_all has_names plant.atoms ≡ true = (and_parts _ _ names).0 in
       let own : have_names (λ a. a.name) plant.atoms ≡ true =
-      all_weaker has_names (λ a. is_name a.name) (λ a all. (and_parts _ _ (and_parts _ _ all).0).0) plant.atoms legal in
+      all_weaker has_names (λ a. is_name a.name) (λ a all. (and_parts _ _ (and_parts _ _ (and_parts _ _ all).0).0).0) plant.atoms legal in
       and_from (are_named (λ a. a.name) plant.atoms) (list_all names_its_parts plant.atoms)
       (and_from (have_names (λ a. a.name) plant.atoms) _ own (once_behind (λ a. a.name) plant.atoms new_atom))
       (all_both is_well_formed has_names names_its_parts parts_named plant.atoms formed legal)
+
+  -- the conditions of its rules are over its atoms and places
+  pub conditions_known : list_all (is_known_condition plant.atoms) plant.rules ≡ true
+  conditions_known = (and_parts _ _ (and_parts _ _ (and_parts _ _ within_limits).0).1).1
+
+  -- and names tell these apart
+  pub condition_named : plant_has_names plant ≡ true → list_all is_well_formed plant.atoms ≡ true → (rule : Rule) → Contains plant.rules rule →
+      has_named_condition plant rule ≡ true
+  condition_named names formed rule own = each rule (all-in (is_known_condition plant.atoms) plant.rules conditions_known rule own)
+    where
+      legal : list_all has_names plant.atoms ≡ true
+      legal = (and_parts _ _ names).0
+
+      each : (r : Rule) → is_known_condition plant.atoms r ≡ true → has_named_condition plant r ≡ true
+      each (Under left right) known = refl
+      each (UnderAt left right at) known =
+          let a = passing (λ b. nat_lt at.place (length b.places)) (slice_get plant.atoms at.atom) known in
+          let well = all_get is_well_formed plant.atoms at.atom a.0 formed a.1 in
+          let called = all_get has_names plant.atoms at.atom a.0 legal a.1 in
+          and_from (are_named (λ b. b.name) plant.atoms) _ (and_parts _ _ (atoms_named names formed)).0
+          (ap (λ o. option_map_or (λ b. are_named (λ p. p.name) b.places) o false) a.1 ∙ places_named a.0 well called)
+      each (Maximal connector) known = refl

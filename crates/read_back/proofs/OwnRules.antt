@@ -1,5 +1,5 @@
--- The rules of a plant that breaks no rule of plants have sides that are the plant's.
-use Rattle.std.proofs.Common.{◌≡◌, ◌∙◌, sym, ap, subst, ℕ, ◌+◌, ◌^◌, ◌<◌, ◌≤◌, Bool, true, false, List, [], length, map, get_or, Contains, Option, Some, None, option_map, slice_get, nat_lt, ◌==◌, lt-ltb, eq-eqb, pow_mono, arith}
+-- The rules of a plant that breaks no rule of plants have sides and conditions that are the plant's.
+use Rattle.std.proofs.Common.{◌≡◌, ◌∙◌, sym, ap, subst, ℕ, ◌+◌, ◌^◌, ◌<◌, ◌≤◌, Bool, true, false, ◌&&◌, List, [], length, map, get_or, Contains, Option, Some, None, option_map, slice_get, nat_lt, ◌==◌, lt-ltb, eq-eqb, pow_mono, arith}
 use Rattle.std.specs.List.{list_any, range_with_len}
 use Rattle.std.specs.Option.{option_map_or}
 use Rattle.std.proofs.lemmas.Bool.{and_from}
@@ -17,20 +17,21 @@ use Rattle.connector_tree.proofs.TokenMeaning.{interactions_written}
 use Rattle.priority_filter.specs.Order.{IsKnown, IsKnownSide, rule_at}
 use Rattle.priority_filter.specs.Rule.{IsOn}
 use Rattle.priority_filter.specs.declared.rule.Rule.{Rule}
-use Rattle.priority_filter.specs.declared.rule.Rule.TheVariants.{Under, Maximal}
+use Rattle.priority_filter.specs.declared.rule.Rule.TheVariants.{Under, UnderAt, Maximal}
 use Rattle.priority_filter.specs.declared.rule.Side.{Side}
 use Rattle.priority_filter.specs.declared.rule.Side.TheVariants.{Whole, One}
 use Rattle.priority_filter.proofs.DecidedOrder.{told_no_fault}
 use Rattle.step_core.specs.Choice.{Interaction, named, plant_interactions}
 use Rattle.step_core.specs.Laws.{IsInteractionOf}
 use Rattle.step_core.specs.Plant.{PlantDefinition}
-use Rattle.step_core.specs.Rules.{fault_of}
+use Rattle.step_core.specs.Rules.{fault_of, is_known_condition, is_known_place}
 use Rattle.step_core.proofs.Alive.{order-sound}
-use Rattle.step_core.proofs.Membership.{from-filter}
+use Rattle.step_core.proofs.Membership.{all-in, from-filter}
 use Rattle.step_core.proofs.OfInteractions.{interaction-of, sound-tree}
 use Rattle.plant_text.specs.Interactions.{has_interaction}
 use Rattle.plant_text.specs.Text.{WireText, wire_text_of, text_of}
 use Rattle.read_back.specs.Rules.{is_side_of, is_rule_of}
+use Rattle.read_back.proofs.OnePart.{conditions_known}
 
 -- a number of a range is below its end
 in_range : (n k : ℕ) → Contains (range_with_len 0 n) k → k < n
@@ -82,12 +83,15 @@ module _ (plant : PlantDefinition) (valid : fault_of plant ≡ None) where
       (subst (IsOn side) (get_or-map named all known.0 none (0, 0) within) known.2)
 
   -- and a rule
-  known_rule : (rule : Rule) → IsKnown interactions rule → is_rule_of plant rule ≡ true
-  known_rule (Under left right) known = and_from (is_side_of plant left) (is_side_of plant right) (known_side left known.0) (known_side right known.1)
-  known_rule (Maximal connector) known = known_side (Whole connector) known
+  known_rule : (rule : Rule) → IsKnown interactions rule → is_known_condition plant.atoms rule ≡ true → is_rule_of plant rule ≡ true
+  known_rule (Under left right) known there = and_from (is_side_of plant left) (is_side_of plant right) (known_side left known.0) (known_side right known.1)
+  known_rule (UnderAt left right at) known there =
+      and_from (is_side_of plant left && is_side_of plant right) (is_known_place plant.atoms at)
+      (and_from (is_side_of plant left) (is_side_of plant right) (known_side left known.0) (known_side right known.1)) there
+  known_rule (Maximal connector) known there = known_side (Whole connector) known
 
   pub own_rule : (rule : Rule) → Contains plant.rules rule → is_rule_of plant rule ≡ true
   own_rule rule at =
       let all = ((told_no_fault plant.rules interactions).0 (order-sound plant valid)).0 in
       let same : rule_at plant.rules at.0 ≡ rule = get_or_default plant.rules at.0 (Under (Whole 0) (Whole 0)) rule at.1 ∙ at.2 in
-      known_rule rule (subst (IsKnown interactions) same (all at.0 at.1))
+      known_rule rule (subst (IsKnown interactions) same (all at.0 at.1)) (all-in (is_known_condition plant.atoms) plant.rules (conditions_known plant valid) rule at)

@@ -27,7 +27,7 @@ use Rattle.read_back.specs.Plants.{KeepsTheRules}
 use Rattle.read_back.specs.ReadBack.{IsFoundAtPorts, IsFoundInAtom, IsReadAtPorts, IsReadInAtom, IsReadTree}
 use Rattle.read_back.specs.Rules.{with_rules}
 use Rattle.read_back.proofs.Exports as exports
-use Rattle.read_back.proofs.OnePart.{atoms_named, early, wire_keeps, wires_named, within_limits}
+use Rattle.read_back.proofs.OnePart.{atoms_named, condition_named, early, wire_keeps, wires_named, within_limits}
 use Rattle.read_back.proofs.OwnRules.{own_rule}
 use Rattle.read_back.proofs.Sides.{rule_read}
 use Rattle.read_back.proofs.Trees.{tree_is_read}
@@ -137,4 +137,6 @@ module _ (plant : PlantDefinition) (kept : KeepsTheRules plant) where
 
   pub line_read : (rule : Rule) (rules : List Rule) → Contains plant.rules rule → length rules < MAX_RULES →
       words_row (words_of (rule_text plant rule)) (with_rules plant rules) ≡ Ok (with_rules plant (rules ++ rule ∷ []))
-  line_read rule rules own room = rule_read plant (wires_named plant kept.valid kept.names) rule rules (own_rule plant kept.valid rule own) room
+  line_read rule rules own room =
+      rule_read plant (wires_named plant kept.valid kept.names) rule rules (own_rule plant kept.valid rule own)
+      (condition_named plant kept.valid kept.names kept.formed rule own) room

@@ -6,17 +6,19 @@ use Rattle.petri_atom.specs.Expression.{Tree, number, variable, negation, operat
 use Rattle.petri_atom.specs.declared.expression.Operator.TheVariants.{LessOrEqual, And}
 use Rattle.connector_tree.specs.Tokens.{tokens_of}
 use Rattle.connector_tree.specs.Tree as connectors
-use Rattle.priority_filter.specs.declared.rule.Rule.TheVariants.{Under}
+use Rattle.priority_filter.specs.declared.rule.Rule.{Rule}
+use Rattle.priority_filter.specs.declared.rule.Rule.TheVariants.{Under, UnderAt}
 use Rattle.priority_filter.specs.declared.rule.Side.TheVariants.{Whole, One}
 use Rattle.step_core.specs.Plant.{PlantDefinition}
 use Rattle.plant_words.specs.Expressions.{expression_in}
 use Rattle.plant_words.specs.Words.{words_of}
 use Rattle.atom_lines.specs.Lookup.{variable_number}
 use Rattle.part_text.specs.Expression.{expression_text}
+use Rattle.part_text.specs.Rule.{rule_text}
 use Rattle.part_text.specs.Words.{spaced_word}
 use Rattle.read_back.specs.Expressions.{is_in_range, is_over_atom}
 use Rattle.read_back.specs.Names.{are_named, are_named_atoms}
-use Rattle.read_back.specs.Rules.{is_rule_of}
+use Rattle.read_back.specs.Rules.{has_named_condition, is_rule_of}
 
 -- numbers of 64 bits
 greatest : is_in_range (pos 9223372036854775807) ≡ true
@@ -97,3 +99,27 @@ rule_over_no_interaction = refl
 
 rule_over_no_connector : is_rule_of (plant []) (Under (Whole 1) (One 0 1)) ≡ false
 rule_over_no_connector = refl
+
+-- an atom with the places off and on
+abbrev switch : AtomDefinition
+switch = record {
+  name = codes "S";
+  places = record { name = codes "off"; marked = true } ∷ record { name = codes "on"; marked = false } ∷ [];
+  variables = [];
+  ports = [];
+  transitions = [];
+}
+
+-- the rule with a condition
+abbrev while_at : ℕ → ℕ → Rule
+while_at atom place = UnderAt (Whole 0) (One 0 1) (record { atom = atom; place = place })
+
+rule_with_a_condition : rule_text (plant (switch ∷ [])) (while_at 0 1) ≡ codes "prio link < link:1 when S at on"
+unfolding digits
+rule_with_a_condition = refl
+
+rule_over_a_place : (is_rule_of (plant (switch ∷ [])) (while_at 0 1) ≡ true) × (is_rule_of (plant (switch ∷ [])) (while_at 0 2) ≡ false) × (is_rule_of (plant (switch ∷ [])) (while_at 1 0) ≡ false)
+rule_over_a_place = (refl, refl, refl)
+
+condition_of_two_atoms_of_one_name : has_named_condition (plant (switch ∷ switch ∷ [])) (while_at 0 1) ≡ false
+condition_of_two_atoms_of_one_name = refl

@@ -1,5 +1,5 @@
 -- The sides of a rule, and the words of its line, read.
-use Rattle.std.proofs.Common.{◌≡◌, ◌∙◌, refl, sym, ap, ℕ, ◌^◌, ◌<◌, Bool, true, false, if◌then◌else◌, List, [], ◌∷◌, ◌++◌, append_assoc, length, drop, codes, decimal, Option, Some, None, Ok, Err, Result, option_map, slice_get, nat_lt, ltb-true, lt-ltb, ◌==◌, arith}
+use Rattle.std.proofs.Common.{◌≡◌, ◌∙◌, refl, sym, ap, ℕ, ◌^◌, ◌<◌, Bool, true, false, ◌&&◌, List, [], ◌∷◌, ◌++◌, append_assoc, length, drop, codes, decimal, Option, Some, None, Ok, Result, option_map, slice_get, nat_lt, ltb-true, lt-ltb, ◌==◌, arith}
 use Rattle.std.specs.List.{list_any}
 use Rattle.std.specs.Option.{ok_or, option_map_or}
 use Rattle.std.proofs.lemmas.Bool.{and_parts, and_from, false≢true}
@@ -8,39 +8,39 @@ use Rattle.std.proofs.lemmas.Option.{slice_get-map}
 use Rattle.petri_atom.specs.Name.{is_letter, is_letter_or_digit, is_same_text}
 use Rattle.connector_tree.specs.TokenMeaning.{interactions_in}
 use Rattle.priority_filter.specs.declared.rule.Rule.{Rule}
-use Rattle.priority_filter.specs.declared.rule.Rule.TheVariants.{Under, Maximal}
+use Rattle.priority_filter.specs.declared.rule.Rule.TheVariants.{Under, UnderAt, Maximal}
 use Rattle.priority_filter.specs.declared.rule.Side.{Side}
 use Rattle.priority_filter.specs.declared.rule.Side.TheVariants.{Whole, One}
+use Rattle.priority_filter.specs.declared.seen.At.{At}
 use Rattle.step_core.specs.Plant.{PlantDefinition, WireDefinition, wire_name}
+use Rattle.step_core.specs.Rules.{is_known_place}
 use Rattle.step_core.specs.declared.limits.TheConstants.{MAX_RULES}
 use Rattle.plant_words.specs.Lines.{is_legal_byte, is_legal_line}
 use Rattle.plant_words.specs.Numbers.{is_digit, pick_in}
-use Rattle.plant_words.specs.Reading.{◌>>=◌, check, first_word, first_keyword, at_end}
+use Rattle.plant_words.specs.Reading.{◌>>=◌, check, first_keyword, at_end}
 use Rattle.plant_words.specs.Splits.{named_mask_in}
 use Rattle.plant_words.specs.Words.{words_of}
 use Rattle.plant_words.specs.declared.line_fault.LineFault.{LineFault}
 use Rattle.plant_words.specs.declared.line_fault.LineFault.TheVariants as line
 use Rattle.plant_words.proofs.Exits.{passes}
 use Rattle.plant_words.proofs.Positions.{position_of_mapped}
+use Rattle.connector_lines.specs.Conditions.{AtomsNamed, PlacesNamed, rule_behind}
 use Rattle.connector_lines.specs.Rules.{priority_in, maximal_in}
 use Rattle.connector_lines.specs.Sides.{whole_of, one_of, side_of, side_in}
 use Rattle.plant_text.specs.Interactions.{has_interaction}
-use Rattle.plant_text.specs.Names.{wire_number}
+use Rattle.plant_text.specs.Names.{atom_number, place_named, wire_number}
 use Rattle.plant_text.specs.Rows.{told, words_row}
 use Rattle.plant_text.specs.Text.{WireText, PlantText, wire_text_of, text_of}
 use Rattle.plant_text.specs.declared.fault.Fault.{Fault}
 use Rattle.plant_text.specs.declared.fault.Fault.TheVariants as fault
-use Rattle.part_text.specs.Rule.{side_word, sides_text, rule_text}
+use Rattle.part_text.specs.Rule.{atom_name, name_of_place, condition_text, side_word, sides_text, rule_text}
 use Rattle.read_back.specs.Names.{are_named}
-use Rattle.read_back.specs.Rules.{is_side_of, is_rule_of, with_rules}
+use Rattle.read_back.specs.Rules.{is_side_of, is_rule_of, has_named_condition, with_rules}
+use Rattle.read_back.proofs.Conditions.{first_legal, IsPlaced, placed, words_behind, condition_read}
 use Rattle.read_back.proofs.Words.{is_one_word, one_word_more, no_sides, two_sides, word_alone, word_before}
 use Rattle.read_back.proofs.Bytes.{none_is, none_blank, begins_filled, digits_are_legal, IsOfName, name_is_one_word, name_is_legal}
 use Rattle.read_back.proofs.Decimals.{all_digits, some_digit, pick_read}
 use Rattle.read_back.proofs.Found.{there_at, named_at, found_by_name}
-
--- the first word, where it may stand in a text
-first_legal : (word : List ℕ) (rest : List (List ℕ)) → is_legal_line word ≡ true → first_word (word ∷ rest) ≡ Ok word
-first_legal word rest legal = ap (λ (b : Bool). if b then Ok word else Err line.NotAscii) legal
 
 -- what passes a test behind a map is there before it
 unmapped : {X Y : Type 0} (f : X → Y) (test : Y → Bool) (found : Option X) → option_map_or test (option_map f found) false ≡ true → (x : X) × (found ≡ Some x)
@@ -53,6 +53,12 @@ module _ (plant : PlantDefinition) (named : are_named (λ w. w.name) plant.wires
 
   abbrev by_mask : ℕ → ℕ → Bool
   by_mask = has_interaction (text_of plant).wires
+
+  abbrev by_atom : AtomsNamed
+  by_atom = atom_number plant.atoms
+
+  abbrev by_place : PlacesNamed
+  by_place = place_named plant.atoms
 
   -- ---- connectors
 
@@ -188,13 +194,41 @@ module _ (plant : PlantDefinition) (named : are_named (λ w. w.name) plant.wires
         ∙ ap (λ (rest : List (List ℕ)). codes "prio" ∷ side_word plant left ∷ rest) (word_before (codes "<") (side_word plant right) refl)
         ∙ ap (λ (rest : List (List ℕ)). codes "prio" ∷ side_word plant left ∷ codes "<" ∷ rest) (word_alone (side_word plant right) (side_alone right upper))
 
-    sides_read : priority_in by_name by_mask sides ≡ Ok (Under left right)
-    sides_read =
-        let made : Side → Side → Unit {0} → Result Rule LineFault = λ one other end. Ok (Under one other) in
-        let ended : Side → Side → Result Rule LineFault = λ one other. at_end (drop 3 sides) >>= made one other in
-        let second : Side → Unit {0} → Result Rule LineFault = λ one below. side_in by_name by_mask (drop 2 sides) >>= ended one in
-        let between : Side → Result Rule LineFault = λ one. first_keyword (codes "<") (drop 1 sides) >>= second one in
-        passes between (side_first left (codes "<" ∷ side_word plant right ∷ []) lower) (passes (ended left) (side_first right [] upper) refl)
+    -- the sides, and what stands behind them, are read as what that is behind them
+    behind_read : (rest : List (List ℕ)) (rule : Rule) → rule_behind by_atom by_place left right rest ≡ Ok rule →
+        priority_in by_name by_mask by_atom by_place (side_word plant left ∷ codes "<" ∷ side_word plant right ∷ rest) ≡ Ok rule
+    behind_read rest rule told =
+        let words : List (List ℕ) = side_word plant left ∷ codes "<" ∷ side_word plant right ∷ rest in
+        let ended : Side → Side → Result Rule LineFault = λ one other. rule_behind by_atom by_place one other rest in
+        let second : Side → Unit {0} → Result Rule LineFault = λ one below. side_in by_name by_mask (drop 2 words) >>= ended one in
+        let between : Side → Result Rule LineFault = λ one. first_keyword (codes "<") (drop 1 words) >>= second one in
+        passes between (side_first left (codes "<" ∷ side_word plant right ∷ rest) lower) (passes (ended left) (side_first right rest upper) told)
+
+    sides_read : priority_in by_name by_mask by_atom by_place sides ≡ Ok (Under left right)
+    sides_read = behind_read [] (Under left right) refl
+
+    -- the same with a condition
+    module _ (at : At) (is : IsPlaced plant.atoms at) where
+      abbrev conditions : List (List ℕ)
+      conditions = codes "when" ∷ atom_name plant.atoms at.atom ∷ codes "at" ∷ name_of_place plant.atoms at.atom at.place ∷ []
+
+      abbrev sides_at : List (List ℕ)
+      sides_at = side_word plant left ∷ codes "<" ∷ side_word plant right ∷ conditions
+
+      conditional_words : words_of (rule_text plant (UnderAt left right at)) ≡ codes "prio" ∷ sides_at
+      conditional_words =
+          let lower_side : List ℕ = side_word plant left in
+          let upper_side : List ℕ = side_word plant right in
+          let condition : List ℕ = condition_text plant at in
+          word_before (codes "prio") (sides_text plant left right ++ condition) refl
+          ∙ ap (λ (text : List ℕ). codes "prio" ∷ words_of text) (append_assoc (lower_side ++ codes " < ") upper_side condition ∙ append_assoc lower_side (codes " < ") (upper_side ++ condition))
+          ∙ ap (λ (rest : List (List ℕ)). codes "prio" ∷ rest) (word_before lower_side (60 ∷ 32 ∷ (upper_side ++ condition)) (side_alone left lower))
+          ∙ ap (λ (rest : List (List ℕ)). codes "prio" ∷ lower_side ∷ rest) (word_before (codes "<") (upper_side ++ condition) refl)
+          ∙ ap (λ (rest : List (List ℕ)). codes "prio" ∷ lower_side ∷ codes "<" ∷ rest) (words_behind plant at is upper_side (side_alone right upper))
+
+      conditional_read : priority_in by_name by_mask by_atom by_place sides_at ≡ Ok (UnderAt left right at)
+      conditional_read =
+          behind_read conditions (UnderAt left right at) (passes (λ place. Ok (UnderAt left right place)) (condition_read plant at is) refl)
 
   module _ (k : ℕ) (held : is_side_of plant (Whole k) ≡ true) where
     name_is_words : words_of (rule_text plant (Maximal k)) ≡ codes "maximal" ∷ wire_name plant k ∷ []
@@ -208,16 +242,26 @@ module _ (plant : PlantDefinition) (named : are_named (λ w. w.name) plant.wires
         maximal_read k w.0 w.1
 
   -- the words of a rule's line add the rule
-  pub rule_read : (rule : Rule) (rules : List Rule) → is_rule_of plant rule ≡ true → length rules < MAX_RULES →
+  pub rule_read : (rule : Rule) (rules : List Rule) → is_rule_of plant rule ≡ true → has_named_condition plant rule ≡ true → length rules < MAX_RULES →
       words_row (words_of (rule_text plant rule)) (with_rules plant rules) ≡ Ok (with_rules plant (rules ++ rule ∷ []))
-  rule_read (Under left right) rules held room =
+  rule_read (Under left right) rules held known room =
       let parts = and_parts (is_side_of plant left) (is_side_of plant right) held in
       let made : Rule → Result PlantText Fault = λ rule. Ok (with_rules plant (rules ++ rule ∷ [])) in
-      let added : Unit {0} → Result PlantText Fault = λ few. told (priority_in by_name by_mask (sides left right parts.0 parts.1)) >>= made in
+      let added : Unit {0} → Result PlantText Fault = λ few. told (priority_in by_name by_mask by_atom by_place (sides left right parts.0 parts.1)) >>= made in
       ap (λ (words : List (List ℕ)). words_row words (with_rules plant rules)) (sides_are_words left right parts.0 parts.1)
       ∙ passes added (ap (λ (few : Bool). check few fault.Limit) (lt-ltb (length rules) MAX_RULES room))
       (passes made (ap told (sides_read left right parts.0 parts.1)) refl)
-  rule_read (Maximal k) rules held room =
+  rule_read (UnderAt left right at) rules held known room =
+      let both = and_parts (is_side_of plant left && is_side_of plant right) (is_known_place plant.atoms at) held in
+      let parts = and_parts (is_side_of plant left) (is_side_of plant right) both.0 in
+      let names = and_parts _ _ known in
+      let is = placed plant.atoms at both.1 names.0 names.1 in
+      let made : Rule → Result PlantText Fault = λ rule. Ok (with_rules plant (rules ++ rule ∷ [])) in
+      let added : Unit {0} → Result PlantText Fault = λ few. told (priority_in by_name by_mask by_atom by_place (sides_at left right parts.0 parts.1 at is)) >>= made in
+      ap (λ (words : List (List ℕ)). words_row words (with_rules plant rules)) (conditional_words left right parts.0 parts.1 at is)
+      ∙ passes added (ap (λ (few : Bool). check few fault.Limit) (lt-ltb (length rules) MAX_RULES room))
+      (passes made (ap told (conditional_read left right parts.0 parts.1 at is)) refl)
+  rule_read (Maximal k) rules held known room =
       let made : Rule → Result PlantText Fault = λ rule. Ok (with_rules plant (rules ++ rule ∷ [])) in
       let added : Unit {0} → Result PlantText Fault = λ few. told (maximal_in by_name (wire_name plant k ∷ [])) >>= made in
       ap (λ (words : List (List ℕ)). words_row words (with_rules plant rules)) (name_is_words k held)

@@ -21,9 +21,10 @@ names_its_parts a = are_named (λ v. v.name) a.variables && are_named (λ p. p.n
 abbrev pub are_named_atoms : List AtomDefinition → Bool
 are_named_atoms atoms = are_named (λ a. a.name) atoms && list_all names_its_parts atoms
 
--- the atom, its variables and its ports have names
+-- the atom, its places, its variables and its ports have names
 abbrev pub has_names : AtomDefinition → Bool
-has_names a = is_name a.name && have_names (λ v. v.name) a.variables && have_names (λ p. p.name) a.ports
+has_names a =
+    is_name a.name && have_names (λ p. p.name) a.places && have_names (λ v. v.name) a.variables && have_names (λ p. p.name) a.ports
 
 -- so have the atoms and the connectors of a plant, as each name in memory is one
 abbrev pub plant_has_names : PlantDefinition → Bool

@@ -32,7 +32,7 @@ ghost use Rattle.read_back.specs.Expressions.{has_numbers_in_range, is_over_atom
 ghost use Rattle.read_back.specs.Names.{are_named, are_named_atoms, plant_has_names};
 ghost use Rattle.read_back.specs.Plants.{KeepsTheRules};
 ghost use Rattle.read_back.specs.ReadBack.{IsFoundAtPorts, IsFoundInAtom, IsReadAtPorts, IsReadInAtom, IsReadTree, tree_words};
-ghost use Rattle.read_back.specs.Rules.{is_rule_of, is_side_of, with_rules};
+ghost use Rattle.read_back.specs.Rules.{has_named_condition, is_rule_of, is_side_of, with_rules};
 
 /// A variable of an atom is found by its name, and an expression over such variables is read back: alone, and before other words,
 /// which are left.
@@ -72,22 +72,26 @@ pub fn a_tree_is_read_back()
         → tree_in (port_named atoms) (tree_words atoms t) ≡ Err (words_fault.Tree fault) }
 {}
 
-/// A side of a rule is read back, and the words of a rule's line add that rule behind the others.
+/// A side of a rule is read back, and the words of a rule's line add that rule behind the others; of a rule with a condition in a plant in
+/// which names tell atoms apart, and the places of that atom.
 pub fn a_rule_is_read_back()
     ensures side { (plant : PlantDefinition) (side : Side) → are_named (λ w. w.name) plant.wires ≡ true → is_side_of plant side ≡ true
         → side_of (wire_number (text_of plant).wires) (has_interaction (text_of plant).wires) (side_word plant side) ≡ Ok side }
     ensures rule { (plant : PlantDefinition) (rule : Rule) (rules : List Rule) → are_named (λ w. w.name) plant.wires ≡ true → is_rule_of plant rule ≡ true
-        → length rules < MAX_RULES → words_row (words_of (rule_text plant rule)) (with_rules plant rules) ≡ Ok (with_rules plant (rules ++ rule ∷ [])) }
+        → has_named_condition plant rule ≡ true → length rules < MAX_RULES
+        → words_row (words_of (rule_text plant rule)) (with_rules plant rules) ≡ Ok (with_rules plant (rules ++ rule ∷ [])) }
 {}
 
 /// In a plant that breaks no rule of plants, of atoms that break none, whose names are names, each name is of one part alone among those
-/// of its kind; and its rules are over its connectors and interactions.
+/// of its kind; and its rules are over its connectors and interactions, and their conditions over its atoms and places.
 pub fn a_plant_is_named_apart()
     ensures atoms { (plant : PlantDefinition) → fault_of plant ≡ None → list_all is_well_formed plant.atoms ≡ true → plant_has_names plant ≡ true
         → are_named_atoms plant.atoms ≡ true }
     ensures connectors { (plant : PlantDefinition) → fault_of plant ≡ None → plant_has_names plant ≡ true
         → are_named (λ w. w.name) plant.wires ≡ true }
     ensures rules { (plant : PlantDefinition) (rule : Rule) → fault_of plant ≡ None → Contains plant.rules rule → is_rule_of plant rule ≡ true }
+    ensures conditions { (plant : PlantDefinition) (rule : Rule) → fault_of plant ≡ None → list_all is_well_formed plant.atoms ≡ true
+        → plant_has_names plant ≡ true → Contains plant.rules rule → has_named_condition plant rule ≡ true }
 {}
 
 /// So what such a plant holds is read back: in a connector its tree, its guards, and the target and the value of each transfer; in an

@@ -12,8 +12,8 @@
 //! | a side of a rule, and a rule | `side_word`, `rule_text` | `side_of`, `words_row` | [`laws::a_rule_is_read_back`] |
 //!
 //! The laws ask that names are names, each of one part alone (`specs/Names.antt`), that expressions are within the limits and name what
-//! is there (`specs/Expressions.antt`), and that sides are the plant's (`specs/Rules.antt`). A plant that breaks no rule, and whose names
-//! are names, keeps this ([`laws::a_plant_is_named_apart`]). So all that it holds is read back
+//! is there (`specs/Expressions.antt`), and that sides and conditions are the plant's (`specs/Rules.antt`). A plant that breaks no
+//! rule, and whose names are names, keeps this ([`laws::a_plant_is_named_apart`]). So all that it holds is read back
 //! ([`laws::what_a_plant_holds_is_read_back`]): that its numbers are within 64 bits is all that is left to ask.
 //!
 //! Nothing here runs.

@@ -1,5 +1,6 @@
 -- Worked examples of the definitions, as computed facts.
 use Rattle.std.proofs.Common.{◌≡◌, ℕ, List, true, false, refl, [], ◌∷◌, codes, ◌++◌, Some, None, replicate}
+use Rattle.std.specs.Prelude.{slice_get, unwrap_or}
 use Rattle.std.specs.Fmt.{digits}
 use Rattle.plant_words.specs.Words.{words_of}
 use Rattle.shown_fault.specs.Shown.{shown, cut_to}
@@ -10,7 +11,8 @@ use Rattle.shown_fault.specs.Kinds.{kind_in, longer_kind, longest_kind}
 use Rattle.shown_fault.specs.Operands.{operands_of, lacks, lacking_in}
 use Rattle.shown_fault.specs.Spelling.{stuck_text, word_text, name_text}
 use Rattle.shown_fault.specs.Wanted.{wanted_in}
-use Rattle.shown_fault.specs.declared.wanted.Wanted.TheVariants.{First, NewName, Mark, From, Place, Source, Target, Guard, Variable, Assign, Value, Tree, Leaf, Clause, Side, Below, End}
+use Rattle.shown_fault.specs.declared.unknown.TheConstants.{ATOM_OF_CONDITION}
+use Rattle.shown_fault.specs.declared.wanted.Wanted.TheVariants.{First, NewName, Mark, From, Place, Source, Target, Guard, Variable, Assign, Value, Tree, Leaf, Clause, Side, Below, When, ConditionAtom, ConditionAt, ConditionPlace, End}
 use Rattle.shown_fault.specs.Circle.{reached, takes_part}
 
 -- ---- bytes
@@ -131,7 +133,23 @@ a_right_side : wanted_in (words_of (codes "prio c <")) ≡ Side
 unfolding wanted_in kind_in longer_kind longest_kind
 a_right_side = refl
 
-nothing_more : wanted_in (words_of (codes "prio c < d")) ≡ End
+a_condition : wanted_in (words_of (codes "prio c < d")) ≡ When
+unfolding wanted_in kind_in longer_kind longest_kind
+a_condition = refl
+
+an_atom_of_a_condition : wanted_in (words_of (codes "prio c < d when")) ≡ ConditionAtom
+unfolding wanted_in kind_in longer_kind longest_kind
+an_atom_of_a_condition = refl
+
+at_there : wanted_in (words_of (codes "prio c < d when A")) ≡ ConditionAt
+unfolding wanted_in kind_in longer_kind longest_kind
+at_there = refl
+
+a_place_of_a_condition : wanted_in (words_of (codes "prio c < d when A at")) ≡ ConditionPlace
+unfolding wanted_in kind_in longer_kind longest_kind
+a_place_of_a_condition = refl
+
+nothing_more : wanted_in (words_of (codes "prio c < d when A at s")) ≡ End
 unfolding wanted_in kind_in longer_kind longest_kind
 nothing_more = refl
 
@@ -200,6 +218,10 @@ none_listed = refl
 
 eight_listed : names_listed (replicate 9 (codes "p")) ≡ codes ": p, p, p, p, p, p, p, p, .."
 eight_listed = refl
+
+-- the places are those of the atom that the rule names, and not of the latest
+a_place_of_another_atom : part_names_in (unwrap_or (slice_get (words_of (codes "prio c < d when A at")) ATOM_OF_CONDITION) []) (codes "place") lines ≡ codes "s" ∷ []
+a_place_of_another_atom = refl
 
 -- ---- rules that lead round
 

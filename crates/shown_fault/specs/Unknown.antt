@@ -1,5 +1,5 @@
 -- A name that no earlier line declares, and those that are declared there.
-use Rattle.std.specs.Prelude.{ℕ, if◌then◌else◌, List, [], ◌∷◌, Option, Some, None, codes}
+use Rattle.std.specs.Prelude.{ℕ, if◌then◌else◌, List, [], ◌∷◌, Option, Some, None, slice_get, unwrap_or, codes}
 use Rattle.std.specs.Option.{option_map_or}
 use Rattle.plant_words.specs.Words.{is_filled}
 use Rattle.plant_words.specs.Splits.{PortParts, port_parts, export_parts, named_mask_in}
@@ -9,8 +9,9 @@ use Rattle.shown_fault.specs.Operands.{expression_text}
 use Rattle.shown_fault.specs.Names.{names_in, latest_in, part_names_in, is_among}
 use Rattle.shown_fault.specs.Missing.{missing}
 use Rattle.shown_fault.specs.Wanted.{wanted_in, is_of_expression}
+use Rattle.shown_fault.specs.declared.unknown.TheConstants.{ATOM_OF_CONDITION}
 use Rattle.shown_fault.specs.declared.wanted.Wanted.{Wanted}
-use Rattle.shown_fault.specs.declared.wanted.Wanted.TheVariants.{Export, Port, Place, Source, Target, Guard, Variable, Value, Tree, Leaf, Transfer, Clause, Side, Whole}
+use Rattle.shown_fault.specs.declared.wanted.Wanted.TheVariants.{Export, Port, Place, Source, Target, Guard, Variable, Value, Tree, Leaf, Transfer, Clause, Side, ConditionAtom, ConditionPlace, Whole}
 
 -- what is wrong with a word by itself, where this has to stand; empty where that is not known
 abbrev pub unknown_text : Wanted → List ℕ → List ℕ
@@ -78,29 +79,39 @@ mask_advice lines name mask =
 unfoldable pub side_advice : List (List ℕ) → List ℕ → List ℕ
 side_advice lines word = option_map_or (λ parts. mask_advice lines parts.0 parts.1) (named_mask_in word) (connector_advice lines word)
 
--- the names that may stand where this has to
-unfoldable pub unknown_in : List (List ℕ) → Wanted → List ℕ → List ℕ
-unknown_in lines Place word = latest_part_advice lines (codes "place") (codes "place") word
-unknown_in lines Source word = latest_part_advice lines (codes "place") (codes "place") word
-unknown_in lines Target word = latest_part_advice lines (codes "place") (codes "place") word
-unknown_in lines Export word = latest_part_advice lines (codes "var") (codes "variable") word
-unknown_in lines Guard word = latest_part_advice lines (codes "var") (codes "variable") word
-unknown_in lines Variable word = latest_part_advice lines (codes "var") (codes "variable") word
-unknown_in lines Value word = latest_part_advice lines (codes "var") (codes "variable") word
-unknown_in lines Port word = latest_part_advice lines (codes "port") (codes "port") word
-unknown_in lines Tree word = port_advice lines word
-unknown_in lines Leaf word = port_advice lines word
-unknown_in lines Clause word = export_advice lines word
-unknown_in lines Transfer word = export_advice lines word
-unknown_in lines Side word = side_advice lines word
-unknown_in lines Whole word = connector_advice lines word
-unknown_in lines wanted word = []
+-- the atoms, where the word of a condition is none of them
+unfoldable pub condition_atom_advice : List (List ℕ) → List ℕ → List ℕ
+condition_atom_advice lines word = atom_or (atom_advice lines word) []
+
+-- the places of the atom that the words of a rule name behind `when`
+unfoldable pub condition_place_advice : List (List ℕ) → List (List ℕ) → List ℕ → List ℕ
+condition_place_advice lines words word = part_advice lines (unwrap_or (slice_get words ATOM_OF_CONDITION) []) (codes "place") (codes "place") word
+
+-- the names that may stand where this has to, behind these words
+unfoldable pub unknown_in : List (List ℕ) → List (List ℕ) → Wanted → List ℕ → List ℕ
+unknown_in lines words Place word = latest_part_advice lines (codes "place") (codes "place") word
+unknown_in lines words Source word = latest_part_advice lines (codes "place") (codes "place") word
+unknown_in lines words Target word = latest_part_advice lines (codes "place") (codes "place") word
+unknown_in lines words Export word = latest_part_advice lines (codes "var") (codes "variable") word
+unknown_in lines words Guard word = latest_part_advice lines (codes "var") (codes "variable") word
+unknown_in lines words Variable word = latest_part_advice lines (codes "var") (codes "variable") word
+unknown_in lines words Value word = latest_part_advice lines (codes "var") (codes "variable") word
+unknown_in lines words Port word = latest_part_advice lines (codes "port") (codes "port") word
+unknown_in lines words Tree word = port_advice lines word
+unknown_in lines words Leaf word = port_advice lines word
+unknown_in lines words Clause word = export_advice lines word
+unknown_in lines words Transfer word = export_advice lines word
+unknown_in lines words Side word = side_advice lines word
+unknown_in lines words Whole word = connector_advice lines word
+unknown_in lines words ConditionAtom word = condition_atom_advice lines word
+unknown_in lines words ConditionPlace word = condition_place_advice lines words word
+unknown_in lines words wanted word = []
 
 -- what is wrong with an unknown word by itself, or the names that may stand where this has to
-abbrev pub unknown_at : List (List ℕ) → Wanted → List ℕ → List ℕ
-unknown_at lines wanted word =
-    if is_filled (unknown_text wanted word) then advice_line (unknown_text wanted word ∷ []) else unknown_in lines wanted word
+abbrev pub unknown_at : List (List ℕ) → List (List ℕ) → Wanted → List ℕ → List ℕ
+unknown_at lines words wanted word =
+    if is_filled (unknown_text wanted word) then advice_line (unknown_text wanted word ∷ []) else unknown_in lines words wanted word
 
 -- where a word that stands behind these names nothing: what is wrong with it by itself, or the names that may stand there
 abbrev pub unknown_advice : List (List ℕ) → List (List ℕ) → List ℕ → List ℕ
-unknown_advice lines words word = unknown_at lines (wanted_in words) word
+unknown_advice lines words word = unknown_at lines words (wanted_in words) word

@@ -6,7 +6,7 @@ use Rattle.shown_fault.specs.declared.kinds.Kind.{Kind}
 use Rattle.shown_fault.specs.declared.kinds.Kind.TheVariants as kind
 use Rattle.shown_fault.specs.Front.{is_word_at, has_word}
 use Rattle.shown_fault.specs.declared.wanted.Wanted.{Wanted}
-use Rattle.shown_fault.specs.declared.wanted.Wanted.TheVariants.{First, NewName, Mark, Number, Export, Port, From, Place, Source, Target, Guard, Variable, Assign, Value, Tree, Leaf, Transfer, Clause, Side, Below, Whole, End}
+use Rattle.shown_fault.specs.declared.wanted.Wanted.TheVariants.{First, NewName, Mark, Number, Export, Port, From, Place, Source, Target, Guard, Variable, Assign, Value, Tree, Leaf, Transfer, Clause, Side, Below, When, ConditionAtom, ConditionAt, ConditionPlace, Whole, End}
 
 -- what has to stand behind one word, behind two, and behind more
 abbrev pub by_place : ℕ → Wanted → Wanted → Wanted → Wanted
@@ -14,7 +14,9 @@ by_place count one two more = if count == 1 then one else if count == 2 then two
 
 -- what has to stand behind the sign of a rule, or further behind
 abbrev pub in_rule : ℕ → Wanted
-in_rule count = if count == 3 then Side else End
+in_rule count =
+    if count == 3 then Side else if count == 4 then When else if count == 5 then ConditionAtom
+    else if count == 6 then ConditionAt else if count == 7 then ConditionPlace else End
 
 -- what has to stand in a list of places: a first one, or what may stand behind it
 abbrev pub in_places : Bool → Wanted → Wanted
@@ -91,5 +93,9 @@ expected_text Transfer = codes "a variable as ATOM.VAR"
 expected_text Clause = codes ""
 expected_text Side = codes "a connector"
 expected_text Below = codes "'<'"
+expected_text When = codes "'when'"
+expected_text ConditionAtom = codes "an atom"
+expected_text ConditionAt = codes "'at'"
+expected_text ConditionPlace = codes "a place"
 expected_text Whole = codes "a connector"
 expected_text End = codes ""

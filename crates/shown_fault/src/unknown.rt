@@ -2,8 +2,9 @@
 ghost use Rattle.std.specs.Prelude.{◌≡◌, IfOk, option_map};
 ghost use Rattle.plant_words.specs.Words.{words_of};
 ghost use Rattle.shown_fault.specs.Lent.{lists_of};
-ghost use Rattle.shown_fault.specs.Unknown.{unknown_text, part_advice, latest_part_advice, atom_advice, port_advice, variable_advice, export_advice, connector_advice, mask_line, mask_advice, side_advice, unknown_in, unknown_advice};
+ghost use Rattle.shown_fault.specs.Unknown.{unknown_text, part_advice, latest_part_advice, atom_advice, port_advice, variable_advice, export_advice, connector_advice, mask_line, mask_advice, side_advice, condition_atom_advice, condition_place_advice, unknown_in, unknown_advice};
 
+use crate::front::word_at;
 use crate::missing::missing;
 use crate::names::{is_among, latest_in, names_in, part_names_in};
 use crate::operands::expression_text;
@@ -12,6 +13,9 @@ use crate::spelling::word_text;
 use crate::wanted::{Wanted, wanted_behind};
 use plant_words::{split_export, split_mask, split_port};
 use std::alloc::{AllocError, Global};
+
+/// The number, from 0, of the atom among the words of a rule with a condition.
+pub(crate) const ATOM_OF_CONDITION: usize = 5;
 
 /// Where a word that stands behind these names nothing: what is wrong with it by itself, or the names that may stand there.
 pub(crate) fn unknown_advice(
@@ -25,7 +29,7 @@ pub(crate) fn unknown_advice(
     let wanted = wanted_behind(front);
     let text = unknown_text(wanted, word);
     if text.is_empty() {
-        unknown_in(alloc, lines, wanted, word)
+        unknown_in(alloc, lines, front, wanted, word)
     } else {
         advice_line(alloc, &[text.as_bytes()])
     }
@@ -42,15 +46,16 @@ fn unknown_text(wanted: Wanted, word: &[u8]) -> &'static str
     }
 }
 
-/// The names that may stand where this has to.
+/// The names that may stand where this has to, behind these words.
 #[tactic(auto, unfolding(crate::specs::Unknown::unknown_in))]
 fn unknown_in(
     alloc: Global,
     lines: &[&[u8]],
+    front: &[u8],
     wanted: Wanted,
     word: &[u8],
 ) -> Result<Vec<u8>, AllocError>
-    ensures { IfOk result (λ text. text.items ≡ unknown_in (lists_of lines.now) wanted word.now) }
+    ensures { IfOk result (λ text. text.items ≡ unknown_in (lists_of lines.now) (words_of front.now) wanted word.now) }
 {
     match wanted {
         Wanted::Place | Wanted::Source | Wanted::Target => {
@@ -63,6 +68,8 @@ fn unknown_in(
         Wanted::Tree | Wanted::Leaf => port_advice(alloc, lines, word),
         Wanted::Clause | Wanted::Transfer => export_advice(alloc, lines, word),
         Wanted::Side => side_advice(alloc, lines, word),
+        Wanted::ConditionAtom => condition_atom_advice(alloc, lines, word),
+        Wanted::ConditionPlace => condition_place_advice(alloc, lines, front, word),
         Wanted::Whole => connector_advice(alloc, lines, word),
         _ => Ok(Vec::new(alloc)),
     }
@@ -109,6 +116,31 @@ fn atom_advice(alloc: Global, lines: &[&[u8]], word: &[u8]) -> Result<Option<Vec
         return Ok(None);
     }
     Ok(Some(missing(alloc, b"there is no atom", b"there are", word, &names)?))
+}
+
+/// The atoms, where the word of a condition is none of them.
+#[tactic(auto, unfolding(crate::specs::Unknown::condition_atom_advice))]
+fn condition_atom_advice(alloc: Global, lines: &[&[u8]], word: &[u8]) -> Result<Vec<u8>, AllocError>
+    ensures { IfOk result (λ text. text.items ≡ condition_atom_advice (lists_of lines.now) word.now) }
+{
+    match atom_advice(alloc, lines, word)? {
+        Some(text) => Ok(text),
+        None => Ok(Vec::new(alloc)),
+    }
+}
+
+/// The places of the atom that the words of a rule name behind `when`.
+#[tactic(auto, unfolding(crate::specs::Unknown::condition_place_advice))]
+fn condition_place_advice(
+    alloc: Global,
+    lines: &[&[u8]],
+    front: &[u8],
+    word: &[u8],
+) -> Result<Vec<u8>, AllocError>
+    ensures { IfOk result (λ text. text.items ≡ condition_place_advice (lists_of lines.now) (words_of front.now) word.now) }
+{
+    let atom: &[u8] = word_at(front, ATOM_OF_CONDITION).unwrap_or(b"");
+    part_advice(alloc, lines, atom, b"place", b"place", word)
 }
 
 /// The ports of the atom that a word of a tree names, or the atoms.

@@ -49,6 +49,14 @@ pub(crate) enum Wanted {
     Side,
     /// `<`
     Below,
+    /// `when`, or nothing: the begin of a rule's condition.
+    When,
+    /// The atom of a condition.
+    ConditionAtom,
+    /// `at`
+    ConditionAt,
+    /// The place of a condition, one of its atom.
+    ConditionPlace,
     /// The connector of a line `maximal`.
     Whole,
     /// Nothing more.
@@ -110,10 +118,13 @@ fn by_place(count: usize, one: Wanted, two: Wanted, more: Wanted) -> Wanted
 fn in_rule(count: usize) -> Wanted
     ensures { result ≡ in_rule count }
 {
-    if count == 3 {
-        Wanted::Side
-    } else {
-        Wanted::End
+    match count {
+        3 => Wanted::Side,
+        4 => Wanted::When,
+        5 => Wanted::ConditionAtom,
+        6 => Wanted::ConditionAt,
+        7 => Wanted::ConditionPlace,
+        _ => Wanted::End,
     }
 }
 
@@ -201,6 +212,10 @@ impl Wanted {
             Wanted::Clause => "",
             Wanted::Side => "a connector",
             Wanted::Below => "'<'",
+            Wanted::When => "'when'",
+            Wanted::ConditionAtom => "an atom",
+            Wanted::ConditionAt => "'at'",
+            Wanted::ConditionPlace => "a place",
             Wanted::Whole => "a connector",
             Wanted::End => "",
         }

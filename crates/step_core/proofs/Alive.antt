@@ -12,7 +12,7 @@ use Rattle.connector_tree.specs.declared.tree.Port.{Port}
 use Rattle.priority_filter.specs.Decided.{order_fault, is_overruled}
 use Rattle.priority_filter.proofs.NoDeadlock.{top_is_not_overruled}
 use Rattle.step_core.specs.Plant.{PlantDefinition}
-use Rattle.step_core.specs.Choice.{Interaction, ChoiceDefinition, IsStuck, named, is_offered_port, passes_guards, is_possible, is_possible_at, is_allowed_at, move_of, moves_of, combinations, choices_of, choices_at, choices, flat_from, plant_interactions}
+use Rattle.step_core.specs.Choice.{Interaction, ChoiceDefinition, IsStuck, active_in, is_marked_at, named, is_offered_port, passes_guards, is_possible, is_possible_at, is_allowed_at, move_of, moves_of, combinations, choices_of, choices_at, choices, flat_from, plant_interactions}
 use Rattle.step_core.specs.Rules.{first_of, early_fault, late_fault, fault_of_order, fault_of}
 use Rattle.step_core.specs.declared.choice.Move.{Move}
 use Rattle.step_core.specs.declared.fault.SystemFault.{SystemFault}
@@ -125,8 +125,8 @@ module _ (plant : PlantDefinition) (states : List Local) where
   allowed-some : (n : ℕ) → is_allowed_at plant states all n ≡ true → 1 ≤ length (choices plant states)
   allowed-some n allowed = each (slice_get all n) refl
     where
-      parts : (possible n ≡ true) × (not (is_overruled plant.rules (map named all) possible n) ≡ true)
-      parts = and_parts (possible n) (not (is_overruled plant.rules (map named all) possible n)) allowed
+      parts : (possible n ≡ true) × (not (is_overruled (active_in plant states) (map named all) possible n) ≡ true)
+      parts = and_parts (possible n) (not (is_overruled (active_in plant states) (map named all) possible n)) allowed
 
       each : (o : Option Interaction) → slice_get all n ≡ o → 1 ≤ length (choices plant states)
       each None there = absurd (false≢true (sym (ap (λ o. option_map_or (is_possible plant.atoms plant.wires states) o false) there) ∙ parts.0))
@@ -144,13 +144,13 @@ module _ (plant : PlantDefinition) (states : List Local) where
       stuck : length (choices plant states) ≡ 0 → IsStuck plant states
       stuck empty = false_from_ne_true (list_any (is_possible plant.atoms plant.wires states) all) (λ some.
           let at = any-at (is_possible plant.atoms plant.wires states) all some in
-          let top = top_is_not_overruled plant.rules (map named all) possible sound at.0 (omega (arith, at.1, length-map all named)) at.2 in
-          let allowed = and_from (possible top.0) (not (is_overruled plant.rules (map named all) possible top.0)) top.2 (ap not top.3) in
+          let top = top_is_not_overruled plant.rules (map named all) (is_marked_at states) possible sound at.0 (omega (arith, at.1, length-map all named)) at.2 in
+          let allowed = and_from (possible top.0) (not (is_overruled (active_in plant states) (map named all) possible top.0)) top.2 (ap not top.3) in
           omega (arith, empty, allowed-some top.0 allowed))
 
       none : IsStuck plant states → length (choices plant states) ≡ 0
       none nothing = ap length (flat-none (choices_at plant states all) (λ n i.
-          ap (λ b. cond (b && not (is_overruled plant.rules (map named all) possible n)) (choices_of plant.atoms states i) []) (none-at (is_possible plant.atoms plant.wires states) all nothing n)) 0 all)
+          ap (λ b. cond (b && not (is_overruled (active_in plant states) (map named all) possible n)) (choices_of plant.atoms states i) []) (none-at (is_possible plant.atoms plant.wires states) all nothing n)) 0 all)
 
   -- a number of choices is 0 exactly where nothing is possible
   pub none-where-stuck : fault_of plant ≡ None → (n : ℕ) → n ≡ length (choices plant states) → (n ≡ 0) ↔ IsStuck plant states

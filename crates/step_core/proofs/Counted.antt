@@ -7,7 +7,7 @@ use Rattle.std.proofs.lemmas.List.{take_all, drop_all}
 use Rattle.std.proofs.lemmas.Option.{slice_get-get_or, slice_get_past}
 use Rattle.petri_atom.specs.Local.{Local}
 use Rattle.step_core.specs.Plant.{PlantDefinition}
-use Rattle.step_core.specs.Choice.{Interaction, ChoiceDefinition, named, is_possible, is_possible_at, is_allowed_at, choices_of, choices_at, choices_among, flat_from}
+use Rattle.step_core.specs.Choice.{Interaction, ChoiceDefinition, active_in, named, is_possible, is_possible_at, is_allowed_at, choices_of, choices_at, choices_among, flat_from}
 use Rattle.step_core.specs.Ways.{AreWays}
 use Rattle.priority_filter.specs.Decided.{is_overruled}
 use Rattle.step_core.proofs.Flattened.{flat-more, flat-here, flat-behind, flat-added, flat-passed}
@@ -33,12 +33,12 @@ module _ (plant : PlantDefinition) (states : List Local) (all : List Interaction
 
   -- what is not possible is not allowed
   pub not-allowed : (n : ℕ) → is_possible_at plant.atoms plant.wires states all n ≡ false → is_allowed n ≡ false
-  not-allowed n never = ap (λ b. b && not (is_overruled plant.rules (map named all) (is_possible_at plant.atoms plant.wires states all) n)) never
+  not-allowed n never = ap (λ b. b && not (is_overruled (active_in plant states) (map named all) (is_possible_at plant.atoms plant.wires states all) n)) never
 
   -- what is allowed is possible
   pub possible-first : (n : ℕ) → is_allowed n ≡ true → is_possible_at plant.atoms plant.wires states all n ≡ true
   possible-first n yes_ =
-      (and_parts (is_possible_at plant.atoms plant.wires states all n) (not (is_overruled plant.rules (map named all) (is_possible_at plant.atoms plant.wires states all) n)) yes_).0
+      (and_parts (is_possible_at plant.atoms plant.wires states all n) (not (is_overruled (active_in plant states) (map named all) (is_possible_at plant.atoms plant.wires states all) n)) yes_).0
 
   pub allowed-within : (n : ℕ) → is_allowed n ≡ true → n < length all
   allowed-within n here = ⊎_elim

@@ -10,6 +10,7 @@ use Rattle.petri_atom.specs.contracts.expression.Expression as expression
 use Rattle.petri_atom.specs.contracts.transition.Transition as transition
 use Rattle.petri_atom.specs.contracts.transition.Update as update
 use Rattle.petri_atom.proofs.expression.Expression.TheLaws.TheKnot as expressions
+use Rattle.priority_filter.proofs.order.Order.TheSendSync as order
 use Rattle.connector_tree.specs.contracts.tree.Connector as connector
 use Rattle.connector_tree.proofs.tree.Node.TheLaws.TheKnot as trees
 use Rattle.step_core.specs.contracts.bound_expressions.BoundExpressions as bound
@@ -43,7 +44,7 @@ Bound-sync = search (Expression-sync, sendable, crosses) depth 20
 
 -- a system may be used by several threads
 pub System-sync : IsSync (system.the_field).row
-System-sync = search (Atom-sync, Wire-sync, Bound-sync, sendable, crosses) depth 60
+System-sync = search (Atom-sync, Wire-sync, Bound-sync, order.the_sync, sendable, crosses) depth 60
 
 -- ---- each part of a system may go to another thread
 Expression-send : (V : RattleType) → IsSend V → IsSend (expression.the_field V).row
@@ -69,7 +70,7 @@ Bound-send = search (Expression-send, sendable, crosses) depth 20
 
 -- a system may go to another thread
 pub System-send : IsSend (system.the_field).row
-System-send = search (Atom-send, Wire-send, Bound-send, sendable, crosses) depth 60
+System-send = search (Atom-send, Wire-send, Bound-send, order.the_send, sendable, crosses) depth 60
 
 -- ---- a plant that runs may go to another thread, and be used by several
 pub Stepper-send : (κ : NamedLft) → IsSend (stepper.the_field κ).row

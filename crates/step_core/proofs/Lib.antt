@@ -26,7 +26,7 @@ mod Untouched
 mod Touched
 mod Recounted
 mod Unchanged
-mod Freed
+mod Sighted
 mod Ruled
 mod Walked
 pub mod Membership
@@ -38,4 +38,5 @@ pub mod PastExports
 pub mod OnRuns
 pub mod InOrder
 pub mod RunRows
+pub mod CountRows
 pub mod Crossing

@@ -8,7 +8,7 @@ use Rattle.std.proofs.lemmas.Option.{slice_get_within}
 use Rattle.petri_atom.specs.Local.{Local}
 use Rattle.priority_filter.specs.Decided.{is_overruled}
 use Rattle.priority_filter.proofs.DecidedOrder.{told_overruled}
-use Rattle.step_core.specs.Choice.{ChoiceDefinition, Interaction, IsAllowed, choices_at, choices_of, combinations, is_allowed_at, is_possible, is_possible_at, moves_of, named, plant_interactions}
+use Rattle.step_core.specs.Choice.{ChoiceDefinition, Interaction, IsAllowed, active_in, choices_at, choices_of, combinations, is_allowed_at, is_possible, is_possible_at, moves_of, named, plant_interactions}
 use Rattle.step_core.specs.Laws.{IsChoiceOf, IsInRange, IsOnTop, IsTaking, are_moves_at}
 use Rattle.step_core.specs.Plant.{PlantDefinition}
 use Rattle.step_core.specs.Rules.{fault_of}
@@ -59,7 +59,7 @@ module _ (plant : PlantDefinition) (states : List Local) where
         let parts = taking-allowed allowed in
         let n : ℕ = parts.0 in
         let takes = parts.1 in
-        let passes = and_parts (is_possible_at plant.atoms plant.wires states all n) (not (is_overruled plant.rules (map named all) (is_possible_at plant.atoms plant.wires states all) n)) parts.2 in
+        let passes = and_parts (is_possible_at plant.atoms plant.wires states all n) (not (is_overruled (active_in plant states) (map named all) (is_possible_at plant.atoms plant.wires states all) n)) parts.2 in
         record {
           number = n;
           takes = takes;
@@ -67,9 +67,9 @@ module _ (plant : PlantDefinition) (states : List Local) where
           on_top = on-top n passes.1;
         }
       where
-        on-top : (n : ℕ) → not (is_overruled plant.rules (map named all) (is_possible_at plant.atoms plant.wires states all) n) ≡ true → IsOnTop plant states n
+        on-top : (n : ℕ) → not (is_overruled (active_in plant states) (map named all) (is_possible_at plant.atoms plant.wires states all) n) ≡ true → IsOnTop plant states n
         on-top n top above below = false_from_ne_true (is_possible_at plant.atoms plant.wires states all above) (λ can.
-            let over = (told_overruled plant.rules (map named all) (is_possible_at plant.atoms plant.wires states all) n).1 (above, can, below) in
+            let over = (told_overruled (active_in plant states) (map named all) (is_possible_at plant.atoms plant.wires states all) n).1 (above, can, below) in
             false≢true (sym (ap not over) ∙ top))
 
     -- and what is such a choice is allowed
@@ -87,9 +87,9 @@ module _ (plant : PlantDefinition) (states : List Local) where
         let e : n ≡ 0 + n = omega arith in
         to-flat_from (choices_at plant states all) 0 all n i c takes.there (subst (λ k. Contains (choices_at plant states all k i) c) e given)
       where
-        not-over : (n : ℕ) → IsOnTop plant states n → is_overruled plant.rules (map named all) (is_possible_at plant.atoms plant.wires states all) n ≡ false
+        not-over : (n : ℕ) → IsOnTop plant states n → is_overruled (active_in plant states) (map named all) (is_possible_at plant.atoms plant.wires states all) n ≡ false
         not-over n top = false_from_ne_true _ (λ over.
-            let above = (told_overruled plant.rules (map named all) (is_possible_at plant.atoms plant.wires states all) n).0 over in
+            let above = (told_overruled (active_in plant states) (map named all) (is_possible_at plant.atoms plant.wires states all) n).0 over in
             false≢true (sym (top above.0 above.2) ∙ above.1))
 
     -- an allowed choice of a plant that breaks no rule is within the plant

@@ -9,11 +9,13 @@ use Rattle.connector_tree.specs.Faults as tree
 use Rattle.connector_tree.specs.Tree as connectors
 use Rattle.connector_tree.specs.declared.faults.TreeFault.{TreeFault}
 use Rattle.connector_tree.specs.declared.tree.Port.{Port}
-use Rattle.priority_filter.specs.declared.rule.Rule.TheVariants.{Maximal}
+use Rattle.priority_filter.specs.declared.rule.Rule.TheVariants.{UnderAt, Maximal}
+use Rattle.priority_filter.specs.declared.rule.Side.TheVariants.{Whole}
 use Rattle.step_core.specs.Choice.{Interaction, ChoiceDefinition, interaction_by, is_possible, combinations, choices_of}
 use Rattle.step_core.specs.Plant.{TransferDefinition, WireDefinition}
 use Rattle.step_core.specs.Rules.{early_fault, fault_of_count, fault_of_wire, first_broken, is_known_export, is_known_port, is_same_export, names_known}
 use Rattle.step_core.specs.declared.choice.Move.{Move}
+use Rattle.step_core.specs.declared.fault.SystemFault.{SystemFault}
 use Rattle.step_core.specs.declared.fault.SystemFault.TheVariants.{Limit, BadAtom, BadConnector}
 use Rattle.step_core.specs.declared.fault.WireFault.{WireFault}
 use Rattle.step_core.specs.declared.fault.WireFault.TheVariants.{NameTwice, UnknownPort, UnknownVariable, TargetTwice}
@@ -137,6 +139,18 @@ connector_too_many c = refl
 
 rules_up_to_the_limit : (early_fault (record { atoms = a_and_b; wires = []; rules = replicate 1024 (Maximal 0) }) ≡ None) × (early_fault (record { atoms = a_and_b; wires = []; rules = replicate 1025 (Maximal 0) }) ≡ Some Limit)
 rules_up_to_the_limit = (refl, refl)
+
+-- the fault of a plant of A and B, of which B has one place, with a rule that asks for a place of an atom
+abbrev asked : ℕ → ℕ → Option SystemFault
+asked atom place =
+    early_fault (record {
+      atoms = named (codes "A") ∷ record (named (codes "B")) { places = record { name = codes "s"; marked = true } ∷ [] } ∷ [];
+      wires = [];
+      rules = UnderAt (Whole 0) (Whole 1) (record { atom = atom; place = place }) ∷ [];
+    })
+
+condition_of_a_place : (asked 1 0 ≡ None) × (asked 1 1 ≡ Some Limit) × (asked 0 0 ≡ Some Limit) × (asked 2 0 ≡ Some Limit)
+condition_of_a_place = (refl, refl, refl, refl)
 
 interactions_up_to_the_limit : (fault_of_count 1024 ≡ None) × (fault_of_count 1025 ≡ Some Limit)
 interactions_up_to_the_limit = (refl, refl)

@@ -1,5 +1,6 @@
-use Rattle.std.proofs.Common.{◌≡◌, ℕ, suc, refl, sym, ◌∙◌, ap, map, List, [], ◌∷◌, take, length, Bool, true, false, cond, not}
-use Rattle.std.specs.Prelude.{Option, Some, None, option_map}
+use Rattle.std.proofs.Common.{◌≡◌, ◌≢◌, subst, ℕ, suc, refl, sym, ◌∙◌, ap, map, List, [], ◌∷◌, take, length, Bool, true, false, cond, not}
+use Rattle.std.specs.Prelude.{Option, Some, None, option_map, Result, Ok, Err, IfErr}
+use Rattle.std.specs.Result.{IsErrAnd}
 use Rattle.std.specs.List.{list_any}
 use Rattle.std.specs.Option.{option_map_or}
 use Rattle.std.proofs.lemmas.Bool.{false≢true}
@@ -7,10 +8,13 @@ use Rattle.petri_atom.specs.Definition.{AtomDefinition}
 use Rattle.petri_atom.specs.Name.{is_same_text}
 use Rattle.connector_tree.specs.Faults as tree
 use Rattle.priority_filter.specs.Decided.{order_fault}
+use Rattle.priority_filter.specs.declared.fault.OrderFault.{OrderFault}
+use Rattle.priority_filter.specs.declared.fault.OrderFault.TheVariants as order
 use Rattle.connector_tree.specs.declared.faults.TreeFault.{TreeFault}
 use Rattle.step_core.specs.Plant.{WireDefinition, PlantDefinition}
 use Rattle.step_core.specs.Rules.{first_of, first_told, atom_fault, tree_fault, is_within_limits, fault_of_wire, wire_fault, fault_of_wires, fault_of_count, early_fault, first_fault, fault_of_order, fault_of, IsFaultOf}
 use Rattle.step_core.specs.Choice.{named, plant_interactions}
+use Rattle.step_core.specs.OrderFaults.{told_of_order}
 use Rattle.step_core.specs.declared.fault.WireFault.{WireFault}
 use Rattle.step_core.specs.declared.fault.SystemFault.{SystemFault}
 use Rattle.step_core.specs.declared.fault.SystemFault.TheVariants.{Limit, BadAtom, BadConnector, BadWire, Order, Memory}
@@ -93,3 +97,33 @@ none-of-all None None count order none uncounted unordered = ap (λ o. first_of 
 pub none-told : (plant : PlantDefinition) → first_fault plant ≡ None → fault_of_count (length (plant_interactions plant)) ≡ None → order_fault plant.rules (map named (plant_interactions plant)) ≡ None → fault_of plant ≡ None
 none-told plant none uncounted unordered =
     none-of-all (early_fault plant) (fault_of_wires plant) (fault_of_count (length (plant_interactions plant))) (fault_of_order plant) none uncounted (ap (option_map Order) unordered)
+
+-- ---- what a plant is told to be at fault for that keeps the rules which are judged without memory
+
+-- want of memory
+pub memory-told : {A : Type 0} (plant : PlantDefinition) (result : Result A SystemFault) → first_fault plant ≡ None → IsErrAnd result (λ told. told ≡ Memory) →
+    IfErr result (λ told. IsFaultOf told plant)
+memory-told plant (Ok x) none left = tt
+memory-told plant (Err told) none left = subst (λ f. IsFaultOf f plant) (sym left) none
+
+-- the fault of the order, where the others tell none
+of-order : (early wires count order : Option SystemFault) (fault : SystemFault) → first_of early wires ≡ None → count ≡ None → order ≡ Some fault →
+    first_of early (first_of (first_of wires count) order) ≡ Some fault
+of-order (Some e) wires count order fault none uncounted told = absurd (cc)
+of-order None (Some w) count order fault none uncounted told = absurd (cc)
+of-order None None count order fault none uncounted told = ap (λ o. first_of o order) uncounted ∙ told
+
+pub order-told : {A : Type 0} (plant : PlantDefinition) (fault : OrderFault) (result : Result A SystemFault) → first_fault plant ≡ None →
+    fault_of_count (length (plant_interactions plant)) ≡ None →
+    (fault ≢ order.Memory → order_fault plant.rules (map named (plant_interactions plant)) ≡ Some fault) →
+    IsErrAnd result (λ told. told ≡ told_of_order fault) → IfErr result (λ told. IsFaultOf told plant)
+order-told plant fault (Ok x) none uncounted told left = tt
+order-told plant fault (Err f) none uncounted told left = subst (λ g. IsFaultOf g plant) (sym left) (each fault told)
+  where
+    all : (o : OrderFault) → order_fault plant.rules (map named (plant_interactions plant)) ≡ Some o → fault_of plant ≡ Some (Order o)
+    all o is = of-order (early_fault plant) (fault_of_wires plant) (fault_of_count (length (plant_interactions plant))) (fault_of_order plant) (Order o) none uncounted (ap (option_map Order) is)
+
+    each : (o : OrderFault) → (o ≢ order.Memory → order_fault plant.rules (map named (plant_interactions plant)) ≡ Some o) → IsFaultOf (told_of_order o) plant
+    each (order.Cycle n) is = all (order.Cycle n) (is (λ same. absurd (cc)))
+    each (order.UnknownName n) is = all (order.UnknownName n) (is (λ same. absurd (cc)))
+    each order.Memory is = none

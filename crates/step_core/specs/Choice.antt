@@ -2,12 +2,15 @@
 use Rattle.std.specs.Prelude.{◌≡◌, ℕ, zero, suc, List, [], ◌∷◌, ◌++◌, map, filter, flat_map, take, drop, length, slice_get, Contains, Bool, true, false, ◌&&◌, not, if◌then◌else◌, ◌==◌, take, drop}
 use Rattle.std.specs.List.{list_all, list_any}
 use Rattle.std.specs.Option.{option_map_or}
-use Rattle.petri_atom.specs.Local.{Local}
+use Rattle.petri_atom.specs.Local.{Local, has}
 use Rattle.petri_atom.specs.Definition.{AtomDefinition, enabled, offers_port}
 use Rattle.connector_tree.specs.Masks.{interactions_of, chosen}
 use Rattle.connector_tree.specs.Tree.{Tree, leaves}
 use Rattle.connector_tree.specs.declared.tree.Port.{Port}
+use Rattle.priority_filter.specs.Active.{active}
 use Rattle.priority_filter.specs.Decided.{is_overruled}
+use Rattle.priority_filter.specs.declared.rule.Rule.{Rule}
+use Rattle.priority_filter.specs.declared.seen.At.{At}
 use Rattle.step_core.specs.Plant.{WireDefinition, PlantDefinition, of_atom}
 use Rattle.step_core.specs.Exports.{guards_hold}
 use Rattle.step_core.specs.declared.choice.Move.{Move}
@@ -88,11 +91,19 @@ named i = (i.connector, i.mask)
 abbrev pub is_possible_at : List AtomDefinition → List WireDefinition → List Local → List Interaction → ℕ → Bool
 is_possible_at atoms wires states interactions n = option_map_or (is_possible atoms wires states) (slice_get interactions n) false
 
--- an interaction is allowed where it is possible, and no possible one is above it in the order of the plant's rules
+-- a condition holds in a state in which its place is marked
+abbrev pub is_marked_at : List Local → At → Bool
+is_marked_at states at = option_map_or (λ s. has s.marking at.place) (slice_get states at.atom) false
+
+-- the rules that count in a state: those without a condition, and those whose condition holds
+abbrev pub active_in : PlantDefinition → List Local → List Rule
+active_in plant states = active (is_marked_at states) plant.rules
+
+-- an interaction is allowed where it is possible, and no possible one is above it in the order of the rules that count
 abbrev pub is_allowed_at : PlantDefinition → List Local → List Interaction → ℕ → Bool
 is_allowed_at plant states interactions n =
     is_possible_at plant.atoms plant.wires states interactions n &&
-    not (is_overruled plant.rules (map named interactions) (is_possible_at plant.atoms plant.wires states interactions) n)
+    not (is_overruled (active_in plant states) (map named interactions) (is_possible_at plant.atoms plant.wires states interactions) n)
 
 -- what each element of a list gives, one after another; the elements are numbered from n
 abbrev pub flat_from : {X Y : Type 0} → (ℕ → X → List Y) → ℕ → List X → List Y

@@ -1,10 +1,11 @@
 -- What a state offers, as it is kept.
 use Rattle.std.specs.Prelude.{◌≡◌, ℕ, false, List, length, slice_get}
 use Rattle.petri_atom.specs.Local.{Local, is_in}
-use Rattle.step_core.specs.Choice.{Interaction, choices_among}
+use Rattle.step_core.specs.Choice.{Interaction, choices_among, is_marked_at}
 use Rattle.step_core.specs.EnabledTransitions.{AreOffered, AreCounted}
 use Rattle.step_core.specs.Plant.{PlantDefinition}
 use Rattle.step_core.specs.Possible.{ArePossible, AreAllowed}
+use Rattle.step_core.specs.Sights.{AreSeen}
 use Rattle.step_core.specs.Ways.{AreWays}
 use Rattle.step_core.specs.declared.judgement.Judgement.{Judgement}
 
@@ -14,6 +15,7 @@ pub record IsJudgement (plant : PlantDefinition) (interactions : List Interactio
   pub counted : AreCounted plant.atoms j.offers.sets j.offers.counts
   pub possible : ArePossible plant.atoms plant.wires states interactions j.possible
   pub ways : AreWays plant.atoms plant.wires states interactions j.ways
+  pub seen : AreSeen plant.rules (is_marked_at states) j.seen
   pub allowed : AreAllowed plant states interactions j.allowed
   pub total : j.total ≡ length (choices_among plant states interactions)
 

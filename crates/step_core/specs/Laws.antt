@@ -11,7 +11,7 @@ use Rattle.connector_tree.specs.declared.tree.Port.{Port}
 use Rattle.connector_tree.specs.declared.tree.TheConstants.{MAX_LEAVES}
 use Rattle.priority_filter.specs.Order.{IsBelow}
 use Rattle.step_core.specs.Plant.{PlantDefinition, WireDefinition, of_atom}
-use Rattle.step_core.specs.Choice.{ChoiceDefinition, Interaction, is_possible, is_possible_at, named, plant_interactions}
+use Rattle.step_core.specs.Choice.{ChoiceDefinition, Interaction, active_in, is_possible, is_possible_at, named, plant_interactions}
 use Rattle.step_core.specs.Rules.{is_known_port}
 use Rattle.step_core.specs.declared.choice.Move.{Move}
 use Rattle.step_core.specs.declared.limits.TheConstants.{MAX_ATOMS, MAX_INTERACTIONS, MAX_WIRES}
@@ -58,10 +58,10 @@ pub record IsTaking (plant : PlantDefinition) (states : List Local) (number : �
   pub mask : c.mask ≡ interaction.mask
   pub moves : are_moves_at plant.atoms states interaction.ports c.moves ≡ true
 
--- no possible interaction is above the one with a number, in the order of the plant's rules
+-- no possible interaction is above the one with a number, in the order of the rules that count
 abbrev pub IsOnTop : PlantDefinition → List Local → ℕ → Type 0
 IsOnTop plant states number =
-    (above : ℕ) → IsBelow plant.rules (map named (plant_interactions plant)) number above →
+    (above : ℕ) → IsBelow (active_in plant states) (map named (plant_interactions plant)) number above →
     is_possible_at plant.atoms plant.wires states (plant_interactions plant) above ≡ false
 
 -- what an allowed choice is: it takes up an interaction that is possible, and above which no possible one is

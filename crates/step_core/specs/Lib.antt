@@ -18,7 +18,7 @@ pub mod Running
 pub mod OrderFaults
 pub mod Possible
 pub mod Dependents
-pub mod NeverOverruled
+pub mod Sights
 pub mod Ways
 pub mod Words
 pub mod Judges

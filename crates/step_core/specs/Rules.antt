@@ -1,5 +1,5 @@
 -- What atoms and wires have to keep to make a plant.
-use Rattle.std.specs.Prelude.{◌≡◌, ℕ, suc, ◌==◌, ◌&&◌, not, Bool, false, if◌then◌else◌, List, [], ◌∷◌, map, take, length, slice_get, Option, Some, None, option_map, nat_lt, nat_le}
+use Rattle.std.specs.Prelude.{◌≡◌, ℕ, suc, ◌==◌, ◌&&◌, not, Bool, true, false, if◌then◌else◌, List, [], ◌∷◌, map, take, length, slice_get, Option, Some, None, option_map, nat_lt, nat_le}
 use Rattle.std.specs.List.{list_all, list_any}
 use Rattle.std.specs.Option.{option_map_or}
 use Rattle.petri_atom.specs.Expression.{Tree, word_count, all_variables}
@@ -11,6 +11,9 @@ use Rattle.connector_tree.specs.Tree.{leaves}
 use Rattle.connector_tree.specs.declared.tree.Port.{Port}
 use Rattle.step_core.specs.Plant.{TransferDefinition, WireDefinition, PlantDefinition}
 use Rattle.priority_filter.specs.Decided.{order_fault}
+use Rattle.priority_filter.specs.declared.rule.Rule.{Rule}
+use Rattle.priority_filter.specs.declared.rule.Rule.TheVariants.{Under, UnderAt, Maximal}
+use Rattle.priority_filter.specs.declared.seen.At.{At}
 use Rattle.step_core.specs.Choice.{named, plant_interactions}
 use Rattle.step_core.specs.declared.limits.TheConstants.{MAX_ATOMS, MAX_WIRES, MAX_RULES, MAX_GUARDS, MAX_TRANSFERS, MAX_INTERACTIONS}
 use Rattle.step_core.specs.declared.wire.Export.{Export}
@@ -43,11 +46,26 @@ are_small_guards clauses =
 abbrev pub is_small_wire : WireDefinition → Bool
 is_small_wire w = are_small_guards w.guards && are_small_transfers w.transfers
 
--- there is an atom, and there are no more atoms, wires and rules than a plant may have, each wire within its limits
+-- the atom is there, and has the place
+abbrev pub is_known_place : List AtomDefinition → At → Bool
+is_known_place atoms at = option_map_or (λ a. nat_lt at.place (length a.places)) (slice_get atoms at.atom) false
+
+-- a rule has no condition, or one that names an atom and a place of it
+abbrev pub is_known_condition : List AtomDefinition → Rule → Bool
+is_known_condition atoms (Under left right) = true
+is_known_condition atoms (UnderAt left right at) = is_known_place atoms at
+is_known_condition atoms (Maximal connector) = true
+
+-- there are no more rules than a plant may have, and each condition names an atom and a place of it
+abbrev pub are_rules_over : List AtomDefinition → List Rule → Bool
+are_rules_over atoms rules = nat_le (length rules) MAX_RULES && list_all (is_known_condition atoms) rules
+
+-- There is an atom, and there are no more atoms, wires and rules than a plant may have, each wire within its limits. A condition that
+-- asks for an atom or a place that is not there is past a limit too.
 abbrev pub is_within_limits : PlantDefinition → Bool
 is_within_limits plant =
     nat_lt 0 (length plant.atoms) && nat_le (length plant.atoms) MAX_ATOMS && nat_le (length plant.wires) MAX_WIRES &&
-    nat_le (length plant.rules) MAX_RULES && list_all is_small_wire plant.wires
+    are_rules_over plant.atoms plant.rules && list_all is_small_wire plant.wires
 
 -- the atom with number n has the name of an earlier one
 abbrev pub atom_fault : List AtomDefinition → ℕ → AtomDefinition → Option SystemFault

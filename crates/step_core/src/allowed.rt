@@ -3,11 +3,11 @@
 ghost use Rattle.std.specs.Prelude.{◌≡◌, ◌≤◌, ◌<◌, ◌+◌, ◌*◌, ◌/◌, ◌%◌, ◌^◌, ℕ, map, length};
 ghost use Rattle.std.specs.FinSet.{empty};
 ghost use Rattle.petri_atom.specs.Atom.{definition_of};
-ghost use Rattle.step_core.specs.Choice.{named, is_allowed_at, choices_below, choices_among};
+ghost use Rattle.step_core.specs.Choice.{named, is_marked_at, is_allowed_at, choices_below, choices_among};
 ghost use Rattle.step_core.specs.Interaction.{interaction_of};
 ghost use Rattle.step_core.specs.Made.{plant_by};
 ghost use Rattle.step_core.specs.Possible.{ArePossible, AreAllowed};
-ghost use Rattle.step_core.specs.NeverOverruled.{AreNeverOverruled};
+ghost use Rattle.step_core.specs.Sights.{AreSeen};
 ghost use Rattle.step_core.specs.Ways.{AreWays};
 ghost use Rattle.step_core.specs.Wire.{wire_of};
 ghost use Rattle.priority_filter.specs.Members.{has_bit};
@@ -17,22 +17,23 @@ ghost use Rattle.step_core.specs.declared.limits.TheConstants.{MAX_INTERACTIONS}
 use crate::interaction::Interaction;
 use crate::limits::MAX_INTERACTIONS;
 use crate::possible::InteractionJudge;
-use priority_filter::{InteractionSet, Order};
+use priority_filter::{InteractionSet, Order, SEEN_ATOMS, Seen};
 
-/// A judged state with its possible interactions, and the order of the priority rules.
+/// A judged state with its possible interactions, the order of the priority rules, and what is seen of the atoms for their
+/// conditions.
 #[derive(Drop)]
 pub(crate) struct PriorityJudge<'a> {
     pub(crate) judged: InteractionJudge<'a>,
     pub(crate) interactions: &'a [Interaction],
     pub(crate) order: &'a Order,
-    pub(crate) free: &'a InteractionSet,
+    pub(crate) seen: &'a [Seen; SEEN_ATOMS],
     pub(crate) possible: &'a InteractionSet,
     pub(crate) ways: &'a [u64; MAX_INTERACTIONS],
     ghost few: { length interactions.now ≤ MAX_INTERACTIONS },
     ghost ordered: { order.now.interactions ≡ map named (map interaction_of interactions.now) },
     ghost known: { ArePossible (map definition_of judged.atoms.now) (map wire_of judged.wires.now) judged.states.now (map interaction_of interactions.now) possible.now },
     ghost counted: { AreWays (map definition_of judged.atoms.now) (map wire_of judged.wires.now) judged.states.now (map interaction_of interactions.now) ways.now },
-    ghost unruled: { AreNeverOverruled order.now.rules order.now.interactions free.now },
+    ghost sighted: { AreSeen order.now.rules (is_marked_at judged.states.now) seen.now },
 }
 
 impl PriorityJudge<'_> {
@@ -54,7 +55,8 @@ impl PriorityJudge<'_> {
         ensures { AreAllowed (judged_plant self.now) self.now.judged.states.now (judged_interactions self.now) allowed.new }
     {
         let words = self.interactions.len().div_ceil(64);
-        self.order.filter(self.possible, self.free, words, allowed);
+        self.order
+            .filter(self.seen, self.possible, self.possible, words, allowed);
     }
 
     /// How many choices the allowed interactions have in all.

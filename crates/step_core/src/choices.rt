@@ -2,13 +2,14 @@
 ghost use Rattle.std.specs.Prelude.{◌≡◌, ◌↔◌, ◌+◌, ◌*◌, ◌<◌, IfOk, IfErr, true, false, Some, map, length, slice_get, slice_index_or, option_map};
 ghost use Rattle.std.specs.FinSet.{contains, empty};
 ghost use Rattle.petri_atom.specs.Atom.{definition_of};
-ghost use Rattle.step_core.specs.Choice.{Interaction, is_possible_at, choices, choices_of, choices_from, choices_among, IsAllowed, IsStuck};
+ghost use Rattle.step_core.specs.Choice.{Interaction, is_marked_at, is_possible_at, choices, choices_of, choices_from, choices_among, IsAllowed, IsStuck};
 ghost use Rattle.step_core.specs.Chosen.{choice_of};
 ghost use Rattle.step_core.specs.Fitting.{IsOf};
 ghost use Rattle.step_core.specs.Interaction.{interaction_of};
 ghost use Rattle.step_core.specs.Judgement.{IsJudgement, IsBehind};
 ghost use Rattle.step_core.specs.EnabledTransitions.{AreOffered, AreCounted};
 ghost use Rattle.step_core.specs.Possible.{ArePossible, ArePossibleBut, AreAllowed};
+ghost use Rattle.step_core.specs.Sights.{AreSeen};
 ghost use Rattle.step_core.specs.Ways.{AreWays, AreWaysBut, IsSame};
 ghost use Rattle.step_core.specs.Wire.{wire_of};
 ghost use Rattle.priority_filter.specs.declared.interaction_set.TheConstants.{ROW_WORDS};
@@ -16,13 +17,14 @@ ghost use Rattle.priority_filter.specs.declared.interaction_set.TheConstants.{RO
 use crate::allowed::PriorityJudge;
 use crate::choice::Choice;
 use crate::enabled_transitions::EnabledTransitions;
+use crate::interaction_numbers::numbers_below;
 use crate::judgement::{Judgement, no_ways};
 use crate::limits::MAX_INTERACTIONS;
-use crate::never_overruled::numbers_below;
 use crate::possible::InteractionJudge;
+use crate::sights::see_again;
 use crate::state::PlantState;
 use crate::system::System;
-use priority_filter::InteractionSet;
+use priority_filter::{InteractionSet, SEEN_ATOMS, Seen};
 
 impl System {
     ghost use Rattle.step_core.specs.System.{interactions_in, plant_of};
@@ -57,20 +59,22 @@ impl System {
         let mut ways = no_ways();
         let all = numbers_below(self.interactions.len());
         self.judge_touched(states, &offers, &all, &mut possible, &mut ways);
+        let seen = states.seen();
         let mut allowed = InteractionSet::new();
-        let total = self.allow(states, &offers, &possible, &ways, &mut allowed);
+        let total = self.allow(states, &offers, &possible, &ways, &seen, &mut allowed);
         Judgement {
             offers,
             possible,
             ways,
+            seen,
             allowed,
             total,
         }
     }
 
     /// Judges again what depends on one of the changed atoms; what is kept was judged in a state in which all other atoms were
-    /// as now. Where no interaction is possible or has choices other than before, the same ones are allowed, and nothing more
-    /// is to be done.
+    /// as now. Where no interaction is possible or has choices other than before, and no place that a priority rule asks for
+    /// changed, the same ones are allowed, and nothing more is to be done.
     pub(crate) fn judge_again(
         &self,
         states: &PlantState,
@@ -98,13 +102,15 @@ impl System {
             &mut judgement.possible,
             &mut judgement.ways,
         );
-        if is_new {
+        let is_seen_new = see_again(&self.order, states, changed, &mut judgement.seen);
+        if is_new | is_seen_new {
             judgement.allowed.clear();
             judgement.total = self.allow(
                 states,
                 &judgement.offers,
                 &judgement.possible,
                 &judgement.ways,
+                &judgement.seen,
                 &mut judgement.allowed,
             );
         }
@@ -152,6 +158,7 @@ impl System {
         offers: &'x EnabledTransitions,
         possible: &'x InteractionSet,
         ways: &'x [u64; MAX_INTERACTIONS],
+        seen: &'x [Seen; SEEN_ATOMS],
         allowed: &mut InteractionSet,
     ) -> u128
         requires of_plant { IsOf (plant_of self.now) states.now }
@@ -159,6 +166,7 @@ impl System {
         requires shown { AreCounted (plant_of self.now).atoms offers.now.sets offers.now.counts }
         requires known { ArePossible (plant_of self.now).atoms (plant_of self.now).wires states.now (interactions_in self.now) possible.now }
         requires counted { AreWays (plant_of self.now).atoms (plant_of self.now).wires states.now (interactions_in self.now) ways.now }
+        requires sighted { AreSeen (plant_of self.now).rules (is_marked_at states.now) seen.now }
         requires none { allowed.old ≡ empty }
         ensures allowed { AreAllowed (plant_of self.now) states.now (interactions_in self.now) allowed.new }
         ensures total { result ≡ length (choices_among (plant_of self.now) states.now (interactions_in self.now)) }
@@ -174,7 +182,7 @@ impl System {
             judged,
             interactions: &self.interactions,
             order: &self.order,
-            free: &self.free,
+            seen,
             possible,
             ways,
         };

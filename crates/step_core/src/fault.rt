@@ -21,7 +21,8 @@ pub enum WireFault {
 /// Why atoms and wires make no plant.
 #[derive(Clone, Copy, Debug, PartialEq, Eq, Error)]
 pub enum SystemFault {
-    /// There is no atom, or there are more atoms, wires, rules, guards, transfers, words or interactions than a plant may have.
+    /// There is no atom, or there are more atoms, wires, rules, guards, transfers, words or interactions than a plant may have, or a
+    /// rule's condition asks for an atom or a place that is not there.
     Limit,
     /// An earlier atom has the name of the atom with this number.
     BadAtom(u16),

@@ -3,16 +3,18 @@ ghost use Rattle.std.specs.Prelude.{◌≡◌, ℕ, slice_index_or};
 
 use crate::enabled_transitions::EnabledTransitions;
 use crate::limits::MAX_INTERACTIONS;
-use priority_filter::InteractionSet;
+use priority_filter::{InteractionSet, SEEN_ATOMS, Seen};
 
 /// What a state of a plant offers: what each atom offers, the possible interactions, for each of these how many choices it has
-/// where no priority forbids it, the allowed interactions, and how many choices these have in all. It is of fixed size and takes
+/// where no priority forbids it, what is seen of the atoms for the conditions of priority rules, the allowed interactions, and how
+/// many choices these have in all. It is of fixed size and takes
 /// no memory.
 #[derive(Drop)]
 pub(crate) struct Judgement {
     pub(crate) offers: EnabledTransitions,
     pub(crate) possible: InteractionSet,
     pub(crate) ways: [u64; MAX_INTERACTIONS],
+    pub(crate) seen: [Seen; SEEN_ATOMS],
     pub(crate) allowed: InteractionSet,
     pub(crate) total: u128,
 }

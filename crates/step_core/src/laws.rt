@@ -4,7 +4,7 @@ ghost use Rattle.std.specs.List.{list_all};
 ghost use Rattle.petri_atom.specs.Definition.{AtomDefinition, TransitionDefinition, exports_of, fired, is_well_formed};
 ghost use Rattle.petri_atom.specs.Local.{Local, delivered_value};
 ghost use Rattle.petri_atom.specs.declared.state.TheConstants.{MAX_EXPORTS};
-ghost use Rattle.step_core.specs.Choice.{ChoiceDefinition, Interaction, IsAllowed, choices, plant_interactions};
+ghost use Rattle.step_core.specs.Choice.{ChoiceDefinition, Interaction, IsAllowed, IsStuck, choices, plant_interactions};
 ghost use Rattle.step_core.specs.Fitting.{IsOf, AllFit};
 ghost use Rattle.step_core.specs.Laws.{IsBefore, IsChoiceOf, IsInRange, IsInteractionOf, IsTaking, IsWithinLimits};
 ghost use Rattle.step_core.specs.Plant.{PlantDefinition};
@@ -43,6 +43,12 @@ pub fn an_allowed_choice_is_in_range()
 /// that one's ports in rising order of their atoms, and no possible interaction is above it.
 pub fn what_an_allowed_choice_is()
     ensures { (plant : PlantDefinition) (states : List Local) (c : ChoiceDefinition) → IsAllowed plant states c ↔ IsChoiceOf plant states c }
+{}
+
+/// Priorities lose no choice: a state has none exactly where no interaction is possible, whichever rules count in it.
+pub fn priorities_lose_no_choice()
+    ensures { (plant : PlantDefinition) (states : List Local) → fault_of plant ≡ None
+        → (length (choices plant states) ≡ 0) ↔ IsStuck plant states }
 {}
 
 /// The choices of a state stand in their order: by connector, then by mask, then by the transitions in rising order of their atoms,

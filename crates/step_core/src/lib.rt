@@ -18,7 +18,8 @@
 //! - `enabled_transitions`: which transitions each atom offers, and how many at each port, judged again behind a step.
 //! - `possible`: which interactions are possible. `allowed`: which of these the priorities allow. `judgement`: what a state offers,
 //!   as it is kept. `choices`: how a judgement is made, and made again behind a step; how many choices a state has, and which.
-//! - `never_overruled`: the interactions that no other can be above.
+//! - `sights`: what is seen of the atoms, for the conditions of priority rules, seen again behind a step. `interaction_numbers`: all
+//!   interactions as a set.
 //! - `stepper`: a plant that runs: its present state, and what that offers, judged again for what a step can change alone.
 //! - `dependents`: which interactions stand on a port, and whose guards read an atom, so that a step judges only those that it can
 //!   change.
@@ -37,14 +38,15 @@ mod fault;
 mod firing;
 mod guards;
 mod interaction;
+mod interaction_numbers;
 mod interactions;
 mod judgement;
 pub mod laws;
 mod limits;
 mod lookup;
-mod never_overruled;
 mod possible;
 mod rules;
+mod sights;
 mod state;
 mod stepper;
 mod system;

@@ -7,14 +7,14 @@ ghost use Rattle.step_core.specs.declared.limits.TheConstants.{MAX_ATOMS, MAX_WI
 ghost use Rattle.petri_atom.specs.Atom.{definition_of};
 ghost use Rattle.petri_atom.specs.Name.{is_same_text};
 ghost use Rattle.step_core.specs.Made.{plant_by};
-ghost use Rattle.step_core.specs.Rules.{are_small_guards, are_small_transfers, is_small_wire, is_within_limits, first_told, atom_fault, tree_fault, early_fault};
+ghost use Rattle.step_core.specs.Rules.{are_small_guards, are_small_transfers, is_small_wire, is_known_place, is_known_condition, are_rules_over, is_within_limits, first_told, atom_fault, tree_fault, early_fault};
 ghost use Rattle.step_core.specs.Wire.{wire_of, transfer_of};
 
 use crate::fault::SystemFault;
 use crate::limits::{MAX_ATOMS, MAX_GUARDS, MAX_RULES, MAX_TRANSFERS, MAX_WIRES};
 use crate::wire::{Export, Transfer, Wire};
 use petri_atom::{Atom, Expression, Name};
-use priority_filter::Rule;
+use priority_filter::{At, Rule};
 
 /// The first rule that is broken of those about limits, names of atoms and trees.
 pub(crate) fn early_fault(atoms: &[Atom], wires: &[Wire], rules: &[Rule]) -> Option<SystemFault>
@@ -29,15 +29,49 @@ pub(crate) fn early_fault(atoms: &[Atom], wires: &[Wire], rules: &[Rule]) -> Opt
     }
 }
 
-/// Whether there is an atom, and no limit of atoms, wires and rules is passed.
+/// Whether there is an atom, no limit of atoms, wires and rules is passed, and each condition asks for a place that is there.
 fn is_within_limits(atoms: &[Atom], wires: &[Wire], rules: &[Rule]) -> bool
     ensures { result ≡ is_within_limits (plant_by atoms.now wires.now rules.now) }
 {
     (0 < atoms.len())
         & (atoms.len() <= MAX_ATOMS)
         & (wires.len() <= MAX_WIRES)
-        & (rules.len() <= MAX_RULES)
+        & are_rules_over(atoms, rules)
         & are_small(wires)
+}
+
+/// Whether there are no more rules than a plant may have, and each condition names an atom and a place of it.
+fn are_rules_over(atoms: &[Atom], rules: &[Rule]) -> bool
+    ensures { result ≡ are_rules_over (map definition_of atoms.now) rules.now }
+{
+    (rules.len() <= MAX_RULES) & have_known_conditions(atoms, rules)
+}
+
+/// Whether the condition of each rule names an atom and a place of it.
+fn have_known_conditions(atoms: &[Atom], rules: &[Rule]) -> bool
+    ensures { result ≡ list_all (is_known_condition (map definition_of atoms.now)) rules.now }
+{
+    rules.iter().all(|rule| is_known_condition(atoms, rule))
+}
+
+/// Whether the rule has no condition, or one that names an atom and a place of it.
+fn is_known_condition(atoms: &[Atom], rule: &Rule) -> bool
+    ensures { result ≡ is_known_condition (map definition_of atoms.now) rule.now }
+{
+    match rule {
+        Rule::UnderAt(_, _, at) => is_known_place(atoms, *at),
+        Rule::Under(_, _) | Rule::Maximal(_) => true,
+    }
+}
+
+/// Whether the atom is there, and has the place.
+fn is_known_place(atoms: &[Atom], at: At) -> bool
+    ensures { result ≡ is_known_place (map definition_of atoms.now) at }
+{
+    match atoms.get(usize::from(at.atom)) {
+        Some(atom) => usize::from(at.place) < atom.places().len(),
+        None => false,
+    }
 }
 
 /// Whether each wire is within its limits.

@@ -3,7 +3,6 @@ ghost use Rattle.std.specs.Prelude.{◌≡◌, ◌*◌, ◌≤◌, None, map, le
 ghost use Rattle.petri_atom.specs.Atom.{definition_of};
 ghost use Rattle.connector_tree.specs.Tree.{leaves};
 ghost use Rattle.step_core.specs.Choice.{named, plant_interactions, interactions_from, interactions_of_connector};
-ghost use Rattle.step_core.specs.NeverOverruled.{AreNeverOverruled};
 ghost use Rattle.step_core.specs.Interaction.{interaction_of};
 ghost use Rattle.step_core.specs.Made.{plant_by};
 ghost use Rattle.step_core.specs.BoundExpressions.{AreGuarding, AreDelivering};
@@ -22,7 +21,6 @@ use crate::fault::SystemFault;
 use crate::interaction::Interaction;
 use crate::interactions::connector_interactions;
 use crate::limits::MAX_INTERACTIONS;
-use crate::never_overruled::never_overruled_interactions;
 use crate::wire::Wire;
 use crate::{rules, wire_rules};
 use connector_tree::Port;
@@ -34,8 +32,8 @@ use std::alloc::{AllocError, Global};
 /// the text that it was read from.
 ///
 /// It keeps each rule of a plant, so that what can be asked of it cannot fail. It has all interactions at hand, the
-/// leaves of each connector, its guard clauses and transfers with their variables found, for each interaction the row of those
-/// above it, which have none above them, and for each atom the interactions that depend on it, so that no step takes memory.
+/// leaves of each connector, its guard clauses and transfers with their variables found, the order of the priority rules, and for
+/// each atom the interactions that depend on it, so that no step takes memory.
 #[derive(Drop)]
 pub struct System {
     pub(crate) atoms: Vec<Atom>,
@@ -45,7 +43,6 @@ pub struct System {
     pub(crate) bound: Vec<BoundExpressions>,
     pub(crate) interactions: Vec<Interaction>,
     pub(crate) order: Order,
-    pub(crate) free: InteractionSet,
     pub(crate) dependents: Vec<InteractionSet>,
     ghost valid: { fault_of (plant_by atoms.items wires.items order.rules) ≡ None },
     ghost leaves: { map (λ list. list.items) ports.items ≡ map (λ w. leaves (wire_of w).connector) wires.items },
@@ -53,7 +50,6 @@ pub struct System {
     ghost delivering: { AreDelivering (map definition_of atoms.items) (map wire_of wires.items) bound.items },
     ghost listed: { map interaction_of interactions.items ≡ plant_interactions (plant_by atoms.items wires.items order.rules) },
     ghost ordered: { order.interactions ≡ map named (map interaction_of interactions.items) },
-    ghost unruled: { AreNeverOverruled order.rules order.interactions free },
     ghost rows: { length dependents.items ≡ length atoms.items * ATOM_ROWS },
     ghost touched: { AreDependents (map wire_of wires.items) (map interaction_of interactions.items) dependents.items },
     ghost on_ports: { AreOnPorts (map interaction_of interactions.items) dependents.items },
@@ -86,7 +82,6 @@ impl System {
             return Err(fault);
         }
         let order = order_of(alloc, rules, &interactions)?;
-        let free = never_overruled_interactions(&order, interactions.len());
         let dependents = dependent_rows(alloc, atoms.len(), &wires, &ports, &interactions)?;
         Ok(System {
             atoms,
@@ -96,7 +91,6 @@ impl System {
             bound,
             interactions,
             order,
-            free,
             dependents,
         })
     }

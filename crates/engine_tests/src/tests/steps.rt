@@ -26,12 +26,18 @@ fn second_choice(system: &System, states: &PlantState) -> Option<(u128, u16)>
     }
 }
 
+/// One choice while A is on, and two while it is off.
+const SWITCH: &[u8] =
+    b"atom A\nplace on init\nplace off\nport t\ntrans t from on to off\ntrans t from off to on\natom O\nplace s init\nport o\ntrans o from s to s\nconnector tick A.t\nconnector other O.o\nprio other < tick when A at on\n";
+
 #[test]
 fn a_state_tells_its_choices(rt: HostRuntime) -> Result<(), Fail> {
-    let system = plant_of_text(rt.alloc(), BROADCAST)?;
-    let states = PlantState::init(rt.alloc(), &system)?;
-    assert!(rt; states.len() == 2 && !states.is_empty());
-    assert!(rt; second_choice(&system, &states) == Some((2, 3)));
+    for (text, second) in [(BROADCAST, Some((2, 3))), (SWITCH, None)] {
+        let system = plant_of_text(rt.alloc(), text)?;
+        let states = PlantState::init(rt.alloc(), &system)?;
+        assert!(&rt; states.len() == 2 && !states.is_empty());
+        assert!(&rt; second_choice(&system, &states) == second);
+    }
     Ok(())
 }
 
@@ -63,6 +69,20 @@ fn a_plant_that_runs_takes_a_state_back(rt: HostRuntime) -> Result<(), Fail> {
         assert!(rt; second.same(&second.copy()) && !second.same(&first));
         assert!(rt; run.state(0).places() == 1);
         assert!(rt; counts_of_a_return(&mut run, &second) == (0, 2));
+    }
+    Ok(())
+}
+
+#[test]
+fn a_state_that_is_taken_back_brings_its_rules(rt: HostRuntime) -> Result<(), Fail> {
+    let system = plant_of_text(rt.alloc(), SWITCH)?;
+    let mut run = Stepper::first(rt.alloc(), &system)?;
+    let count = run.count();
+    let atoms = run.states().len();
+    assert!(rt; count == 1 && atoms == 2);
+    if 0 < count && 0 < atoms {
+        let tick = run.nth(0);
+        assert!(rt; counts_of_a_return(&mut run, &tick) == (2, 1));
     }
     Ok(())
 }

@@ -12,7 +12,7 @@ returns-in-Some g c =
     let all = plant_interactions plant in
     let higher = c.in-Some.higher.now in
     let found = c.in-Some.ensures.lookup in
-    told-entry (way_text plant all c.args.lines.now (interaction_of c.args.interaction.now)) (slice_get all c.args.above) (interaction_of higher) c.print_way.result
+    told-entry (way_text plant c.args.states.now all c.args.lines.now (interaction_of c.args.interaction.now)) (slice_get all c.args.above) (interaction_of higher) c.print_way.result
     (g.W.Write.contents c.args.output.now) (g.W.Write.contents c.print_way.new.output)
     (made-at interaction_of c.interactions.result.now all c.interactions.ensures c.from.result c.args.above c.from.ensures higher found.3.0 found.1) c.print_way.ensures
 
@@ -20,5 +20,5 @@ pub returns-in-None : goal.returns-in-None
 returns-in-None g c =
     let plant = plant_of c.args.system.now in
     let all = plant_interactions plant in
-    told-no-entry (way_text plant all c.args.lines.now (interaction_of c.args.interaction.now)) (slice_get all c.args.above) (g.W.Write.contents c.args.output.now)
+    told-no-entry (way_text plant c.args.states.now all c.args.lines.now (interaction_of c.args.interaction.now)) (slice_get all c.args.above) (g.W.Write.contents c.args.output.now)
     (made-past interaction_of c.interactions.result.now all c.interactions.ensures c.from.result c.args.above c.from.ensures c.in-None.ensures.lookup.3)

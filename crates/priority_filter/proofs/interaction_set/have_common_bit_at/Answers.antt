@@ -9,5 +9,6 @@ returns-then-place-lt-ROW_WORDS c some =
     let xs = c.args.words.now in
     let ys = c.args.other.now in
     let k = c.args.place in
-    in_both_from_word xs ys k (omega (arith, and_le_l (slice_index_or xs k 0) (slice_index_or ys k 0)))
-    (λ none. absurd (false≢true (sym (ap (λ w. not (nat_eq w 0)) none) ∙ some)))
+    let found = in_both_from_word xs ys k (omega (arith, and_le_l (slice_index_or xs k 0) (slice_index_or ys k 0)))
+    (λ none. absurd (false≢true (sym (ap (λ w. not (nat_eq w 0)) none) ∙ some))) in
+    (found.0, found.2, found.3)

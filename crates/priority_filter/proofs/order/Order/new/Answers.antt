@@ -1,8 +1,7 @@
-use Rattle.std.proofs.Common.{◌≡◌, ℕ, Result, Err, ◌∙◌, sym, ap, subst}
+use Rattle.std.proofs.Common.{◌≡◌, ℕ, Result, Err, ap, subst}
 use Rattle.priority_filter.specs.declared.fault.OrderFault.{OrderFault}
 use Rattle.priority_filter.specs.declared.fault.OrderFault.TheVariants.{Cycle}
 use Rattle.priority_filter.specs.Order.{Priorities, IsFirstCyclic}
-use Rattle.priority_filter.specs.Table.{IsOrderTable}
 use Rattle.priority_filter.proofs.TableLaws.{first_cyclic_from_rows, first_cyclic_is_one, strict_from_rows}
 use Rattle.priority_filter.proofs.DecidedOrder.{told_unknown_fault, told_cycle_fault, told_no_fault}
 use Rattle.priority_filter.proofs.order.Order.new.Goals as goal
@@ -42,17 +41,7 @@ pub returns-clause-strict : goal.returns-clause-strict
 returns-clause-strict c =
     strict_from_rows c.args.rules.now c.args.interactions.now c.in_ok-above.above.items c.deref.result.now c.deref.ensures.value c.in_ok-above.ensures.below c.in_default-first_cyclic.ensures.none
 
-pub invariant_of-result : goal.invariant_of-result
-invariant_of-result c =
-    let rows = c.in_ok-above.above.items in
-    let same_rules = sym c.in_ok-from_slice.ensures.items in
-    let same_interactions = sym c.in_ok-from_slice-2.ensures.items in
-    subst (λ rules. IsOrderTable rules c.in_ok-from_slice-2.field-0.items rows) same_rules
-    (subst (λ interactions. IsOrderTable c.args.rules.now interactions rows) same_interactions
-    (record {
-      limit = c.requires;
-      size = sym c.in_ok-above.above.ok.0 ∙ c.in_ok-above.ensures.size;
-      exact = c.in_ok-above.ensures.below;
-      sound = (told_no_fault c.args.rules.now c.args.interactions.now).1
-          (c.in_default.ensures.known, strict_from_rows c.args.rules.now c.args.interactions.now rows c.deref.result.now c.deref.ensures.value c.in_ok-above.ensures.below c.in_default-first_cyclic.ensures.none);
-    }))
+pub of-requires-clause-sound : goal.of-requires-clause-sound
+of-requires-clause-sound c =
+    (told_no_fault c.args.rules.now c.args.interactions.now).1
+    (c.in_default.ensures.known, strict_from_rows c.args.rules.now c.args.interactions.now c.in_ok-above.above.items c.deref.result.now c.deref.ensures.value c.in_ok-above.ensures.below c.in_default-first_cyclic.ensures.none)

@@ -1,12 +1,14 @@
 use Rattle.std.proofs.Common.{◌≡◌, ◌<◌, ◌*◌, ◌∙◌, ℕ, false, true, ap, sym, subst, ⊎_elim, arith, map, length}
 use Rattle.std.specs.FinSet.{contains}
 use Rattle.std.specs.Option.{option_map_or}
-use Rattle.std.proofs.lemmas.Bool.{cases_lt}
+use Rattle.std.proofs.lemmas.Bool.{cases_lt, or_parts}
 use Rattle.std.proofs.lemmas.List.{length-map}
 use Rattle.std.proofs.lemmas.Option.{slice_get_past}
 use Rattle.petri_atom.specs.Atom.{definition_of}
+use Rattle.petri_atom.specs.Local.{has}
+use Rattle.priority_filter.proofs.Counting.{alike-counted}
 use Rattle.connector_tree.specs.declared.tree.Port.{Port}
-use Rattle.step_core.specs.Choice.{is_possible, is_possible_at, moves_of, choices_of}
+use Rattle.step_core.specs.Choice.{active_in, is_marked_at, is_possible, is_possible_at, moves_of, choices_of}
 use Rattle.step_core.specs.Interaction.{interaction_of}
 use Rattle.step_core.specs.EnabledTransitions.{AreOffered, AreCounted}
 use Rattle.step_core.specs.System.{plant_of}
@@ -72,8 +74,13 @@ judge_touched-is_new-requires-clause-other_ways c n outside possible =
     (λ past. ap (λ o. option_map_or (λ i. length (choices_of plant.atoms after i)) o 0) (slice_get_past all n past) ∙ sym (ap (λ o. option_map_or (λ i. length (choices_of plant.atoms before i)) o 0) (slice_get_past all n past)))
     (cases_lt n (length all)))
 
-pub returns-else-is_new : goal.returns-else-is_new
-returns-else-is_new c =
+pub see_again-is_seen_new-requires-clause-others : goal.see_again-is_seen_new-requires-clause-others
+see_again-is_seen_new-requires-clause-others c = λ left right at there out.
+    let behind = c.requires.behind in
+    behind.judged.seen left right at there ∙ ap (λ o. option_map_or (λ s. has s.marking at.place) o false) (sym (behind.stays at.atom out))
+
+pub returns-else-is_new-is_seen_new : goal.returns-else-is_new-is_seen_new
+returns-else-is_new-is_seen_new c =
     let system = c.args.self.now in
     let plant = plant_of system in
     let all = map interaction_of system.interactions.items in
@@ -83,16 +90,22 @@ returns-else-is_new c =
     let new = c.judge_changed.new.self in
     let judged = c.judge_changed.ensures in
     let touched = c.judge_touched-is_new.ensures in
-    let same = touched.same c.if-is_new.false in
+    let sights = c.see_again-is_seen_new.ensures in
+    let parts = or_parts c.judge_touched-is_new.result c.see_again-is_seen_new.result c.if-is_new-is_seen_new.false in
+    let same = touched.same parts.0 in
     let possible : (n : ℕ) → is_possible_at plant.atoms plant.wires after all n ≡ is_possible_at plant.atoms plant.wires before all n =
     λ n. sym (touched.possible n) ∙ same.0 n ∙ behind.judged.possible n in
     let ways : (n : ℕ) → is_possible_at plant.atoms plant.wires after all n ≡ true → ways_at plant.atoms after all n ≡ ways_at plant.atoms before all n =
     λ n yes_. sym (touched.ways n yes_) ∙ same.1 n ∙ behind.judged.ways n (sym (possible n) ∙ yes_) in
+    let counted : active_in plant after ≡ active_in plant before =
+    alike-counted plant.rules (is_marked_at after) (is_marked_at before) (λ left right at there.
+    sym (sights.seen left right at there) ∙ sights.same parts.1 left right at there ∙ behind.judged.seen left right at there) in
     record {
       offered = subst (λ list. AreOffered (map definition_of list) after new.sets) c.deref.ensures.value judged.offered;
       counted = subst (λ list. AreCounted (map definition_of list) new.sets new.counts) c.deref.ensures.value judged.counted;
       possible = touched.possible;
       ways = touched.ways;
-      allowed = λ n. behind.judged.allowed n ∙ sym (allowed-same plant all before after possible ways n);
-      total = behind.judged.total ∙ sym (total-same plant all before after possible ways);
+      seen = sights.seen;
+      allowed = λ n. behind.judged.allowed n ∙ sym (allowed-same plant all before after possible ways counted n);
+      total = behind.judged.total ∙ sym (total-same plant all before after possible ways counted);
     }
