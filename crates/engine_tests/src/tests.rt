@@ -4,5 +4,6 @@ mod faults;
 mod orders;
 mod reading;
 mod steps;
+mod sure_choices;
 mod trees;
 mod writing;

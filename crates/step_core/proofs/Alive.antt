@@ -72,7 +72,7 @@ flat-none give none n (x ∷ xs) = ap (λ ys. ys ++ flat_from give (suc n) xs) (
 
 module _ (atoms : List AtomDefinition) (states : List Local) where
   -- an atom that offers a port can move
-  some-moves : (p : Port) → is_offered_port atoms states p ≡ true → 1 ≤ length (moves_of atoms states p)
+  pub some-moves : (p : Port) → is_offered_port atoms states p ≡ true → 1 ≤ length (moves_of atoms states p)
   some-moves p offered = each (slice_get atoms p.atom) (slice_get states p.atom) offered
     where
       each : (o : Option AtomDefinition) (w : Option Local) → option_map_or (λ a. option_map_or (λ s. offers_port a s p.port) w false) o false ≡ true → 1 ≤ length (option_map_or (λ a. option_map_or (λ s. map (move_of p.atom) (enabled a s p.port)) w []) o [])

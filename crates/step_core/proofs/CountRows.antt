@@ -45,17 +45,17 @@ abbrev wire : List ℕ → ℕ → WireDefinition
 wire name atom = record { name = name; connector = child false (leaf atom 0) no_child; guards = []; transfers = [] }
 
 -- `connector tick A.t` and `connector other O.o`, under some rules
-abbrev plant : List Rule → PlantDefinition
+abbrev pub plant : List Rule → PlantDefinition
 plant rules = record { atoms = switch ∷ other_atom ∷ []; wires = wire (codes "tick") 0 ∷ wire (codes "other") 1 ∷ []; rules = rules }
 
 abbrev place : ℕ → ℕ → At
 place atom k = record { atom = atom; place = k }
 
 -- `prio other < tick when A at on`
-abbrev while_on : List Rule
+abbrev pub while_on : List Rule
 while_on = UnderAt (Whole 1) (Whole 0) (place 0 0) ∷ []
 
-abbrev marked : ℕ → Local
+abbrev pub marked : ℕ → Local
 marked marking = record { marking = marking; values = [] }
 
 abbrev on : List Local
@@ -64,10 +64,10 @@ on = marked 1 ∷ marked 1 ∷ []
 abbrev off : List Local
 off = marked 2 ∷ marked 1 ∷ []
 
-abbrev tick : ℕ → ChoiceDefinition
+abbrev pub tick : ℕ → ChoiceDefinition
 tick transition = record { connector = 0; mask = 1; moves = record { atom = 0; transition = transition } ∷ [] }
 
-abbrev other : ChoiceDefinition
+abbrev pub other : ChoiceDefinition
 other = record { connector = 1; mask = 1; moves = record { atom = 1; transition = 0 } ∷ [] }
 
 -- it is a plant, of well-formed atoms, and begins with A at on

@@ -13,6 +13,11 @@ pub mod ValueRows
 pub mod Resolving
 pub mod Guarding
 pub mod Stepping
+mod PartsKept
+mod Queued
+mod FiringOfParts
+mod PartsLeft
+mod Presence
 pub mod OwnAtoms
 pub mod FiringOfAll
 pub mod Initial
@@ -33,10 +38,18 @@ pub mod Membership
 pub mod OfPorts
 pub mod OfInteractions
 pub mod OfChoices
+mod OfSure
+mod Alike
+mod Surely
+mod NoneAway
+pub mod Present
+pub mod OfParts
 pub mod ByAtom
 pub mod PastExports
 pub mod OnRuns
 pub mod InOrder
 pub mod RunRows
 pub mod CountRows
+pub mod SureRows
 pub mod Crossing
+mod Openness

@@ -22,11 +22,11 @@ module _ (plant : PlantDefinition) (states : List Local) where
   all = plant_interactions plant
 
   -- a choice of an interaction
-  abbrev choice_by : Interaction → List Move → ChoiceDefinition
+  abbrev pub choice_by : Interaction → List Move → ChoiceDefinition
   choice_by i moves = record { connector = i.connector; mask = i.mask; moves = moves }
 
   module _ (c : ChoiceDefinition) where
-    of-interaction : (n : ℕ) (i : Interaction) → slice_get all n ≡ Some i → Contains (choices_of plant.atoms states i) c → IsTaking plant states n c
+    pub of-interaction : (n : ℕ) (i : Interaction) → slice_get all n ≡ Some i → Contains (choices_of plant.atoms states i) c → IsTaking plant states n c
     of-interaction n i there at =
         let made = from-map (choice_by i) (combinations (map (moves_of plant.atoms states) i.ports)) c at in
         record {

@@ -134,7 +134,7 @@ from-by_atom (suc n) ps p at = ⊎_elim
     (λ last. let kept = from-filter (λ q. q.atom == n) ps p last in (kept.0, omega (arith, eqb-true p.atom n kept.1)))
     (Contains-append_cases (by_atom n ps) (filter (λ q. q.atom == n) ps) p at)
 
-to-by_atom : (n : ℕ) (ps : List Port) (p : Port) → Contains ps p → p.atom < n → Contains (by_atom n ps) p
+pub to-by_atom : (n : ℕ) (ps : List Port) (p : Port) → Contains ps p → p.atom < n → Contains (by_atom n ps) p
 to-by_atom zero ps p at below = absurd (omega (arith, below))
 to-by_atom (suc n) ps p at below = ⊎_elim
     (λ less. Contains-append_left (by_atom n ps) (filter (λ q. q.atom == n) ps) p (to-by_atom n ps p at less))

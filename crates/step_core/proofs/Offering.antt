@@ -1,16 +1,16 @@
 -- There is a row of moves exactly where each port is offered.
-use Rattle.std.proofs.Common.{◌≡◌, ℕ, suc, zero, ◌*◌, ◌<◌, ◌≤◌, refl, sym, ◌∙◌, ap, subst, List, [], ◌∷◌, length, map, filter, arith, Bool, true, false, cond, ◌||◌, ◌&&◌, inl, inr}
+use Rattle.std.proofs.Common.{◌≡◌, ℕ, suc, zero, ◌*◌, ◌<◌, ◌≤◌, refl, sym, ◌∙◌, ap, subst, List, [], ◌∷◌, length, map, filter, arith, Bool, true, false, not, cond, ◌||◌, ◌&&◌, ◌==◌, ⊎_elim, inl, inr}
 use Rattle.std.specs.Prelude.{◌⊎◌, Option, Some, None, slice_get}
 use Rattle.std.specs.List.{list_all, list_any}
 use Rattle.std.specs.Option.{option_map_or}
-use Rattle.std.proofs.lemmas.Bool.{and_from, false_from_ne_true}
+use Rattle.std.proofs.lemmas.Bool.{and_from, false_from_ne_true, cases_eq, eq-eqb, ne_eqb}
 use Rattle.std.proofs.lemmas.List.{length-map}
 use Rattle.petri_atom.specs.Local.{Local}
 use Rattle.petri_atom.specs.Definition.{AtomDefinition, enabled, numbers_of, offers_number, offers_port}
 use Rattle.connector_tree.specs.declared.tree.Port.{Port}
 use Rattle.step_core.specs.Plant.{WireDefinition}
 use Rattle.step_core.specs.Choice.{Interaction, is_offered_port, passes_guards, is_possible, move_of, moves_of, combinations}
-use Rattle.step_core.proofs.Alive.{some-rows}
+use Rattle.step_core.proofs.Alive.{some-moves, some-rows}
 use Rattle.step_core.proofs.Combinations.{length-rows}
 
 -- where something is kept, something passes
@@ -38,6 +38,13 @@ module _ (atoms : List AtomDefinition) (states : List Local) where
       each (Some a) None some = absurd (omega arith)
       each (Some a) (Some s) some =
           kept-some (offers_number a s) (numbers_of p.port a.transitions) (subst (λ n. 1 ≤ n) (length-map (enabled a s p.port) (move_of p.atom)) some)
+
+  -- so how many moves it can make tells whether the port is offered
+  pub offered-told : (p : Port) (n : ℕ) → n ≡ length (moves_of atoms states p) → not (n == 0) ≡ is_offered_port atoms states p
+  offered-told p n count = ⊎_elim
+      (λ none. ap (λ b. not b) (eq-eqb n 0 none) ∙ sym (false_from_ne_true (is_offered_port atoms states p) (λ can. omega (arith, none, count, some-moves atoms states p can))))
+      (λ some. ap (λ b. not b) (ne_eqb n 0 some) ∙ sym (moves-some p (omega (arith, some, count))))
+      (cases_eq n 0)
 
   rows-some : (ports : List Port) → 1 ≤ length (combinations (map (moves_of atoms states) ports)) → list_all (is_offered_port atoms states) ports ≡ true
   rows-some [] some = refl

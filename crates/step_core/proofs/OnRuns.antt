@@ -41,7 +41,7 @@ module _ (plant : PlantDefinition) where
 
   module _ (formed : list_all is_well_formed plant.atoms ≡ true) where
     -- and one that fits
-    stepped-fits : (a : AtomDefinition) (moves : List Move) (d : Row) (n : ℕ) (s : Local) → is_well_formed a ≡ true → Fits a s → Fits a (moved_by a moves d n s)
+    pub stepped-fits : (a : AtomDefinition) (moves : List Move) (d : Row) (n : ℕ) (s : Local) → is_well_formed a ≡ true → Fits a s → Fits a (moved_by a moves d n s)
     stepped-fits a moves d n s well fits = each (find (λ m. m.atom == n) moves)
       where
         each : (o : Option Move) → Fits a (option_map_or (λ m. fired a m.transition d s) o s)

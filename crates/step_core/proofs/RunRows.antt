@@ -25,7 +25,7 @@ use Rattle.step_core.proofs.Membership.{here, later}
 -- ---- the sample
 
 -- an atom with place s, one variable, and a port that exports it; each of these transitions leads from s to s
-abbrev atom_of : List ℕ → List ℕ → List ℕ → List TransitionDefinition → AtomDefinition
+abbrev pub atom_of : List ℕ → List ℕ → List ℕ → List TransitionDefinition → AtomDefinition
 atom_of name value port transitions = record {
   name = name;
   places = record { name = codes "s"; marked = true } ∷ [];
@@ -34,47 +34,47 @@ atom_of name value port transitions = record {
   transitions = transitions;
 }
 
-abbrev stays_with : List UpdateDefinition → TransitionDefinition
+abbrev pub stays_with : List UpdateDefinition → TransitionDefinition
 stays_with updates = record { port = 0; sources = 0 ∷ []; targets = 0 ∷ []; guard = number (pos 1); updates = updates }
 
 -- A counts on in n, and B holds m
-abbrev counts : AtomDefinition
+abbrev pub counts : AtomDefinition
 counts = atom_of (codes "A") (codes "n") (codes "t") (stays_with (record { variable = 0; value = operation Add (variable 0) (number (pos 1)) } ∷ []) ∷ [])
 
-abbrev holds : AtomDefinition
+abbrev pub holds : AtomDefinition
 holds = atom_of (codes "B") (codes "m") (codes "u") (stays_with [] ∷ [])
 
-abbrev wire : List ℕ → connectors.Tree → List (Tree Export) → List TransferDefinition → WireDefinition
+abbrev pub wire : List ℕ → connectors.Tree → List (Tree Export) → List TransferDefinition → WireDefinition
 wire name connector guards transfers = record { name = name; connector = connector; guards = guards; transfers = transfers }
 
 -- `tick A.t`, and `send A.t B.u` with `B.m := A.n`
-abbrev tick : WireDefinition
+abbrev pub tick : WireDefinition
 tick = wire (codes "tick") (child false (leaf 0 0) no_child) [] []
 
-abbrev first_export : ℕ → Export
+abbrev pub first_export : ℕ → Export
 first_export place = record { leaf = place; export = 0 }
 
-abbrev send : List (Tree Export) → WireDefinition
+abbrev pub send : List (Tree Export) → WireDefinition
 send guards = wire (codes "send") (child false (leaf 0 0) (child false (leaf 1 0) no_child)) guards (record { target = first_export 1; value = variable (first_export 0) } ∷ [])
 
 sample : PlantDefinition
 sample = record { atoms = counts ∷ holds ∷ []; wires = tick ∷ send [] ∷ []; rules = [] }
 
 -- the state with these values of n and m
-abbrev state : ℤ → Local
+abbrev pub state : ℤ → Local
 state n = record { marking = 1; values = n ∷ [] }
 
 abbrev at : ℤ → ℤ → List Local
 at n m = state n ∷ state m ∷ []
 
 -- the choice of a connector and a mask by the first transitions of these atoms
-abbrev choice : ℕ → ℕ → List ℕ → ChoiceDefinition
+abbrev pub choice : ℕ → ℕ → List ℕ → ChoiceDefinition
 choice connector mask atoms = record { connector = connector; mask = mask; moves = map (λ a. record { atom = a; transition = 0 }) atoms }
 
-abbrev ticked : ChoiceDefinition
+abbrev pub ticked : ChoiceDefinition
 ticked = choice 0 1 (0 ∷ [])
 
-abbrev sent : ChoiceDefinition
+abbrev pub sent : ChoiceDefinition
 sent = choice 1 3 (0 ∷ 1 ∷ [])
 
 -- it is a plant, of well-formed atoms
@@ -162,7 +162,7 @@ a_chain_through_what_is_not_possible = refl
 -- ---- maximal
 
 -- `call A.t' B.u`: A alone, or with B, which takes part below the bound alone
-abbrev call : List Rule → ℤ → PlantDefinition
+abbrev pub call : List Rule → ℤ → PlantDefinition
 call rules bound = record {
   atoms = counts ∷ atom_of (codes "B") (codes "m") (codes "u") (record { port = 0; sources = 0 ∷ []; targets = 0 ∷ []; guard = operation Less (variable 0) (number bound); updates = [] } ∷ []) ∷ [];
   wires = wire (codes "call") (child true (leaf 0 0) (child false (leaf 1 0) no_child)) [] [] ∷ [];

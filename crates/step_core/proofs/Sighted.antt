@@ -1,4 +1,5 @@
 -- What is seen of one atom, and of the others, where its row is written again.
+use Rattle.std.specs.Bool.{beq}
 use Rattle.std.proofs.Common.{◌≡◌, ◌≢◌, ℕ, ◌+◌, ◌%◌, ◌<◌, ◌≤◌, ◌==◌, Bool, true, false, not, ◌&&◌, ◌||◌, eqb, List, ◌∷◌, length, get_or, set, replicate, refl, sym, ap, ◌∙◌, ⊎_elim, arith, bit_and}
 use Rattle.std.specs.Int.{bit_at}
 use Rattle.std.specs.Int.Bits.{bit_xor}
@@ -16,16 +17,12 @@ use Rattle.priority_filter.specs.declared.seen.At.{At}
 use Rattle.priority_filter.specs.declared.seen.Seen.{Seen}
 use Rattle.priority_filter.proofs.Words.{bit-and}
 use Rattle.step_core.specs.Choice.{is_marked_at}
-use Rattle.step_core.specs.Sights.{AreSeenBut}
+use Rattle.step_core.specs.Sights.{AreSeenBut, says}
 
 -- ---- rows
 
 abbrev pub unseen : Seen
 unseen = record { known = true; places = 0 }
-
--- what one row says of a place
-abbrev pub says : Seen → ℕ → Bool
-says s k = not s.known || has_bit s.places k
 
 pub seen-at : (seen : List Seen) (at : At) → at.atom < length seen → (d : Seen) → may_be_marked seen at ≡ says (get_or seen at.atom d) at.place
 seen-at seen at within d = ap (λ o. option_map_or (λ s. not s.known || has_bit s.places at.place) o false) (slice_get-get_or seen at.atom d within)
@@ -66,6 +63,13 @@ module _ (seen : List Seen) (i : ℕ) (s : Seen) (at : At) where
       (cases_lt at.atom (length seen))
 
 -- ---- places that changed
+
+-- two truth values that do not differ are the same
+pub same-known : (a b : Bool) → not (beq a b) ≡ false → a ≡ b
+same-known true true same = refl
+same-known true false same = same
+same-known false true same = sym same
+same-known false false same = refl
 
 -- two words that differ at none of some bits are the same at each of them
 same_digits : (a b : ℕ) → a < 2 → b < 2 → eqb ((a + b) % 2) 1 ≡ false → eqb a 1 ≡ eqb b 1

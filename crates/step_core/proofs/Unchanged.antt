@@ -1,15 +1,44 @@
--- Where the same interactions are possible in two states, each of these has as many choices, and the same rules count, the same are allowed, and as many choices are.
-use Rattle.std.proofs.Common.{◌≡◌, ℕ, suc, ◌+◌, refl, sym, ◌∙◌, ap, List, [], ◌∷◌, length, map, arith, true, cond, ◌&&◌, not, ⊎_elim}
+-- Where the same interactions of two states are kept, and each of these has as many choices, as many choices are; and where the same
+-- interactions are possible, and the same rules count, the same are allowed.
+use Rattle.std.proofs.Common.{◌≡◌, ℕ, suc, ◌+◌, refl, sym, ◌∙◌, ap, List, [], ◌∷◌, length, map, arith, Bool, true, cond, ◌&&◌, not, ⊎_elim}
 use Rattle.std.specs.Prelude.{Some, slice_get}
 use Rattle.std.specs.Option.{option_map_or}
 use Rattle.std.proofs.lemmas.Bool.{cases_Bool}
 use Rattle.std.proofs.lemmas.List.{length-append}
+use Rattle.petri_atom.specs.Definition.{AtomDefinition}
 use Rattle.petri_atom.specs.Local.{Local}
 use Rattle.step_core.specs.Plant.{PlantDefinition}
-use Rattle.step_core.specs.Choice.{Interaction, active_in, named, is_possible_at, is_allowed_at, choices_of, choices_at, choices_among, flat_from}
+use Rattle.step_core.specs.Choice.{Interaction, active_in, named, is_possible_at, is_allowed_at, choices_of, choices_among, flat_from}
+use Rattle.step_core.specs.ChoicesIn.{choices_in, choices_where}
 use Rattle.step_core.specs.Ways.{ways_at}
 use Rattle.priority_filter.specs.Decided.{is_overruled}
 use Rattle.step_core.proofs.Counted.{possible-first}
+
+module _ (atoms : List AtomDefinition) (all : List Interaction) (before after : List Local) (old new : ℕ → Bool)
+    (same : (n : ℕ) → new n ≡ old n)
+    (ways : (n : ℕ) → new n ≡ true → ways_at atoms after all n ≡ ways_at atoms before all n) where
+  as-many : (k : ℕ) (i : Interaction) → (new k ≡ true → length (choices_of atoms after i) ≡ length (choices_of atoms before i)) → length (choices_where atoms after new k i) ≡ length (choices_where atoms before old k i)
+  as-many k i alike = ⊎_elim
+      (λ yes_.
+      ap (λ b. length (cond b (choices_of atoms after i) [])) yes_ ∙ alike yes_ ∙
+      sym (ap (λ b. length (cond b (choices_of atoms before i) [])) (sym (same k) ∙ yes_)))
+      (λ no.
+      ap (λ b. length (cond b (choices_of atoms after i) [])) no ∙
+      sym (ap (λ b. length (cond b (choices_of atoms before i) [])) (sym (same k) ∙ no)))
+      (cases_Bool (new k))
+
+  from : (k : ℕ) (xs : List Interaction) → ((j : ℕ) (i : Interaction) → slice_get xs j ≡ Some i → new (k + j) ≡ true → length (choices_of atoms after i) ≡ length (choices_of atoms before i)) → length (flat_from (choices_where atoms after new) k xs) ≡ length (flat_from (choices_where atoms before old) k xs)
+  from k [] alike = refl
+  from k (x ∷ xs) alike =
+      length-append (choices_where atoms after new k x) (flat_from (choices_where atoms after new) (suc k) xs) ∙
+      ap (λ n. n + length (flat_from (choices_where atoms after new) (suc k) xs)) (as-many k x (λ yes_. alike 0 x refl (ap new (omega arith) ∙ yes_))) ∙
+      ap (λ n. length (choices_where atoms before old k x) + n) (from (suc k) xs (λ j i there yes_. alike (suc j) i there (ap new (omega arith) ∙ yes_))) ∙
+      sym (length-append (choices_where atoms before old k x) (flat_from (choices_where atoms before old) (suc k) xs))
+
+  pub total-kept : length (choices_in atoms after all new) ≡ length (choices_in atoms before all old)
+  total-kept = from 0 all (λ j i there yes_.
+      sym (ap (λ o. option_map_or (λ k. length (choices_of atoms after k)) o 0) there) ∙ ways j (ap new (omega arith) ∙ yes_) ∙
+      ap (λ o. option_map_or (λ k. length (choices_of atoms before k)) o 0) there)
 
 module _ (plant : PlantDefinition) (all : List Interaction) (before after : List Local)
     (possible : (n : ℕ) → is_possible_at plant.atoms plant.wires after all n ≡ is_possible_at plant.atoms plant.wires before all n)
@@ -23,26 +52,5 @@ module _ (plant : PlantDefinition) (all : List Interaction) (before after : List
       ap (λ test. test n && not (is_overruled (active_in plant after) (map named all) test n)) same-test ∙
       ap (λ rules. is_possible_at plant.atoms plant.wires before all n && not (is_overruled rules (map named all) (is_possible_at plant.atoms plant.wires before all) n)) counted
 
-  as-many : (k : ℕ) (i : Interaction) → (is_possible_at plant.atoms plant.wires after all k ≡ true → length (choices_of plant.atoms after i) ≡ length (choices_of plant.atoms before i)) → length (choices_at plant after all k i) ≡ length (choices_at plant before all k i)
-  as-many k i same = ⊎_elim
-      (λ yes_.
-      ap (λ b. length (cond b (choices_of plant.atoms after i) [])) yes_ ∙
-      same (possible-first plant after all k yes_) ∙
-      sym (ap (λ b. length (cond b (choices_of plant.atoms before i) [])) (sym (allowed-same k) ∙ yes_)))
-      (λ no.
-      ap (λ b. length (cond b (choices_of plant.atoms after i) [])) no ∙
-      sym (ap (λ b. length (cond b (choices_of plant.atoms before i) [])) (sym (allowed-same k) ∙ no)))
-      (cases_Bool (is_allowed_at plant after all k))
-
-  from : (k : ℕ) (xs : List Interaction) → ((j : ℕ) (i : Interaction) → slice_get xs j ≡ Some i → is_possible_at plant.atoms plant.wires after all (k + j) ≡ true → length (choices_of plant.atoms after i) ≡ length (choices_of plant.atoms before i)) → length (flat_from (choices_at plant after all) k xs) ≡ length (flat_from (choices_at plant before all) k xs)
-  from k [] same = refl
-  from k (x ∷ xs) same =
-      length-append (choices_at plant after all k x) (flat_from (choices_at plant after all) (suc k) xs) ∙
-      ap (λ n. n + length (flat_from (choices_at plant after all) (suc k) xs)) (as-many k x (λ yes_. same 0 x refl (ap (is_possible_at plant.atoms plant.wires after all) (omega arith) ∙ yes_))) ∙
-      ap (λ n. length (choices_at plant before all k x) + n) (from (suc k) xs (λ j i there yes_. same (suc j) i there (ap (is_possible_at plant.atoms plant.wires after all) (omega arith) ∙ yes_))) ∙
-      sym (length-append (choices_at plant before all k x) (flat_from (choices_at plant before all) (suc k) xs))
-
   pub total-same : length (choices_among plant after all) ≡ length (choices_among plant before all)
-  total-same = from 0 all (λ j i there yes_.
-      sym (ap (λ o. option_map_or (λ k. length (choices_of plant.atoms after k)) o 0) there) ∙ ways j (ap (is_possible_at plant.atoms plant.wires after all) (omega arith) ∙ yes_) ∙
-      ap (λ o. option_map_or (λ k. length (choices_of plant.atoms before k)) o 0) there)
+  total-same = total-kept plant.atoms all before after (is_allowed_at plant before all) (is_allowed_at plant after all) allowed-same (λ n yes_. ways n (possible-first plant after all n yes_))

@@ -40,7 +40,7 @@ module _ (place left : ℕ) (some : 0 < left) (small : left < 2 ^ 64) where
       ap (λ b. b && has_bit rest (number % 64)) (eq-eqb (number / 64) place its-place) ∙ ap (has_bit rest) its-bit ∙
       ap (λ x. eqb x 1) (bit_at_clear_same w64 left lowest below)
 
-  others-inside : (n : ℕ) → n ≢ number → in_word place rest n ≡ in_word place left n
+  pub others-inside : (n : ℕ) → n ≢ number → in_word place rest n ≡ in_word place left n
   others-inside n other =
       ⊎_elim
       (λ here. ap (λ x. n / 64 == place && eqb x 1) (bit_at_clear_other w64 left lowest below (n % 64) (omega arith) (λ same. other (omega (arith, here, same)))))

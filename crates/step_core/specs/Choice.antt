@@ -1,5 +1,5 @@
 -- Which choices a state has.
-use Rattle.std.specs.Prelude.{◌≡◌, ℕ, zero, suc, List, [], ◌∷◌, ◌++◌, map, filter, flat_map, take, drop, length, slice_get, Contains, Bool, true, false, ◌&&◌, not, if◌then◌else◌, ◌==◌, take, drop}
+use Rattle.std.specs.Prelude.{◌≡◌, ℕ, zero, suc, List, [], ◌∷◌, ◌++◌, map, filter, flat_map, length, slice_get, Contains, Bool, true, false, ◌&&◌, not, if◌then◌else◌, ◌==◌}
 use Rattle.std.specs.List.{list_all, list_any}
 use Rattle.std.specs.Option.{option_map_or}
 use Rattle.petri_atom.specs.Local.{Local, has}
@@ -117,13 +117,6 @@ choices_at plant states interactions n i = if is_allowed_at plant states interac
 -- the choices of a state, by the interactions: those of each allowed one, in order
 abbrev pub choices_among : PlantDefinition → List Local → List Interaction → List ChoiceDefinition
 choices_among plant states interactions = flat_from (choices_at plant states interactions) 0 interactions
-
--- the choices of the interactions below a number, and of those from it on
-abbrev pub choices_below : PlantDefinition → List Local → List Interaction → ℕ → List ChoiceDefinition
-choices_below plant states interactions n = flat_from (choices_at plant states interactions) 0 (take n interactions)
-
-abbrev pub choices_from : PlantDefinition → List Local → List Interaction → ℕ → List ChoiceDefinition
-choices_from plant states interactions n = flat_from (choices_at plant states interactions) n (drop n interactions)
 
 -- the choices of a state: those of each allowed interaction, in the order of the interactions
 abbrev pub choices : PlantDefinition → List Local → List ChoiceDefinition

@@ -1,5 +1,5 @@
 -- What the interactions and the choices of a plant are, by their parts, and in which order they stand.
-use Rattle.std.specs.Prelude.{◌≡◌, ◌↔◌, ◌≤◌, ◌<◌, ◌==◌, nat_lt, ℕ, Bool, true, false, ◌&&◌, ◌||◌, List, [], ◌∷◌, map, length, slice_get, Some, Contains}
+use Rattle.std.specs.Prelude.{◌≡◌, ◌↔◌, ◌≤◌, ◌<◌, ◌==◌, nat_lt, ℕ, Bool, true, false, ◌&&◌, ◌||◌, List, [], ◌∷◌, map, length, slice_get, Option, Some, Contains}
 use Rattle.std.specs.List.Sorted.{IsStrictlyIncreasing}
 use Rattle.std.specs.Option.{option_map_or}
 use Rattle.petri_atom.specs.Local.{Local}
@@ -12,7 +12,9 @@ use Rattle.connector_tree.specs.declared.tree.TheConstants.{MAX_LEAVES}
 use Rattle.priority_filter.specs.Order.{IsBelow}
 use Rattle.step_core.specs.Plant.{PlantDefinition, WireDefinition, of_atom}
 use Rattle.step_core.specs.Choice.{ChoiceDefinition, Interaction, active_in, is_possible, is_possible_at, named, plant_interactions}
+use Rattle.step_core.specs.Parts.{may_count_in, shown_in}
 use Rattle.step_core.specs.Rules.{is_known_port}
+use Rattle.step_core.specs.Sure.{is_whole, may_come}
 use Rattle.step_core.specs.declared.choice.Move.{Move}
 use Rattle.step_core.specs.declared.limits.TheConstants.{MAX_ATOMS, MAX_INTERACTIONS, MAX_WIRES}
 
@@ -70,6 +72,21 @@ pub record IsChoiceOf (plant : PlantDefinition) (states : List Local) (c : Choic
   pub takes : IsTaking plant states number c
   pub possible : is_possible plant.atoms plant.wires states takes.interaction ≡ true
   pub on_top : IsOnTop plant states number
+
+-- each interaction above the one with a number, in the order of the rules that count or may, is ruled out
+abbrev pub IsSurelyOnTop : PlantDefinition → List (Option Local) → ℕ → Type 0
+IsSurelyOnTop plant parts number =
+    (above : ℕ) → IsBelow (may_count_in plant parts) (map named (plant_interactions plant)) number above →
+    may_come plant.atoms plant.wires parts (plant_interactions plant) above ≡ false
+
+-- what a sure choice is: it takes up an interaction whose participants are all present and that is possible, and above which each is
+-- ruled out
+pub record IsSureChoiceOf (plant : PlantDefinition) (parts : List (Option Local)) (c : ChoiceDefinition) : Type 0 where
+  pub number : ℕ
+  pub takes : IsTaking plant (shown_in parts) number c
+  pub whole : is_whole parts takes.interaction ≡ true
+  pub possible : is_possible plant.atoms plant.wires (shown_in parts) takes.interaction ≡ true
+  pub on_top : IsSurelyOnTop plant parts number
 
 -- the atoms of moves
 abbrev pub atoms_of : List Move → List ℕ

@@ -8,6 +8,8 @@ pub mod Interaction
 pub mod Lookup
 pub mod EnabledTransitions
 pub mod Step
+pub mod Parts
+pub mod Sure
 pub mod Fitting
 pub mod Rules
 pub mod System
@@ -21,7 +23,14 @@ pub mod Dependents
 pub mod Sights
 pub mod Ways
 pub mod Words
+pub mod ChoicesIn
 pub mod Judges
 pub mod Judgement
+pub mod SureJudgement
 pub mod Runs
 pub mod Laws
+pub mod Dispatching
+pub mod Job
+pub mod Queue
+pub mod Jobs
+pub mod Dispatcher

@@ -1,12 +1,17 @@
 -- What is seen of a plant's atoms, for the conditions of its priority rules.
-use Rattle.std.specs.Prelude.{◌≡◌, ℕ, Bool, false, List, Contains}
+use Rattle.std.specs.Prelude.{◌≡◌, ℕ, Bool, false, not, ◌||◌, List, Contains}
 use Rattle.petri_atom.specs.Local.{is_in}
 use Rattle.priority_filter.specs.Active.{AskAlike, may_be_marked}
+use Rattle.priority_filter.specs.Members.{has_bit}
 use Rattle.priority_filter.specs.declared.rule.Rule.{Rule}
 use Rattle.priority_filter.specs.declared.rule.Rule.TheVariants.{UnderAt}
 use Rattle.priority_filter.specs.declared.rule.Side.{Side}
 use Rattle.priority_filter.specs.declared.seen.At.{At}
 use Rattle.priority_filter.specs.declared.seen.Seen.{Seen}
+
+-- what is seen of an atom says that a place is marked, or may be since nothing is known
+abbrev pub says : Seen → ℕ → Bool
+says seen place = not seen.known || has_bit seen.places place
 
 -- each place that a rule asks for is seen as it is
 abbrev pub AreSeen : List Rule → (At → Bool) → List Seen → Type 0

@@ -1,17 +1,20 @@
 //! The choices of a global state: how many there are, and which.
-ghost use Rattle.std.specs.Prelude.{◌≡◌, ◌↔◌, ◌+◌, ◌*◌, ◌<◌, IfOk, IfErr, true, false, Some, map, length, slice_get, slice_index_or, option_map};
+ghost use Rattle.std.specs.Prelude.{◌≡◌, ℕ, ◌↔◌, ◌+◌, ◌*◌, ◌<◌, IfOk, IfErr, true, false, Some, map, length, slice_get, slice_index_or, option_map};
 ghost use Rattle.std.specs.FinSet.{contains, empty};
 ghost use Rattle.petri_atom.specs.Atom.{definition_of};
-ghost use Rattle.step_core.specs.Choice.{Interaction, is_marked_at, is_possible_at, choices, choices_of, choices_from, choices_among, IsAllowed, IsStuck};
+ghost use Rattle.step_core.specs.Choice.{Interaction, is_marked_at, is_possible_at, choices, choices_of, choices_among, IsAllowed, IsStuck};
 ghost use Rattle.step_core.specs.Chosen.{choice_of};
 ghost use Rattle.step_core.specs.Fitting.{IsOf};
 ghost use Rattle.step_core.specs.Interaction.{interaction_of};
-ghost use Rattle.step_core.specs.Judgement.{IsJudgement, IsBehind};
-ghost use Rattle.step_core.specs.EnabledTransitions.{AreOffered, AreCounted};
+ghost use Rattle.step_core.specs.Judgement.{IsJudgement, IsBehind, IsOfferedBehind, IsOffering};
+ghost use Rattle.step_core.specs.ChoicesIn.{choices_in, choices_in_from, is_kept_at};
+ghost use Rattle.step_core.specs.EnabledTransitions.{AreOffered, AreCounted, count_at};
+ghost use Rattle.step_core.specs.Dependents.{is_noted, row_of_port};
 ghost use Rattle.step_core.specs.Possible.{ArePossible, ArePossibleBut, AreAllowed};
 ghost use Rattle.step_core.specs.Sights.{AreSeen};
 ghost use Rattle.step_core.specs.Ways.{AreWays, AreWaysBut, IsSame};
 ghost use Rattle.step_core.specs.Wire.{wire_of};
+ghost use Rattle.priority_filter.specs.Active.{may_be_marked};
 ghost use Rattle.priority_filter.specs.declared.interaction_set.TheConstants.{ROW_WORDS};
 
 use crate::allowed::PriorityJudge;
@@ -85,23 +88,8 @@ impl System {
         requires behind { IsBehind (plant_of self.now) (interactions_in self.now) changed.now states.now judgement.old }
         ensures { IsJudgement (plant_of self.now) (interactions_in self.now) states.now judgement.new }
     {
-        let words = self.interactions.len().div_ceil(64);
         let mut touched = InteractionSet::new();
-        judgement.offers.judge_changed(
-            &self.atoms,
-            states,
-            &self.dependents,
-            words,
-            changed,
-            &mut touched,
-        );
-        let is_new = self.judge_touched(
-            states,
-            &judgement.offers,
-            &touched,
-            &mut judgement.possible,
-            &mut judgement.ways,
-        );
+        let is_new = self.judge_offers_again(states, changed, &mut touched, judgement);
         let is_seen_new = see_again(&self.order, states, changed, &mut judgement.seen);
         if is_new | is_seen_new {
             judgement.allowed.clear();
@@ -114,6 +102,47 @@ impl System {
                 &mut judgement.allowed,
             );
         }
+    }
+
+    /// Judges again what is offered by the changed atoms, and the interactions that depend on that or are in the set `touched`
+    /// already; what is kept of these was judged in a state in which all other atoms were as now. The set has in the end all that
+    /// were judged. Says whether an interaction is possible, or has choices, other than before.
+    pub(crate) fn judge_offers_again(
+        &self,
+        states: &PlantState,
+        changed: &[u16],
+        touched: &mut InteractionSet,
+        judgement: &mut Judgement,
+    ) -> bool
+        requires of_plant { IsOf (plant_of self.now) states.now }
+        requires behind { IsOfferedBehind (plant_of self.now) (interactions_in self.now) changed.now states.now judgement.old }
+        ensures offered { AreOffered (plant_of self.now).atoms states.now judgement.new.offers.sets }
+        ensures counted { AreCounted (plant_of self.now).atoms judgement.new.offers.sets judgement.new.offers.counts }
+        ensures possible { ArePossible (plant_of self.now).atoms (plant_of self.now).wires states.now (interactions_in self.now) judgement.new.possible }
+        ensures ways { AreWays (plant_of self.now).atoms (plant_of self.now).wires states.now (interactions_in self.now) judgement.new.ways }
+        ensures same { result ≡ false → IsSame judgement.old.possible judgement.old.ways judgement.new.possible judgement.new.ways }
+        ensures told { (n atom port : ℕ) → n < length (interactions_in self.now) → is_noted self.now.dependents.items n (row_of_port atom port) ≡ true → contains touched.new n ≡ false → count_at judgement.new.offers.counts atom port ≡ count_at judgement.old.offers.counts atom port }
+        ensures kept { (n : ℕ) → n < length (interactions_in self.now) → contains touched.new n ≡ false → contains touched.old n ≡ false }
+        ensures seen { judgement.new.seen ≡ judgement.old.seen }
+        ensures allowed { judgement.new.allowed ≡ judgement.old.allowed }
+        ensures total { judgement.new.total ≡ judgement.old.total }
+    {
+        let words = self.interactions.len().div_ceil(64);
+        judgement.offers.judge_changed(
+            &self.atoms,
+            states,
+            &self.dependents,
+            words,
+            changed,
+            touched,
+        );
+        self.judge_touched(
+            states,
+            &judgement.offers,
+            touched,
+            &mut judgement.possible,
+            &mut judgement.ways,
+        )
     }
 
     /// Judges the interactions of the set `touched`; what is possible, and the numbers of choices of these, are right for all
@@ -171,6 +200,30 @@ impl System {
         ensures allowed { AreAllowed (plant_of self.now) states.now (interactions_in self.now) allowed.new }
         ensures total { result ≡ length (choices_among (plant_of self.now) states.now (interactions_in self.now)) }
     {
+        self.keep(states, offers, possible, ways, seen, possible, allowed)
+    }
+
+    /// Puts the possible interactions that no rival is above, by the rules that count as far as is seen, into the set, where it is
+    /// empty, and says how many choices these have in all.
+    pub(crate) fn keep<'x>(
+        &'x self,
+        states: &'x PlantState,
+        offers: &'x EnabledTransitions,
+        possible: &'x InteractionSet,
+        ways: &'x [u64; MAX_INTERACTIONS],
+        seen: &'x [Seen; SEEN_ATOMS],
+        rivals: &InteractionSet,
+        kept: &mut InteractionSet,
+    ) -> u128
+        requires of_plant { IsOf (plant_of self.now) states.now }
+        requires exact { AreOffered (plant_of self.now).atoms states.now offers.now.sets }
+        requires shown { AreCounted (plant_of self.now).atoms offers.now.sets offers.now.counts }
+        requires known { ArePossible (plant_of self.now).atoms (plant_of self.now).wires states.now (interactions_in self.now) possible.now }
+        requires counted { AreWays (plant_of self.now).atoms (plant_of self.now).wires states.now (interactions_in self.now) ways.now }
+        requires none { kept.old ≡ empty }
+        ensures kept { (n : ℕ) → contains kept.new n ≡ is_kept_at (plant_of self.now) (may_be_marked seen.now) states.now (interactions_in self.now) (contains rivals.now) n }
+        ensures total { result ≡ length (choices_in (plant_of self.now).atoms states.now (interactions_in self.now) (contains kept.new)) }
+    {
         let judged = InteractionJudge {
             atoms: &self.atoms,
             wires: &self.wires,
@@ -186,7 +239,7 @@ impl System {
             possible,
             ways,
         };
-        filtered.allow(allowed)
+        filtered.keep(rivals, kept)
     }
 
     /// The choice of the state with this place, by what the state offers.
@@ -208,11 +261,16 @@ impl System {
         }
     }
 
-    /// The choice of the state with this place, if there is one: a walk over the allowed interactions.
-    fn find_choice(&self, states: &PlantState, judgement: &Judgement, place: u128) -> Option<Choice>
+    /// The choice with this place among those of the interactions that are kept, if there is one: a walk over these.
+    pub(crate) fn find_choice(
+        &self,
+        states: &PlantState,
+        judgement: &Judgement,
+        place: u128,
+    ) -> Option<Choice>
         requires of_plant { IsOf (plant_of self.now) states.now }
-        requires judged { IsJudgement (plant_of self.now) (interactions_in self.now) states.now judgement.now }
-        ensures { option_map choice_of result ≡ slice_get (choices_among (plant_of self.now) states.now (interactions_in self.now)) place }
+        requires judged { IsOffering (plant_of self.now) (interactions_in self.now) states.now judgement.now }
+        ensures { option_map choice_of result ≡ slice_get (choices_in (plant_of self.now).atoms states.now (interactions_in self.now) (contains judgement.now.allowed)) place }
     {
         let mut left = place;
         for at in 0..self.interactions.len().div_ceil(64) {
@@ -224,7 +282,7 @@ impl System {
         None
     }
 
-    /// The choice with this place among those of the interactions from 64 times `at` on, if it is of one of the first 64 of
+    /// The choice with this place among those of the kept interactions from 64 times `at` on, if it is of one of the first 64 of
     /// these; else its place among those of the interactions behind them.
     fn find_in_word(
         &self,
@@ -234,10 +292,10 @@ impl System {
         place: u128,
     ) -> Result<Choice, u128>
         requires of_plant { IsOf (plant_of self.now) states.now }
-        requires judged { IsJudgement (plant_of self.now) (interactions_in self.now) states.now judgement.now }
+        requires judged { IsOffering (plant_of self.now) (interactions_in self.now) states.now judgement.now }
         requires at { at < ROW_WORDS }
-        ensures here { IfOk result (λ choice. slice_get (choices_from (plant_of self.now) states.now (interactions_in self.now) (64 * at)) place ≡ Some (choice_of choice)) }
-        ensures behind { IfErr result (λ later. slice_get (choices_from (plant_of self.now) states.now (interactions_in self.now) (64 * at)) place ≡ slice_get (choices_from (plant_of self.now) states.now (interactions_in self.now) (64 * (at + 1))) later) }
+        ensures here { IfOk result (λ choice. slice_get (choices_in_from (plant_of self.now).atoms states.now (interactions_in self.now) (contains judgement.now.allowed) (64 * at)) place ≡ Some (choice_of choice)) }
+        ensures behind { IfErr result (λ later. slice_get (choices_in_from (plant_of self.now).atoms states.now (interactions_in self.now) (contains judgement.now.allowed) (64 * at)) place ≡ slice_get (choices_in_from (plant_of self.now).atoms states.now (interactions_in self.now) (contains judgement.now.allowed) (64 * (at + 1))) later) }
     {
         let mut left = place;
         let mut word = judgement.allowed.word(at);
@@ -263,7 +321,7 @@ impl System {
         place: u64,
     ) -> Choice
         requires of_plant { IsOf (plant_of self.now) states.now }
-        requires judged { IsJudgement (plant_of self.now) (interactions_in self.now) states.now judgement.now }
+        requires judged { IsOffering (plant_of self.now) (interactions_in self.now) states.now judgement.now }
         requires number { number < length self.now.interactions.items }
         requires possible { is_possible_at (plant_of self.now).atoms (plant_of self.now).wires states.now (interactions_in self.now) number ≡ true }
         requires place { place < slice_index_or judgement.now.ways number 0 }

@@ -89,6 +89,7 @@ impl EnabledTransitions {
         ensures counted { AreCounted (map definition_of atoms.now) self.new.sets self.new.counts }
         ensures told { AreTold rows.now words self.old.counts self.new.counts touched.new }
         ensures read { (n : ℕ) → n < 64 * words → contains touched.new n ≡ false → is_read_by rows.now changed.now n ≡ false }
+        ensures kept { (n : ℕ) → n < 64 * words → contains touched.new n ≡ false → contains touched.old n ≡ false }
     {
         for number in changed {
             self.judge_atom(atoms, states, rows, words, *number, touched);

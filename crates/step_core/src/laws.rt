@@ -1,16 +1,18 @@
 //! What the definitions of a plant say of one another. These functions make no call: their clauses are the laws.
-ghost use Rattle.std.specs.Prelude.{◌≡◌, ◌≢◌, ◌↔◌, ◌≤◌, ◌++◌, ℕ, List, Some, None, AllPairs, Contains, true, length, slice_get, option_map};
+ghost use Rattle.std.specs.Prelude.{◌≡◌, ◌≢◌, ◌↔◌, ◌≤◌, ◌++◌, ◌||◌, ℕ, Bool, List, Option, Some, None, map, AllPairs, Contains, true, length, slice_get, option_map};
 ghost use Rattle.std.specs.List.{list_all};
 ghost use Rattle.petri_atom.specs.Definition.{AtomDefinition, TransitionDefinition, exports_of, fired, is_well_formed};
 ghost use Rattle.petri_atom.specs.Local.{Local, delivered_value};
 ghost use Rattle.petri_atom.specs.declared.state.TheConstants.{MAX_EXPORTS};
 ghost use Rattle.step_core.specs.Choice.{ChoiceDefinition, Interaction, IsAllowed, IsStuck, choices, plant_interactions};
 ghost use Rattle.step_core.specs.Fitting.{IsOf, AllFit};
-ghost use Rattle.step_core.specs.Laws.{IsBefore, IsChoiceOf, IsInRange, IsInteractionOf, IsTaking, IsWithinLimits};
+ghost use Rattle.step_core.specs.Laws.{IsBefore, IsChoiceOf, IsInRange, IsInteractionOf, IsSureChoiceOf, IsTaking, IsWithinLimits};
+ghost use Rattle.step_core.specs.Parts.{parts_of, shown_in};
 ghost use Rattle.step_core.specs.Plant.{PlantDefinition};
 ghost use Rattle.step_core.specs.Rules.{fault_of};
 ghost use Rattle.step_core.specs.Runs.{IsRun, fold};
 ghost use Rattle.step_core.specs.Step.{next, stepped, transfer};
+ghost use Rattle.step_core.specs.Sure.{IsSure, has_move, left_by, sure_choices, went_on};
 ghost use Rattle.step_core.specs.declared.choice.Move.{Move};
 
 /// A plant that breaks no rule has an atom, and at most as many atoms, connectors and interactions as one may have.
@@ -106,4 +108,35 @@ pub fn each_state_on_a_run_fits()
     ensures between { (plant : PlantDefinition) (start : List Local) (cs : List ChoiceDefinition)
         → list_all is_well_formed plant.atoms ≡ true → IsOf plant start → AllFit plant start
         → IsOf plant (fold plant start cs) × AllFit plant (fold plant start cs) }
+{}
+
+/// While atoms are away, what is sure is allowed in the whole state, whatever the states of those atoms are.
+pub fn sure_is_allowed()
+    ensures { (plant : PlantDefinition) (states : List Local) (away : ℕ → Bool) (c : ChoiceDefinition)
+        → IsSure plant (parts_of away states) c → IsAllowed plant states c }
+{}
+
+/// Where no atom is away, the sure choices are the choices of the state, in the same order.
+pub fn with_none_away_sure_is_allowed()
+    ensures { (plant : PlantDefinition) (states : List Local) → sure_choices plant (map Some states) ≡ choices plant states }
+{}
+
+/// A choice is sure exactly where it takes up an interaction whose participants are all present and that is possible, with an offered
+/// transition of each of that one's ports in rising order of their atoms, and each interaction above it, by the rules that count or
+/// may, is ruled out.
+pub fn what_a_sure_choice_is()
+    ensures { (plant : PlantDefinition) (parts : List (Option Local)) (c : ChoiceDefinition) → IsSure plant parts c ↔ IsSureChoiceOf plant parts c }
+{}
+
+/// A sure choice leads from the parts of a state to the parts of the next state: with the same atoms away where its participants
+/// fire, and with what the whole state delivers. Where the participants of a choice leave, what is left are the parts of the next
+/// state with these away too.
+pub fn a_sure_choice_goes_on()
+    ensures stays { (plant : PlantDefinition) (states : List Local) (away : ℕ → Bool) (c : ChoiceDefinition)
+        → IsSure plant (parts_of away states) c → went_on plant (parts_of away states) c ≡ parts_of away (next plant states c) }
+    ensures delivers { (plant : PlantDefinition) (states : List Local) (away : ℕ → Bool) (c : ChoiceDefinition) (atom : ℕ)
+        → IsSure plant (parts_of away states) c
+        → transfer plant (shown_in (parts_of away states)) c atom ≡ transfer plant states c atom }
+    ensures leaves { (plant : PlantDefinition) (states : List Local) (away : ℕ → Bool) (c : ChoiceDefinition)
+        → left_by (parts_of away states) c.moves ≡ parts_of (λ n. away n || has_move c.moves n) (next plant states c) }
 {}

@@ -16,11 +16,16 @@
 //! - `lookup`: the interaction of a connector and some atoms.
 //! - `state`: a local state for each atom. `choice`: a choice, and the moves that it makes.
 //! - `enabled_transitions`: which transitions each atom offers, and how many at each port, judged again behind a step.
-//! - `possible`: which interactions are possible. `allowed`: which of these the priorities allow. `judgement`: what a state offers,
+//! - `possible`: which interactions are possible. `allowed`: which of these no rival is above. `judgement`: what a state offers,
 //!   as it is kept. `choices`: how a judgement is made, and made again behind a step; how many choices a state has, and which.
 //! - `sights`: what is seen of the atoms, for the conditions of priority rules, seen again behind a step. `interaction_numbers`: all
 //!   interactions as a set.
+//! - `sure`: what is sure while atoms are away, judged again where parts of a state change. `opening`: which interactions are open
+//!   then.
 //! - `stepper`: a plant that runs: its present state, and what that offers, judged again for what a step can change alone.
+//! - `dispatcher`: a plant that runs while some of its atoms are away. `parts`: what is known of its state then. `leaving`: how the
+//!   participants of a choice leave. `job`: what an atom that is away has to do, and what is done. `jobs`: the jobs of a choice, and how
+//!   one is done. `queue`: a row of places, in which they stand.
 //! - `dependents`: which interactions stand on a port, and whose guards read an atom, so that a step judges only those that it can
 //!   change.
 //! - `bound_expressions`: guard clauses and transfers with their variables found. `guards`: the values of variables, and whether guard
@@ -33,6 +38,7 @@ mod bound_expressions;
 mod choice;
 mod choices;
 mod dependents;
+mod dispatcher;
 mod enabled_transitions;
 mod fault;
 mod firing;
@@ -40,25 +46,36 @@ mod guards;
 mod interaction;
 mod interaction_numbers;
 mod interactions;
+mod job;
+mod jobs;
 mod judgement;
 pub mod laws;
+mod leaving;
 mod limits;
 mod lookup;
+mod opening;
+mod parts;
 mod possible;
+mod queue;
 mod rules;
 mod sights;
 mod state;
 mod stepper;
+mod sure;
 mod system;
 mod transfers;
 mod wire;
 mod wire_rules;
 
 pub use choice::{Choice, Move, Moves};
+pub use dispatcher::Dispatcher;
 pub use fault::{SystemFault, WireFault};
 pub use interaction::Interaction;
 pub use interactions::connector_interactions;
+pub use job::{Done, Job};
+pub use jobs::{Jobs, work};
 pub use limits::{MAX_ATOMS, MAX_GUARDS, MAX_INTERACTIONS, MAX_RULES, MAX_TRANSFERS, MAX_WIRES};
+pub use parts::PlantParts;
 pub use state::PlantState;
 pub use stepper::Stepper;
 pub use system::System;

@@ -5,7 +5,7 @@ ghost use Rattle.std.specs.FinSet.{contains};
 ghost use Rattle.petri_atom.specs.Atom.{definition_of};
 ghost use Rattle.petri_atom.specs.declared.parts.TheConstants.{MAX_TRANSITIONS};
 ghost use Rattle.connector_tree.specs.declared.tree.TheConstants.{MAX_LEAVES};
-ghost use Rattle.step_core.specs.Choice.{passes_guards, is_possible_at, move_of, moves_of, combinations};
+ghost use Rattle.step_core.specs.Choice.{is_offered_port, passes_guards, is_possible_at, move_of, moves_of, combinations};
 ghost use Rattle.step_core.specs.Interaction.{interaction_of};
 ghost use Rattle.step_core.specs.Possible.{ArePossible, ArePossibleBut};
 ghost use Rattle.step_core.specs.BoundExpressions.{AreGuarding};
@@ -55,6 +55,13 @@ impl InteractionJudge<'_> {
         ensures count { result ≡ length (moves_of (judged_atoms self.now) self.now.states.now port.now) }
     {
         u64::from(self.offers.count_at(port))
+    }
+
+    /// Whether the port is offered.
+    pub(crate) fn is_offered(&self, port: &Port) -> bool
+        ensures { result ≡ is_offered_port (judged_atoms self.now) self.now.states.now port.now }
+    {
+        self.move_count(port) != 0
     }
 
     /// The number of the transition of the move with this place among those that the atom of the port can make, if there

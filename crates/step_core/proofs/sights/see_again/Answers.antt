@@ -2,20 +2,19 @@ use Rattle.std.proofs.Common.{ℕ, ◌+◌, drop, get_or, ap, ◌∙◌, subst}
 use Rattle.std.proofs.lemmas.Bool.{or_parts}
 use Rattle.std.proofs.lemmas.List.{drop_more, drop_all}
 use Rattle.petri_atom.specs.Local.{is_in}
-use Rattle.step_core.specs.Choice.{is_marked_at}
 use Rattle.step_core.specs.Sights.{AreSeenBut}
 use Rattle.step_core.proofs.Sighted.{after-sight}
 use Rattle.step_core.proofs.sights.see_again.Goals as goal
 
 pub returns-then-not-has_conditions-clause-seen : goal.returns-then-not-has_conditions-clause-seen
-returns-then-not-has_conditions-clause-seen c = λ left right at there. absurd (c.has_conditions.ensures c.if-not-has_conditions.true left right at there)
+returns-then-not-has_conditions-clause-seen g c = λ left right at there. absurd (c.has_conditions.ensures c.if-not-has_conditions.true left right at there)
 
 pub loop-atom-preserved : goal.loop-atom-preserved
-loop-atom-preserved c =
+loop-atom-preserved g c =
     let changed = c.args.changed.now in
     let index : ℕ = c.loop-atom.atom-index in
     let rules = c.args.order.now.rules in
-    let marked = is_marked_at c.args.states.now in
+    let marked = g.S.Sights.marked c.args.states.now in
     let old = c.loop-atom.seen in
     let one = c.see_one-is_new.ensures in
     record {
@@ -27,5 +26,5 @@ loop-atom-preserved c =
     }
 
 pub returns-clause-seen : goal.returns-clause-seen
-returns-clause-seen c = λ left right at there.
+returns-clause-seen g c = λ left right at there.
     c.loop-atom.invariant.others left right at there (ap (λ ks. is_in ks at.atom) (drop_all c.loop-atom.atom-index c.args.changed.now c.loop-atom-test.false))

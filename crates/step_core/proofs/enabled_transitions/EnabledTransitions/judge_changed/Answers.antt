@@ -19,4 +19,5 @@ loop-number-preserved c =
       new.counted,
       λ n atom port low noted out. new.told n atom port low noted out ∙ old.2 n atom port low noted (new.kept n low out),
       λ n low out. read-next c.args.rows.now n changed index 0 c.loop-number-test.true (old.3 n low (new.kept n low out)) (new.read n low out),
+      λ n low out. old.4 n low (new.kept n low out),
     )

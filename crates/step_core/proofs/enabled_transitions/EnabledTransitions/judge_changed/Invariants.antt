@@ -10,4 +10,5 @@ invariant-loop-number l =
     AreOfferedBut (drop l.number-index l.changed) (map definition_of l.atoms) l.states l.self.sets ×
     AreCounted (map definition_of l.atoms) l.self.sets l.self.counts ×
     AreTold l.rows l.words l.fn.self.counts l.self.counts l.touched ×
-    ((n : ℕ) → n < 64 * l.words → contains l.touched n ≡ false → is_read_by l.rows (take l.number-index l.changed) n ≡ false)
+    ((n : ℕ) → n < 64 * l.words → contains l.touched n ≡ false → is_read_by l.rows (take l.number-index l.changed) n ≡ false) ×
+    ((n : ℕ) → n < 64 * l.words → contains l.touched n ≡ false → contains l.fn.touched n ≡ false)

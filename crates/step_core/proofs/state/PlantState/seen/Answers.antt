@@ -15,12 +15,12 @@ pub loop-atom-preserved : goal.loop-atom-preserved
 loop-atom-preserved c =
     let seen = c.loop-atom.seen in
     let atom : ℕ = c.loop-atom.atom in
-    let now = c.sight.result in
+    let now = c.sight_of.result in
     let within : atom < length seen = omega (arith, c.loop-atom.invariant.long, c.loop-atom-test.true) in
     record {
       long = length-set seen atom now ∙ c.loop-atom.invariant.long;
       done = λ at below. ⊎_elim
-          (λ here. written-here seen atom now at within here ∙ ap (λ b. not b || has_bit now.places at.place) c.sight.ensures.known ∙ c.sight.ensures.places at here)
+          (λ here. written-here seen atom now at within here ∙ ap (λ b. not b || has_bit now.places at.place) c.sight_of.ensures.known ∙ c.sight_of.ensures.places at here)
           (λ other. written-other seen atom now at other ∙ c.loop-atom.invariant.done at (omega arith))
           (cases_eq at.atom atom);
     }

@@ -1,12 +1,10 @@
-use Rattle.std.proofs.Common.{◌*◌, ◌∙◌, ap, sym, arith, false, map}
+use Rattle.std.proofs.Common.{◌*◌, ◌∙◌, ap, sym, arith, map}
 use Rattle.std.specs.Prelude.{slice_get}
-use Rattle.std.specs.Option.{option_map_or}
+use Rattle.std.specs.FinSet.{contains}
 use Rattle.std.proofs.lemmas.List.{length-map}
-use Rattle.std.proofs.lemmas.Option.{slice_get_past}
-use Rattle.step_core.specs.Choice.{is_possible}
 use Rattle.step_core.specs.Interaction.{interaction_of}
 use Rattle.step_core.specs.System.{plant_of}
-use Rattle.step_core.proofs.Counted.{not-allowed, entries-end}
+use Rattle.step_core.proofs.Counted.{none-past, entries-end}
 use Rattle.step_core.proofs.system.System.find_choice.Goals as goal
 
 pub loop-at-preserved : goal.loop-at-preserved
@@ -20,7 +18,8 @@ returns c =
     let plant = plant_of c.args.self.now in
     let states = c.args.states.now in
     let all = map interaction_of c.args.self.now.interactions.items in
-    sym (ap (λ ys. slice_get ys c.loop-at.left) (entries-end plant states all (64 * c.loop-at.at) (λ m from.
-    not-allowed plant states all m (ap (λ o. option_map_or (is_possible plant.atoms plant.wires states) o false)
-    (slice_get_past all m (omega (arith, from, c.loop-at-test.false, c.div_ceil-at-end.ensures, c.len.ensures, length-map c.args.self.now.interactions.items interaction_of))))))) ∙
+    let kept = contains c.args.judgement.now.allowed in
+    let possible = c.requires.judged.kept in
+    sym (ap (λ ys. slice_get ys c.loop-at.left) (entries-end plant.atoms plant.wires states all kept possible (64 * c.loop-at.at) (λ m from.
+    none-past plant.atoms plant.wires states all kept possible m (omega (arith, from, c.loop-at-test.false, c.div_ceil-at-end.ensures, c.len.ensures, length-map c.args.self.now.interactions.items interaction_of))))) ∙
     c.loop-at.invariant

@@ -8,7 +8,7 @@ use Rattle.priority_filter.specs.Members.{has_bit}
 use Rattle.priority_filter.proofs.Words.{rest-less}
 use Rattle.step_core.specs.Interaction.{interaction_of}
 use Rattle.step_core.specs.System.{plant_of}
-use Rattle.step_core.proofs.Counted.{no_interaction, is_allowed, possible-first, allowed-within, from_number, entries-skip, entry-here, entry-behind}
+use Rattle.step_core.proofs.Counted.{no_interaction, kept-within, from_number, entries-skip, entry-here, entry-behind}
 use Rattle.step_core.proofs.Walked.{bit-below, bit-from, bit-passes, none-between, rest-next, none-left}
 use Rattle.step_core.proofs.system.System.find_in_word.Goals as goal
 
@@ -24,7 +24,7 @@ loop-word-init c =
         λ j _ low. ap (has_bit c.word-word.result) (omega (arith, low)) ∙ c.word-word.ensures (64 * at + j) (omega (arith, low)),
         λ j lower. absurd (omega (arith, lower)),
       ),
-      ap (λ n. slice_get (from_number plant c.args.states.now all n) c.args.place) start,
+      ap (λ n. slice_get (from_number plant.atoms plant.wires c.args.states.now all (contains c.args.judgement.now.allowed) c.requires.judged.kept n) c.args.place) start,
     )
 
 pub loop-word-smaller : goal.loop-word-smaller
@@ -37,7 +37,8 @@ choice_at-requires-clause-number c =
     let all = map interaction_of c.args.self.now.interactions.items in
     let judged = c.requires.judged in
     let at = c.args.at in
-    let test : ℕ → Bool = λ j. contains c.args.judgement.now.allowed (64 * at + j) in
+    let kept = contains c.args.judgement.now.allowed in
+    let test : ℕ → Bool = λ j. kept (64 * at + j) in
     let word = c.loop-word.word in
     let before = c.loop-word.invariant in
     let k = before.0 in
@@ -45,8 +46,8 @@ choice_at-requires-clause-number c =
     let small : word < 2 ^ 64 = omega arith in
     let bit = trailing_zeros w64 word in
     let n = 64 * at + bit in
-    let here : is_allowed plant states all n ≡ true = sym (judged.allowed n) ∙ bit-passes test word k some small before.2 in
-    omega (arith, allowed-within plant states all n here, length-map c.args.self.now.interactions.items interaction_of)
+    let here : kept n ≡ true = bit-passes test word k some small before.2 in
+    omega (arith, kept-within plant.atoms plant.wires states all kept judged.kept n here, length-map c.args.self.now.interactions.items interaction_of)
 
 pub choice_at-requires-clause-possible : goal.choice_at-requires-clause-possible
 choice_at-requires-clause-possible c =
@@ -55,7 +56,8 @@ choice_at-requires-clause-possible c =
     let all = map interaction_of c.args.self.now.interactions.items in
     let judged = c.requires.judged in
     let at = c.args.at in
-    let test : ℕ → Bool = λ j. contains c.args.judgement.now.allowed (64 * at + j) in
+    let kept = contains c.args.judgement.now.allowed in
+    let test : ℕ → Bool = λ j. kept (64 * at + j) in
     let word = c.loop-word.word in
     let before = c.loop-word.invariant in
     let k = before.0 in
@@ -63,8 +65,8 @@ choice_at-requires-clause-possible c =
     let small : word < 2 ^ 64 = omega arith in
     let bit = trailing_zeros w64 word in
     let n = 64 * at + bit in
-    let here : is_allowed plant states all n ≡ true = sym (judged.allowed n) ∙ bit-passes test word k some small before.2 in
-    possible-first plant states all n here
+    let here : kept n ≡ true = bit-passes test word k some small before.2 in
+    judged.kept n here
 
 pub returns-then-left-ways-clause-here : goal.returns-then-left-ways-clause-here
 returns-then-left-ways-clause-here c =
@@ -73,7 +75,8 @@ returns-then-left-ways-clause-here c =
     let all = map interaction_of c.args.self.now.interactions.items in
     let judged = c.requires.judged in
     let at = c.args.at in
-    let test : ℕ → Bool = λ j. contains c.args.judgement.now.allowed (64 * at + j) in
+    let kept = contains c.args.judgement.now.allowed in
+    let test : ℕ → Bool = λ j. kept (64 * at + j) in
     let word = c.loop-word.word in
     let before = c.loop-word.invariant in
     let k = before.0 in
@@ -81,18 +84,18 @@ returns-then-left-ways-clause-here c =
     let small : word < 2 ^ 64 = omega arith in
     let bit = trailing_zeros w64 word in
     let n = 64 * at + bit in
-    let here : is_allowed plant states all n ≡ true = sym (judged.allowed n) ∙ bit-passes test word k some small before.2 in
+    let here : kept n ≡ true = bit-passes test word k some small before.2 in
     let ways = c.args.judgement.now.ways in
     let left = c.loop-word.left in
     let low : bit < 64 = bit-below test word k some small before.2 in
     let from : k ≤ bit = bit-from test word k some small before.2 in
-    let skipped = entries-skip plant states all (64 * at + k) n (omega (arith, from)) (λ m first last.
-    sym (judged.allowed m) ∙ ap (contains c.args.judgement.now.allowed) (omega (arith, first)) ∙ none-between test word k some small before.2 (m - 64 * at) (omega (arith, first)) (omega (arith, first, last))) in
+    let skipped = entries-skip plant.atoms plant.wires states all kept judged.kept (64 * at + k) n (omega (arith, from)) (λ m first last.
+    ap kept (omega (arith, first)) ∙ none-between test word k some small before.2 (m - 64 * at) (omega (arith, first)) (omega (arith, first, last))) in
     let count : c.from-ways.result ≡ get_or ways n 0 = c.from-ways.ensures in
     let inside : left < get_or ways n 0 = omega (arith, count, c.if-left-ways.true) in
     before.3 ∙ ap (λ ys. slice_get ys left) skipped ∙
-    entry-here plant states all ways n left judged.ways here inside ∙
-    c.choice_at.ensures (get_or all n no_interaction) (slice_get-get_or all n no_interaction (allowed-within plant states all n here))
+    entry-here plant.atoms plant.wires states all kept judged.kept ways n left judged.ways here inside ∙
+    c.choice_at.ensures (get_or all n no_interaction) (slice_get-get_or all n no_interaction (kept-within plant.atoms plant.wires states all kept judged.kept n here))
 
 pub loop-word-preserved : goal.loop-word-preserved
 loop-word-preserved c =
@@ -101,7 +104,8 @@ loop-word-preserved c =
     let all = map interaction_of c.args.self.now.interactions.items in
     let judged = c.requires.judged in
     let at = c.args.at in
-    let test : ℕ → Bool = λ j. contains c.args.judgement.now.allowed (64 * at + j) in
+    let kept = contains c.args.judgement.now.allowed in
+    let test : ℕ → Bool = λ j. kept (64 * at + j) in
     let word = c.loop-word.word in
     let before = c.loop-word.invariant in
     let k = before.0 in
@@ -109,13 +113,13 @@ loop-word-preserved c =
     let small : word < 2 ^ 64 = omega arith in
     let bit = trailing_zeros w64 word in
     let n = 64 * at + bit in
-    let here : is_allowed plant states all n ≡ true = sym (judged.allowed n) ∙ bit-passes test word k some small before.2 in
+    let here : kept n ≡ true = bit-passes test word k some small before.2 in
     let ways = c.args.judgement.now.ways in
     let left = c.loop-word.left in
     let low : bit < 64 = bit-below test word k some small before.2 in
     let from : k ≤ bit = bit-from test word k some small before.2 in
-    let skipped = entries-skip plant states all (64 * at + k) n (omega (arith, from)) (λ m first last.
-    sym (judged.allowed m) ∙ ap (contains c.args.judgement.now.allowed) (omega (arith, first)) ∙ none-between test word k some small before.2 (m - 64 * at) (omega (arith, first)) (omega (arith, first, last))) in
+    let skipped = entries-skip plant.atoms plant.wires states all kept judged.kept (64 * at + k) n (omega (arith, from)) (λ m first last.
+    ap kept (omega (arith, first)) ∙ none-between test word k some small before.2 (m - 64 * at) (omega (arith, first)) (omega (arith, first, last))) in
     let count : c.from-ways.result ≡ get_or ways n 0 = c.from-ways.ensures in
     let past : get_or ways n 0 ≤ left = omega (arith, count, c.if-left-ways.false) in
     let next : n + 1 ≡ 64 * at + (bit + 1) = omega arith in (
@@ -123,9 +127,9 @@ loop-word-preserved c =
       omega (arith, low),
       rest-next test word k some small before.2,
       before.3 ∙ ap (λ ys. slice_get ys left) skipped ∙
-          entry-behind plant states all ways n left judged.ways here past ∙
-          ap (λ m. slice_get (from_number plant states all m) (left - get_or ways n 0)) next ∙
-          ap (λ m. slice_get (from_number plant states all (64 * at + (bit + 1))) (left - m)) (sym count),
+          entry-behind plant.atoms plant.wires states all kept judged.kept ways n left judged.ways here past ∙
+          ap (λ m. slice_get (from_number plant.atoms plant.wires states all kept judged.kept m) (left - get_or ways n 0)) next ∙
+          ap (λ m. slice_get (from_number plant.atoms plant.wires states all kept judged.kept (64 * at + (bit + 1))) (left - m)) (sym count),
     )
 
 pub returns-clause-behind : goal.returns-clause-behind
@@ -135,11 +139,12 @@ returns-clause-behind c =
     let all = map interaction_of c.args.self.now.interactions.items in
     let judged = c.requires.judged in
     let at = c.args.at in
-    let test : ℕ → Bool = λ j. contains c.args.judgement.now.allowed (64 * at + j) in
+    let kept = contains c.args.judgement.now.allowed in
+    let test : ℕ → Bool = λ j. kept (64 * at + j) in
     let word = c.loop-word.word in
     let before = c.loop-word.invariant in
     let k = before.0 in
     let none : word ≡ 0 = omega (arith, c.loop-word-test.false) in
     before.3 ∙
-    ap (λ ys. slice_get ys c.loop-word.left) (entries-skip plant states all (64 * at + k) (64 * (at + 1)) (omega (arith, before.1)) (λ m first last.
-    sym (judged.allowed m) ∙ ap (contains c.args.judgement.now.allowed) (omega (arith, first)) ∙ none-left test word k before.2 none (m - 64 * at) (omega (arith, first)) (omega (arith, first, last))))
+    ap (λ ys. slice_get ys c.loop-word.left) (entries-skip plant.atoms plant.wires states all kept judged.kept (64 * at + k) (64 * (at + 1)) (omega (arith, before.1)) (λ m first last.
+    ap kept (omega (arith, first)) ∙ none-left test word k before.2 none (m - 64 * at) (omega (arith, first)) (omega (arith, first, last))))

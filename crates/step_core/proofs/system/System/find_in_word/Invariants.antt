@@ -1,19 +1,20 @@
 use Rattle.std.proofs.Common.{◌≡◌, ◌≤◌, ◌+◌, ◌*◌, ℕ, map}
 use Rattle.std.specs.Prelude.{slice_get}
 use Rattle.std.specs.FinSet.{contains}
-use Rattle.step_core.specs.Choice.{choices_from}
+use Rattle.petri_atom.specs.Atom.{definition_of}
 use Rattle.step_core.specs.Interaction.{interaction_of}
-use Rattle.step_core.specs.Made.{plant_by}
+use Rattle.step_core.specs.ChoicesIn.{choices_in_from}
 use Rattle.step_core.proofs.Walked.{IsRest}
 use Rattle.step_core.proofs.system.System.find_in_word.Given as goal
 
 -- the entry stands among the choices of the interactions from one of the 64 on, whose bits are left
 abbrev pub invariant-loop-word : goal.invariant-loop-word
 invariant-loop-word l =
-    let plant = plant_by l.self.atoms.items l.self.wires.items l.self.order.rules in
+    let atoms = map definition_of l.self.atoms.items in
     let all = map interaction_of l.self.interactions.items in
-    (k : ℕ) × (k ≤ 64) × IsRest (λ j. contains l.judgement.allowed (64 * l.at + j)) l.word k ×
-    (slice_get (choices_from plant l.states all (64 * l.at)) l.place ≡ slice_get (choices_from plant l.states all (64 * l.at + k)) l.left)
+    let kept = contains l.judgement.allowed in
+    (k : ℕ) × (k ≤ 64) × IsRest (λ j. kept (64 * l.at + j)) l.word k ×
+    (slice_get (choices_in_from atoms l.states all kept (64 * l.at)) l.place ≡ slice_get (choices_in_from atoms l.states all kept (64 * l.at + k)) l.left)
 
 abbrev pub decreases-loop-word : goal.decreases-loop-word
 decreases-loop-word l = l.word

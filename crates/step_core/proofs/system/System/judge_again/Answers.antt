@@ -1,83 +1,40 @@
-use Rattle.std.proofs.Common.{◌≡◌, ◌<◌, ◌*◌, ◌∙◌, ℕ, false, true, ap, sym, subst, ⊎_elim, arith, map, length}
+use Rattle.std.proofs.Common.{◌≡◌, ◌∙◌, ℕ, false, true, ap, sym, arith, map}
 use Rattle.std.specs.FinSet.{contains}
 use Rattle.std.specs.Option.{option_map_or}
-use Rattle.std.proofs.lemmas.Bool.{cases_lt, or_parts}
-use Rattle.std.proofs.lemmas.List.{length-map}
-use Rattle.std.proofs.lemmas.Option.{slice_get_past}
-use Rattle.petri_atom.specs.Atom.{definition_of}
+use Rattle.std.proofs.lemmas.Bool.{or_parts}
 use Rattle.petri_atom.specs.Local.{has}
+use Rattle.priority_filter.specs.Active.{may_be_marked}
 use Rattle.priority_filter.proofs.Counting.{alike-counted}
-use Rattle.connector_tree.specs.declared.tree.Port.{Port}
-use Rattle.step_core.specs.Choice.{active_in, is_marked_at, is_possible, is_possible_at, moves_of, choices_of}
+use Rattle.step_core.specs.Choice.{active_in, is_marked_at, is_possible_at}
 use Rattle.step_core.specs.Interaction.{interaction_of}
-use Rattle.step_core.specs.EnabledTransitions.{AreOffered, AreCounted}
 use Rattle.step_core.specs.System.{plant_of}
-use Rattle.step_core.specs.Dependents.{is_noted, is_read_by, at_port}
 use Rattle.step_core.specs.Ways.{ways_at}
-use Rattle.step_core.proofs.Judging.{counted-moves}
+use Rattle.step_core.proofs.Kept.{few_atoms_of_plant}
+use Rattle.step_core.proofs.Sighted.{marked-past}
 use Rattle.step_core.proofs.Unchanged.{allowed-same, total-same}
-use Rattle.step_core.proofs.Untouched.{untouched, untouched-ways}
 use Rattle.step_core.proofs.system.System.judge_again.Goals as goal
 
-pub judge_touched-is_new-requires-clause-others : goal.judge_touched-is_new-requires-clause-others
-judge_touched-is_new-requires-clause-others c n outside =
-    let system = c.args.self.now in
-    let plant = plant_of system in
-    let all = map interaction_of system.interactions.items in
+pub judge_offers_again-is_new-requires-clause-behind : goal.judge_offers_again-is_new-requires-clause-behind
+judge_offers_again-is_new-requires-clause-behind c =
     let behind = c.requires.behind in
-    let before = behind.before in
-    let after = c.args.states.now in
-    let new = c.judge_changed.new.self in
-    let old = c.args.judgement.now.offers in
-    let judged = c.judge_changed.ensures in
-    let offered : AreOffered plant.atoms after new.sets = subst (λ list. AreOffered (map definition_of list) after new.sets) c.deref.ensures.value judged.offered in
-    let counted : AreCounted plant.atoms new.sets new.counts = subst (λ list. AreCounted (map definition_of list) new.sets new.counts) c.deref.ensures.value judged.counted in
-    let low : n < length all → n < 64 * c.div_ceil-words.result = λ within. omega (arith, within, length-map system.interactions.items interaction_of, c.div_ceil-words.ensures) in
-    let rows = system.dependents.items in
-    let lent = c.deref-2.ensures.value in
-    let told : n < length all → contains c.judge_changed.new.touched n ≡ false → (p : Port) → is_noted rows n (at_port p) ≡ true → length (moves_of plant.atoms after p) ≡ length (moves_of plant.atoms before p) =
-    λ within out p noted. sym (counted-moves plant.atoms after new.sets new.counts c.requires.of_plant offered counted p) ∙ judged.told n p.atom p.port (low within) (ap (λ rs. is_noted rs n (at_port p)) lent ∙ noted) out ∙
-    counted-moves plant.atoms before old.sets old.counts (behind.as_many ∙ c.requires.of_plant) behind.judged.offered behind.judged.counted p in
-    behind.judged.possible n ∙
-    sym (⊎_elim
-    (λ within. untouched plant c.args.changed.now before after all rows n (system.rows ∙ ap (λ k. k * 33) (sym (behind.as_many ∙ c.requires.of_plant ∙ length-map system.atoms.items definition_of))) behind.as_many behind.stays system.touched (ap (λ rs. is_read_by rs c.args.changed.now n) (sym lent) ∙ judged.read n (low within) (outside within)) (told within (outside within)))
-    (λ past. ap (λ o. option_map_or (is_possible plant.atoms plant.wires after) o false) (slice_get_past all n past) ∙ sym (ap (λ o. option_map_or (is_possible plant.atoms plant.wires before) o false) (slice_get_past all n past)))
-    (cases_lt n (length all)))
+    record {
+      before = behind.before;
+      offered = behind.judged.offered;
+      counted = behind.judged.counted;
+      possible = behind.judged.possible;
+      ways = behind.judged.ways;
+      as_many = behind.as_many;
+      stays = behind.stays;
+    }
 
-pub judge_touched-is_new-requires-clause-other_ways : goal.judge_touched-is_new-requires-clause-other_ways
-judge_touched-is_new-requires-clause-other_ways c n outside possible =
-    let system = c.args.self.now in
-    let plant = plant_of system in
-    let all = map interaction_of system.interactions.items in
-    let behind = c.requires.behind in
-    let before = behind.before in
-    let after = c.args.states.now in
-    let new = c.judge_changed.new.self in
-    let old = c.args.judgement.now.offers in
-    let judged = c.judge_changed.ensures in
-    let offered : AreOffered plant.atoms after new.sets = subst (λ list. AreOffered (map definition_of list) after new.sets) c.deref.ensures.value judged.offered in
-    let counted : AreCounted plant.atoms new.sets new.counts = subst (λ list. AreCounted (map definition_of list) new.sets new.counts) c.deref.ensures.value judged.counted in
-    let low : n < length all → n < 64 * c.div_ceil-words.result = λ within. omega (arith, within, length-map system.interactions.items interaction_of, c.div_ceil-words.ensures) in
-    let rows = system.dependents.items in
-    let lent = c.deref-2.ensures.value in
-    let told : n < length all → contains c.judge_changed.new.touched n ≡ false → (p : Port) → is_noted rows n (at_port p) ≡ true → length (moves_of plant.atoms after p) ≡ length (moves_of plant.atoms before p) =
-    λ within out p noted. sym (counted-moves plant.atoms after new.sets new.counts c.requires.of_plant offered counted p) ∙ judged.told n p.atom p.port (low within) (ap (λ rs. is_noted rs n (at_port p)) lent ∙ noted) out ∙
-    counted-moves plant.atoms before old.sets old.counts (behind.as_many ∙ c.requires.of_plant) behind.judged.offered behind.judged.counted p in
-    let before-possible : is_possible_at plant.atoms plant.wires before all n ≡ is_possible_at plant.atoms plant.wires after all n =
-    sym (⊎_elim
-    (λ within. untouched plant c.args.changed.now before after all rows n (system.rows ∙ ap (λ k. k * 33) (sym (behind.as_many ∙ c.requires.of_plant ∙ length-map system.atoms.items definition_of))) behind.as_many behind.stays system.touched (ap (λ rs. is_read_by rs c.args.changed.now n) (sym lent) ∙ judged.read n (low within) (outside within)) (told within (outside within)))
-    (λ past. ap (λ o. option_map_or (is_possible plant.atoms plant.wires after) o false) (slice_get_past all n past) ∙ sym (ap (λ o. option_map_or (is_possible plant.atoms plant.wires before) o false) (slice_get_past all n past)))
-    (cases_lt n (length all))) in
-    behind.judged.ways n (before-possible ∙ possible) ∙
-    sym (⊎_elim
-    (λ within. untouched-ways plant c.args.changed.now before after all rows n (system.rows ∙ ap (λ k. k * 33) (sym (behind.as_many ∙ c.requires.of_plant ∙ length-map system.atoms.items definition_of))) behind.as_many behind.stays system.touched (ap (λ rs. is_read_by rs c.args.changed.now n) (sym lent) ∙ judged.read n (low within) (outside within)) (told within (outside within)))
-    (λ past. ap (λ o. option_map_or (λ i. length (choices_of plant.atoms after i)) o 0) (slice_get_past all n past) ∙ sym (ap (λ o. option_map_or (λ i. length (choices_of plant.atoms before i)) o 0) (slice_get_past all n past)))
-    (cases_lt n (length all)))
+pub see_again-is_seen_new-requires-clause-few : goal.see_again-is_seen_new-requires-clause-few
+see_again-is_seen_new-requires-clause-few c at past =
+    marked-past c.args.states.now at (omega (arith, past, c.requires.of_plant, few_atoms_of_plant (plant_of c.args.self.now) c.args.self.now.valid))
 
 pub see_again-is_seen_new-requires-clause-others : goal.see_again-is_seen_new-requires-clause-others
 see_again-is_seen_new-requires-clause-others c = λ left right at there out.
     let behind = c.requires.behind in
-    behind.judged.seen left right at there ∙ ap (λ o. option_map_or (λ s. has s.marking at.place) o false) (sym (behind.stays at.atom out))
+    ap (λ rows. may_be_marked rows at) c.judge_offers_again-is_new.ensures.seen ∙ behind.judged.seen left right at there ∙ ap (λ o. option_map_or (λ s. has s.marking at.place) o false) (sym (behind.stays at.atom out))
 
 pub returns-else-is_new-is_seen_new : goal.returns-else-is_new-is_seen_new
 returns-else-is_new-is_seen_new c =
@@ -87,11 +44,9 @@ returns-else-is_new-is_seen_new c =
     let behind = c.requires.behind in
     let before = behind.before in
     let after = c.args.states.now in
-    let new = c.judge_changed.new.self in
-    let judged = c.judge_changed.ensures in
-    let touched = c.judge_touched-is_new.ensures in
+    let touched = c.judge_offers_again-is_new.ensures in
     let sights = c.see_again-is_seen_new.ensures in
-    let parts = or_parts c.judge_touched-is_new.result c.see_again-is_seen_new.result c.if-is_new-is_seen_new.false in
+    let parts = or_parts c.judge_offers_again-is_new.result c.see_again-is_seen_new.result c.if-is_new-is_seen_new.false in
     let same = touched.same parts.0 in
     let possible : (n : ℕ) → is_possible_at plant.atoms plant.wires after all n ≡ is_possible_at plant.atoms plant.wires before all n =
     λ n. sym (touched.possible n) ∙ same.0 n ∙ behind.judged.possible n in
@@ -99,13 +54,13 @@ returns-else-is_new-is_seen_new c =
     λ n yes_. sym (touched.ways n yes_) ∙ same.1 n ∙ behind.judged.ways n (sym (possible n) ∙ yes_) in
     let counted : active_in plant after ≡ active_in plant before =
     alike-counted plant.rules (is_marked_at after) (is_marked_at before) (λ left right at there.
-    sym (sights.seen left right at there) ∙ sights.same parts.1 left right at there ∙ behind.judged.seen left right at there) in
+    sym (sights.seen left right at there) ∙ sights.same parts.1 left right at there ∙ ap (λ rows. may_be_marked rows at) touched.seen ∙ behind.judged.seen left right at there) in
     record {
-      offered = subst (λ list. AreOffered (map definition_of list) after new.sets) c.deref.ensures.value judged.offered;
-      counted = subst (λ list. AreCounted (map definition_of list) new.sets new.counts) c.deref.ensures.value judged.counted;
+      offered = touched.offered;
+      counted = touched.counted;
       possible = touched.possible;
       ways = touched.ways;
       seen = sights.seen;
-      allowed = λ n. behind.judged.allowed n ∙ sym (allowed-same plant all before after possible ways counted n);
-      total = behind.judged.total ∙ sym (total-same plant all before after possible ways counted);
+      allowed = λ n. ap (λ set. contains set n) touched.allowed ∙ behind.judged.allowed n ∙ sym (allowed-same plant all before after possible ways counted n);
+      total = touched.total ∙ behind.judged.total ∙ sym (total-same plant all before after possible ways counted);
     }

@@ -1,0 +1,132 @@
+use Rattle.std.proofs.Common.{◌≡◌, ◌<◌, ◌+◌, ◌∙◌, refl, sym, ap, subst, arith, length, map, take, get_or}
+use Rattle.std.specs.Prelude.{Some, slice_get, slice_index}
+use Rattle.std.proofs.lemmas.List.{length-map}
+use Rattle.std.proofs.lemmas.Option.{none-some, slice_get_within, get_or_from_slice_get}
+use Rattle.petri_atom.specs.Atom.{definition_of}
+use Rattle.step_core.specs.Chosen.{choice_of}
+use Rattle.step_core.specs.Job.{job_of}
+use Rattle.step_core.specs.Jobs.{AreJobsOf, IsJobOf, jobs_of}
+use Rattle.step_core.specs.Parts.{shown_in}
+use Rattle.step_core.specs.Queue.{items_in}
+use Rattle.step_core.specs.Step.{transfer}
+use Rattle.step_core.specs.System.{plant_of}
+use Rattle.step_core.proofs.Judging.{atom-at}
+use Rattle.step_core.proofs.OwnAtoms.{no-earlier}
+use Rattle.step_core.proofs.PartsLeft.{IsLeaving, first-of-atom, fits-taken, in-parts, in-plant, move-there, none-left, offers, one-job, one-left, present, there, was}
+use Rattle.step_core.proofs.Present.{sure-shown}
+use Rattle.step_core.proofs.Queued.{all-empty, no-jobs}
+use Rattle.step_core.proofs.Stepping.{no_move}
+use Rattle.step_core.proofs.leaving.leave.Goals as goal
+
+pub deliver-requires-clause-apart : goal.deliver-requires-clause-apart
+deliver-requires-clause-apart c place m there =
+    let system = c.args.system.now in
+    let choice = choice_of c.args.choice.now in
+    let within = slice_get_within choice.moves place m there in
+    no-earlier (plant_of system) (shown_in c.args.parts.now) choice system.valid (sure-shown (plant_of system) c.args.parts.now choice c.requires.sure) choice.moves refl place no_move within m.atom
+    (sym (ap (λ k. k.atom) (get_or_from_slice_get choice.moves place m no_move there)))
+
+pub loop-place-init : goal.loop-place-init
+loop-place-init c = record {
+  left = sym (none-left 0 c.args.parts.now);
+  jobs = record {
+    as_many = ap length c.requires.empty;
+    each = λ place m job there. absurd (none-some m there);
+  };
+  room = λ n past. all-empty c.args.jobs.now.queue.places (no-jobs job_of (items_in c.args.jobs.now.queue) c.requires.empty) n;
+}
+
+pub take-state-requires-clause-there : goal.take-state-requires-clause-there
+take-state-requires-clause-there c =
+    let system = c.args.system.now in
+    let choice = choice_of c.args.choice.now in
+    let moves = c.as_slice-moves.result.now in
+    let k = c.loop-place.place in
+    let step : IsLeaving (plant_of system) c.args.parts.now choice moves k c.loop-place.parts = record { valid = system.valid; sure = c.requires.sure; same = c.as_slice-moves.ensures.moves; more = c.loop-place-test.true; is = c.loop-place.invariant.left } in
+    there step
+
+pub take-state-requires-clause-present : goal.take-state-requires-clause-present
+take-state-requires-clause-present c =
+    let system = c.args.system.now in
+    let choice = choice_of c.args.choice.now in
+    let moves = c.as_slice-moves.result.now in
+    let k = c.loop-place.place in
+    let step : IsLeaving (plant_of system) c.args.parts.now choice moves k c.loop-place.parts = record { valid = system.valid; sure = c.requires.sure; same = c.as_slice-moves.ensures.moves; more = c.loop-place-test.true; is = c.loop-place.invariant.left } in
+    present step
+
+pub index-requires : goal.index-requires
+index-requires c =
+    let system = c.args.system.now in
+    let choice = choice_of c.args.choice.now in
+    let moves = c.as_slice-moves.result.now in
+    let k = c.loop-place.place in
+    let step : IsLeaving (plant_of system) c.args.parts.now choice moves k c.loop-place.parts = record { valid = system.valid; sure = c.requires.sure; same = c.as_slice-moves.ensures.moves; more = c.loop-place-test.true; is = c.loop-place.invariant.left } in
+    omega (arith, in-plant step, c.from-number.ensures, length-map system.atoms.items definition_of, system.atoms.ok.0)
+
+pub bounds-counts-number : goal.bounds-counts-number
+bounds-counts-number c =
+    let system = c.args.system.now in
+    let choice = choice_of c.args.choice.now in
+    let moves = c.as_slice-moves.result.now in
+    let k = c.loop-place.place in
+    let step : IsLeaving (plant_of system) c.args.parts.now choice moves k c.loop-place.parts = record { valid = system.valid; sure = c.requires.sure; same = c.as_slice-moves.ensures.moves; more = c.loop-place-test.true; is = c.loop-place.invariant.left } in
+    omega (arith, in-parts step, c.from-number.ensures, c.shown.ensures.few)
+
+pub offset_bounds-counts-number : goal.offset_bounds-counts-number
+offset_bounds-counts-number c =
+    let system = c.args.system.now in
+    let choice = choice_of c.args.choice.now in
+    let moves = c.as_slice-moves.result.now in
+    let k = c.loop-place.place in
+    let step : IsLeaving (plant_of system) c.args.parts.now choice moves k c.loop-place.parts = record { valid = system.valid; sure = c.requires.sure; same = c.as_slice-moves.ensures.moves; more = c.loop-place-test.true; is = c.loop-place.invariant.left } in
+    omega (arith, in-parts step, c.from-number.ensures, c.shown.ensures.few)
+
+pub new-job-requires-clause-offered : goal.new-job-requires-clause-offered
+new-job-requires-clause-offered c =
+    let system = c.args.system.now in
+    let choice = choice_of c.args.choice.now in
+    let moves = c.as_slice-moves.result.now in
+    let k = c.loop-place.place in
+    let step : IsLeaving (plant_of system) c.args.parts.now choice moves k c.loop-place.parts = record { valid = system.valid; sure = c.requires.sure; same = c.as_slice-moves.ensures.moves; more = c.loop-place-test.true; is = c.loop-place.invariant.left } in
+    let m = get_or moves k no_move in
+    let below : c.from-number.result < length system.atoms.items = omega (arith, in-plant step, c.from-number.ensures, length-map system.atoms.items definition_of) in
+    let known : slice_get (map definition_of system.atoms.items) m.atom ≡ Some (definition_of c.index.result.now) = atom-at system.atoms.items c.from-number.result m.atom c.index.result.now c.from-number.ensures below c.index.ensures in
+    offers step (definition_of c.index.result.now) c.take-state.result known c.take-state.ensures.state
+
+pub new-job-requires-clause-fits : goal.new-job-requires-clause-fits
+new-job-requires-clause-fits c =
+    let system = c.args.system.now in
+    let choice = choice_of c.args.choice.now in
+    let moves = c.as_slice-moves.result.now in
+    let k = c.loop-place.place in
+    let step : IsLeaving (plant_of system) c.args.parts.now choice moves k c.loop-place.parts = record { valid = system.valid; sure = c.requires.sure; same = c.as_slice-moves.ensures.moves; more = c.loop-place-test.true; is = c.loop-place.invariant.left } in
+    let m = get_or moves k no_move in
+    let below : c.from-number.result < length system.atoms.items = omega (arith, in-plant step, c.from-number.ensures, length-map system.atoms.items definition_of) in
+    let known : slice_get (map definition_of system.atoms.items) m.atom ≡ Some (definition_of c.index.result.now) = atom-at system.atoms.items c.from-number.result m.atom c.index.result.now c.from-number.ensures below c.index.ensures in
+    fits-taken step (definition_of c.index.result.now) c.take-state.result known c.take-state.ensures.state c.requires.fits
+
+pub loop-place-preserved : goal.loop-place-preserved
+loop-place-preserved c =
+    let system = c.args.system.now in
+    let choice = choice_of c.args.choice.now in
+    let moves = c.as_slice-moves.result.now in
+    let k = c.loop-place.place in
+    let step : IsLeaving (plant_of system) c.args.parts.now choice moves k c.loop-place.parts = record { valid = system.valid; sure = c.requires.sure; same = c.as_slice-moves.ensures.moves; more = c.loop-place-test.true; is = c.loop-place.invariant.left } in
+    let m = get_or moves k no_move in
+    let below : c.from-number.result < length system.atoms.items = omega (arith, in-plant step, c.from-number.ensures, length-map system.atoms.items definition_of) in
+    let known : slice_get (map definition_of system.atoms.items) m.atom ≡ Some (definition_of c.index.result.now) = atom-at system.atoms.items c.from-number.result m.atom c.index.result.now c.from-number.ensures below c.index.ensures in
+    let delivered = get_or_from_slice_get c.deliver.new.delivered k (transfer (plant_of system) c.shown.result.now choice m.atom) c.index-told-place.result (c.deliver.ensures k m (move-there step) (first-of-atom step)) in
+    let job : IsJobOf (plant_of system) c.args.parts.now choice c.args.counts.now m (job_of c.new-job.result) = record {
+      definition = known ∙ ap Some (sym c.new-job.ensures.definition);
+      atom = c.new-job.ensures.atom;
+      count = c.new-job.ensures.count ∙ ap (λ n. slice_index c.args.counts.now n) c.from-number.ensures;
+      transition = c.new-job.ensures.transition;
+      delivered = c.new-job.ensures.delivered ∙ delivered ∙ ap (λ states. transfer (plant_of system) states choice m.atom) c.shown.ensures.states;
+      state = was step (definition_of c.index.result.now) c.take-state.result known c.take-state.ensures.state ∙ ap (λ s. Some (Some s)) (sym c.new-job.ensures.state);
+    } in
+    record {
+      left = c.take-state.ensures.parts ∙ one-left step;
+      jobs = subst (AreJobsOf (plant_of system) c.args.parts.now choice c.args.counts.now (take (k + 1) moves)) (sym c.put.ensures.jobs)
+          (one-job step c.args.counts.now (jobs_of c.loop-place.jobs) (job_of c.new-job.result) c.loop-place.invariant.jobs job);
+      room = c.put.ensures.room;
+    }

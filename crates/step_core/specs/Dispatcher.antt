@@ -1,0 +1,13 @@
+-- What a plant that runs while atoms are away shows: its system and the present parts of its state.
+use Rattle.std.specs.Prelude.{List, Option}
+use Rattle.petri_atom.specs.Local.{Local}
+use Rattle.step_core.specs.declared.dispatcher.Dispatcher.{Dispatcher}
+use Rattle.step_core.specs.declared.system.System.{System}
+
+-- the system that runs
+abbrev pub system_of : Dispatcher → System
+system_of d = d.system.now
+
+-- the parts of its present state
+abbrev pub parts_in : Dispatcher → List (Option Local)
+parts_in d = d.parts

@@ -1,0 +1,161 @@
+//! A plant that runs while some of its atoms are away.
+ghost use Rattle.std.specs.Prelude.{◌≡◌, ◌<◌, [], false, None, Some, map, length, slice_get, slice_set, is_none};
+ghost use Rattle.std.specs.Option.{option_map_or};
+ghost use Rattle.petri_atom.specs.Definition.{AtomDefinition, Fits};
+ghost use Rattle.petri_atom.specs.Local.{Local};
+ghost use Rattle.connector_tree.specs.declared.tree.TheConstants.{MAX_LEAVES};
+ghost use Rattle.step_core.specs.Chosen.{choice_of};
+ghost use Rattle.step_core.specs.Delivery.{IsTold};
+ghost use Rattle.step_core.specs.Dispatching.{AllPresentFit, ArePartsOf, state_at};
+ghost use Rattle.step_core.specs.Fitting.{IsOf, AllFit};
+ghost use Rattle.step_core.specs.Interaction.{interaction_of};
+ghost use Rattle.step_core.specs.Parts.{shown_in};
+ghost use Rattle.step_core.specs.Step.{transfer};
+ghost use Rattle.step_core.specs.Sure.{IsSure, left_by, sure_choices, went_on};
+ghost use Rattle.step_core.specs.SureJudgement.{IsSureJudgement};
+ghost use Rattle.step_core.specs.System.{plant_of};
+
+use crate::choice::{Choice, atoms_of};
+use crate::jobs::Jobs;
+use crate::leaving::leave;
+use crate::limits::MAX_ATOMS;
+use crate::parts::PlantParts;
+use crate::state::PlantState;
+use crate::sure::SureJudgement;
+use crate::system::System;
+use crate::transfers::nothing_at_all;
+use connector_tree::MAX_LEAVES;
+use petri_atom::{AtomState, Delivered};
+
+/// A plant that runs while some of its atoms are away: a system, the parts of its present state, in which the state of each atom that
+/// is present fits it, and what is sure.
+///
+/// The participants of a sure choice fire at once, or they leave: each of their states goes away in a job, which can be done anywhere,
+/// and comes back as what is done. It takes no memory once it is made of states.
+#[derive(Drop)]
+pub struct Dispatcher<'s> {
+    system: &'s System,
+    parts: PlantParts,
+    judgement: SureJudgement,
+    ghost of_plant: { ArePartsOf (plant_of system.now) parts },
+    ghost fits: { AllPresentFit (plant_of system.now) parts },
+    ghost judged: { IsSureJudgement (plant_of system.now) (map interaction_of system.now.interactions.items) parts judgement },
+}
+
+impl<'s> Dispatcher<'s> {
+    ghost use Rattle.step_core.specs.Dispatcher.{parts_in, system_of};
+    ghost use Rattle.step_core.specs.Jobs.{AreJobsOf, jobs_of};
+
+    /// The plant in this state of it, with no atom away. It takes no memory.
+    pub fn at(system: &'s System, states: PlantState) -> Self
+        requires of_plant { IsOf (plant_of system.now) states }
+        requires fits { AllFit (plant_of system.now) states }
+        ensures system { system_of result ≡ system.now }
+        ensures parts { parts_in result ≡ map Some states }
+    {
+        system.keeps_its_rules();
+        let judgement = system.judge_sure(&states);
+        Dispatcher {
+            system,
+            parts: PlantParts::all(states),
+            judgement,
+        }
+    }
+
+    /// The system that runs.
+    pub fn system(&self) -> &'s System
+        ensures { result.now ≡ system_of self.now }
+    {
+        self.system
+    }
+
+    /// The parts of the present state.
+    pub fn parts(&self) -> &PlantParts
+        ensures parts { result.now ≡ parts_in self.now }
+        ensures of_plant { ArePartsOf (plant_of (system_of self.now)) result.now }
+        ensures fits { AllPresentFit (plant_of (system_of self.now)) result.now }
+    {
+        &self.parts
+    }
+
+    /// Whether the atom is there and away.
+    pub fn is_away(&self, atom: u16) -> bool
+        ensures { result ≡ option_map_or is_none (slice_get (parts_in self.now) atom) false }
+    {
+        self.parts.is_away(atom)
+    }
+
+    /// The present state of the atom, if it is there and present.
+    pub fn state(&self, atom: u16) -> Option<AtomState>
+        ensures state { result ≡ state_at (parts_in self.now) atom }
+        ensures fits { (a : AtomDefinition) (s : Local) → slice_get (plant_of (system_of self.now)).atoms atom ≡ Some a → result ≡ Some s → Fits a s }
+    {
+        match self.parts.state(atom) {
+            Some(state) => Some(state.copy()),
+            None => None,
+        }
+    }
+
+    /// How many sure choices there are.
+    pub fn count_sure(&self) -> u128
+        ensures { result ≡ length (sure_choices (plant_of (system_of self.now)) (parts_in self.now)) }
+    {
+        self.system.count_sure_among(&self.parts, &self.judgement)
+    }
+
+    /// The sure choice with this place, from 0, in the order of the choices.
+    pub fn nth_sure(&self, place: u128) -> Choice
+        requires { place < length (sure_choices (plant_of (system_of self.now)) (parts_in self.now)) }
+        ensures entry { slice_get (sure_choices (plant_of (system_of self.now)) (parts_in self.now)) place ≡ Some (choice_of result) }
+        ensures sure { IsSure (plant_of (system_of self.now)) (parts_in self.now) (choice_of result) }
+    {
+        self.system
+            .nth_sure_among(&self.parts, &self.judgement, place)
+    }
+
+    /// Fires the sure choice, and tells what it delivered: at the place of each move, what its atom got. All atoms that were away
+    /// stay so.
+    pub fn fire_telling(&mut self, choice: &Choice, told: &mut [Delivered; MAX_LEAVES])
+        requires { IsSure (plant_of (system_of self.old)) (parts_in self.old) (choice_of choice.now) }
+        ensures system { system_of self.new ≡ system_of self.old }
+        ensures parts { parts_in self.new ≡ went_on (plant_of (system_of self.old)) (parts_in self.old) (choice_of choice.now) }
+        ensures told { IsTold choice.now.moves (transfer (plant_of (system_of self.old)) (shown_in (parts_in self.old)) (choice_of choice.now)) told.new }
+    {
+        *told = nothing_at_all();
+        self.parts.fire(self.system, choice, told);
+        let moves = choice.moves.as_slice();
+        let atoms = atoms_of(moves);
+        let changed = &atoms[..moves.len()];
+        self.system
+            .judge_sure_again(&self.parts, changed, &[], &mut self.judgement);
+    }
+
+    /// Begins the sure choice: its participants leave, and for each there is a job, in the order of the moves. A job has the atom's
+    /// state, and what the choice delivers to it on the values from before. It carries the atom's count of these.
+    pub fn begin(&mut self, choice: &Choice, counts: &[u64; MAX_ATOMS], jobs: &mut Jobs<'s>)
+        requires sure { IsSure (plant_of (system_of self.old)) (parts_in self.old) (choice_of choice.now) }
+        requires empty { jobs_of jobs.old ≡ [] }
+        ensures system { system_of self.new ≡ system_of self.old }
+        ensures parts { parts_in self.new ≡ left_by (parts_in self.old) choice.now.moves }
+        ensures jobs { AreJobsOf (plant_of (system_of self.old)) (parts_in self.old) (choice_of choice.now) counts.now choice.now.moves (jobs_of jobs.new) }
+    {
+        leave(self.system, &mut self.parts, choice, counts, jobs);
+        let moves = choice.moves.as_slice();
+        let atoms = atoms_of(moves);
+        let changed = &atoms[..moves.len()];
+        self.system
+            .judge_sure_again(&self.parts, changed, changed, &mut self.judgement);
+    }
+
+    /// Puts a state of the atom in its place: it is away, and is then back.
+    pub fn back(&mut self, atom: u16, state: AtomState)
+        requires away { slice_get (parts_in self.old) atom ≡ Some None }
+        requires fits { (a : AtomDefinition) → slice_get (plant_of (system_of self.old)).atoms atom ≡ Some a → Fits a state }
+        ensures system { system_of self.new ≡ system_of self.old }
+        ensures parts { parts_in self.new ≡ slice_set (parts_in self.old) atom (Some state) }
+    {
+        self.parts.put(atom, state);
+        self.system
+            .judge_sure_again(&self.parts, &[atom], &[atom], &mut self.judgement);
+    }
+}
