@@ -1,7 +1,9 @@
 -- Choices of a run, one by one and cut into fronts, and lists that are the same entry by entry.
 use Rattle.std.proofs.Common.{◌≡◌, ℕ, ◌+◌, ◌<◌, ◌≤◌, List, [], ◌∷◌, ◌++◌, length, map, take, drop, get_or, Some, slice_get, sym, ◌∙◌, ap, subst, arith}
-use Rattle.std.proofs.lemmas.List.{at_drop_more, drop-map, get_or-map, length-map, take_all, take-map, take_more, take-append-drop}
+use Rattle.std.proofs.lemmas.List.{at_drop_more, drop-map, get_or-map, length-map, take_all, take-map, take_more, take-append-drop, take-take, drop-take}
 use Rattle.std.proofs.lemmas.Option.{get_or_from_slice_get}
+use Rattle.disk_model.specs.MemDisk.{AsksNoChange}
+use Rattle.disk_model.specs.declared.memory.MemDisk.{MemDisk}
 use Rattle.petri_atom.specs.Local.{Local}
 use Rattle.step_core.specs.Choice.{ChoiceDefinition, IsAllowed}
 use Rattle.step_core.specs.Plant.{PlantDefinition}
@@ -39,6 +41,23 @@ one_more_same xs ys i x y inside within here there same so_far =
 -- lists are the same where so many of their entries are
 pub all_same : {X : Type 0} (xs ys : List X) (i : ℕ) → length xs ≤ i → length ys ≤ i → take i xs ≡ take i ys → xs ≡ ys
 all_same xs ys i few fewer same = sym (take_all i xs few) ∙ same ∙ take_all i ys fewer
+
+-- a front and a front of what is behind it
+pub front-of : {X : Type 0} (xs : List X) (a k : ℕ) → take a xs ++ take k (drop a xs) ≡ take (a + k) xs
+front-of {X} xs a k =
+    let within : a ≤ a + k = omega arith in
+    ap (λ (l : List X). l ++ take k (drop a xs)) (sym (take-take a (a + k) xs within))
+    ∙ ap (λ (l : List X). take a (take (a + k) xs) ++ l) (sym (drop-take a k xs))
+    ∙ take-append-drop a (take (a + k) xs)
+
+-- calls that asked for no change, one after another
+pub asks-none : (old mid new : MemDisk) → AsksNoChange old mid → AsksNoChange mid new → AsksNoChange old new
+asks-none old mid new first second = record {
+  room = second.room ∙ first.room;
+  cell = second.cell ∙ first.cell;
+  changes = second.changes ∙ first.changes;
+  synced = second.synced ∙ first.synced;
+}
 
 module _ (plant : PlantDefinition) where
   -- a run behind its front

@@ -1,3 +1,4 @@
 pub mod Fronts
+pub mod GoneOn
 pub mod Judged
 pub mod Stopped

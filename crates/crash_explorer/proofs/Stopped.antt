@@ -1,7 +1,8 @@
 -- What a stop leaves is right, whatever of a run it falls in.
-use Rattle.std.proofs.Common.{◌≡◌, inl, inr, ⊎_elim, ℕ, ◌+◌, ◌-◌, ◌<◌, ◌≤◌, Bool, true, false, nat_lt, cond, eqb, List, [], ◌++◌, length, map, take, drop, replicate, get_or, None, Some, refl, sym, ◌∙◌, ap, subst, arith}
+use Rattle.std.proofs.Common.{◌≡◌, inl, inr, ⊎_elim, ℕ, ◌+◌, ◌-◌, ◌<◌, ◌≤◌, Bool, true, false, nat_lt, cond, eqb, List, [], ◌++◌, length, map, take, drop, replicate, get_or, None, Some, Result, Ok, Err, IfOk, refl, sym, ◌∙◌, ap, subst, arith}
+use Rattle.std.proofs.Math.Seq.{drop-append-add, take-append-add}
 use Rattle.std.proofs.lemmas.Bool.{le-ltb}
-use Rattle.std.proofs.lemmas.List.{get_or-replicate, length-replicate, length-take-le}
+use Rattle.std.proofs.lemmas.List.{get_or-replicate, length-append, length-replicate, length-take-le}
 use Rattle.disk_model.specs.Cells.{Cell, MayBe, body_at, cell, cells_in, seen_cells}
 use Rattle.disk_model.specs.DiskState.{DiskState, size_of}
 use Rattle.disk_model.specs.MemDisk.{fresh}
@@ -10,6 +11,7 @@ use Rattle.disk_model.proofs.CellBytes.{cell-cells_of}
 use Rattle.plant_core.specs.Events.{IsAckedOf, IsEventRun, all_fired}
 use Rattle.plant_core.specs.Stops.{StandsForFront}
 use Rattle.plant_core.specs.View.{View}
+use Rattle.plant_core.specs.declared.events.Event.{Event}
 use Rattle.plant_core.specs.declared.events.Happened.{Happened}
 use Rattle.plant_core.proofs.EventRuns.{events-ack, events-run, fold-append}
 use Rattle.plant_image.specs.Faults.{fault_of}
@@ -23,13 +25,14 @@ use Rattle.step_core.specs.Choice.{ChoiceDefinition}
 use Rattle.step_core.specs.Plant.{PlantDefinition}
 use Rattle.step_core.specs.Runs.{IsRun, fold}
 use Rattle.step_core.specs.Step.{initial_states}
-use Rattle.step_core.proofs.OnRuns.{run-folds}
+use Rattle.step_core.proofs.OnRuns.{run-folds, runs-join}
 use Rattle.crash_explorer.specs.Judging.{IsRight, IsRightStop, IsRunOf, state_behind}
 use Rattle.step_core.specs.Chosen.{choice_of}
 use Rattle.step_core.specs.declared.choice.Choice.{Choice}
-use Rattle.crash_explorer.specs.Running.{IsEnded, IsFirst, device_in, is_formatting}
+use Rattle.crash_explorer.specs.Running.{IsAt, IsEnded, IsLived, IsMadeUntil, device_in, fired_in, is_formatting}
 use Rattle.crash_explorer.specs.declared.running.Ended.{Ended}
 use Rattle.crash_explorer.specs.declared.running.Stage.{Stage}
+use Rattle.crash_explorer.specs.declared.running.Stage.TheVariants.{Running}
 
 module _ (plant : PlantDefinition) (digest : List ℕ) where
   -- the first state, before anything was fired
@@ -98,9 +101,11 @@ module _ (plant : PlantDefinition) (digest : List ℕ) where
       record { sound = alike.stand.sound; states_are = alike.stand.states_are ∙ states; number_is = alike.stand.number_is ∙ number })
       is
 
-  -- the plant that is booted has fired nothing
-  pub first-view : (bytes : ℕ) (cells : List Cell) (v : View) → IsBooted plant digest bytes cells v → StandsForFirst bytes cells → IsFirst plant v
-  first-view bytes cells v booted stands = record {
+  -- the plant that is booted is where its device stands
+  pub booted-at : (bytes : ℕ) (behind : List ChoiceDefinition) (cells : List Cell) (v : View) → IsRunOf plant behind → IsBooted plant digest bytes cells v
+      → StandsFor plant digest bytes cells (state_behind plant behind) (length behind) → IsAt plant behind v
+  booted-at bytes behind cells v run booted stands = record {
+    run = run;
     acked = booted.acked ∙ stands.states_are;
     present = booted.present ∙ booted.acked ∙ stands.states_are;
     tail = booted.tail;
@@ -109,41 +114,50 @@ module _ (plant : PlantDefinition) (digest : List ℕ) where
 
   -- ---- while the plant ran
 
-  module _ (bytes : ℕ) (v w : View) (hs : List Happened) (first : IsFirst plant v) (run : IsEventRun plant v hs w) where
+  module _ (bytes : ℕ) (behind : List ChoiceDefinition) (v w : View) (hs : List Happened) (at : IsAt plant behind v) (run : IsEventRun plant v hs w) where
     abbrev fired : List ChoiceDefinition
-    fired = all_fired hs
+    fired = behind ++ all_fired hs
 
     leads : v.present ≡ fold plant v.acked v.tail
-    leads = first.present ∙ sym first.acked ∙ ap (λ (cs : List ChoiceDefinition). fold plant v.acked cs) (sym first.tail)
+    leads = at.present ∙ sym at.acked ∙ ap (λ (cs : List ChoiceDefinition). fold plant v.acked cs) (sym at.tail)
 
-    acked : IsAckedOf plant v fired w
+    acked : IsAckedOf plant v (all_fired hs) w
     acked = events-ack plant hs v w leads run
 
-    all-of : v.tail ++ fired ≡ fired
-    all-of = ap (λ (cs : List ChoiceDefinition). cs ++ fired) first.tail
+    all-of : v.tail ++ all_fired hs ≡ all_fired hs
+    all-of = ap (λ (cs : List ChoiceDefinition). cs ++ all_fired hs) at.tail
 
-    grown : w.number - v.number ≡ w.number
-    grown = omega (arith, first.number)
+    grown : length behind + (w.number - v.number) ≡ w.number
+    grown = omega (arith, at.number, acked.grows)
 
     -- what was fired is a run
     pub is-run : IsRunOf plant fired
     is-run =
-        let whole : IsRun plant (initial_states plant) fired w.present = subst (λ (s : List Local). IsRun plant s fired w.present) first.present (events-run plant hs v w run) in
+        let more : IsRun plant (state_behind plant behind) (all_fired hs) w.present = subst (λ (s : List Local). IsRun plant s (all_fired hs) w.present) at.present (events-run plant hs v w run) in
+        let whole : IsRun plant (initial_states plant) fired w.present = runs-join plant behind (all_fired hs) (initial_states plant) (state_behind plant behind) w.present at.run more in
         subst (λ (s : List Local). IsRun plant (initial_states plant) fired s) (sym (run-folds plant fired (initial_states plant) w.present whole)) whole
 
     -- of which no more is acknowledged
     pub within : w.number ≤ length fired
-    within = omega (arith, acked.within, first.number, ap (λ (cs : List ChoiceDefinition). length cs) all-of)
+    within = omega (arith, acked.within, grown, length-append behind (all_fired hs), ap (λ (cs : List ChoiceDefinition). length cs) all-of)
 
     acked-is : w.acked ≡ state_behind plant (take w.number fired)
     acked-is =
+        let n : ℕ = w.number - v.number in
         acked.acked
-        ∙ ap (λ (n : ℕ). fold plant v.acked (take n (v.tail ++ fired))) grown
-        ∙ ap (λ (cs : List ChoiceDefinition). fold plant v.acked (take w.number cs)) all-of
-        ∙ ap (λ (s : List Local). fold plant s (take w.number fired)) first.acked
+        ∙ ap (λ (cs : List ChoiceDefinition). fold plant v.acked (take n cs)) all-of
+        ∙ ap (λ (s : List Local). fold plant s (take n (all_fired hs))) at.acked
+        ∙ sym (fold-append plant behind (take n (all_fired hs)) (initial_states plant))
+        ∙ ap (λ (cs : List ChoiceDefinition). state_behind plant cs) (sym (take-append-add behind (all_fired hs) n))
+        ∙ ap (λ (m : ℕ). state_behind plant (take m fired)) grown
 
     tail-is : w.tail ≡ drop w.number fired
-    tail-is = acked.tail ∙ ap (λ (n : ℕ). drop n (v.tail ++ fired)) grown ∙ ap (λ (cs : List ChoiceDefinition). drop w.number cs) all-of
+    tail-is =
+        let n : ℕ = w.number - v.number in
+        acked.tail
+        ∙ ap (λ (cs : List ChoiceDefinition). drop n cs) all-of
+        ∙ sym (drop-append-add behind (all_fired hs) n)
+        ∙ ap (λ (m : ℕ). drop m fired) grown
 
     -- and what a stop leaves is right
     pub running-right : (cells : List Cell) → StandsForFront plant digest bytes w cells → IsRight plant digest bytes (take w.number fired) (drop w.number fired) cells
@@ -162,3 +176,17 @@ module _ (plant : PlantDefinition) (digest : List ℕ) where
             number_is = stands.2.number_is ∙ ap (λ (n : ℕ). n + k) (sym long);
           },
         )
+
+-- a run that ended before anything was fired made nothing
+pub made-none : (plant : PlantDefinition) (events : List Event) (e : Ended) (stage : Stage) → e.fired.items ≡ [] → e.stage ≡ stage → IsMadeUntil plant events stage [] 0 → e.acked ≡ 0
+    → IsMadeUntil plant events e.stage (fired_in e) e.acked
+made-none plant events e stage none at made zero =
+    subst (λ (n : ℕ). IsMadeUntil plant events e.stage (map choice_of e.fired.items) n) (sym zero)
+    (subst (λ (l : List Choice). IsMadeUntil plant events e.stage (map choice_of l) 0) (sym none)
+    (subst (λ (s : Stage). IsMadeUntil plant events s [] 0) (sym at) made))
+
+-- a run of a plant in its first state made what it was asked for
+pub made-running : {E : Type 0} (plant : PlantDefinition) (events : List Event) (opened : View) (r : Result Ended E) → IsAt plant [] opened
+    → IfOk r (λ (e : Ended). IsLived plant events opened [] (fired_in e) e.acked) → IfOk r (λ (e : Ended). e.stage ≡ Running) → IfOk r (λ (e : Ended). IsMadeUntil plant events e.stage (fired_in e) e.acked)
+made-running plant events opened (Ok e) at lived stage = subst (λ (s : Stage). IsMadeUntil plant events s (fired_in e) e.acked) (sym stage) (opened, at, lived)
+made-running plant events opened (Err fault) at lived stage = tt

@@ -3,7 +3,7 @@ use Rattle.std.specs.Prelude.{◌≡◌, ◌⊎◌, ℕ, ◌+◌, ◌≤◌, Boo
 use Rattle.petri_atom.specs.Local.{Local}
 use Rattle.disk_model.specs.Cells.{Cell}
 use Rattle.disk_model.specs.DiskState.{IsUnchanged}
-use Rattle.disk_model.specs.MemDisk.{fuse_of, state_of}
+use Rattle.disk_model.specs.MemDisk.{AsksNoChange, fuse_of, state_of}
 use Rattle.disk_model.specs.declared.fuse.Fuse.TheVariants.{Off}
 use Rattle.disk_model.specs.declared.memory.MemDisk.{MemDisk}
 use Rattle.step_core.specs.Choice.{ChoiceDefinition}
@@ -33,7 +33,9 @@ abbrev pub IsRightStop : PlantDefinition → List ℕ → ℕ → List ChoiceDef
 IsRightStop plant digest bytes acked tail formatting cells =
     IsRight plant digest bytes acked tail cells ⊎ ((formatting ≡ true) × (fault_of plant digest bytes cells ≡ Some NotFormatted))
 
--- nothing of a device in memory was changed, and its fuse is off
+-- Nothing of a device in memory was changed, and its fuse is off.
 pub record IsKept (old new : MemDisk) : Type 0 where
   pub same : IsUnchanged (state_of old) (state_of new)
+  pub rest : AsksNoChange old new
+  pub failures : (state_of new).failures ≡ (state_of old).failures
   pub unfused : fuse_of new ≡ Off

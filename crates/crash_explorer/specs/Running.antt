@@ -1,5 +1,5 @@
 -- What a run comes to.
-use Rattle.std.specs.Prelude.{◌≡◌, ℕ, ◌+◌, ◌≤◌, Bool, true, false, List, [], drop, length, map, take}
+use Rattle.std.specs.Prelude.{◌≡◌, ℕ, ◌+◌, ◌≤◌, Bool, true, false, List, [], ◌++◌, drop, length, map, take}
 use Rattle.disk_model.specs.Cells.{Cell, MayBe}
 use Rattle.disk_model.specs.DiskState.{DiskState, size_of}
 use Rattle.disk_model.specs.MemDisk.{state_of}
@@ -7,9 +7,11 @@ use Rattle.disk_model.specs.declared.cells.TheConstants.{BODY}
 use Rattle.step_core.specs.Choice.{ChoiceDefinition}
 use Rattle.step_core.specs.Chosen.{choice_of}
 use Rattle.step_core.specs.Plant.{PlantDefinition}
-use Rattle.step_core.specs.Step.{initial_states}
+use Rattle.plant_core.specs.Events.{IsEventRun, all_fired, asked_in}
 use Rattle.plant_core.specs.View.{View}
-use Rattle.crash_explorer.specs.Judging.{IsRightStop, IsRunOf}
+use Rattle.plant_core.specs.declared.events.Event.{Event}
+use Rattle.plant_core.specs.declared.events.Happened.{Happened}
+use Rattle.crash_explorer.specs.Judging.{IsRightStop, IsRunOf, state_behind}
 use Rattle.crash_explorer.specs.declared.running.Ended.{Ended}
 use Rattle.crash_explorer.specs.declared.running.Stage.{Stage}
 use Rattle.crash_explorer.specs.declared.running.Stage.TheVariants.{Formatting, Booting, Running}
@@ -42,9 +44,26 @@ pub record IsEnded (plant : PlantDefinition) (digest : List ℕ) (bytes : ℕ) (
   pub size : size_of (device_in e) ≡ bytes
   pub stops : (cells : List Cell) → MayBe (BODY + 1) (device_in e) cells → IsRightStop plant digest bytes (acked_in e) (tail_in e) (is_formatting e.stage) cells
 
--- The view of a plant in its first state, which has fired nothing.
-pub record IsFirst (plant : PlantDefinition) (v : View) : Type 0 where
-  pub acked : v.acked ≡ initial_states plant
-  pub present : v.present ≡ initial_states plant
+-- The plant has fired and acknowledged these choices, a run from its first state, and nothing more.
+pub record IsAt (plant : PlantDefinition) (behind : List ChoiceDefinition) (v : View) : Type 0 where
+  pub run : IsRunOf plant behind
+  pub acked : v.acked ≡ state_behind plant behind
+  pub present : v.present ≡ state_behind plant behind
   pub tail : v.tail ≡ []
-  pub number : v.number ≡ 0
+  pub number : v.number ≡ length behind
+
+-- A plant that was opened with this view, behind these choices, was asked for the events. So it has fired these choices in all, and so many of them are
+-- acknowledged.
+pub record IsLived (plant : PlantDefinition) (events : List Event) (opened : View) (behind fired : List ChoiceDefinition) (acked : ℕ) : Type 0 where
+  pub happened : List Happened
+  pub closed : View
+  pub asked : map asked_in happened ≡ events
+  pub run : IsEventRun plant opened happened closed
+  pub fired_are : fired ≡ behind ++ all_fired happened
+  pub acked_are : acked ≡ closed.number
+
+-- What was fired of a run until it ended: nothing before the plant was there, and then what a plant in its first state fires that is asked for the events.
+abbrev pub IsMadeUntil : PlantDefinition → List Event → Stage → List ChoiceDefinition → ℕ → Type 0
+IsMadeUntil plant events Formatting fired acked = fired ≡ []
+IsMadeUntil plant events Booting fired acked = fired ≡ []
+IsMadeUntil plant events Running fired acked = (opened : View) × IsAt plant [] opened × IsLived plant events opened [] fired acked

@@ -2,15 +2,19 @@
 ghost use Rattle.std.specs.Prelude.{◌≡◌, ◌+◌, IfOk};
 ghost use Rattle.disk_model.specs.Cells.{seen_cells};
 ghost use Rattle.disk_model.specs.DiskState.{size_of};
-ghost use Rattle.disk_model.specs.MemDisk.{state_of};
+ghost use Rattle.disk_model.specs.MemDisk.{cell_of, state_of};
 ghost use Rattle.disk_model.specs.declared.cells.TheConstants.{BODY};
+ghost use Rattle.plant_core.specs.Plants.{definition_of, text_digest};
 ghost use Rattle.step_core.specs.System.{digest_of, plant_of};
-ghost use Rattle.crash_explorer.specs.Verdicts.{IsFound};
+ghost use Rattle.crash_explorer.specs.Watching.{IsCountable, IsWhole};
+ghost use Rattle.crash_explorer.specs.Verdicts.{IsFound, IsOpened, found_in};
 
 use crate::fault::ExploreFault;
+use crate::watched::Watched;
 use disk_model::MemDisk;
+use plant_core::Plant;
 use plant_image::ImageFault;
-use recovery::{BootFault, BootRefused, boot};
+use recovery::{BootFault, boot};
 use std::alloc::Global;
 use step_core::System;
 
@@ -23,15 +27,54 @@ pub enum Found {
     Refused(ImageFault),
 }
 
+/// The plant that a device boots to, or what is wrong with what it reads.
+#[derive(Drop)]
+pub(crate) enum Opened<'s> {
+    Plant(Plant<'s, Watched>),
+    Refused(ImageFault),
+}
+
+impl Opened<'_> {
+    /// What it is, told without the plant.
+    pub(crate) fn found(&self) -> Found
+        ensures { result ≡ found_in self.now }
+    {
+        match self {
+            Opened::Plant(plant) => Found::Booted(plant.front().fired),
+            Opened::Refused(fault) => Found::Refused(*fault),
+        }
+    }
+}
+
 /// Boots the plant on the device. While no fuse is set it fails only where its record of changes has no room, which is want of memory.
-pub(crate) fn found_on(alloc: Global, system: &System, disk: MemDisk) -> Result<Found, ExploreFault>
-    ensures { IfOk result (IsFound (plant_of system.now) (digest_of system.now) (size_of (state_of disk)) (seen_cells (BODY + 1) (state_of disk))) }
+pub(crate) fn open<'s>(
+    alloc: Global,
+    system: &'s System,
+    disk: MemDisk,
+) -> Result<Opened<'s>, ExploreFault>
+    requires cells { cell_of disk ≡ BODY + 1 }
+    requires whole { IsWhole disk }
+    requires countable { IsCountable disk }
+    ensures { IfOk result (IsOpened (plant_of system.now) (digest_of system.now) (state_of disk)) }
 {
-    match boot(alloc, disk, system) {
-        Ok(plant) => Ok(Found::Booted(plant.front().fired)),
-        Err(BootRefused { fault, .. }) => match fault {
-            BootFault::Disk | BootFault::Image(ImageFault::Memory) => Err(ExploreFault::Memory),
-            BootFault::Image(wrong) => Ok(Found::Refused(wrong)),
+    match boot(alloc, Watched::over(disk), system) {
+        Ok(plant) => Ok(Opened::Plant(plant)),
+        Err(refused) => match refused.fault {
+            BootFault::Disk => Err(ExploreFault::Memory),
+            BootFault::Image(fault) => match fault {
+                ImageFault::Memory => Err(ExploreFault::Memory),
+                wrong => Ok(Opened::Refused(wrong)),
+            },
         },
     }
+}
+
+/// What the device boots to.
+pub(crate) fn found_on(alloc: Global, system: &System, disk: MemDisk) -> Result<Found, ExploreFault>
+    requires cells { cell_of disk ≡ BODY + 1 }
+    requires whole { IsWhole disk }
+    requires countable { IsCountable disk }
+    ensures { IfOk result (IsFound (plant_of system.now) (digest_of system.now) (size_of (state_of disk)) (seen_cells (BODY + 1) (state_of disk))) }
+{
+    Ok(open(alloc, system, disk)?.found())
 }

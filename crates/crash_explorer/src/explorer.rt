@@ -1,30 +1,23 @@
 //! All trials of a run.
-ghost use Rattle.std.specs.Prelude.{◌≡◌, ◌+◌, ◌*◌, ◌^◌, ◌≤◌, ◌<◌, ◌↔◌, ℕ, List, IsTrue, true, replicate, length, IfOk, OnErr, MatchOption};
-ghost use Rattle.disk_model.specs.Cells.{Cell};
+ghost use Rattle.std.specs.Prelude.{◌≡◌, ◌+◌, ◌*◌, ◌^◌, ◌≤◌, ◌<◌, replicate, length, slice_get, IfOk, OnErr, MatchOption, Some};
 ghost use Rattle.disk_model.specs.MemDisk.{cell_of, fresh, state_of};
 ghost use Rattle.disk_model.specs.declared.cells.TheConstants.{BODY};
 ghost use Rattle.disk_model.specs.declared.change.Tear.{Tear};
-ghost use Rattle.plant_image.specs.declared.fault.ImageFault.TheVariants.{NotFormatted};
 ghost use Rattle.record_codec.specs.declared.layout.TheConstants.{LEAST_RING, MOST_RING};
 ghost use Rattle.record_codec.specs.Ring.{device_cells};
 ghost use Rattle.recovery.specs.Formatting.{formatted_size};
-ghost use Rattle.step_core.specs.Choice.{ChoiceDefinition};
-ghost use Rattle.step_core.specs.Plant.{PlantDefinition};
 ghost use Rattle.step_core.specs.System.{plant_of};
+ghost use Rattle.crash_explorer.specs.Watching.{IsCountable, IsWhole};
 ghost use Rattle.crash_explorer.specs.declared.explorer.TheConstants.{MOST_STOPS, TEARS};
-ghost use Rattle.crash_explorer.specs.Judging.{IsRightStop};
-ghost use Rattle.crash_explorer.specs.Running.{is_formatting};
-ghost use Rattle.crash_explorer.specs.Verdicts.{IsFound, IsVerdict};
 
-use crate::booting::{Found, found_on};
+use crate::booting::Found;
 use crate::fault::ExploreFault;
-use crate::judging::{Verdict, verdict_on};
 use crate::loading::CELL;
+use crate::outcome::{Next, outcome_of};
 use crate::running::{Stage, run};
 use crate::watched::Cut;
 use disk_model::{MemDisk, Tear};
 use plant_core::Event;
-use plant_image::ImageFault;
 use record_codec::ring::device_cells;
 use std::alloc::{AllocError, Global};
 use step_core::System;
@@ -67,7 +60,9 @@ pub struct Trial {
     pub acked: u64,
     /// What the device boots to.
     pub found: Found,
-    /// Whether it is right.
+    /// How the plant goes on, where it boots and the device is right.
+    pub next: Option<Next>,
+    /// Whether the device is right, and is so again when the plant went on.
     pub right: bool,
 }
 
@@ -88,7 +83,7 @@ pub struct Explorer<'a> {
 }
 
 impl<'a> Explorer<'a> {
-    ghost use Rattle.crash_explorer.specs.Exploring.{IsExplorerOf, IsNextTrial, IsTrial, stops_of, trials_left};
+    ghost use Rattle.crash_explorer.specs.Exploring.{IsExplorerOf, IsNextTrial, IsTrial, IsWholeRun, stops_of, trials_left};
     ghost use Rattle.step_core.specs.System.{digest_of};
 
     /// The explorer of the run that formats a device with a ring of so many records, boots the plant, and makes these events.
@@ -101,12 +96,13 @@ impl<'a> Explorer<'a> {
         requires ring_from { LEAST_RING ≤ ring }
         requires ring_to { ring ≤ MOST_RING }
         ensures run { IfOk result (IsExplorerOf system.now ring events.now) }
+        ensures stops { IfOk result (λ e. IsWholeRun (plant_of system.now) (digest_of system.now) ring events.now (stops_of e)) }
         ensures trials { IfOk result (λ e. trials_left e ≡ 4 * stops_of e) }
     {
         let disk = device(alloc, system, ring, events.len())?;
         let whole = run(alloc, system, ring, events, disk)?;
         // A device that failed had no room for its record of changes.
-        if whole.disk.cut().is_some() {
+        if whole.disk.cut().is_some() || whole.stage != Stage::Running {
             return Err(ExploreFault::Memory);
         }
         let stops = whole.disk.into_memory().changes();
@@ -141,7 +137,7 @@ impl<'a> Explorer<'a> {
         if self.stop == self.stops {
             return Ok(None);
         }
-        let trial = self.trial(alloc, self.stop + 1, TEARS[self.tear])?;
+        let trial = self.trial(alloc, self.stop + 1, self.next_tear())?;
         self.tear += 1;
         if self.tear == TEARS.len() {
             self.tear = 0;
@@ -150,51 +146,37 @@ impl<'a> Explorer<'a> {
         Ok(Some(trial))
     }
 
+    /// How the next stop is torn.
+    fn next_tear(&self) -> Tear
+        ensures { slice_get TEARS self.now.tear ≡ Some result }
+    {
+        TEARS[self.tear]
+    }
+
     /// The run, stopped at its `stop`-th write or sync, and what that leaves.
     fn trial(&self, alloc: Global, stop: u64, tear: Tear) -> Result<Trial, ExploreFault>
-        ensures { IfOk result (IsTrial (plant_of self.now.system.now) (digest_of self.now.system.now) self.now.ring stop tear) }
+        ensures { IfOk result (IsTrial (plant_of self.now.system.now) (digest_of self.now.system.now) self.now.ring self.now.events.now stop tear) }
     {
         let mut disk = device(alloc, self.system, self.ring, self.events.len())?;
         disk.fuse_change(stop);
         let ended = run(alloc, self.system, self.ring, self.events, disk)?;
         let cut = ended.disk.cut();
         let stage = ended.stage;
-        let mut left = ended.disk.into_memory().stop(tear);
-        let (acked, tail) = ended.fired.split_at(ended.acked);
-        let verdict = verdict_on(alloc, self.system, acked, tail, &mut left)?;
-        let found = found_on(alloc, self.system, left)?;
+        let fired = ended.fired.len() as u64;
+        let acked = ended.acked;
+        let left = ended.disk.into_memory().stop(tear);
+        let outcome = outcome_of(alloc, self.system, stage, ended.fired, acked, left, tear)?;
         Ok(Trial {
             stop,
             cut,
             tear,
             stage,
-            fired: ended.fired.len() as u64,
-            acked: ended.acked as u64,
-            found,
-            right: is_right(stage, verdict, found),
+            fired,
+            acked: acked as u64,
+            found: outcome.found,
+            next: outcome.next,
+            right: outcome.right,
         })
-    }
-}
-
-/// Whether what a stop left is right, by its verdict and by what it boots to.
-fn is_right(stage: Stage, verdict: Verdict, found: Found) -> bool
-    ensures { (plant : PlantDefinition) (digest : List ℕ) (bytes : ℕ) (acked tail : List ChoiceDefinition) (cells : List Cell)
-        → IsVerdict plant digest bytes acked tail cells verdict → IsFound plant digest bytes cells found
-        → IsTrue result ↔ IsRightStop plant digest bytes acked tail (is_formatting stage) cells }
-{
-    match verdict {
-        Verdict::Stands(number, right) => right && found == Found::Booted(number),
-        Verdict::Faulty(fault) => is_unformatted(stage, fault) && found == Found::Refused(fault),
-    }
-}
-
-/// Whether nothing else is wrong than that formatting did not come to its end.
-fn is_unformatted(stage: Stage, fault: ImageFault) -> bool
-    ensures { IsTrue result ↔ ((is_formatting stage ≡ true) × (fault ≡ NotFormatted)) }
-{
-    match stage {
-        Stage::Formatting => fault == ImageFault::NotFormatted,
-        Stage::Booting | Stage::Running => false,
     }
 }
 
@@ -202,6 +184,8 @@ fn is_unformatted(stage: Stage, fault: ImageFault) -> bool
 fn device(alloc: Global, system: &System, ring: u32, events: usize) -> Result<MemDisk, AllocError>
     ensures zeros { IfOk result (λ disk. state_of disk ≡ fresh (replicate (formatted_size (plant_of system.now) ring) 0)) }
     ensures cells { IfOk result (λ disk. cell_of disk ≡ BODY + 1) }
+    ensures whole { IfOk result IsWhole }
+    ensures countable { IfOk result IsCountable }
 {
     let cells = cells_for(system, ring);
     let room = events

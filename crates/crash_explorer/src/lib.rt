@@ -12,6 +12,7 @@
 //!
 //! - `judging`: when a device is right. `loading`: its cells. `states`: the state behind some choices.
 //! - `watched`: a device in memory that remembers what of it was stopped. `running`: one run, stopped or not. `booting`: what a device boots to.
+//!   `outcome`: what becomes of a device that a stop left, and how the plant goes on.
 //! - `explorer`: all trials of a run. `fault`: why there is no answer.
 #![tactic(auto)]
 
@@ -20,6 +21,7 @@ mod explorer;
 mod fault;
 mod judging;
 mod loading;
+mod outcome;
 mod running;
 mod states;
 mod watched;
@@ -28,5 +30,6 @@ pub use booting::Found;
 pub use explorer::{Explorer, Report, TEARS, Trial, explore};
 pub use fault::ExploreFault;
 pub use judging::judge;
+pub use outcome::{NEXT, Next};
 pub use running::Stage;
 pub use watched::Cut;

@@ -1,5 +1,5 @@
 // One run: a device is formatted, the plant booted from it, and some events made.
-ghost use Rattle.std.specs.Prelude.{◌≡◌, ◌+◌, ◌≤◌, [], List, IfOk, map, replicate};
+ghost use Rattle.std.specs.Prelude.{◌≡◌, ◌+◌, ◌++◌, ◌≤◌, [], List, IfOk, map, replicate};
 ghost use Rattle.disk_model.specs.Cells.{Cell, MayBe};
 ghost use Rattle.disk_model.specs.DiskState.{size_of};
 ghost use Rattle.disk_model.specs.MemDisk.{cell_of, fresh, state_of};
@@ -12,7 +12,9 @@ ghost use Rattle.recovery.specs.Formatting.{formatted_size};
 ghost use Rattle.step_core.specs.Chosen.{choice_of};
 ghost use Rattle.step_core.specs.Step.{initial_states};
 ghost use Rattle.step_core.specs.System.{digest_of, plant_of};
-ghost use Rattle.crash_explorer.specs.Running.{IsEnded, IsFirst};
+ghost use Rattle.crash_explorer.specs.declared.running.Stage.TheVariants.{Running};
+ghost use Rattle.crash_explorer.specs.Watching.{IsCountable, IsWhole};
+ghost use Rattle.crash_explorer.specs.Running.{IsAt, IsEnded, IsLived, IsMadeUntil, fired_in};
 
 use crate::fault::ExploreFault;
 use crate::watched::Watched;
@@ -74,8 +76,11 @@ pub(crate) fn run(
     requires ring_from { LEAST_RING ≤ ring }
     requires ring_to { ring ≤ MOST_RING }
     requires cells { cell_of disk ≡ BODY + 1 }
+    requires whole { IsWhole disk }
+    requires countable { IsCountable disk }
     requires zeros { state_of disk ≡ fresh (replicate (formatted_size (plant_of system.now) ring) 0) }
-    ensures { IfOk result (IsEnded (plant_of system.now) (digest_of system.now) (formatted_size (plant_of system.now) ring)) }
+    ensures ended { IfOk result (IsEnded (plant_of system.now) (digest_of system.now) (formatted_size (plant_of system.now) ring)) }
+    ensures made { IfOk result (λ e. IsMadeUntil (plant_of system.now) events.now e.stage (fired_in e) e.acked) }
 {
     match format(alloc, Watched::over(disk), system, ring) {
         Ok(disk) => run_formatted(alloc, system, events, disk),
@@ -99,10 +104,11 @@ fn run_formatted(
 ) -> Result<Ended, ExploreFault>
     requires { (cells : List Cell) → MayBe (BODY + 1) (state_of disk.disk) cells
         → StandsFor (plant_of system.now) (digest_of system.now) (size_of (state_of disk.disk)) cells (initial_states (plant_of system.now)) 0 }
-    ensures { IfOk result (IsEnded (plant_of system.now) (digest_of system.now) (size_of (state_of disk.disk))) }
+    ensures ended { IfOk result (IsEnded (plant_of system.now) (digest_of system.now) (size_of (state_of disk.disk))) }
+    ensures made { IfOk result (λ e. IsMadeUntil (plant_of system.now) events.now e.stage (fired_in e) e.acked) }
 {
     match boot(alloc, disk, system) {
-        Ok(plant) => run_booted(alloc, plant, events),
+        Ok(plant) => run_booted(alloc, plant, events, Vec::new(alloc)),
         Err(refused) => match refused.fault {
             BootFault::Image(ImageFault::Memory) => Err(ExploreFault::Memory),
             BootFault::Image(_) | BootFault::Disk => Ok(Ended::before_the_first(
@@ -114,19 +120,22 @@ fn run_formatted(
     }
 }
 
-/// The same from a plant on that has fired nothing.
-fn run_booted(
+/// The same from a plant on that has fired and acknowledged these choices, and nothing more.
+pub(crate) fn run_booted(
     alloc: Global,
     plant: Plant<'_, Watched>,
     events: &[Event],
+    behind: Vec<Choice>,
 ) -> Result<Ended, ExploreFault>
-    requires { IsFirst (definition_of plant) (view_of plant) }
-    ensures { IfOk result (IsEnded (definition_of plant.entry) (text_digest plant.entry) (size_of (device_of plant.entry))) }
+    requires { IsAt (definition_of plant) (map choice_of behind.items) (view_of plant) }
+    ensures ended { IfOk result (IsEnded (definition_of plant.entry) (text_digest plant.entry) (size_of (device_of plant.entry))) }
+    ensures lived { IfOk result (λ e. IsLived (definition_of plant.entry) events.now (view_of plant.entry) (map choice_of behind.items) (fired_in e) e.acked) }
+    ensures stage { IfOk result (λ e. e.stage ≡ Running) }
 {
     let mut plant = plant;
     let mut hands = Hands::new(alloc, plant.system().atoms().len())?;
     let answers = drive(alloc, &mut plant, events, &mut hands)?;
-    let fired = fired_in(alloc, &answers)?;
+    let fired = fired_behind(behind, &answers)?;
     let acked = plant.front().acked as usize;
     plant.stands_for_a_front();
     Ok(Ended {
@@ -137,11 +146,11 @@ fn run_booted(
     })
 }
 
-/// The choices that were fired.
-fn fired_in(alloc: Global, answers: &[Happened]) -> Result<Vec<Choice>, AllocError>
-    ensures { IfOk result (λ fired. map choice_of fired.items ≡ all_fired answers.now) }
+/// These choices, and behind them those that were fired.
+fn fired_behind(behind: Vec<Choice>, answers: &[Happened]) -> Result<Vec<Choice>, AllocError>
+    ensures { IfOk result (λ fired. map choice_of fired.items ≡ map choice_of behind.items ++ all_fired answers.now) }
 {
-    let mut fired = Vec::new(alloc);
+    let mut fired = behind;
     for happened in answers {
         if let Happened::Fire(_, Ok(step)) = happened {
             fired.push(step.choice.copy())?;

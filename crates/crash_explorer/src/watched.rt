@@ -1,8 +1,9 @@
 // A device in memory, at the engine's cells, that remembers which of its writes and syncs was the first to fail.
-ghost use Rattle.std.specs.Prelude.{◌≡◌, ◌+◌, ◌^◌, ◌<◌};
+ghost use Rattle.std.specs.Prelude.{◌≡◌, ◌+◌, ◌^◌, ◌<◌, None};
 ghost use Rattle.disk_model.specs.DiskState.{size_of};
 ghost use Rattle.disk_model.specs.MemDisk.{cell_of, state_of};
 ghost use Rattle.disk_model.specs.declared.cells.TheConstants.{BODY};
+ghost use Rattle.crash_explorer.specs.Watching.{IsCountable, IsWhole};
 
 use crate::loading::CELL;
 use disk_model::{Disk, DiskFault, MemDisk};
@@ -37,18 +38,24 @@ pub(crate) struct Watched {
     cut: Option<Cut>,
     ghost small: { size_of (state_of disk) < 2 ^ 64 },
     ghost cells: { cell_of disk ≡ BODY + 1 },
+    ghost whole: { cut ≡ None → IsWhole disk },
+    ghost countable: { IsCountable disk },
 }
 
 impl Watched {
     pub(crate) fn over(disk: MemDisk) -> Watched
-        requires { cell_of disk ≡ BODY + 1 }
+        requires cells { cell_of disk ≡ BODY + 1 }
+        requires whole { IsWhole disk }
+        requires countable { IsCountable disk }
         ensures { result.disk ≡ disk }
     {
         Watched { disk, cut: None }
     }
 
     /// What failed first, if anything did.
-    pub(crate) fn cut(&self) -> Option<Cut> {
+    pub(crate) fn cut(&self) -> Option<Cut>
+        ensures { result ≡ self.now.cut }
+    {
         self.cut
     }
 
@@ -58,15 +65,6 @@ impl Watched {
     {
         let Watched { disk, .. } = self;
         disk
-    }
-
-    /// Notes what failed, where nothing failed before.
-    fn note(&mut self, cut: Cut)
-        ensures { self.new.disk ≡ self.old.disk }
-    {
-        if self.cut.is_none() {
-            self.cut = Some(cut);
-        }
     }
 }
 
@@ -86,18 +84,18 @@ impl Disk for Watched {
     }
 
     fn write_at(&mut self, at: u64, from: &[u8]) -> Result<(), DiskFault> {
-        let written = self.disk.write_at(at, from);
-        if written.is_err() {
-            self.note(Cut::of_write(at, from.len()));
-        }
-        written
+        let before = self.cut;
+        self.cut = Some(before.unwrap_or(Cut::of_write(at, from.len())));
+        self.disk.write_at(at, from)?;
+        self.cut = before;
+        Ok(())
     }
 
     fn sync(&mut self) -> Result<(), DiskFault> {
-        let synced = self.disk.sync();
-        if synced.is_err() {
-            self.note(Cut::Sync);
-        }
-        synced
+        let before = self.cut;
+        self.cut = Some(before.unwrap_or(Cut::Sync));
+        self.disk.sync()?;
+        self.cut = before;
+        Ok(())
     }
 }

@@ -17,32 +17,34 @@ use Rattle.crash_explorer.specs.declared.explorer.Trial.{Trial}
 use Rattle.image_commands.specs.Trials.{AreTrialsFrom, IsTrialAt, listed_line, wrong_of}
 
 -- one more trial behind those that were made
-pub trials_and_next : (plant : PlantDefinition) (digest : List ℕ) (ring number : ℕ) (trials : List Trial) (t : Trial) →
-    AreTrialsFrom plant digest ring number trials → IsTrialAt plant digest ring (number + length trials) t → AreTrialsFrom plant digest ring number (trials ++ t ∷ [])
-trials_and_next plant digest ring number [] t made next =
+pub trials_and_next : (plant : PlantDefinition) (digest : List ℕ) (ring : ℕ) (events : List Event) (number : ℕ) (trials : List Trial) (t : Trial) →
+    AreTrialsFrom plant digest ring events number trials → IsTrialAt plant digest ring events (number + length trials) t → AreTrialsFrom plant digest ring events number (trials ++ t ∷ [])
+trials_and_next plant digest ring events number [] t made next =
     let none : List Trial = [] in
     let place : number + length none ≡ number = omega arith in
-    (subst (λ (n : ℕ). IsTrialAt plant digest ring n t) place next, tt)
-trials_and_next plant digest ring number (first ∷ trials) t made next =
+    (subst (λ (n : ℕ). IsTrialAt plant digest ring events n t) place next, tt)
+trials_and_next plant digest ring events number (first ∷ trials) t made next =
     let place : number + length (first ∷ trials) ≡ (number + 1) + length trials = omega arith in
-    (made.0, trials_and_next plant digest ring (number + 1) trials t made.1 (subst (λ (n : ℕ). IsTrialAt plant digest ring n t) place next))
+    (made.0, trials_and_next plant digest ring events (number + 1) trials t made.1 (subst (λ (n : ℕ). IsTrialAt plant digest ring events n t) place next))
 
 -- the next trial of an explorer is the one with the number of those that were made
 pub next_is_at : (system : System) (ring : ℕ) (events : List Event) (e : Explorer) (number : ℕ) (t : Trial) →
     IsExplorerOf system ring events e → number + trials_left e ≡ 4 * stops_of e → 0 < trials_left e → IsNextTrial e t →
-    IsTrialAt (plant_of system) (digest_of system) ring number t
+    IsTrialAt (plant_of system) (digest_of system) ring events number t
 next_is_at system ring events e number t is left more next =
     let place : number ≡ 4 * e.stop + e.tear = omega (arith, e.torn, e.within) in
     let stop : e.stop ≡ number / 4 = omega (arith, e.torn) in
     let tear : e.tear ≡ number % 4 = omega (arith, e.torn) in
     let torn : Tear = next.0 in
-    let by_system : IsTrial (plant_of system) (digest_of system) e.ring (e.stop + 1) torn t =
-    subst (λ (s : System). IsTrial (plant_of s) (digest_of s) e.ring (e.stop + 1) torn t) is.of_system next.2 in
-    let by_ring : IsTrial (plant_of system) (digest_of system) ring (e.stop + 1) torn t =
-    subst (λ (r : ℕ). IsTrial (plant_of system) (digest_of system) r (e.stop + 1) torn t) is.of_ring by_system in (
+    let by_system : IsTrial (plant_of system) (digest_of system) e.ring e.events.now (e.stop + 1) torn t =
+    subst (λ (s : System). IsTrial (plant_of s) (digest_of s) e.ring e.events.now (e.stop + 1) torn t) is.of_system next.2 in
+    let by_ring : IsTrial (plant_of system) (digest_of system) ring e.events.now (e.stop + 1) torn t =
+    subst (λ (r : ℕ). IsTrial (plant_of system) (digest_of system) r e.events.now (e.stop + 1) torn t) is.of_ring by_system in
+    let by_events : IsTrial (plant_of system) (digest_of system) ring events (e.stop + 1) torn t =
+    subst (λ (asked : List Event). IsTrial (plant_of system) (digest_of system) ring asked (e.stop + 1) torn t) is.of_events by_ring in (
       torn,
       subst (λ (n : ℕ). slice_get TEARS n ≡ Some torn) tear next.1,
-      subst (λ (n : ℕ). IsTrial (plant_of system) (digest_of system) ring (n + 1) torn t) stop by_ring,
+      subst (λ (n : ℕ). IsTrial (plant_of system) (digest_of system) ring events (n + 1) torn t) stop by_events,
     )
 
 -- the line of one more trial behind those that were printed

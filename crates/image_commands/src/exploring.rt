@@ -58,7 +58,7 @@ impl From<WriteFault> for ExploreEnding {
 }
 
 /// Formats a device in memory with a ring of so many records, boots the plant and makes the events: at first to the end, and then stopped at each write
-/// and each sync, under each of four tears. It boots what each stop left, and judges it. Prints a line for each of these trials, where they are to be
+/// and each sync, under each of four tears. It boots what each stop left, lets the plant go on, and judges both. Prints a line for each of these trials, where they are to be
 /// listed, and how many there are; and gives how many are not right. Where it has no answer, a front of the lines may be printed.
 pub fn explore_plant<W: Write, P: Progress>(
     alloc: Global,
@@ -71,7 +71,7 @@ pub fn explore_plant<W: Write, P: Progress>(
 ) -> Result<u64, ExploreEnding>
     requires ring_from { LEAST_RING ≤ ring }
     requires ring_to { ring ≤ MOST_RING }
-    ensures { IfOk result (λ wrong. IsExplored (plant_of system.now) (digest_of system.now) ring list wrong (W.contents output.old) (W.contents output.new)) }
+    ensures { IfOk result (λ wrong. IsExplored (plant_of system.now) (digest_of system.now) ring events.now list wrong (W.contents output.old) (W.contents output.new)) }
 {
     let mut explorer = Explorer::new(alloc, system, ring, events)?;
     let mut boots = 0;

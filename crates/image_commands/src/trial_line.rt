@@ -1,10 +1,10 @@
 //! The line of a trial.
 ghost use Rattle.std.specs.Prelude.{◌≡◌, OnOk};
 ghost use Rattle.std.specs.Io.KnownBytes.{Appends};
-ghost use Rattle.image_commands.specs.Trials.{call_text, cut_text, explored_line, found_text, is_unformatted, mark_text, tear_text, trial_line};
+ghost use Rattle.image_commands.specs.Trials.{call_text, cut_text, explored_line, found_text, is_unformatted, mark_text, next_text, tear_text, trial_line};
 
 use crate::refusal::ImageRefusal;
-use crash_explorer::{Cut, Found, Trial};
+use crash_explorer::{Cut, Found, Next, Trial};
 use disk_model::Tear;
 use plant_image::ImageFault;
 use std::io::Write;
@@ -25,6 +25,7 @@ pub(crate) fn print_trial<W: Write>(trial: &Trial, output: &mut W) -> Result<(),
     print_found(trial.found, output)?;
     print_text(output, b", acknowledged ")?;
     print_number(output, trial.acked)?;
+    print_next(trial.next, output)?;
     end_line(output)
 }
 
@@ -93,6 +94,22 @@ fn is_unformatted(fault: ImageFault) -> bool
     ensures { result ≡ is_unformatted fault }
 {
     matches!(fault, ImageFault::NotFormatted)
+}
+
+/// Prints how the plant went on that was booted, where that is not right.
+fn print_next<W: Write>(next: Option<Next>, output: &mut W) -> Result<(), WriteFault>
+    ensures { OnOk result (Appends (W.contents output.old) (W.contents output.new) (next_text next)) }
+{
+    let Some(next) = next else {
+        return Ok(());
+    };
+    if next.right {
+        return Ok(());
+    }
+    print_text(output, b", then with ")?;
+    print_number(output, next.fired)?;
+    print_text(output, b" more: ")?;
+    print_found(next.found, output)
 }
 
 /// Prints how many stops a run has, how many devices were booted, and how many of these were not right.

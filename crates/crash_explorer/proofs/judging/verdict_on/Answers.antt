@@ -12,6 +12,7 @@ use Rattle.step_core.specs.Choice.{ChoiceDefinition}
 use Rattle.step_core.specs.Chosen.{choice_of}
 use Rattle.step_core.specs.Plant.{PlantDefinition}
 use Rattle.step_core.specs.System.{digest_of, plant_of}
+use Rattle.crash_explorer.proofs.Fronts.{asks-none}
 use Rattle.crash_explorer.proofs.Judged.{judged, told-wrong}
 use Rattle.crash_explorer.proofs.judging.verdict_on.Goals as goal
 
@@ -50,6 +51,8 @@ returns c =
       verdict = subst (λ (l : List Cell). fault_of plant digest (size_of old) l ≡ Some fault) cells (subst (λ (n : ℕ). fault_of plant digest n c.deref.result.now ≡ Some fault) bytes told);
       kept = record {
         same = unchanged_from old (state_of c.size-bytes.new.disk) (state_of c.load.new.disk) c.size-bytes.ensures.kept.same c.load.ensures.kept.same;
+        rest = asks-none c.args.disk.now c.size-bytes.new.disk c.load.new.disk c.size-bytes.ensures.kept.rest c.load.ensures.kept.rest;
+        failures = c.load.ensures.kept.failures ∙ c.size-bytes.ensures.kept.failures;
         unfused = c.load.ensures.kept.unfused;
       };
     }

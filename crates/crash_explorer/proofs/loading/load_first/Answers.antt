@@ -4,6 +4,7 @@ use Rattle.disk_model.specs.DiskState.{Moment}
 use Rattle.disk_model.specs.MemDisk.{state_of}
 use Rattle.disk_model.specs.Moments.{seen_length, unchanged_from}
 use Rattle.recovery.proofs.PartlyLoaded.{taken_more}
+use Rattle.crash_explorer.proofs.Fronts.{asks-none}
 use Rattle.crash_explorer.proofs.loading.load_first.Goals as goal
 
 pub loop-k-preserved : goal.loop-k-preserved
@@ -18,6 +19,8 @@ loop-k-preserved c =
       long = omega arith;
       kept = record {
         same = unchanged_from old mid (state_of c.load_cell.new.disk) c.loop-k.invariant.kept.same c.load_cell.ensures.kept.same;
+        rest = asks-none c.args.disk.now c.loop-k.disk c.load_cell.new.disk c.loop-k.invariant.kept.rest c.load_cell.ensures.kept.rest;
+        failures = c.load_cell.ensures.kept.failures ∙ c.loop-k.invariant.kept.failures;
         unfused = c.load_cell.ensures.kept.unfused;
       };
       loaded = taken_more all c.loop-k.cells.items _ c.load_cell.result c.loop-k.k inside c.loop-k.invariant.loaded c.push_reserved.ensures.items

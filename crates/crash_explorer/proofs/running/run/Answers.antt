@@ -12,7 +12,7 @@ use Rattle.crash_explorer.specs.Running.{device_in}
 use Rattle.crash_explorer.specs.declared.running.Ended.{Ended}
 use Rattle.crash_explorer.specs.declared.running.Stage.TheVariants.{Formatting}
 use Rattle.crash_explorer.specs.declared.watched.Watched.{Watched}
-use Rattle.crash_explorer.proofs.Stopped.{ended-first, formatting-right}
+use Rattle.crash_explorer.proofs.Stopped.{ended-first, formatting-right, made-none}
 use Rattle.crash_explorer.proofs.running.run.Goals as goal
 
 pub returns-in-WrongSize : goal.returns-in-WrongSize
@@ -26,7 +26,11 @@ returns-in-WrongSize c =
     let ended : Ended = c.before_the_first.result in
     let device : device_in ended ≡ left = ap (λ (w : Watched). state_of w.disk) c.before_the_first.ensures.disk in
     let size : size_of left ≡ bytes = c.in-Err.ensures.counts.size ∙ ap (λ (d : DiskState). size_of d) zeros ∙ length-replicate bytes 0 in
-    ended-first plant digest bytes ended Formatting c.before_the_first.ensures.fired c.before_the_first.ensures.acked c.before_the_first.ensures.stage
-    (ap (λ (d : DiskState). size_of d) device ∙ size)
-    (λ cells may. formatting-right plant digest c.args.ring old cells zeros
-    (leaves_now 512 (IsFormatting plant digest old) old left (c.in-Err.ensures.stops refl) cells (subst (λ (d : DiskState). MayBe 512 d cells) device may)))
+    record {
+      ended =
+          ended-first plant digest bytes ended Formatting c.before_the_first.ensures.fired c.before_the_first.ensures.acked c.before_the_first.ensures.stage
+          (ap (λ (d : DiskState). size_of d) device ∙ size)
+          (λ cells may. formatting-right plant digest c.args.ring old cells zeros
+          (leaves_now 512 (IsFormatting plant digest old) old left (c.in-Err.ensures.stops refl) cells (subst (λ (d : DiskState). MayBe 512 d cells) device may)));
+      made = made-none plant c.args.events.now ended Formatting c.before_the_first.ensures.fired c.before_the_first.ensures.stage refl c.before_the_first.ensures.acked;
+    }

@@ -1,4 +1,4 @@
-use Rattle.std.proofs.Common.{◌≡◌, ◌≤◌, ℕ, true, List, length, drop, map, take, inl, sym, ◌∙◌, ap, subst}
+use Rattle.std.proofs.Common.{◌≡◌, ◌≤◌, ℕ, true, List, ◌++◌, length, drop, map, take, inl, refl, sym, ◌∙◌, ap, subst}
 use Rattle.disk_model.specs.Cells.{Cell, MayBe}
 use Rattle.disk_model.specs.DiskState.{DiskState, size_of}
 use Rattle.disk_model.specs.MemDisk.{state_of}
@@ -23,10 +23,12 @@ returns c =
     let driven = c.drive.new.plant in
     let w : View = view_of driven in
     let hs : List Happened = c.in_ok-answers.answers.items in
-    let first = c.requires in
+    let behind : List ChoiceDefinition = map choice_of c.args.behind.items in
+    let at = c.requires in
     let run : IsEventRun plant v hs w = c.in_ok-answers.ensures.run in
     let fired : List ChoiceDefinition = map choice_of c.in_ok-fired.fired.items in
-    let same : fired ≡ all_fired hs = c.in_ok-fired.ensures ∙ ap (λ (l : List Happened). all_fired l) c.deref.ensures.value in
+    let all : List ChoiceDefinition = behind ++ all_fired hs in
+    let same : fired ≡ all = c.in_ok-fired.ensures ∙ ap (λ (l : List Happened). behind ++ all_fired l) c.deref.ensures.value in
     let acked : c.front-acked.result.acked ≡ w.number = c.front-acked.ensures.acked in
     let left : state_of c.into_disk.result.disk ≡ device_of driven = c.into_disk.ensures in
     let keeps : (device_of driven).keeps ≡ true = ap (λ (s : DiskState). s.keeps) (sym left) in
@@ -36,12 +38,23 @@ returns c =
     (subst (λ (p : PlantDefinition). (cells : List Cell) → MayBe 512 (device_of driven) cells → StandsForFront p (text_digest driven) (size_of (device_of driven)) w cells) c.drive.ensures.plant
     (c.stands_for_a_front.ensures keeps))) in
     record {
-      run = subst (λ (l : List ChoiceDefinition). IsRunOf plant l) (sym same) (is-run plant digest bytes v w hs first run);
-      acked = subst (λ (l : List ChoiceDefinition). c.front-acked.result.acked ≤ length l) (sym same) (subst (λ (n : ℕ). n ≤ length (all_fired hs)) (sym acked) (within plant digest bytes v w hs first run));
-      size = ap size_of left ∙ c.drive.ensures.size;
-      stops = λ cells may.
-          let right : IsRight plant digest bytes (take w.number (all_fired hs)) (drop w.number (all_fired hs)) cells =
-          running-right plant digest bytes v w hs first run cells (fronts cells (subst (λ (s : DiskState). MayBe 512 s cells) left may)) in
-          inl (subst (λ (n : ℕ). IsRight plant digest bytes (take n fired) (drop n fired) cells) (sym acked)
-          (subst (λ (l : List ChoiceDefinition). IsRight plant digest bytes (take w.number l) (drop w.number l) cells) (sym same) right));
+      ended = record {
+        run = subst (λ (l : List ChoiceDefinition). IsRunOf plant l) (sym same) (is-run plant digest bytes behind v w hs at run);
+        acked = subst (λ (l : List ChoiceDefinition). c.front-acked.result.acked ≤ length l) (sym same) (subst (λ (n : ℕ). n ≤ length all) (sym acked) (within plant digest bytes behind v w hs at run));
+        size = ap size_of left ∙ c.drive.ensures.size;
+        stops = λ cells may.
+            let right : IsRight plant digest bytes (take w.number all) (drop w.number all) cells =
+            running-right plant digest bytes behind v w hs at run cells (fronts cells (subst (λ (s : DiskState). MayBe 512 s cells) left may)) in
+            inl (subst (λ (n : ℕ). IsRight plant digest bytes (take n fired) (drop n fired) cells) (sym acked)
+            (subst (λ (l : List ChoiceDefinition). IsRight plant digest bytes (take w.number l) (drop w.number l) cells) (sym same) right));
+      };
+      lived = record {
+        happened = hs;
+        closed = w;
+        asked = c.in_ok-answers.ensures.asked;
+        run = run;
+        fired_are = same;
+        acked_are = acked;
+      };
+      stage = refl;
     }

@@ -38,7 +38,7 @@ loop-trial-preserved g c =
     let fewer : trials_left after + 1 ≡ trials_left e =
     subst (λ (o : Option Trial). MatchOption o (after ≡ e) (λ _. trials_left after + 1 ≡ trials_left e)) c.in-Some.is c.in_ok-trial.ensures.left in
     let more : 0 < trials_left e = omega (arith, fewer) in
-    let numbered : IsTrialAt (plant_of system) (digest_of system) c.args.ring before t =
+    let numbered : IsTrialAt (plant_of system) (digest_of system) c.args.ring c.args.events.now before t =
     next_is_at system c.args.ring c.args.events.now e before t seen.of_run seen.left more next in
     let place : before ≡ 0 + length seen.trials = omega (arith, seen.many) in
     record {
@@ -49,7 +49,7 @@ loop-trial-preserved g c =
         of_events = c.next_trial.ensures.run.of_events ∙ seen.of_run.of_events;
       };
       stops = c.next_trial.ensures.stops ∙ seen.stops;
-      each = trials_and_next (plant_of system) (digest_of system) c.args.ring 0 seen.trials t seen.each (subst (λ (n : ℕ). IsTrialAt (plant_of system) (digest_of system) c.args.ring n t) place numbered);
+      each = trials_and_next (plant_of system) (digest_of system) c.args.ring c.args.events.now 0 seen.trials t seen.each (subst (λ (n : ℕ). IsTrialAt (plant_of system) (digest_of system) c.args.ring c.args.events.now n t) place numbered);
       many = omega (arith, seen.many, length-append seen.trials (t ∷ []));
       left = omega (arith, seen.left, fewer, c.next_trial.ensures.stops);
       wrong = c.wrong_with-wrong.ensures ∙ ap (λ (n : ℕ). n + wrong_of t) seen.wrong ∙ sym (sum_by_push wrong_of seen.trials t);

@@ -16,7 +16,7 @@ invariant-loop-trial g l = record {
   trials : List Trial;
   of_run : IsExplorerOf l.fn.system l.fn.ring l.fn.events l.explorer;
   stops : stops_of l.explorer ≡ stops_of l.initial.explorer;
-  each : AreTrialsFrom (plant_of l.fn.system) (digest_of l.fn.system) l.fn.ring 0 trials;
+  each : AreTrialsFrom (plant_of l.fn.system) (digest_of l.fn.system) l.fn.ring l.fn.events 0 trials;
   many : l.boots ≡ length trials;
   left : l.boots + trials_left l.explorer ≡ 4 * stops_of l.explorer;
   wrong : l.wrong ≡ sum_by wrong_of trials;

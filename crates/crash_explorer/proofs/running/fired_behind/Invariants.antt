@@ -1,0 +1,7 @@
+use Rattle.std.proofs.Common.{◌≡◌, ◌++◌, map, take}
+use Rattle.step_core.specs.Chosen.{choice_of}
+use Rattle.plant_core.specs.Events.{all_fired}
+use Rattle.crash_explorer.proofs.running.fired_behind.Given as goal
+
+abbrev pub invariant-loop-happened : goal.invariant-loop-happened
+invariant-loop-happened l = map choice_of l.fired.items ≡ map choice_of l.initial.fired.items ++ all_fired (take l.happened-index l.answers)

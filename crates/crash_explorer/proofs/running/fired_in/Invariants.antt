@@ -1,7 +1,0 @@
-use Rattle.std.proofs.Common.{◌≡◌, map, take}
-use Rattle.step_core.specs.Chosen.{choice_of}
-use Rattle.plant_core.specs.Events.{all_fired}
-use Rattle.crash_explorer.proofs.running.fired_in.Given as goal
-
-abbrev pub invariant-loop-happened : goal.invariant-loop-happened
-invariant-loop-happened l = map choice_of l.fired.items ≡ all_fired (take l.happened-index l.answers)
