@@ -22,6 +22,8 @@ BOOT = -1
 BOOT_SYNCS = 2
 WITH_DEVICE = [BOOT] + [place for place, (_, _, syncs) in enumerate(EVENTS) if syncs]
 OF_DEVICE = {"pread64", "pwrite64"}
+# A line for each stop of the run under each tear.
+EXPLORE = "explore plant script --ring 8 --list"
 OF_A_DISK, OF_AN_OUTPUT = (errno.EIO, errno.ENOSPC), (errno.EIO, errno.ENOSPC, errno.EPIPE, errno.EAGAIN)
 
 
@@ -269,9 +271,36 @@ class Failures(OnImage):
                     ran = self.run_with(among([number], Fails(error), {name}, [file]))
                     self.assertEqual(ran.answer, (3, "", f"file {file}\n"), (name, number, error))
                     self.assertEqual(self.image.read_bytes(), FORMATTED)
-        for words in ("check -", "trace - 0", "choices -", "why -", "draw -", "format - new", "recover - image"):
+        for words in ("check -", "trace - 0", "choices -", "why -", "draw -", "format - new", "recover - image", "explore - script"):
             ran = self.watched(words, among([0], Fails(errno.EIO), {"read"}, ["<input>"]), PLANT.read_bytes())
             self.assertEqual(ran.answer, (3, "", "file -\n"), words)
+
+    def check_texts_of_an_exploration(self):
+        """They are the only files that it opens."""
+        (self.folder / "plant").write_bytes(PLANT.read_bytes() + 9000 * b" ")
+        (self.folder / "script").write_bytes(SCRIPT + 9000 * b" ")
+        self.image.write_bytes(LEFT)
+        whole = self.watched(EXPLORE)
+        self.assertEqual((whole.status, whole.told), (0, ""))
+        self.assertEqual([call.file for call in whole.calls if call.name == "openat"], ["plant", "script"])
+        for file in ("plant", "script"):
+            for name in ("openat", "read"):
+                for decide in sweep(self.count(whole, {name}, [file]), by_turns(Fails, (errno.EIO, errno.EISDIR, errno.ENOMEM)), {name}, [file]):
+                    self.assertEqual(self.watched(EXPLORE, decide).answer, (3, "", f"file {file}\n"), name)
+        ran = self.watched(EXPLORE, lambda call: Takes(100) if call.name in ("read", "write") else None)
+        self.assertEqual(ran.answer, whole.answer)
+        self.assertEqual(self.image.read_bytes(), LEFT)
+
+    def check_output_of_an_exploration(self):
+        """Each write fails, and each one behind it: what is told by then are the lines of the first trials."""
+        whole = self.watched(EXPLORE)
+        parts = [call.data.decode() for call in whole.calls if call.file == "<output>" and call.name == "write"]
+        self.assertEqual("".join(parts), whole.printed)
+        self.assertGreater(len(parts), 1)
+        for number in range(len(parts)):
+            fails = by_turns(Fails, OF_AN_OUTPUT)(number)
+            ran = self.watched(EXPLORE, among(range(number, len(parts) + 1), fails, {"write"}, ["<output>"]))
+            self.assertEqual(ran.answer, (3, "".join(parts[:number]), ""))
 
 
 def suite(program, words):

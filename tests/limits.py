@@ -30,12 +30,16 @@ DROP_OF_THE_BOUND, OVERRIDE, READ_SEARCH = 24, 1, 2
 # Each block of memory is asked of the system by itself, where the C library knows this.
 BLOCK_BY_BLOCK = {"GLIBC_TUNABLES": "glibc.malloc.mmap_threshold=1"}
 LEAST_BLOCKS, LAST_BLOCKS = 100, 20
-# A test of the library that asks memory of each of these calls in turn. It prints the name of one that is refused it, and makes it again.
+# Of what asks for more blocks than so many, which makes the same calls over and over, one of so many is refused each.
+MANY_BLOCKS, BLOCKS_APART = 300, 37
+# Tests of the library that ask memory of each of these calls in turn. They print the name of one that is refused it, and make it again.
 TESTS = ROOT / "crates" / "durable_tests" / "out" / "durable_tests_tests"
 REFUSED = "tests::memory::a_refused_growth_changes_nothing"
 ASKING = ["plant", "device", "format", "boot", "hands", "drive"]
+EXPLORING = "tests::memory::a_refused_growth_ends_an_exploration"
 PASSED = "\ntest result: ok\n"
 FIRST = standing(0, 0, number=0)
+EXPLORED = (0, "stops 20 boots 80 bad 0\n", "")
 
 
 def obey_rights():
@@ -64,14 +68,15 @@ def is_growth(call):
 
 
 class RefusesOnce:
-    """Refuses one growth of memory, and whatever the C library asks for in its place, until the program prints a line."""
+    """Refuses one growth of memory, and whatever the C library asks for in its place, until the program prints a line. Behind that it runs on by itself."""
 
     def __init__(self, number):
         self.left = number
         self.is_refusing = False
 
     def __call__(self, call):
-        self.is_refusing &= call.file != "<output>"
+        if self.is_refusing and call.file == "<output>":
+            return LetGo(lambda process: None)
         if not is_growth(call):
             return None
         self.is_refusing |= self.left == 0
@@ -148,6 +153,7 @@ class Limits(OnImage):
         self.assertEqual(self.ran("format plant image --ring 8", preexec_fn=at_most(resource.RLIMIT_NOFILE, 4)), (3, "", "file image\n"))
         self.assertFalse(self.image.exists())
         self.assertEqual(self.ran("format plant image --ring 8", preexec_fn=at_most(resource.RLIMIT_NOFILE, 5)), (0, "formatted 15\n", ""))
+        self.assertEqual(self.ran("explore plant nothing --ring 8", preexec_fn=at_most(resource.RLIMIT_NOFILE, 4)), EXPLORED)
 
     def check_closed_streams(self):
         """No file that the program opens is taken for a stream that it does not have."""
@@ -158,6 +164,7 @@ class Limits(OnImage):
             "recover plant image": (0, FIRST, ""),
             "recover script image": (1, "", "plant line 1: fault 3 UnknownWord\n"),
             "recover other image": (1, "", "image: refusal 3 OtherSystem\n"),
+            "explore plant nothing --ring 8": EXPLORED,
         }
         (self.folder / "other").write_bytes(PLANT.read_bytes() + b"\n")
         for command, (status, printed, line) in commands.items():
@@ -182,7 +189,9 @@ class Limits(OnImage):
             self.skipTest("the C library does not ask the system for each block of memory by itself")
         found = []
         # The commands take the blocks by turns, since each of them begins alike; at the end each takes all.
-        for number in [number for number in range(count) if number % len(MEMORY) == turn or number >= count - LAST_BLOCKS]:
+        numbers = [number for number in range(min(count, MANY_BLOCKS)) if number % len(MEMORY) == turn]
+        numbers += [*range(MANY_BLOCKS, count, BLOCKS_APART), *range(count - LAST_BLOCKS, count)]
+        for number in sorted(set(numbers)):
             self.put_image(data)
             ran = self.with_memory(words, number)
             self.assertEqual((ran.status, ran.printed), (3, ""), number)
@@ -190,13 +199,13 @@ class Limits(OnImage):
             self.expect_untouched(data)
         self.assertEqual(found, lines)
 
-    def check_memory_of_each_call(self):
-        """One growth is refused, each in turn, until a run meets no refusal. The call tells it and has changed nothing, and made again it succeeds."""
+    def calls_refused(self, test, numbers):
+        """The calls of a test that tell it if each of these growths of memory is refused them, until a run meets no refusal."""
         if reason := calls.why_not() or not TESTS.exists() and "the tests of durable_tests are not built":
             self.skipTest(reason)
         found = []
-        for number in itertools.count():
-            ran = calls.watched([TESTS, REFUSED], RefusesOnce(number), cwd=self.folder, env={**os.environ, **BLOCK_BY_BLOCK})
+        for number in numbers:
+            ran = calls.watched([TESTS, test], RefusesOnce(number), cwd=self.folder, env={**os.environ, **BLOCK_BY_BLOCK})
             self.assertEqual((ran.status, ran.told), (0, ""), number)
             names = ran.printed.removesuffix(PASSED).split()
             if not names:
@@ -204,7 +213,16 @@ class Limits(OnImage):
             found += names if names != found[-1:] else []
         if number < LEAST_BLOCKS:
             self.skipTest("the C library does not ask the system for each block of memory by itself")
-        self.assertEqual(found, ASKING)
+        return found
+
+    def check_memory_of_each_call(self):
+        """One growth is refused, each in turn. The call tells it and has changed nothing, and made again it succeeds."""
+        self.assertEqual(self.calls_refused(REFUSED, itertools.count()), ASKING)
+
+    def check_memory_of_exploring(self):
+        """The same of `explore`, which makes a run over and over: of its growths all of the first trials are refused, and then one of so many."""
+        numbers = itertools.chain(range(MANY_BLOCKS), itertools.count(MANY_BLOCKS, BLOCKS_APART))
+        self.assertEqual(self.calls_refused(EXPLORING, numbers), ["plant", "explore"])
 
     def put_image(self, data):
         self.image.unlink(missing_ok=True)
@@ -236,6 +254,7 @@ MEMORY = {
     "format": ("format plant image --ring 8", (0, "formatted 15\n", ""), [NO_MEMORY, OF_PLANT, OF_IMAGE]),
     "format_of_an_old_image": ("format plant image --ring 8", (0, "formatted 15\n", ""), [NO_MEMORY, OF_PLANT, OF_IMAGE], image_of({})),
     "run": ("run plant image script", answer(), [NO_MEMORY, OF_PLANT, NO_MEMORY, OF_IMAGE], FORMATTED),
+    "explore": ("explore plant nothing --ring 8", EXPLORED, [NO_MEMORY, OF_PLANT, NO_MEMORY]),
     "recover": ("recover plant image", (0, standing(4, 3), ""), [NO_MEMORY, OF_PLANT, OF_IMAGE], image_of(TAKEN["record_behind_an_empty_cell"][0])),
 }
 

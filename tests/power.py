@@ -18,6 +18,9 @@ from stops import state_behind
 
 LIFETIMES = 4
 PERIODS = 8
+# Of how many events a script of a period is made, from and to; and of how many in a long life, by whose end there are so many firings.
+SCRIPT, LONG_SCRIPT = (5, 40), (2000, 2500)
+FIRED_IN_A_LONG_LIFE = 800
 # One of so many images is also given to the program.
 SHOWN = 4
 
@@ -159,21 +162,21 @@ class Power(OnImage):
             seen.add(self.standing_in(data))
         self.assertEqual(seen, set(answers))
 
-    def events(self, chosen):
+    def events(self, chosen, length):
         """Mostly firings, with flushes, saves of atoms and trims between them."""
         lines = []
-        for _ in range(chosen.randrange(5, 40)):
+        for _ in range(chosen.randrange(*length)):
             kind = chosen.choice(["fire"] * 4 + ["flush", "save", "trim"])
             atom = chosen.choice("AB")
             lines += {"fire": [f"fire {chosen.randrange(9)}"], "save": [f"ask {atom}", "flush", f"put {atom}"]}.get(kind, [kind])
         return "".join(f"{line}\n" for line in lines).encode()
 
-    def expect_lifetime(self, number):
-        """Period follows period, each begins with what a loss of power left of the one before."""
-        chosen = random.Random(f"lifetime {number}")
+    def expect_lifetime(self, name, length):
+        """Period follows period, each begins with what a loss of power left of the one before. It gives what was fired and kept by its end."""
+        chosen = random.Random(name)
         data, history = FORMATTED, []
         for _ in range(PERIODS):
-            ran = self.watched("run plant image -", data, self.events(chosen))
+            ran = self.watched("run plant image -", data, self.events(chosen, length))
             fired = history + [line for line in ran.printed.splitlines() if line[:1].isdigit()]
             self.assertEqual([line.split()[0] for line in fired], [str(place + 1) for place in range(len(fired))])
             disk, printed = self.moment(chosen, data, ran)
@@ -184,6 +187,11 @@ class Power(OnImage):
             self.assertTrue(acked <= found.last <= len(fired), f"{acked} flushed, {found.last} in the image, {len(fired)} fired")
             history = fired[: found.last]
             self.assertEqual(found.printed(), text([*state_behind(history), f"front {found.last} {found.last} {found.base}"]))
+        return history
+
+    def check_long_life(self):
+        """The ring of eight records is used a hundred times and more."""
+        self.assertGreater(len(self.expect_lifetime("long life", LONG_SCRIPT)), FIRED_IN_A_LONG_LIFE)
 
     def moment(self, chosen, data, ran):
         """The disk at a moment of the run, most often at one with writes pending."""
@@ -193,6 +201,6 @@ class Power(OnImage):
 
 def suite(program, words):
     reason = calls.why_not()
-    checks = {"power/run": Power.check_run, "power/recover": Power.check_recover, "power/format": Power.check_format}
-    checks |= {f"power/lifetime_{number}": lambda self, number=number: self.expect_lifetime(number) for number in range(LIFETIMES)}
+    checks = {"power/run": Power.check_run, "power/recover": Power.check_recover, "power/format": Power.check_format, "power/long_life": Power.check_long_life}
+    checks |= {f"power/lifetime_{number}": lambda self, number=number: self.expect_lifetime(f"lifetime {number}", SCRIPT) for number in range(LIFETIMES)}
     return sample.suite(Power, program, {name: unittest.skipIf(reason, reason)(check) for name, check in checks.items()}, words)

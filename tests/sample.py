@@ -130,7 +130,7 @@ def answer():
 
 
 class OnImage(unittest.TestCase):
-    """A folder with the plant, the script of the run, and an image."""
+    """A folder with the plant, the script of the run, one of no event, and an image."""
 
     maxDiff = None
     program = None
@@ -142,6 +142,7 @@ class OnImage(unittest.TestCase):
         self.image = self.folder / "image"
         (self.folder / "plant").write_bytes(PLANT.read_bytes())
         (self.folder / "script").write_bytes(SCRIPT)
+        (self.folder / "nothing").write_bytes(b"")
         self.plant = read_plant(PLANT.read_bytes())
 
     def command(self, words):

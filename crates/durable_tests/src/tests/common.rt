@@ -19,12 +19,11 @@ pub(super) const SAMPLE: &[u8] =
 pub(super) const TEARS: [Tear; 4] = [Tear::Old, Tear::New, Tear::Gates, Tear::Mixed];
 
 /// A device in memory of which contracts are told the size and the counts alone: what its cells read for is seen by running. It counts
-/// its calls and its syncs.
+/// its calls.
 #[derive(Drop)]
 pub(super) struct Untold {
     disk: MemDisk,
     calls: u64,
-    syncs: u64,
     ghost small: { size_of (state_of disk) < 2 ^ 64 },
 }
 
@@ -32,11 +31,7 @@ impl Untold {
     pub(super) fn over(disk: MemDisk) -> Untold
         ensures { result.disk ≡ disk }
     {
-        Untold {
-            disk,
-            calls: 0,
-            syncs: 0,
-        }
+        Untold { disk, calls: 0 }
     }
 
     pub(super) fn into_memory(self) -> MemDisk {
@@ -46,10 +41,6 @@ impl Untold {
 
     pub(super) fn calls(&self) -> u64 {
         self.calls
-    }
-
-    pub(super) fn syncs(&self) -> u64 {
-        self.syncs
     }
 }
 
@@ -78,7 +69,6 @@ impl Disk for Untold {
 
     fn sync(&mut self) -> Result<(), DiskFault> {
         self.calls = self.calls.saturating_add(1);
-        self.syncs = self.syncs.saturating_add(1);
         self.disk.sync()
     }
 }

@@ -1,7 +1,7 @@
 // Plants on devices of which one call fails, and those behind it serve again. Numbers and states are worked out by hand.
 use super::common::{SAMPLE, Untold};
 use super::runs::{
-    FIRE_0, FIRE_1, FLUSH, NEVER, answer_in, boots_right, new_device, settled, stopped_run,
+    FIRE_0, FIRE_1, FLUSH, NEVER, boots_right, new_device, refusal_in, settled, torn_flush,
     value_of,
 };
 use disk_model::{MemDisk, Tear};
@@ -50,9 +50,9 @@ fn booted<'s>(
 fn failures_in(answers: &[Happened]) -> Result<u64, Fail> {
     let mut failed = 0u64;
     for happened in answers {
-        match (answer_in(happened), happened) {
-            (Err(Refused::Disk), _) => failed = failed.saturating_add(1),
-            (Err(Refused::Broken), _) | (_, Happened::Empty(_)) => {}
+        match (refusal_in(happened), happened) {
+            (Some(Refused::Disk), _) => failed = failed.saturating_add(1),
+            (Some(Refused::Broken), _) | (_, Happened::Empty(_)) => {}
             _ if failed == 0 => {}
             _ => return Err(Fail::new("a broken plant goes on")),
         }
@@ -104,17 +104,10 @@ fn each_call_that_fails_is_told_once(rt: HostRuntime) -> Result<(), Fail> {
     Ok(())
 }
 
-/// A flush of records 3 and 4 was stopped with the first gate closed and the second open.
-fn torn(alloc: Global, system: &System) -> Result<MemDisk, Fail> {
-    let events = [FIRE_0, FIRE_1, FLUSH, FIRE_0, FIRE_1, FLUSH];
-    // The boot makes 30 calls, and each flush of two 6.
-    let stopped = stopped_run(alloc, system, 42, &events)?;
-    Ok(stopped.disk.stop(Tear::Mixed))
-}
-
 /// The torn device is booted while its `k`-th call fails: how many boots the device failed, and what the plant shows.
 fn booted_at(alloc: Global, system: &System, k: u64) -> Result<(u64, i64, i64, Front), Fail> {
-    let mut disk = torn(alloc, system)?;
+    // The first gate is closed and the second open.
+    let mut disk = torn_flush(alloc, system, Tear::Mixed)?;
     disk.fuse_once(k);
     let (plant, failed) = booted(alloc, system, disk)?;
     Ok((

@@ -1,10 +1,11 @@
-// A plant that is read, formatted, booted and driven while one growth of memory is refused. Here none is: the tests of the program run this test
+// A plant that is read, formatted, booted, driven and explored while one growth of memory is refused. Here none is: the tests of the program run these tests
 // once more for each growth, refuse that one, and read which call was refused it. Made again, the call succeeds.
 ghost use Rattle.std.specs.Prelude.{◌≡◌, IfOk, length};
 ghost use Rattle.plant_core.specs.Plants.{definition_of};
 
 use super::common::{SAMPLE, Untold};
 use super::runs::{FIRE_0, FIRE_1, FLUSH, ROOM, settled, value_of};
+use crash_explorer::{ExploreFault, Report, explore};
 use disk_model::{BODY, Cells, Disk, MemDisk};
 use plant_core::{Event, Hands, Happened, Plant, drive};
 use plant_image::ImageFault;
@@ -155,6 +156,31 @@ fn a_refused_growth_changes_nothing(rt: HostRuntime) -> Result<(), Fail> {
     assert_eq!(rt;
         (value_of(&plant, 0), value_of(&plant, 1), plant.front()),
         (2, 1, settled(2))
+    );
+    Ok(())
+}
+
+/// What the stops of a run without events come to.
+fn explored(rt: &impl Print, alloc: Global, system: &System) -> Result<Report, Fail> {
+    match explore(alloc, system, 8, &[]) {
+        Ok(report) => return Ok(report),
+        Err(ExploreFault::Memory) => rt.println("explore")?,
+    }
+    Ok(explore(alloc, system, 8, &[])?)
+}
+
+/// Each of the run's 20 writes and syncs is stopped in four ways.
+#[test]
+fn a_refused_growth_ends_an_exploration(rt: HostRuntime) -> Result<(), Fail> {
+    let alloc = rt.alloc();
+    let system = plant_read(&rt, alloc)?;
+    assert_eq!(rt;
+        explored(&rt, alloc, &system)?,
+        Report {
+            stops: 20,
+            boots: 80,
+            bad: 0
+        }
     );
     Ok(())
 }

@@ -1,7 +1,8 @@
 // Runs of durable plants on devices in memory, stopped and booted again.
-use super::common::{TEARS, Untold, formatted};
-use disk_model::MemDisk;
+use super::common::{Untold, formatted};
+use disk_model::{MemDisk, Tear};
 use plant_core::{Event, Front, Hands, Happened, Plant, Refused, drive};
+use plant_image::ImageFault;
 use recovery::{BootFault, boot};
 use std::alloc::Global;
 use std::test::Fail;
@@ -25,11 +26,8 @@ pub(super) struct Outcome {
     pub(super) front: Front,
     /// How many calls of the device were made, from the boot on.
     pub(super) calls: u64,
-    pub(super) syncs: u64,
     /// The last answer, where it is a refusal.
     pub(super) refused: Option<Refused>,
-    /// The number that was answered last.
-    pub(super) told: u64,
 }
 
 /// Boots the plant on a device that is dead from its `k`-th call on, and makes these events. Where the boot is stopped nothing is fired.
@@ -47,7 +45,7 @@ pub(super) fn run(
         Err(refused) if refused.fault == BootFault::Disk => Ok(ended(
             refused.disk,
             settled(0),
-            Ok(0),
+            None,
         )),
         Err(_) => Err(Fail::new("the image is refused")),
     }
@@ -74,50 +72,55 @@ fn driven(alloc: Global, plant: Plant<'_, Untold>, events: &[Event]) -> Result<O
     let mut hands = Hands::new(alloc, plant.system().atoms().len())?;
     let answers = drive(alloc, &mut plant, events, &mut hands)?;
     let last = match answers.last() {
-        Some(happened) => answer_in(happened),
-        None => Ok(0),
+        Some(happened) => refusal_in(happened),
+        None => None,
     };
     let front = plant.front();
     Ok(ended(plant.into_disk(), front, last))
 }
 
-fn ended(disk: Untold, front: Front, last: Result<u64, Refused>) -> Outcome {
+fn ended(disk: Untold, front: Front, refused: Option<Refused>) -> Outcome {
     let calls = disk.calls();
-    let syncs = disk.syncs();
     Outcome {
         disk: disk.into_memory(),
         front,
         calls,
-        syncs,
-        refused: last.err(),
-        told: last.unwrap_or(0),
+        refused,
     }
 }
 
-/// The number that was answered: that of a choice, the acknowledged one, the count of a state, or the base; 0 where no state was at hand.
-pub(super) fn answer_in(happened: &Happened) -> Result<u64, Refused> {
+/// Why an event was refused, where it was.
+pub(super) fn refusal_in(happened: &Happened) -> Option<Refused> {
     match happened {
-        Happened::Fire(_, Ok(fired)) => Ok(fired.number),
-        Happened::Ask(_, Ok(copy)) => Ok(copy.count()),
-        Happened::Flush(Ok(number)) | Happened::Put(_, Ok(number)) | Happened::Trim(Ok(number)) =>
-            Ok(*number),
         Happened::Fire(_, Err(refused))
         | Happened::Flush(Err(refused))
         | Happened::Ask(_, Err(refused))
         | Happened::Put(_, Err(refused))
-        | Happened::Trim(Err(refused)) => Err(*refused),
-        Happened::Empty(_) => Ok(0),
+        | Happened::Trim(Err(refused)) => Some(*refused),
+        _ => None,
     }
 }
 
-/// Boots the plant and says what it shows: the first values of its first two atoms, and its front.
-pub(super) fn shown(
+/// What a plant shows: the first values of its first two atoms, and its front.
+pub(super) type Shown = (i64, i64, Front);
+
+/// Boots the plant and says what it shows.
+pub(super) fn shown(alloc: Global, system: &System, disk: MemDisk) -> Result<Shown, Fail> {
+    match booted_to(alloc, system, disk)? {
+        Some(shown) => Ok(shown),
+        None => Err(Fail::new("the image reads as never formatted")),
+    }
+}
+
+/// The same, and nothing where the image reads as never formatted.
+pub(super) fn booted_to(
     alloc: Global,
     system: &System,
     disk: MemDisk,
-) -> Result<(i64, i64, Front), Fail> {
+) -> Result<Option<Shown>, Fail> {
     match boot(alloc, Untold::over(disk), system) {
-        Ok(plant) => Ok((value_of(&plant, 0), value_of(&plant, 1), plant.front())),
+        Ok(plant) => Ok(Some((value_of(&plant, 0), value_of(&plant, 1), plant.front()))),
+        Err(refused) if refused.fault == BootFault::Image(ImageFault::NotFormatted) => Ok(None),
         Err(_) => Err(Fail::new("the image is refused")),
     }
 }
@@ -133,13 +136,13 @@ pub(super) fn value_of(plant: &Plant<'_, Untold>, atom: u16) -> i64 {
     }
 }
 
-pub(super) const fn front(fired: u64, acked: u64, base: u64) -> Front {
-    Front { fired, acked, base }
-}
-
 /// Where all that was fired is acknowledged, and nothing was dropped.
 pub(super) const fn settled(fired: u64) -> Front {
-    front(fired, fired, 1)
+    Front {
+        fired,
+        acked: fired,
+        base: 1,
+    }
 }
 
 pub(super) const FIRE_0: Event = Event::Fire(0);
@@ -147,6 +150,23 @@ pub(super) const FIRE_0: Event = Event::Fire(0);
 pub(super) const FIRE_1: Event = Event::Fire(1);
 
 pub(super) const FLUSH: Event = Event::Flush;
+
+pub(super) const ASK_A: Event = Event::Ask(0);
+
+pub(super) const PUT_A: Event = Event::Put(0);
+
+/// Tick, send, tick, send, all of it acknowledged, and A saved behind all of them. B is saved behind none of its two.
+pub(super) const A_SAVED: [Event; 7] = [FIRE_0, FIRE_1, FIRE_0, FIRE_1, FLUSH, ASK_A, PUT_A];
+
+/// Tick, send, tick, send, of which two are acknowledged before the others are fired.
+pub(super) const TWO_AND_TWO: [Event; 6] = [FIRE_0, FIRE_1, FLUSH, FIRE_0, FIRE_1, FLUSH];
+
+/// What is left where the last sync of the second flush is stopped. Record 3 stands in a cell of even number, and record 4 in one of odd number.
+pub(super) fn torn_flush(alloc: Global, system: &System, tear: Tear) -> Result<MemDisk, Fail> {
+    // The boot makes 30 calls, and each flush of two 6.
+    let stopped = stopped_run(alloc, system, 42, &TWO_AND_TWO)?;
+    Ok(stopped.disk.stop(tear))
+}
 
 /// The plant behind the first `count` choices that these events fire, stepped without a device.
 fn stepped<'s>(
@@ -207,38 +227,4 @@ pub(super) fn boots_right(
             && (told.base..=last_base).contains(&found.base)
             && shows(&plant, &wanted),
     )
-}
-
-/// Stops the run at its `k`-th device call under each tear, and says how many of the stops boot right.
-fn right_at(
-    alloc: Global,
-    system: &System,
-    events: &[Event],
-    last_base: u64,
-    k: u64,
-) -> Result<u64, Fail> {
-    let mut right = 0u64;
-    for tear in TEARS {
-        let stopped = stopped_run(alloc, system, k, events)?;
-        let boots = boots_right(
-            alloc,
-            system,
-            stopped.disk.stop(tear),
-            stopped.front,
-            last_base,
-            events,
-        )?;
-        right = right.saturating_add(u64::from(boots));
-    }
-    Ok(right)
-}
-
-/// Stops the run at each device call: how many calls there are, and how many stops boot right.
-pub(super) fn sweep(alloc: Global, system: &System, events: &[Event]) -> Result<(u64, u64), Fail> {
-    let whole = whole_run(alloc, system, events)?;
-    let mut right = 0u64;
-    for k in 1..=whole.calls.min(1_000) {
-        right = right.saturating_add(right_at(alloc, system, events, whole.front.base, k)?);
-    }
-    Ok((whole.calls, right))
 }

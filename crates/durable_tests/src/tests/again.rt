@@ -1,0 +1,112 @@
+// Stops on a device that an earlier run or an earlier stop has left: it is formatted again, or booted. What writes and syncs there are, and what each leaves, is
+// worked out by hand.
+use super::common::{SAMPLE, TEARS, Untold};
+use super::runs::{
+    A_SAVED, FIRE_0, FLUSH, NEVER, Shown, booted_to, run, settled, shown, torn_flush, whole_run,
+};
+use disk_model::{MemDisk, Tear};
+use plant_text::plant_of_text;
+use recovery::{BootFault, FormatFault, boot, format};
+use std::alloc::Global;
+use std::test::Fail;
+use step_core::System;
+
+/// The device of a run, which is formatted again until the `k`-th write or sync of that is stopped.
+fn formatted_again(alloc: Global, system: &System, k: u64, tear: Tear) -> Result<MemDisk, Fail> {
+    let mut disk = whole_run(alloc, system, &A_SAVED)?.disk;
+    disk.fuse_change(k);
+    match format(alloc, Untold::over(disk), system, 8) {
+        Ok(disk) => Ok(disk.into_memory().stop(tear)),
+        Err(refused) if refused.fault == FormatFault::Disk => Ok(
+            refused.disk.into_memory().stop(tear),
+        ),
+        Err(_) => Err(Fail::new("the device is not formatted")),
+    }
+}
+
+/// The gate of the identity is closed, with a sync behind, then those of a base, three slots and four records, with another, and four cells are set by four changes
+/// each, the identity last. So at the second change its gate is pending, and again at the last two.
+#[test]
+fn a_stop_inside_formatting_leaves_what_was_there_or_nothing_or_the_first_state(
+    rt: HostRuntime,
+) -> Result<(), Fail> {
+    let alloc = rt.alloc();
+    let system = plant_of_text(alloc, SAMPLE)?;
+    let changes = 2 + 9 + 4 * 4;
+    // The last stop that leaves the run, and the first that leaves the first state.
+    for (tear, last, first) in [
+        (Tear::Old, 2, changes + 1),
+        (Tear::New, 1, changes),
+        (Tear::Gates, 2, changes - 1),
+        (Tear::Mixed, 2, changes + 1),
+    ] {
+        for k in 1..=changes + 1 {
+            let wanted: Option<Shown> = if k <= last {
+                Some((4, 3, settled(4)))
+            } else if k < first {
+                None
+            } else {
+                Some((0, 0, settled(0)))
+            };
+            let left = formatted_again(alloc, &system, k, tear)?;
+            assert_eq!(rt; booted_to(alloc, &system, left)?, wanted, "at {k}");
+        }
+    }
+    Ok(())
+}
+
+/// Whether a boot of the device comes to its end, where its `k`-th write or sync is stopped, and what it leaves.
+fn booted_until(
+    alloc: Global,
+    system: &System,
+    disk: MemDisk,
+    k: u64,
+    tear: Tear,
+) -> Result<(bool, MemDisk), Fail> {
+    let mut disk = disk;
+    disk.fuse_change(k);
+    match boot(alloc, Untold::over(disk), system) {
+        Ok(plant) => Ok((true, plant.into_disk().into_memory().stop(tear))),
+        Err(refused) if refused.fault == BootFault::Disk => Ok((
+            false,
+            refused.disk.into_memory().stop(tear),
+        )),
+        Err(_) => Err(Fail::new("the image is refused")),
+    }
+}
+
+/// Two records are acknowledged, and the gates of two more are torn. A boot syncs, closes the gate of a record behind one that is closed, and syncs.
+#[test]
+fn however_often_a_boot_is_stopped_the_same_is_booted(rt: HostRuntime) -> Result<(), Fail> {
+    let alloc = rt.alloc();
+    let system = plant_of_text(alloc, SAMPLE)?;
+    for (torn, wanted, changes) in [
+        (Tear::Old, (2, 1, settled(2)), 2),
+        (Tear::New, (4, 3, settled(4)), 2),
+        (Tear::Gates, (4, 3, settled(4)), 2),
+        (Tear::Mixed, (2, 1, settled(2)), 3),
+    ] {
+        for k in 1..=changes + 1 {
+            for tear in TEARS {
+                let disk = torn_flush(alloc, &system, torn)?;
+                let (ended, left) = booted_until(alloc, &system, disk, k, tear)?;
+                assert_eq!(rt; ended, k > changes);
+                assert_eq!(rt; shown(alloc, &system, left)?, wanted, "at {k}");
+            }
+        }
+    }
+    Ok(())
+}
+
+/// Records 3 and 4 go in one flush, which is stopped with the first gate closed and the second open. The boot empties the second, and so it is
+/// never read behind another record 3.
+#[test]
+fn a_record_past_the_end_is_never_read_again(rt: HostRuntime) -> Result<(), Fail> {
+    let alloc = rt.alloc();
+    let system = plant_of_text(alloc, SAMPLE)?;
+    let torn = torn_flush(alloc, &system, Tear::Mixed)?;
+    let again = run(alloc, &system, torn, NEVER, &[FIRE_0, FLUSH])?;
+    assert_eq!(rt; again.front, settled(3));
+    assert_eq!(rt; shown(alloc, &system, again.disk)?, (3, 1, settled(3)));
+    Ok(())
+}
