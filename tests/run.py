@@ -84,7 +84,7 @@ STREAMS = {
     "standard error closed": "2>&-",
     "standard error full": "2>/dev/full",
 }
-# The stack of each run, in KiB. No plant and no script makes the program nest deeper than others do: it takes some 210 KiB at most.
+# The stack of each run, in KiB. No plant and no script makes the program nest deeper than others do: it takes some 250 KiB at most.
 STACK = 512
 # The settings that give the program a terminal.
 TERMINAL = "standard error on a terminal"

@@ -31,8 +31,8 @@ pub record IsExplorerOf (system : System) (ring : ℕ) (events : List Event) (e 
 abbrev pub stops_of : Explorer → ℕ
 stops_of e = e.stops
 
--- A run of these events on a device with a ring of so many records, of which no call failed, made so many writes and syncs: there is a moment of the device
--- before each of them. The plant was there, was asked for all of the events, and whatever a stop leaves then is right.
+-- A run of these events on a device with a ring of so many records came to its end: the plant was there, was asked for all of the events, no call of the
+-- device failed, and whatever a stop leaves then is right. So many moments lie behind that device; that they are the run's writes and syncs is not said.
 pub record IsWholeRun (plant : PlantDefinition) (digest : List ℕ) (ring : ℕ) (events : List Event) (stops : ℕ) : Type 0 where
   pub opened : View
   pub at : IsAt plant [] opened
@@ -49,7 +49,7 @@ pub record IsWholeRun (plant : PlantDefinition) (digest : List ℕ) (ring : ℕ)
 abbrev pub trials_left : Explorer → ℕ
 trials_left e = length TEARS * (e.stops - e.stop) - e.tear
 
--- A trial is that of a run of these events which was stopped there, and torn so. It tells how many choices were fired and how many of these were acknowledged,
+-- A trial is that of a run of these events which was stopped, and torn so; at which call is not said. It tells how many choices were fired and how many of these were acknowledged,
 -- what the device boots to by the bytes that the stop left, how the plant then goes on, and whether both are right; and they are, as is whatever else the
 -- stop might have left of the device.
 pub record IsTrial (plant : PlantDefinition) (digest : List ℕ) (ring : ℕ) (events : List Event) (stop : ℕ) (tear : Tear) (t : Trial) : Type 0 where

@@ -37,7 +37,7 @@ const CHANGES: usize = 8;
 pub struct Report {
     /// How many writes and syncs the run makes: it is stopped at each.
     pub stops: u64,
-    /// How many devices that a stop left were booted: four of each stop.
+    /// How many trials were made: four for each stop. Each boots what the stop left.
     pub boots: u64,
     /// How many of these were not right.
     pub bad: u64,
@@ -204,7 +204,8 @@ fn cells_for(system: &System, ring: u32) -> u64
 }
 
 /// Stops the run that formats a device with a ring of so many records, boots the plant, and makes these events, at each of its writes and syncs under
-/// each of four tears; boots what each stop left, and judges it.
+/// each of four tears; boots what each stop left, and judges it. A plant that boots goes on by one firing and a flush, and what a stop then leaves
+/// is judged again.
 pub fn explore(
     alloc: Global,
     system: &System,

@@ -2,7 +2,7 @@
 //!
 //! [`explore`] formats a device in memory for a plant, boots the plant and makes some events. Then it does so again for each write and each sync
 //! of that run, and for each of four ways in which a cut tears what was being written: it stops the run there, boots what the stop left, and
-//! judges it. An [`Explorer`] tells one such [`Trial`] after another, for those who want to see each. [`judge`] judges any device.
+//! judges it. The plant that was booted goes on by one firing and a flush, and what a stop then leaves is judged again. An [`Explorer`] tells one such [`Trial`] after another, for those who want to see each. [`judge`] judges any device.
 //!
 //! What a stop leaves is right where it stands for the state of the plant behind all that was acknowledged and some front of what was fired since
 //! (`specs/Judging.antt`). While the device is formatted it may also be one that reads as never formatted.

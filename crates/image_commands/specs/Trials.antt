@@ -71,7 +71,7 @@ listed_line list t = if list then trial_line t else []
 abbrev pub wrong_of : Trial → ℕ
 wrong_of t = if t.right then 0 else 1
 
--- how many stops a run has, how many devices were booted, and how many of these were not right
+-- how many stops a run has, how many trials were made, and how many of these were not right
 abbrev pub explored_line : ℕ → ℕ → ℕ → List ℕ
 explored_line stops boots wrong =
     codes "stops " ++ decimal stops ++ codes " boots " ++ decimal boots ++ codes " bad " ++ decimal wrong ++ codes "\n"

@@ -41,7 +41,7 @@ pub fn what_counts_is_below()
     ensures { WhatCountsIsBelow }
 {}
 
-/// An order that is written is strict in every state: rules are refused as if all of them counted.
+/// An order that is not refused is strict in every state: rules are refused as if all of them counted.
 pub fn a_written_order_is_strict_in_every_state()
     ensures { IsStrictInEveryState }
 {}

@@ -11,7 +11,7 @@ use std::alloc::Global;
 use std::test::Fail;
 use step_core::System;
 
-/// The device of a run, which is formatted again until the `k`-th write or sync of that is stopped.
+/// The device of a run that is formatted again, stopped at the `k`-th write or sync of that.
 fn formatted_again(alloc: Global, system: &System, k: u64, tear: Tear) -> Result<MemDisk, Fail> {
     let mut disk = whole_run(alloc, system, &A_SAVED)?.disk;
     disk.fuse_change(k);
@@ -24,8 +24,8 @@ fn formatted_again(alloc: Global, system: &System, k: u64, tear: Tear) -> Result
     }
 }
 
-/// The gate of the identity is closed, with a sync behind, then those of a base, three slots and four records, with another, and four cells are set by four changes
-/// each, the identity last. So at the second change its gate is pending, and again at the last two.
+/// First the gate of the identity is closed, and a sync follows. Then the gates of a base, three slots and four records are closed, and a sync follows.
+/// Then four cells are set by four changes each, the identity last. So at the second change its gate is pending, and again at the last two.
 #[test]
 fn a_stop_inside_formatting_leaves_what_was_there_or_nothing_or_the_first_state(
     rt: HostRuntime,

@@ -3,7 +3,7 @@ use connector_tree::MAX_LEAVES;
 use petri_atom::{AtomState, Delivered};
 use plant_text::plant_of_text;
 use std::test::Fail;
-use step_core::{Dispatcher, Jobs, MAX_ATOMS, PlantState, work};
+use step_core::{Dispatcher, Done, Job, Jobs, MAX_ATOMS, PlantState, work};
 
 /// The connectors of the first sure choices, in their order.
 fn sure(run: &Dispatcher<'_>) -> [Option<u16>; 3] {
@@ -134,22 +134,46 @@ fn is_sent<T: Send>(_: &T) -> bool {
     true
 }
 
+/// A plant that runs while atoms are away may go to another thread.
+fn is_dispatcher_sent(run: &Dispatcher<'_>) -> bool {
+    is_sent(run)
+}
+
+/// So may jobs.
+fn are_jobs_sent(jobs: &Jobs<'_>) -> bool {
+    is_sent(jobs)
+}
+
+/// So may a job.
+fn is_job_sent(job: &Job<'_>) -> bool {
+    is_sent(job)
+}
+
+/// So may what is done.
+fn is_done_sent(done: &Done<'_>) -> bool {
+    is_sent(done)
+}
+
 #[test]
 fn jobs_leave_least_atom_first_and_are_sent(rt: HostRuntime) -> Result<(), Fail> {
     let system = plant_of_text(rt.alloc(), THREE)?;
     let mut run = Dispatcher::at(&system, PlantState::init(rt.alloc(), &system)?);
     assert!(rt; fire(&mut run, 0) == Some(0));
     let mut jobs = begin(&mut run, 1);
-    assert!(rt; run.is_away(0) && run.is_away(1) && is_sent(&run) && is_sent(&jobs));
+    assert!(rt;
+        run.is_away(0) && run.is_away(1) && is_dispatcher_sent(&run) && are_jobs_sent(&jobs)
+    );
     // A counts on from 1, and B gets that 1.
     if let Some(job) = jobs.take() {
-        assert!(rt; is_sent(&job) && job.atom() == 0 && job.count() == 10 && job.transition() == 0);
+        assert!(rt;
+            is_job_sent(&job) && job.atom() == 0 && job.count() == 10 && job.transition() == 0
+        );
         assert!(rt;
             job.definition().name().as_bytes() == b"A".as_slice() && job.state().value(0) == 1
         );
         assert!(rt; job.delivered() == Delivered::of([None, None, None, None]));
         let done = work(job);
-        assert!(rt; is_sent(&done) && done.atom() == 0 && done.count() == 10);
+        assert!(rt; is_done_sent(&done) && done.atom() == 0 && done.count() == 10);
         assert!(rt;
             done.transition() == 0 && done.definition().name().as_bytes() == b"A".as_slice()
         );

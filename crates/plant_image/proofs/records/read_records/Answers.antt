@@ -1,11 +1,14 @@
-use Rattle.std.proofs.Common.{◌≡◌, ◌+◌, ◌-◌, ◌≤◌, ℕ, suc, List, [], ◌∷◌, ◌++◌, Some, None, sym, ◌∙◌, ap, append-nil, append_assoc, arith}
+use Rattle.std.proofs.Common.{◌≡◌, ◌+◌, ◌-◌, ◌≤◌, ℕ, suc, List, [], ◌∷◌, ◌++◌, Some, None, length, sym, ◌∙◌, ap, append-nil, append_assoc, arith}
+use Rattle.std.specs.List.{range_with_len}
 use Rattle.std.proofs.lemmas.Result.{err_from_is_err_and}
+use Rattle.gated_journal.specs.Live.{live_among}
 use Rattle.gated_journal.proofs.Fronts.{front}
 use Rattle.record_codec.specs.Fired.{FiredFields}
+use Rattle.record_codec.specs.Ring.{record_cell}
 use Rattle.record_codec.specs.declared.layout.TheConstants.{LAST_NUMBER}
 use Rattle.step_core.specs.Plant.{PlantDefinition}
 use Rattle.step_core.specs.System.{plant_of}
-use Rattle.plant_image.specs.Faults.{record_fault}
+use Rattle.plant_image.specs.Faults.{numbers_fault, record_fault}
 use Rattle.plant_image.proofs.FirstTold.{told_first}
 use Rattle.plant_image.proofs.NumberFaults.{record_at, numbers_first, numbers_rest, numbers_end, live_first, live_ends}
 use Rattle.plant_image.proofs.records.read_records.Goals as goal
@@ -29,6 +32,19 @@ returns-in_default-clause-records c =
       c.loop-number.invariant.rest ∙ numbers_end (plant_of c.args.system.now) c.args.cells.now c.args.ring n m there c.in_ok-fired.ensures.record.0,
       sym (c.loop-number.invariant.read ∙ ap (λ (l : List FiredFields). c.loop-number.records.items ++ l) (live_ends (plant_of c.args.system.now) c.args.cells.now c.args.ring n m there) ∙ append-nil c.loop-number.records.items),
     )
+
+pub loop-number-init : goal.loop-number-init
+loop-number-init c =
+    let plant : PlantDefinition = plant_of c.args.system.now in
+    let all : c.args.base + c.args.ring - c.args.base ≡ c.args.ring = omega arith in
+    let read_for : ℕ → List FiredFields = λ m. live_among c.args.cells.now (record_cell (length plant.atoms) c.args.ring) (range_with_len c.args.base m) in
+    record {
+      room = c.in_ok-records.ensures.exact;
+      long = omega (arith, c.in_ok-records.ensures.len);
+      read = ap read_for (sym all) ∙ ap (λ (l : List FiredFields). l ++ read_for (c.args.base + c.args.ring - c.args.base)) (sym c.in_ok-records.ensures.items);
+      rest = ap (λ (m : ℕ). numbers_fault plant c.args.cells.now c.args.ring (range_with_len c.args.base m)) (sym all);
+      in_range = c.requires.base;
+    }
 
 pub loop-number-preserved : goal.loop-number-preserved
 loop-number-preserved c =

@@ -6,8 +6,8 @@ use Rattle.run_text.specs.Choices.{choices_after}
 use Rattle.part_lines.specs.Lookup.{rule_lines}
 use Rattle.plant_tasks.specs.Ending.{IfTold, OnTold}
 use Rattle.plant_tasks.specs.Picked.{picks_said}
-use Rattle.plant_tasks.specs.Printed.{plant_read, printed_of, refusal_by, why_after}
-use Rattle.plant_tasks.proofs.Telling.{behind_told, refused_told}
+use Rattle.plant_tasks.specs.Printed.{plant_read, printed_of, refusal_by, saved_of, why_after}
+use Rattle.plant_tasks.proofs.Telling.{behind_told, refused_told, saved_nothing}
 use Rattle.plant_tasks.proofs.doing.print_task.Goals as goal
 
 pub returns-in_ok-picks-in-Choices-clause-printed : goal.returns-in_ok-picks-in-Choices-clause-printed
@@ -20,6 +20,13 @@ returns-in_ok-picks-in-Choices-clause-printed g c =
     (behind_told c.told-in-Choices.result c.print_choices_after.result plant _ (picks_said c.in-Choices.picking plant input) (choices_after plant) _ _
     c.told-in-Choices.ensures c.in_ok-picks-in-Choices.ensures c.print_choices_after.ensures.refusal c.print_choices_after.ensures.choices
     (λ fault is other. ap g.W.Write.contents (c.print_choices_after.ensures.nothing_written fault is other)))
+
+pub returns-in_ok-picks-in-Choices-clause-saved : goal.returns-in_ok-picks-in-Choices-clause-saved
+returns-in_ok-picks-in-Choices-clause-saved g c =
+    let saved = g.S.Write.contents c.args.saved.now in
+    subst (λ task. OnTold c.told-in-Choices.result (IfSome (saved_of task c.args.plant.now (g.F.Read.remaining c.args.input)) (Appends saved saved)))
+    (sym c.in-Choices.is)
+    (saved_nothing c.told-in-Choices.result saved)
 
 pub returns-in_ok-picks-in-Choices-clause-refusal : goal.returns-in_ok-picks-in-Choices-clause-refusal
 returns-in_ok-picks-in-Choices-clause-refusal g c =
@@ -41,6 +48,13 @@ returns-in_ok-picks-in-Why-clause-printed g c =
     (why_after plant (rule_lines c.args.plant.now.text.now)) _ _
     c.told-in-Why.ensures c.in_ok-picks-in-Why.ensures c.print_why.ensures.refusal c.print_why.ensures.printed
     (λ fault is other. ap g.W.Write.contents (c.print_why.ensures.nothing_printed fault is other)))
+
+pub returns-in_ok-picks-in-Why-clause-saved : goal.returns-in_ok-picks-in-Why-clause-saved
+returns-in_ok-picks-in-Why-clause-saved g c =
+    let saved = g.S.Write.contents c.args.saved.now in
+    subst (λ task. OnTold c.told-in-Why.result (IfSome (saved_of task c.args.plant.now (g.F.Read.remaining c.args.input)) (Appends saved saved)))
+    (sym c.in-Why.is)
+    (saved_nothing c.told-in-Why.result saved)
 
 pub returns-in_ok-picks-in-Why-clause-refusal : goal.returns-in_ok-picks-in-Why-clause-refusal
 returns-in_ok-picks-in-Why-clause-refusal g c =
