@@ -1,67 +1,119 @@
 #!/usr/bin/env python3
-"""Runs a command, hands on what it prints, and counts the processor time that the prover takes for each crate.
+"""Runs the gate's command, hands on what it prints, and writes what each crate cost the prover.
 
-    budget.py FILE COMMAND..     FILE gets a line for each crate: its processor minutes and its name, the longest first
+    budget.py FILE COMMAND..     FILE gets the table, and the longest chain of proofs
 
-The prover is asked for a crate by `--crate-name`, so the crate of a process is told by its words. A process that ends between
-two looks is counted as it was at the last look.
+Of each crate the processor minutes of four kinds of work, told by the words of the prover's processes:
+
+    proof   the crate is proved, and of a program also built
+    seed    it is proved once more, since its must-fail edits begin with what that leaves
+    edits   these are tried
+    tests   it is proved with its tests
+
+A chain is crates each of which waits for the one before. A process that ends between two looks is counted as it was at the last look.
 """
 
 import os
+import re
 import subprocess
 import sys
 import threading
+import time
 from collections import defaultdict
 from pathlib import Path
 
 # How many seconds lie between two looks at the processes.
 PAUSE = 1.0
 TICKS = os.sysconf("SC_CLK_TCK")
+KINDS = ("proof", "seed", "edits", "tests")
+CRATES = Path(__file__).resolve().parent.parent / "crates.txt"
 
 
-def crate_of(words):
-    """The crate that the words of a process name, if it is a prover's."""
-    if words and os.path.basename(words[0]) == b"rattle" and b"--crate-name" in words[:-1]:
-        return words[words.index(b"--crate-name") + 1].decode(errors="replace")
-    return None
+def work_of(words):
+    """The crate that a process of the prover works on, and the kind of its work; None of any other process."""
+    if not words or os.path.basename(words[0]) != "rattle" or "--crate-name" not in words[:-1]:
+        return None
+    kept = words[words.index("--incremental") + 1] if "--incremental" in words[:-1] else ""
+    if "--test" in words:
+        kind = "tests"
+    elif os.path.basename(kept) == "seed":
+        kind = "seed"
+    else:
+        kind = "edits" if words[1] == "check" and "-o" not in words else "proof"
+    return words[words.index("--crate-name") + 1], kind
 
 
 def processes():
-    """Each prover's process with its start, its crate and the processor seconds that it has had by itself."""
+    """Each process of the prover with its start, its work and the processor seconds that it has had by itself."""
     for folder in Path("/proc").iterdir():
         if not folder.name.isdigit():
             continue
         try:
-            crate = crate_of((folder / "cmdline").read_bytes().split(b"\0"))
-            if crate:
+            work = work_of((folder / "cmdline").read_bytes().decode(errors="replace").split("\0"))
+            if work:
                 # What stands behind the name in brackets: the times are the 14th and 15th field, the start the 22nd.
                 fields = (folder / "stat").read_text().rsplit(")", 1)[1].split()
-                yield (folder.name, fields[19]), crate, (int(fields[11]) + int(fields[12])) / TICKS
+                yield (folder.name, fields[19]), work, (int(fields[11]) + int(fields[12])) / TICKS
         except OSError:
             continue
 
 
-def watch(taken, ended):
-    """Keeps for each process what it had taken when it was last seen."""
-    while not ended.wait(PAUSE):
-        for process, crate, seconds in processes():
-            taken[process] = crate, seconds
+class Watch:
+    """What the prover's processes were seen to take."""
+
+    def __init__(self):
+        self.taken, self.clock, self.ended = {}, {}, threading.Event()
+
+    def look(self):
+        while not self.ended.wait(PAUSE):
+            now = time.monotonic()
+            for process, work, seconds in processes():
+                self.taken[process] = work, seconds
+                self.clock[work] = self.clock.get(work, (now - PAUSE, 0))[0], now
+
+    def minutes(self):
+        """The processor minutes of each crate, by kind."""
+        minutes = defaultdict(lambda: dict.fromkeys(KINDS, 0.0))
+        for (crate, kind), seconds in self.taken.values():
+            minutes[crate][kind] += seconds / 60
+        return minutes
+
+    def longest_chain(self):
+        """The minutes by the clock of the longest chain of proofs, and its crates."""
+        chains = {}
+        uses = {line[1]: line[2].split() for line in re.finditer(r"^(\w+).*?:(.*)$", CRATES.read_text(), re.M)}
+
+        def chain(crate):
+            if crate not in chains:
+                began, ended = self.clock.get((crate, "proof"), (0, 0))
+                most, below = max((chain(it) for it in uses[crate] if it in uses), default=(0, ()))
+                chains[crate] = most + (ended - began) / 60, (*below, crate)
+            return chains[crate]
+
+        return max((chain(it) for it in uses), default=(0, ()))
+
+    def table(self):
+        """The lines of the table, the dearest crate first."""
+        minutes = self.minutes()
+        rows = sorted(minutes.items(), key=lambda row: -sum(row[1].values()))
+        every = {kind: sum(row[kind] for row in minutes.values()) for kind in KINDS}
+        yield f"{'processor minutes':20}" + "".join(f"{kind:>8}" for kind in (*KINDS, "sum"))
+        for name, row in [*rows, ("all crates", every)]:
+            yield f"{name:20}" + "".join(f"{row[kind]:8.1f}" if row[kind] else f"{'-':>8}" for kind in KINDS) + f"{sum(row.values()):8.1f}"
+        length, crates = self.longest_chain()
+        yield f"the longest chain of proofs: {length:.1f} minutes by the clock: {' '.join(crates)}"
 
 
 def main(file, *command):
-    taken, ended = {}, threading.Event()
-    watcher = threading.Thread(target=watch, args=(taken, ended))
+    watch = Watch()
+    watcher = threading.Thread(target=watch.look)
     watcher.start()
     try:
         status = subprocess.run(command, env={**os.environ, "PYTHONUNBUFFERED": "1"}).returncode
     finally:
-        ended.set()
+        watch.ended.set()
         watcher.join()
-    minutes = defaultdict(float)
-    for crate, seconds in taken.values():
-        minutes[crate] += seconds / 60
-    rows = sorted(minutes.items(), key=lambda row: -row[1])
-    Path(file).write_text("".join(f"{count:.1f} {crate}\n" for crate, count in rows))
+    Path(file).write_text("".join(f"{line}\n" for line in watch.table()))
     return status
 
 

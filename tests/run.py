@@ -38,16 +38,18 @@ A case is a folder tests/COMMAND/CASE. The program runs in a fresh copy of it, i
     any other     a file that the words may name; `about`, if there, says what the case shows
 
 Each run that examples/README.md shows is a case too, shown/WORDS, and so is each stop of tests/stops.py, stops/MOMENT, each round of
-tests/images.py, texts.py and scripts.py, images/ROUND, texts/ROUND and scripts/ROUND, each test of tests/faults.py, failures.py, limits.py and power.py,
-faults/NAME, failures/NAME, limits/NAME and power/NAME, and usage/version_of_the_kit, by which the version of the program names the logic that `rt version` tells.
+tests/images.py, texts.py and scripts.py, images/ROUND, texts/ROUND and scripts/ROUND, each test of tests/launcher.py, faults.py, failures.py, limits.py and
+power.py, launcher/NAME, faults/NAME, failures/NAME, limits/NAME and power/NAME, and usage/version_of_the_kit, by which the version of the program names the logic that `rt version` tells.
 
 What the system does not let be tested is skipped: each such test is told with the reason in a line, and is counted neither as passed nor as failed.
 
-Words on the command line choose cases: `tests/run.py check` runs those whose COMMAND/CASE has `check` in it.
+Words on the command line choose cases: `tests/run.py check` runs those whose COMMAND/CASE has `check` in it. With `--unproved` among them the program
+is one that was built without a proof: that takes minutes less, and tells developers of a change before its proof.
 """
 
 import contextlib
 import fcntl
+import functools
 import os
 import pty
 import re
@@ -62,6 +64,7 @@ from pathlib import Path
 import failures
 import faults
 import images
+import launcher
 import limits
 import power
 import scripts
@@ -73,6 +76,7 @@ ROOT = TESTS.parent
 LAUNCHER = ROOT / "bip_run"
 # The words with which the launcher runs bip_image, and not bip_run.
 IMAGE_TASKS = re.search(r"^ +(.+)\) chosen=bip_image ;;$", LAUNCHER.read_text(), re.M)[1].split(" | ")
+UNPROVED = "--unproved"
 SECONDS = 60
 # Where a setting leads a standard stream.
 STREAMS = {
@@ -100,13 +104,19 @@ LATER = (PATCH, IN_USE, LONG, RIGHTS)
 
 
 def built_program(words):
-    """The program for the words, where the gate leaves what it has proved and built; the launcher does both where the gate has not."""
-    task = [word for word in words[:1] if word in IMAGE_TASKS]
-    name = "bip_image" if task else "bip_run"
-    program = ROOT / "crates" / name / "out" / name
-    if not program.exists():
-        subprocess.run([str(LAUNCHER), *task, "--help"], stdout=subprocess.DEVNULL, check=True)
-    return program
+    """The program for the words."""
+    return program_of("bip_image" if words[:1] and words[0] in IMAGE_TASKS else "bip_run")
+
+
+@functools.cache
+def program_of(name):
+    """The program of this name, as the gate has proved and built it; or, with --unproved, as it is built without a proof. It is built here where it is
+    not there yet."""
+    kind, build = ("unproved", ROOT / "tools" / "unproved") if UNPROVED in sys.argv else ("proved", ROOT / "prove")
+    ask = ["bash", "-c", 'source "$0" && kept "$1" "$2"', ROOT / "tools" / "programs.sh", kind, name]
+    if subprocess.run(ask, stdout=subprocess.DEVNULL).returncode:
+        subprocess.run([build, name], check=True)
+    return Path(subprocess.run(ask, stdout=subprocess.PIPE, text=True, check=True).stdout.strip())
 
 
 def without_line(text, line):
@@ -352,7 +362,7 @@ def cases(words):
 
 def suite(chosen, words):
     tests = unittest.TestSuite()
-    for kind in (stops, faults, failures, limits, power, images, texts, scripts):
+    for kind in (launcher, stops, faults, failures, limits, power, images, texts, scripts):
         tests.addTests(kind.suite(built_program, words))
     for case in chosen:
         setattr(Answers, f"test {case.name}", lambda self, case=case: self.check_case(case))
@@ -361,8 +371,8 @@ def suite(chosen, words):
 
 
 def main():
-    chosen = cases(sys.argv[1:])
-    result = unittest.TextTestRunner(stream=sys.stdout, verbosity=1).run(suite(chosen, sys.argv[1:]))
+    words = [word for word in sys.argv[1:] if word != UNPROVED]
+    result = unittest.TextTestRunner(stream=sys.stdout, verbosity=1).run(suite(cases(words), words))
     failed, skipped = len(result.failures) + len(result.errors), len(result.skipped)
     for test, reason in result.skipped:
         print(f"skipped, neither passed nor failed: {test.id().partition(' ')[2]}: {reason}")

@@ -1,7 +1,7 @@
 //! The help of the commands.
 
 /// The version of the program, and the kit and the logic in which it is proved, as `rt version` names them.
-pub(crate) const VERSION: &str = "0.1.0 (proved with rattle-kit-13b logic dac8208d650f15bf)";
+pub(crate) const VERSION: &str = "0.1.0 (proved with rattle-kit-13f logic dac8208d650f15bf)";
 
 pub(crate) const BRIEF: &str =
     "Checks, draws and runs a plant, alone or on an image that lasts over any stop";

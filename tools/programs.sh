@@ -1,0 +1,80 @@
+# What the programs of this repository are made of, and where they are kept once they are built. bip_run, prove, test and tools/ read this.
+#
+# A program is kept under a name that ends in the sum of its sources: out/KIND/NAME-SUM, of the kind `proved` or `unproved`. So a program
+# of other sources is never taken for one of these, however files came to be as they are, and a program is there whole or not at all.
+
+root=$(cd "$(dirname "$(readlink -f "${BASH_SOURCE[0]}")")/.." && pwd) || exit 3
+# What ./prove takes from nothing, in minutes: as measured on four cores that do nothing else.
+minutes_to_prove=31
+
+# The repository's crates with the libraries that each uses, from crates.txt.
+declare -A uses
+while IFS=: read -r name libraries; do
+    name=${name%% *}
+    [[ -n $name && $name != \#* ]] && uses[$name]=$libraries
+done < "$root/crates.txt"
+
+is_ours() { [[ -n ${uses[$1]+is} ]]; }
+
+# Lists in `order` the repository's crates that these stand on, each behind those that it uses, and these themselves.
+list_below() {
+    local -A listed=()
+    order=()
+    local name
+    for name; do
+        list_one "$name"
+    done
+}
+list_one() {
+    local name=$1 library
+    [[ -n ${listed[$name]:-} ]] && return
+    listed[$name]=1
+    for library in ${uses[$name]}; do
+        is_ours "$library" && list_one "$library"
+    done
+    order+=("$name")
+}
+
+# The sum of the sources of a crate and of all that it stands on. No definition of a contract and no proof changes an unproved build, but
+# the script that makes it does.
+sum_of() {
+    local kind=$1 order name part folders=()
+    list_below "$2"
+    for name in "${order[@]}"; do
+        for part in src specs proofs; do
+            [[ -d $root/crates/$name/$part && ($kind == proved || $part == src) ]] && folders+=("crates/$name/$part")
+        done
+    done
+    [[ $kind == unproved ]] && folders+=(tools/unproved)
+    {
+        for name in "${order[@]}"; do
+            echo "$name:${uses[$name]}"
+        done
+        cd "$root" && LC_ALL=C find "${folders[@]}" -type f -print0 | LC_ALL=C sort -z | xargs -0 sha256sum
+    } | sha256sum | cut -c 1-16
+}
+
+# Tells the program of this kind and name that is made of the sources as they are, if it is kept. Where there is none of any sources, no
+# sum is needed.
+kept() {
+    local program
+    compgen -G "$root/out/$1/$2-*" > /dev/null && program=$root/out/$1/$2-$(sum_of "$1" "$2") && [[ -x $program ]] && echo "$program"
+}
+
+# Keeps a program that was built of the sources with this sum in place of the earlier ones of its kind and name.
+keep() {
+    local kind=$1 name=$2 sum=$3 built=$4 earlier
+    mkdir -p "$root/out/$kind" && cp "$built" "$root/out/$kind/new-$$" && mv "$root/out/$kind/new-$$" "$root/out/$kind/$name-$sum" || return 1
+    for earlier in "$root/out/$kind/$name"-*; do
+        [[ $earlier == *-$sum ]] || rm -f "$earlier"
+    done
+}
+
+# The folder of the kit whose command rt is on the PATH.
+find_kit() {
+    if ! command -v rt > /dev/null; then
+        echo "$1: the command rt is not on the PATH. It belongs to the kit of the language Rattle, which proves and compiles this repository" >&2
+        return 1
+    fi
+    kit=$(dirname "$(rt doc)")
+}
