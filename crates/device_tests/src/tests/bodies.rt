@@ -1,16 +1,19 @@
 // The bodies of cells, byte for byte, and which single bytes of them may change.
-ghost use Rattle.std.specs.Prelude.{◌≤◌, length};
+ghost use Rattle.std.specs.Prelude.{◌<◌, ◌≤◌, length};
 
 use record_codec::{BODY, Base, Entry, Fired, Identity, Saved};
-use std::test::Fail;
 
 const BASE: [u8; 8] = [0, 0, 0, 0, 0, 0, 0, 9];
 
-// The identity of the sample plant with a ring of 8; its last 32 bytes are the SHA-256 of the plant's text.
-const IDENTITY: [u8; 44] = [
-    0x42, 0x49, 0x50, 0x46, 0, 1, 0, 2, 0, 0, 0, 8, 0x9c, 0x7e, 0x11, 0x45, 0xc9, 0xae, 0x08, 0xc4,
-    0x23, 0xf0, 0xf7, 0xca, 0x90, 0xe4, 0x33, 0x10, 0xe0, 0xae, 0xdb, 0xd9, 0x4c, 0xbd, 0xbf, 0xb8,
-    0x25, 0xa0, 0xdd, 0xef, 0xb2, 0x08, 0x1b, 0x48,
+// What an identity begins with, of two atoms and a ring of 8, and of the most that there may be.
+const SAMPLE_FRONT: [u8; 12] = [0x42, 0x49, 0x50, 0x46, 0, 1, 0, 2, 0, 0, 0, 8];
+
+const LARGEST_FRONT: [u8; 12] = [0x42, 0x49, 0x50, 0x46, 0, 1, 0, 64, 0, 0, 0x10, 0];
+
+// The SHA-256 of the sample plant's text, with which each identity here ends.
+const DIGEST: [u8; 32] = [
+    0x9c, 0x7e, 0x11, 0x45, 0xc9, 0xae, 0x08, 0xc4, 0x23, 0xf0, 0xf7, 0xca, 0x90, 0xe4, 0x33, 0x10,
+    0xe0, 0xae, 0xdb, 0xd9, 0x4c, 0xbd, 0xbf, 0xb8, 0x25, 0xa0, 0xdd, 0xef, 0xb2, 0x08, 0x1b, 0x48,
 ];
 
 // Atom 0 at count 4, copied at number 4, place 0 marked, one variable with value 4.
@@ -77,110 +80,146 @@ fn base_in(body: &[u8; BODY]) -> Option<u64> {
     Some(base.number())
 }
 
-fn identity_in(body: &[u8; BODY]) -> Option<(u16, u32, [u8; 32])> {
-    let identity = Identity::from_body(body)?;
-    Some((identity.atoms(), identity.ring(), *identity.digest()))
+fn is_base(body: &[u8; BODY]) -> bool {
+    Base::from_body(body).is_some()
 }
 
-fn version_in(body: &[u8; BODY]) -> Option<u16> {
-    Identity::version_in(body)
+fn is_identity(body: &[u8; BODY]) -> bool {
+    Identity::from_body(body).is_some()
 }
 
-fn saved_in(body: &[u8; BODY]) -> Option<Saved> {
-    Saved::from_body(body)
+fn is_saved(body: &[u8; BODY]) -> bool {
+    Saved::from_body(body).is_some()
 }
 
-fn record_in(body: &[u8; BODY]) -> Option<Fired> {
-    Fired::from_body(body)
+fn is_record(body: &[u8; BODY]) -> bool {
+    Fired::from_body(body).is_some()
+}
+
+/// The body with another byte at that place.
+fn with_byte(body: [u8; BODY], at: usize, byte: u8) -> [u8; BODY]
+    requires { at < BODY }
+{
+    let mut body = body;
+    body[at] = byte;
+    body
 }
 
 fn base_of_nine() -> [u8; BODY] {
     Base::new(9).to_body()
 }
 
+/// Number 2^63 is the last. A byte behind the number, an empty body and a number past the last are refused.
 #[test]
-fn bases(rt: HostRuntime) -> Result<(), Fail> {
-    assert_eq!(rt; base_in(&body_of(&BASE)), Some(9));
-    assert_eq!(rt; base_of_nine(), body_of(&BASE));
-    let last = body_of(&[128, 0, 0, 0, 0, 0, 0, 0]);
-    assert_eq!(rt; base_in(&last), Some(1 << 63));
-
-    let mut trailing = body_of(&BASE);
-    trailing[BODY - 1] = 1;
-    let past = body_of(&[128, 0, 0, 0, 0, 0, 0, 1]);
-    for refused in [trailing, body_of(&[]), past] {
-        assert_eq!(rt; base_in(&refused), None);
+fn bases(rt: HostRuntime) {
+    for (front, at_the_end, number) in [
+        (BASE, 0, Some(9)),
+        (BASE, 1, None),
+        ([0; 8], 0, None),
+        ([128, 0, 0, 0, 0, 0, 0, 0], 0, Some(1 << 63)),
+        ([128, 0, 0, 0, 0, 0, 0, 1], 0, None),
+    ] {
+        let body = with_byte(body_of(&front), BODY - 1, at_the_end);
+        assert_eq!(rt; base_in(&body), number);
     }
-    Ok(())
+    assert!(rt; base_of_nine() == body_of(&BASE));
 }
 
-/// The body of an identity with this digest, of two atoms and a ring of 8, or of the most that there may be.
-fn identity_bodies(digest: [u8; 32]) -> ([u8; BODY], [u8; BODY]) {
-    let sample = Identity::new(2, 8, digest);
-    let largest = Identity::new(64, 4096, digest);
-    (sample.to_body(), largest.to_body())
+/// An identity with this front.
+fn identity_behind(front: [u8; 12]) -> [u8; BODY] {
+    let mut body = body_of(&front);
+    body[12..44].copy_from_slice(&DIGEST);
+    body
+}
+
+/// The numbers of atoms and of records in an identity with the digest.
+fn identity_numbers(body: &[u8; BODY]) -> Option<(u16, u32)> {
+    let identity = Identity::from_body(body)?;
+    if *identity.digest() != DIGEST {
+        return None;
+    }
+    Some((identity.atoms(), identity.ring()))
+}
+
+fn version_in(body: &[u8; BODY]) -> Option<u16> {
+    Identity::version_in(body)
+}
+
+/// A ring of 4,097 records, 65 atoms, another version and an empty body are refused.
+#[test]
+fn identities(rt: HostRuntime) {
+    for (front, version, numbers) in [
+        (SAMPLE_FRONT, Some(1), Some((2, 8))),
+        (LARGEST_FRONT, Some(1), Some((64, 4096))),
+        (
+            [0x42, 0x49, 0x50, 0x46, 0, 1, 0, 64, 0, 0, 0x10, 1],
+            Some(1),
+            None,
+        ),
+        (
+            [0x42, 0x49, 0x50, 0x46, 0, 1, 0, 65, 0, 0, 0x10, 0],
+            Some(1),
+            None,
+        ),
+        (
+            [0x42, 0x49, 0x50, 0x46, 0, 3, 0, 2, 0, 0, 0, 8],
+            Some(3),
+            None,
+        ),
+        ([0; 12], None, None),
+    ] {
+        let body = identity_behind(front);
+        assert_eq!(rt;
+            (version_in(&body), identity_numbers(&body)),
+            (version, numbers)
+        );
+    }
+}
+
+fn identities_of(digest: [u8; 32]) -> [[u8; BODY]; 2] {
+    [
+        Identity::new(2, 8, digest).to_body(),
+        Identity::new(64, 4096, digest).to_body(),
+    ]
 }
 
 #[test]
-fn identities(rt: HostRuntime) -> Result<(), Fail> {
-    let body = body_of(&IDENTITY);
-    let (atoms, ring, digest) = identity_in(&body).ok_or("the sample's identity")?;
-    assert_eq!(rt; atoms, 2);
-    assert_eq!(rt; ring, 8);
-    assert_eq!(rt; digest.as_slice(), &IDENTITY[12..]);
-    let (again, largest) = identity_bodies(digest);
-    assert_eq!(rt; again, body);
-    assert_eq!(rt; version_in(&body), Some(1));
-    assert_eq!(rt; identity_in(&largest), Some((64, 4096, digest)));
+fn identities_are_written(rt: HostRuntime) {
+    let wanted = [
+        identity_behind(SAMPLE_FRONT),
+        identity_behind(LARGEST_FRONT),
+    ];
+    assert!(rt; identities_of(DIGEST) == wanted);
+}
 
-    // A ring of 4,097 records, 65 atoms, and another version.
-    let mut longer_ring = largest;
-    longer_ring[11] = 1;
-    let mut more_atoms = largest;
-    more_atoms[7] = 65;
-    let mut other_version = body;
-    other_version[5] = 3;
-    for refused in [longer_ring, more_atoms, other_version] {
-        assert_eq!(rt; identity_in(&refused), None);
+/// Whether the body holds a state with these values that is written so again, and its atom, count, number of the copy and marking.
+fn state_in(body: &[u8; BODY], values: &[i64]) -> Option<(u16, u64, u64, u64)> {
+    let saved = Saved::from_body(body)?;
+    if saved.values() != values || saved.to_body() != *body {
+        return None;
     }
-    assert_eq!(rt; version_in(&other_version), Some(3));
-    assert_eq!(rt; version_in(&body_of(&[])), None);
-    Ok(())
+    Some((saved.atom(), saved.count(), saved.at(), saved.marking()))
 }
 
-/// The atom, the count, the number of the copy and the marking.
-fn numbers_of(saved: &Saved) -> (u16, u64, u64, u64) {
-    (saved.atom(), saved.count(), saved.at(), saved.marking())
-}
+/// The most of a count and of a number of a copy.
+const MOST: u64 = (1 << 63) - 1;
 
-fn values_of(saved: &Saved) -> &[i64] {
-    saved.values()
-}
-
-fn body_of_saved(saved: &Saved) -> [u8; BODY] {
-    saved.to_body()
+#[test]
+fn saved_states(rt: HostRuntime) {
+    let longest = Some((63, MOST, MOST, u64::MAX));
+    assert_eq!(rt; state_in(&body_of(&SAVED), &[4]), Some((0, 4, 4, 1)));
+    assert_eq!(rt; state_in(&longest_saved(), &[-1; 16]), longest);
 }
 
 fn sample_saved() -> [u8; BODY] {
     Saved::new(0, 4, 4, 1, &[4]).to_body()
 }
 
+/// A count of 5 is past the number of the copy.
 #[test]
-fn saved_states(rt: HostRuntime) -> Result<(), Fail> {
-    let body = body_of(&SAVED);
-    let saved = saved_in(&body).ok_or("a saved state")?;
-    assert_eq!(rt; numbers_of(&saved), (0, 4, 4, 1));
-    assert_eq!(rt; values_of(&saved), [4].as_slice());
-    assert_eq!(rt; sample_saved(), body);
-
-    let longest = saved_in(&longest_saved()).ok_or("the longest saved state")?;
-    assert_eq!(rt; values_of(&longest), [-1; 16].as_slice());
-    assert_eq!(rt; body_of_saved(&longest), longest_saved());
-
-    let mut count_above = body;
-    count_above[9] = 5;
-    assert!(rt; saved_in(&count_above).is_none());
-    Ok(())
+fn saved_states_are_written_or_refused(rt: HostRuntime) {
+    assert!(rt; sample_saved() == body_of(&SAVED));
+    assert!(rt; !is_saved(&with_byte(body_of(&SAVED), 9, 5)));
 }
 
 const FIRST: Entry = Entry {
@@ -201,48 +240,50 @@ fn sample_record() -> [u8; BODY] {
     Fired::new(2, 1, &[FIRST, SECOND]).to_body()
 }
 
-/// The number and the connector.
-fn numbers_in(record: &Fired) -> (u64, u16) {
-    (record.number(), record.connector())
-}
-
-fn entries_in(record: &Fired) -> &[Entry] {
-    record.entries()
-}
-
-fn body_of_record(record: &Fired) -> [u8; BODY] {
-    record.to_body()
+/// The number, the connector and how many entries there are, where the record is written so again.
+fn numbers_in(body: &[u8; BODY]) -> Option<(u64, u16, usize)> {
+    let record = Fired::from_body(body)?;
+    if record.to_body() != *body {
+        return None;
+    }
+    Some((record.number(), record.connector(), record.entries().len()))
 }
 
 #[test]
-fn records(rt: HostRuntime) -> Result<(), Fail> {
-    let body = body_of(&RECORD);
-    let record = record_in(&body).ok_or("record 2 of the sample")?;
-    assert_eq!(rt; numbers_in(&record), (2, 1));
-    assert_eq!(rt; entries_in(&record), [FIRST, SECOND].as_slice());
-    assert_eq!(rt; (FIRST.mask(), FIRST.delivered_count()), (0, 0));
-    assert_eq!(rt; (SECOND.mask(), SECOND.delivered_count()), (1, 1));
-    assert_eq!(rt; sample_record(), body);
+fn records(rt: HostRuntime) {
+    assert_eq!(rt; numbers_in(&body_of(&RECORD)), Some((2, 1, 2)));
+    assert_eq!(rt; numbers_in(&longest_record()), Some((MOST, 63, 8)));
+    assert!(rt; sample_record() == body_of(&RECORD));
+}
 
-    let longest = record_in(&longest_record()).ok_or("the longest record")?;
-    assert_eq!(rt; entries_in(&longest).len(), 8);
-    assert_eq!(rt; body_of_record(&longest), longest_record());
-    Ok(())
+/// The mask of what is delivered, and how many values that are.
+fn delivered_in(entry: &Entry) -> (u8, u8) {
+    (entry.mask(), entry.delivered_count())
+}
+
+/// Whether the body holds a record with these entries.
+fn has_entries(body: &[u8; BODY], entries: &[Entry]) -> bool {
+    match Fired::from_body(body) {
+        Some(record) => record.entries() == entries,
+        None => false,
+    }
+}
+
+#[test]
+fn entries(rt: HostRuntime) {
+    assert!(rt; has_entries(&body_of(&RECORD), &[FIRST, SECOND]));
+    for (entry, delivered) in [(FIRST, (0, 0)), (SECOND, (1, 1))] {
+        assert_eq!(rt; delivered_in(&entry), delivered);
+    }
 }
 
 /// Participation 3 in record 2, participation 2 in record 1, and atoms 1 and 0 in this order.
 #[test]
 fn records_refused(rt: HostRuntime) {
     let body = body_of(&RECORD);
-    let mut past = body;
-    past[22] = 3;
-    let mut first_record = body;
-    first_record[7] = 1;
-    let mut turned = body;
-    turned[12] = 1;
-    turned[26] = 0;
-    for refused in [past, first_record, turned] {
-        assert!(rt; record_in(&refused).is_none());
+    let turned = with_byte(with_byte(body, 12, 1), 26, 0);
+    for refused in [with_byte(body, 22, 3), with_byte(body, 7, 1), turned] {
+        assert!(rt; !is_record(&refused));
     }
 }
 
@@ -251,24 +292,39 @@ enum Kind {
     Base,
     Identity,
     Saved,
+    LongestSaved,
     Record,
+    LongestRecord,
+}
+
+/// The body of this kind.
+fn body_for(kind: Kind) -> [u8; BODY] {
+    match kind {
+        Kind::Base => body_of(&BASE),
+        Kind::Identity => identity_behind(SAMPLE_FRONT),
+        Kind::Saved => body_of(&SAVED),
+        Kind::LongestSaved => longest_saved(),
+        Kind::Record => body_of(&RECORD),
+        Kind::LongestRecord => longest_record(),
+    }
 }
 
 fn reads(kind: Kind, body: &[u8; BODY]) -> bool {
     match kind {
-        Kind::Base => base_in(body).is_some(),
-        Kind::Identity => identity_in(body).is_some(),
-        Kind::Saved => saved_in(body).is_some(),
-        Kind::Record => record_in(body).is_some(),
+        Kind::Base => is_base(body),
+        Kind::Identity => is_identity(body),
+        Kind::Saved | Kind::LongestSaved => is_saved(body),
+        Kind::Record | Kind::LongestRecord => is_record(body),
     }
 }
 
-// How many of the bodies are read that differ from this one in a single byte, which is one of six values.
-fn changes_read(kind: Kind, body: &[u8; BODY]) -> u32 {
+// How many of the bodies are read that differ from that of this kind in a single byte, which is one of six values.
+fn changes_read(kind: Kind) -> u32 {
+    let body = body_for(kind);
     let mut count = 0u32;
     for i in 0..BODY {
         for value in [0, 1, 2, 127, 128, 255] {
-            let mut changed = *body;
+            let mut changed = body;
             changed[i] = value;
             if value != body[i] && reads(kind, &changed) {
                 count = count.saturating_add(1);
@@ -281,26 +337,18 @@ fn changes_read(kind: Kind, body: &[u8; BODY]) -> u32 {
 // The counts are those of the grammar.
 #[test]
 fn single_bytes_changed(rt: HostRuntime) {
-    for (kind, body, count) in [
+    for (kind, count) in [
         // the first byte, and each of the next seven
-        (Kind::Base, body_of(&BASE), 3 + 7 * 5),
+        (Kind::Base, 3 + 7 * 5),
         // atoms, ring, digest
-        (Kind::Identity, body_of(&IDENTITY), 1 + 5 + 32 * 6),
+        (Kind::Identity, 1 + 5 + 32 * 6),
         // atom, count, at, marking, variables, value
-        (Kind::Saved, body_of(&SAVED), 2 + 3 + 36 + 40 + 1 + 41),
-        (Kind::Saved, longest_saved(), 3 + 38 + 40 + 16 * 40),
+        (Kind::Saved, 2 + 3 + 36 + 40 + 1 + 41),
+        (Kind::LongestSaved, 3 + 38 + 40 + 16 * 40),
         // number, connector, and of the entries the atom, transition, participation, mask, value
-        (
-            Kind::Record,
-            body_of(&RECORD),
-            36 + 2 + 3 + 1 + 1 + 3 + 1 + 1 + 40,
-        ),
-        (
-            Kind::Record,
-            longest_record(),
-            3 + 3 + 8 * (3 + 38 + 4 * 40),
-        ),
+        (Kind::Record, 36 + 2 + 3 + 1 + 1 + 3 + 1 + 1 + 40),
+        (Kind::LongestRecord, 3 + 3 + 8 * (3 + 38 + 4 * 40)),
     ] {
-        assert_eq!(rt; changes_read(kind, &body), count);
+        assert_eq!(rt; changes_read(kind), count);
     }
 }

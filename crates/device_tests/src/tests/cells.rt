@@ -109,20 +109,36 @@ fn allowed(call: Call) -> [(u8, u8); 5] {
     }
 }
 
+/// Whether the cells are what a stop may leave, and where the call ended what they have to be.
+fn is_right(call: Call, ok: bool, cells: &[u8; 5]) -> bool {
+    for (cell, (before, after)) in cells.iter().zip(&allowed(call)) {
+        if cell != after && (ok || cell != before) {
+            return false;
+        }
+    }
+    true
+}
+
+/// What the cells are behind the call, stopped at its `k`-th device call under this tear, and whether it ended before.
+fn left_by(
+    rt: &impl Abort,
+    alloc: Global,
+    call: Call,
+    k: u64,
+    tear: Tear,
+) -> Result<(bool, [u8; 5]), Fail> {
+    let (ok, disk) = stopped(filled(alloc)?, call, k)?;
+    Ok((ok, seen(rt, disk.stop(tear))?))
+}
+
 /// Stops the call at its `k`-th device call under each tear, and says whether it ended before, and how many stops fell inside.
 fn ends_before(rt: &impl Abort, alloc: Global, call: Call, k: u64) -> Result<(bool, u64), Fail> {
     let mut ended = false;
     let mut stops = 0u64;
     for tear in TEARS {
-        let (ok, disk) = stopped(filled(alloc)?, call, k)?;
-        let cells = seen(rt, disk.stop(tear))?;
-        for (cell, (before, after)) in cells.iter().zip(&allowed(call)) {
-            let right = cell == after || (!ok && cell == before);
-            assert!(rt; right, "device call {k}");
-        }
-        if !ok {
-            stops = stops.saturating_add(1);
-        }
+        let (ok, cells) = left_by(rt, alloc, call, k, tear)?;
+        assert!(rt; is_right(call, ok, &cells), "device call {k}");
+        stops = stops.saturating_add(u64::from(!ok));
         ended = ok;
     }
     Ok((ended, stops))
@@ -155,18 +171,33 @@ fn a_stop_leaves_each_cell_old_or_empty_or_new(rt: HostRuntime) -> Result<(), Fa
     Ok(())
 }
 
+/// Empties a full cell and an empty one.
+fn two_erased(disk: MemDisk) -> Result<MemDisk, DiskFault>
+    requires { size_of (state_of disk) ≡ 2560 }
+    ensures { IfOk result (λ d. size_of (state_of d) ≡ 2560) }
+{
+    let mut cells = Engine::new(disk);
+    cells.erase(2)?;
+    cells.erase(0)?;
+    Ok(cells.into_disk())
+}
+
+/// The gate of cell 2.
+fn gate_in(disk: MemDisk) -> Result<u8, DiskFault>
+    requires { size_of (state_of disk) ≡ 2560 }
+{
+    let mut disk = disk;
+    let mut gate = [7];
+    disk.read_at(1024, &mut gate)?;
+    Ok(gate[0])
+}
+
 /// Of a full cell the gate is written, as 0; of an empty one nothing is.
 #[test]
 fn an_erase_writes_a_gate_or_only_syncs(rt: HostRuntime) -> Result<(), Fail> {
-    let mut cells = Engine::new(filled(rt.alloc())?);
-    cells.erase(2)?;
-    cells.erase(0)?;
-    let mut disk = cells.into_disk();
+    let disk = two_erased(filled(rt.alloc())?)?;
     // Eight writes and a sync fill it; then a gate and a sync, and a sync alone.
-    assert_eq!(rt; disk.changes(), 9 + 2 + 1);
-    let mut gate = [7];
-    disk.read_at(1024, &mut gate)?;
-    assert_eq!(rt; gate, [0]);
+    assert_eq!(rt; (disk.changes(), gate_in(disk)?), (9 + 2 + 1, 0));
     Ok(())
 }
 
@@ -184,11 +215,20 @@ fn emptied<D: Disk>(cells: &mut Cells<D>, k: u64) -> Result<u64, DiskFault>
     Ok(size)
 }
 
+/// Empties cell 1 by that caller.
+fn first_emptied(disk: MemDisk) -> Result<(u64, MemDisk), DiskFault>
+    requires { size_of (state_of disk) ≡ 2560 }
+    ensures { IfOk result (λ r. size_of (state_of r.1) ≡ 2560) }
+{
+    let mut cells = Engine::new(disk);
+    cells.sync()?;
+    let size = emptied(&mut cells, 1)?;
+    Ok((size, cells.into_disk()))
+}
+
 #[test]
 fn cells_of_any_device_are_emptied(rt: HostRuntime) -> Result<(), Fail> {
-    let mut cells = Engine::new(filled(rt.alloc())?);
-    cells.sync()?;
-    assert_eq!(rt; emptied(&mut cells, 1)?, 2560);
-    assert_eq!(rt; seen(&rt, cells.into_disk())?, [0, 0, 2, 3, 4]);
+    let (size, disk) = first_emptied(filled(rt.alloc())?)?;
+    assert_eq!(rt; (size, seen(&rt, disk)?), (2560, [0, 0, 2, 3, 4]));
     Ok(())
 }

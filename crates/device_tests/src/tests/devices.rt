@@ -1,9 +1,65 @@
 // What a device in memory makes of fuses, stops and changes without room.
+ghost use Rattle.std.specs.Prelude.{◌≡◌, ◌+◌, ◌≤◌, length, IfOk};
+ghost use Rattle.disk_model.specs.DiskState.{size_of};
+ghost use Rattle.disk_model.specs.MemDisk.{state_of};
+
 use disk_model::{Disk, DiskFault, MemDisk, Tear};
 use record_codec::ring::{IDENTITY_CELL, base_cell, device_cells, record_cell, slot_cell};
+use std::alloc::{AllocError, Global};
 use std::test::Fail;
 
-/// What a stop leaves of a written byte in cell 0 and one in cell 1, where 0x11 stood at the last sync and 0x22 was written.
+// Calls of a device, of which contracts are told its size alone.
+fn new_disk(alloc: Global, size: u64, room: usize) -> Result<MemDisk, AllocError>
+    ensures { IfOk result (λ d. size_of (state_of d) ≡ size) }
+{
+    MemDisk::new(alloc, size, room)
+}
+
+fn wrote(disk: &mut MemDisk, at: u64, from: &[u8]) -> bool
+    requires { at + length from.now ≤ size_of (state_of disk.old) }
+    ensures { size_of (state_of disk.new) ≡ size_of (state_of disk.old) }
+{
+    disk.write_at(at, from).is_ok()
+}
+
+fn synced(disk: &mut MemDisk) -> bool
+    ensures { size_of (state_of disk.new) ≡ size_of (state_of disk.old) }
+{
+    disk.sync().is_ok()
+}
+
+fn told_size(disk: &mut MemDisk) -> Option<u64>
+    ensures { size_of (state_of disk.new) ≡ size_of (state_of disk.old) }
+{
+    disk.size().ok()
+}
+
+/// The first nine bytes.
+fn front_of(disk: &mut MemDisk) -> Result<[u8; 9], DiskFault>
+    requires { 9 ≤ size_of (state_of disk.old) }
+    ensures { size_of (state_of disk.new) ≡ size_of (state_of disk.old) }
+{
+    let mut bytes = [0xEE; 9];
+    disk.read_at(0, &mut bytes)?;
+    Ok(bytes)
+}
+
+/// The same behind a stop.
+fn front_left(disk: MemDisk, tear: Tear) -> Result<[u8; 9], DiskFault>
+    requires { 9 ≤ size_of (state_of disk) }
+{
+    front_of(&mut disk.stop(tear))
+}
+
+/// What a stop leaves of two written bytes in cell 0 and two in cell 1, where 0x11 stood at the last sync and 0x22 was written.
+fn torn(alloc: Global, tear: Tear) -> Result<[u8; 9], Fail> {
+    let mut disk = MemDisk::with_cells(alloc, 16, 8, 4)?;
+    disk.write_at(0, &[0x11; 8])?;
+    disk.sync()?;
+    disk.write_at(2, &[0x22; 4])?;
+    Ok(front_left(disk, tear)?)
+}
+
 #[test]
 fn each_tear_makes_its_own_of_what_is_pending(rt: HostRuntime) -> Result<(), Fail> {
     for (tear, even, odd) in [
@@ -12,14 +68,8 @@ fn each_tear_makes_its_own_of_what_is_pending(rt: HostRuntime) -> Result<(), Fai
         (Tear::Gates, 0xA5, 0xA5),
         (Tear::Mixed, 0x11, 0x22),
     ] {
-        let mut disk = MemDisk::with_cells(rt.alloc(), 16, 8, 4)?;
-        disk.write_at(0, &[0x11; 8])?;
-        disk.sync()?;
-        disk.write_at(2, &[0x22; 4])?;
-        let mut disk = disk.stop(tear);
-        let mut bytes = [0; 9];
-        disk.read_at(0, &mut bytes)?;
-        assert_eq!(rt; bytes, [0x11, 0x11, even, even, odd, odd, 0x11, 0x11, 0]);
+        let wanted = [0x11, 0x11, even, even, odd, odd, 0x11, 0x11, 0];
+        assert_eq!(rt; torn(rt.alloc(), tear)?, wanted);
     }
     Ok(())
 }
@@ -27,28 +77,26 @@ fn each_tear_makes_its_own_of_what_is_pending(rt: HostRuntime) -> Result<(), Fai
 /// A write that the fuse fails writes the first half of its bytes, and its whole range is pending.
 #[test]
 fn a_fuse_cuts_a_write_in_half(rt: HostRuntime) -> Result<(), Fail> {
-    let mut disk = MemDisk::new(rt.alloc(), 16, 8)?;
+    let mut disk = new_disk(rt.alloc(), 16, 8)?;
     disk.fuse_once(2);
-    assert_eq!(rt; disk.size()?, 16);
-    assert!(rt; disk.write_at(1, &[7; 5]).is_err());
-    let mut bytes = [0; 7];
-    disk.read_at(0, &mut bytes)?;
-    assert_eq!(rt; bytes, [0, 7, 7, 0, 0, 0, 0]);
-    let mut disk = disk.stop(Tear::Gates);
-    disk.read_at(0, &mut bytes)?;
-    assert_eq!(rt; bytes, [0, 0xA5, 0xA5, 0xA5, 0xA5, 0xA5, 0]);
+    let told = (told_size(&mut disk), wrote(&mut disk, 1, &[7; 5]));
+    let found = [front_of(&mut disk)?, front_left(disk, Tear::Gates)?];
+    let wanted = [
+        [0, 7, 7, 0, 0, 0, 0, 0, 0],
+        [0, 0xA5, 0xA5, 0xA5, 0xA5, 0xA5, 0, 0, 0],
+    ];
+    assert_eq!(rt; (told, found), ((Some(16), false), wanted));
     Ok(())
 }
 
 /// The second change fails and all calls after it, reads among them.
 #[test]
 fn a_fuse_counts_changes_alone(rt: HostRuntime) -> Result<(), Fail> {
-    let mut disk = MemDisk::new(rt.alloc(), 16, 8)?;
+    let mut disk = new_disk(rt.alloc(), 16, 8)?;
     disk.fuse_change(2);
-    disk.write_at(0, &[1])?;
-    assert_eq!(rt; disk.size()?, 16);
-    assert!(rt; disk.sync().is_err());
-    assert!(rt; disk.size().is_err());
+    let before = (wrote(&mut disk, 0, &[1]), told_size(&mut disk));
+    let behind = (synced(&mut disk), told_size(&mut disk));
+    assert_eq!(rt; (before, behind), ((true, Some(16)), (false, None)));
     assert_eq!(rt; disk.changes(), 2);
     Ok(())
 }
@@ -56,52 +104,62 @@ fn a_fuse_counts_changes_alone(rt: HostRuntime) -> Result<(), Fail> {
 /// Past its room, and longer than 1,024 bytes, a change fails and changes nothing.
 #[test]
 fn a_change_past_the_room_changes_nothing(rt: HostRuntime) -> Result<(), Fail> {
-    let mut disk = MemDisk::new(rt.alloc(), 2048, 1)?;
-    assert!(rt; disk.write_at(0, &[1; 1025]).is_err());
-    disk.write_at(0, &[1; 2])?;
-    assert!(rt; disk.write_at(0, &[2; 2]).is_err());
-    assert!(rt; disk.sync().is_err());
-    let mut bytes = [0; 2];
-    disk.read_at(0, &mut bytes)?;
-    assert_eq!(rt; bytes, [1, 1]);
+    let mut disk = new_disk(rt.alloc(), 2048, 1)?;
+    let told = [
+        wrote(&mut disk, 0, &[1; 1025]),
+        wrote(&mut disk, 0, &[1; 2]),
+        wrote(&mut disk, 0, &[2; 2]),
+        synced(&mut disk),
+    ];
+    let front = front_of(&mut disk)?;
+    assert_eq!(rt;
+        (told, front),
+        ([false, true, false, false], [1, 1, 0, 0, 0, 0, 0, 0, 0])
+    );
     Ok(())
+}
+
+/// The last byte of a device of so many bytes, which was written and synced, behind a stop.
+fn last_byte_left(alloc: Global, size: u64) -> Result<u8, Fail> {
+    if size == 0 {
+        return Err(Fail::new("no byte"));
+    }
+    let mut disk = MemDisk::with_cells(alloc, size, 2, 512)?;
+    disk.write_at(size - 1, &[7])?;
+    disk.sync()?;
+    let mut disk = disk.stop(Tear::Old);
+    let mut byte = [0];
+    disk.read_at(size - 1, &mut byte)?;
+    Ok(byte[0])
 }
 
 /// The largest device that a plant can have: two slots for each of 64 atoms, and a ring of 4,096 records.
 #[test]
 fn there_is_memory_for_the_largest_device(rt: HostRuntime) -> Result<(), Fail> {
     let size = 512 * device_cells(64, 4096);
-    assert_eq!(rt; size, 2_164_224);
-    let mut disk = MemDisk::with_cells(rt.alloc(), size, 2, 512)?;
     let last = 512 * record_cell(64, 4096, u64::MAX) + 511;
-    assert_eq!(rt; last, size - 1);
-    disk.write_at(last, &[7])?;
-    disk.sync()?;
-    let mut disk = disk.stop(Tear::Old);
-    let mut byte = [0];
-    disk.read_at(last, &mut byte)?;
-    assert_eq!(rt; byte, [7]);
+    assert_eq!(rt; (size, last), (2_164_224, 2_164_223));
+    assert_eq!(rt; last_byte_left(rt.alloc(), size)?, 7);
     Ok(())
 }
 
 /// The device of the sample plant: two atoms, and a ring of eight records.
 #[test]
 fn the_sample_has_fifteen_cells(rt: HostRuntime) {
-    assert_eq!(rt; [IDENTITY_CELL, base_cell(0), base_cell(1)], [0, 1, 2]);
+    let bases = [IDENTITY_CELL, base_cell(0), base_cell(1)];
     let slots = [
         slot_cell(0, 0),
         slot_cell(0, 1),
         slot_cell(1, 0),
         slot_cell(1, 1),
     ];
-    assert_eq!(rt; slots, [3, 4, 5, 6]);
     let records = [
         record_cell(2, 8, 7),
         record_cell(2, 8, 8),
         record_cell(2, 8, 9),
     ];
-    assert_eq!(rt; records, [14, 7, 8]);
-    assert_eq!(rt; device_cells(2, 8), 15);
+    let found = (bases, slots, records, device_cells(2, 8));
+    assert_eq!(rt; found, ([0, 1, 2], [3, 4, 5, 6], [14, 7, 8], 15));
 }
 
 #[test]

@@ -26,35 +26,55 @@ fn ends(disk: &mut FileDisk, bytes: u64) -> Result<[u8; 8], Fail> {
     Ok(ends)
 }
 
+/// Why a file of so many bytes is not created, where it is not.
+fn refused_new(rt: &impl Files<File = File>, path: &str, bytes: u64) -> Option<FileFault> {
+    FileDisk::create(rt, path, bytes).err()
+}
+
+/// Why the file is not opened, where it is not.
+fn refused(rt: &impl Files<File = File>, path: &str) -> Option<FileFault> {
+    FileDisk::open(rt, path).err()
+}
+
+/// How many bytes a file has that is created for so many, and whether they are zeros.
+fn created(rt: &HostRuntime, path: &str, bytes: u64) -> Result<(u64, bool), Fail> {
+    let disk = FileDisk::create(rt, path, bytes)?;
+    let found = fs::read(rt, path)?;
+    drop(disk);
+    fs::remove_file(rt, path)?;
+    Ok((found.len() as u64, found.iter().all(|byte| *byte == 0)))
+}
+
 #[test]
 fn a_created_file_has_its_size_and_zeros(rt: HostRuntime) -> Result<(), Fail> {
     let path = fresh(&rt, "file_disk_created");
     for bytes in [0, 1, 4_096, 7_681] {
-        let disk = FileDisk::create(&rt, path, bytes)?;
-        let found = fs::read(&rt, path)?;
-        assert_eq!(rt; found.len() as u64, bytes);
-        assert!(rt; found.iter().all(|byte| *byte == 0));
-        drop(disk);
-        fs::remove_file(&rt, path)?;
+        assert_eq!(rt; created(&rt, path, bytes)?, (bytes, true));
     }
     Ok(())
 }
 
-#[test]
-fn what_is_written_is_read_after_reopening(rt: HostRuntime) -> Result<(), Fail> {
-    let path = fresh(&rt, "file_disk_written");
-    let mut disk = FileDisk::create(&rt, path, 1_025)?;
+/// A device of 1,025 bytes whose first four and last four are written.
+fn with_ends(disk: FileDisk) -> Result<FileDisk, Fail> {
+    let mut disk = disk;
     if disk.size()? != 1_025 {
         return Err(Fail::new("another size"));
     }
     disk.write_at(0, &[1, 2, 3, 4])?;
     disk.write_at(1_021, &[5, 6, 7, 8])?;
     disk.sync()?;
-    assert_eq!(rt; ends(&mut disk, 1_025)?, [1, 2, 3, 4, 5, 6, 7, 8]);
+    Ok(disk)
+}
+
+#[test]
+fn what_is_written_is_read_after_reopening(rt: HostRuntime) -> Result<(), Fail> {
+    let path = fresh(&rt, "file_disk_written");
+    let mut disk = with_ends(FileDisk::create(&rt, path, 1_025)?)?;
+    let before = ends(&mut disk, 1_025)?;
     drop(disk);
-    let mut disk = FileDisk::open(&rt, path)?;
-    assert_eq!(rt; ends(&mut disk, 1_025)?, [1, 2, 3, 4, 5, 6, 7, 8]);
+    let after = ends(&mut FileDisk::open(&rt, path)?, 1_025)?;
     fs::remove_file(&rt, path)?;
+    assert_eq!(rt; [before, after], [[1, 2, 3, 4, 5, 6, 7, 8]; 2]);
     Ok(())
 }
 
@@ -63,32 +83,26 @@ fn what_is_written_is_read_after_reopening(rt: HostRuntime) -> Result<(), Fail> 
 fn a_taken_name_is_refused(rt: HostRuntime) -> Result<(), Fail> {
     let path = fresh(&rt, "file_disk_taken");
     fs::write(&rt, path, "kept")?;
-    assert_eq!(rt;
-        FileDisk::create(&rt, path, 512).err(),
-        Some(FileFault::AlreadyThere)
-    );
-    assert!(rt; fs::read(&rt, path)?.as_slice() == b"kept".as_slice());
+    let refused = refused_new(&rt, path, 512);
+    let is_kept = fs::read(&rt, path)?.as_slice() == b"kept".as_slice();
     fs::remove_file(&rt, path)?;
+    assert_eq!(rt; (refused, is_kept), (Some(FileFault::AlreadyThere), true));
     Ok(())
 }
 
 #[test]
-fn what_is_no_file_is_refused(rt: HostRuntime) -> Result<(), Fail> {
-    let path = fresh(&rt, "file_disk_missing");
-    assert_eq!(rt; FileDisk::open(&rt, path).err(), Some(FileFault::NotThere));
-    let inside = "file_disk_missing/image";
-    assert_eq!(rt;
-        FileDisk::create(&rt, inside, 512).err(),
-        Some(FileFault::NotThere)
-    );
+fn what_is_no_file_is_refused(rt: HostRuntime) {
+    let missing = fresh(&rt, "file_disk_missing");
     for (path, fault) in [
+        (missing, FileFault::NotThere),
         (".", FileFault::NotAFile),
         ("/dev/null", FileFault::NotAFile),
         ("a\0b", FileFault::Unopened),
     ] {
-        assert_eq!(rt; FileDisk::open(&rt, path).err(), Some(fault), "{path}");
+        assert_eq!(rt; refused(&rt, path), Some(fault), "{path}");
     }
-    Ok(())
+    let inside = refused_new(&rt, "file_disk_missing/image", 512);
+    assert_eq!(rt; inside, Some(FileFault::NotThere));
 }
 
 /// A device may go from one thread to another.
@@ -96,48 +110,85 @@ fn sent<T: Send>(device: T) -> T {
     device
 }
 
+/// Why the file is not opened beside the device that has it open. That one is closed then.
+fn refused_beside(rt: &impl Files<File = File>, path: &str, device: FileDisk) -> Option<FileFault> {
+    let fault = refused(rt, path);
+    drop(device);
+    fault
+}
+
 /// Two programs are two openings: the lock is of an opening, and ends with it.
 #[test]
 fn a_file_is_open_once_at_a_time(rt: HostRuntime) -> Result<(), Fail> {
     let path = fresh(&rt, "file_disk_open");
-    let created = FileDisk::create(&rt, path, 512)?;
-    assert_eq!(rt; FileDisk::open(&rt, path).err(), Some(FileFault::InUse));
-    drop(created);
-    let opened = sent(FileDisk::open(&rt, path)?);
-    assert_eq!(rt; FileDisk::open(&rt, path).err(), Some(FileFault::InUse));
-    drop(opened);
-    assert!(rt; FileDisk::open(&rt, path).is_ok());
+    let created = refused_beside(&rt, path, FileDisk::create(&rt, path, 512)?);
+    let opened = refused_beside(&rt, path, sent(FileDisk::open(&rt, path)?));
+    let closed = refused(&rt, path);
     fs::remove_file(&rt, path)?;
+    let in_use = Some(FileFault::InUse);
+    assert_eq!(rt; [created, opened, closed], [in_use, in_use, None]);
     Ok(())
 }
 
-/// The largest image is that of 64 atoms and a ring of 4,096 records, in cells of 1,024 bytes; its last byte can be written.
-#[test]
-fn a_file_past_the_largest_image_is_only_read(rt: HostRuntime) -> Result<(), Fail> {
-    assert_eq!(rt; LARGEST_IMAGE, 1_024 * device_cells(64, 4_096));
-    let path = fresh(&rt, "file_disk_largest");
-    let longer = LARGEST_IMAGE + 1;
-    assert_eq!(rt;
-        FileDisk::create(&rt, path, longer).err(),
-        Some(FileFault::TooLarge)
-    );
-    let mut disk = FileDisk::create(&rt, path, LARGEST_IMAGE)?;
+/// Gives the file another length, as another program would.
+fn set_length(rt: &impl Files<File = File>, path: &str, bytes: u64) -> Result<(), Fail> {
+    OpenOptions::new()
+        .write(true)
+        .open(rt, path)?
+        .set_len(bytes)?;
+    Ok(())
+}
+
+/// A new file of the largest image, of which the last byte is written.
+fn new_largest(rt: &impl Files<File = File>, path: &str) -> Result<(), Fail> {
+    let mut disk = FileDisk::create(rt, path, LARGEST_IMAGE)?;
     if disk.size()? != LARGEST_IMAGE {
         return Err(Fail::new("another size"));
     }
     disk.write_at(LARGEST_IMAGE - 1, &[7])?;
     disk.sync()?;
-    drop(disk);
-    OpenOptions::new()
-        .write(true)
-        .open(&rt, path)?
-        .set_len(longer)?;
-    let mut disk = FileDisk::open(&rt, path)?;
-    assert_eq!(rt; ends(&mut disk, longer)?, [0, 0, 0, 0, 0, 0, 7, 0]);
-    assert!(rt; disk.size()? == longer && disk.write_at(0, &[1]).is_err());
-    assert_eq!(rt; ends(&mut disk, longer)?, [0, 0, 0, 0, 0, 0, 7, 0]);
-    fs::remove_file(&rt, path)?;
     Ok(())
+}
+
+/// Whether the device of so many bytes takes a byte.
+fn takes_a_byte(disk: &mut FileDisk, bytes: u64) -> Result<bool, Fail> {
+    if disk.size()? != bytes || bytes == 0 {
+        return Err(Fail::new("another size"));
+    }
+    Ok(disk.write_at(0, &[1]).is_ok())
+}
+
+/// The largest image is that of 64 atoms and a ring of 4,096 records, in cells of 1,024 bytes; its last byte can be written.
+#[test]
+fn a_file_past_the_largest_image_is_only_read(rt: HostRuntime) -> Result<(), Fail> {
+    let path = fresh(&rt, "file_disk_longer");
+    let longer = LARGEST_IMAGE + 1;
+    new_largest(&rt, path)?;
+    set_length(&rt, path, longer)?;
+    let mut disk = FileDisk::open(&rt, path)?;
+    let before = ends(&mut disk, longer)?;
+    let takes = takes_a_byte(&mut disk, longer)?;
+    let after = ends(&mut disk, longer)?;
+    fs::remove_file(&rt, path)?;
+    let wanted = [0, 0, 0, 0, 0, 0, 7, 0];
+    assert_eq!(rt; (before, takes, after), (wanted, false, wanted));
+    Ok(())
+}
+
+#[test]
+fn no_file_past_the_largest_image_is_created(rt: HostRuntime) {
+    assert_eq!(rt; LARGEST_IMAGE, 1_024 * device_cells(64, 4_096));
+    let path = fresh(&rt, "file_disk_too_large");
+    let refused = refused_new(&rt, path, LARGEST_IMAGE + 1);
+    assert_eq!(rt; refused, Some(FileFault::TooLarge));
+}
+
+/// Whether the first four bytes of a device of 512 can be read.
+fn can_be_read(disk: &mut FileDisk) -> Result<bool, Fail> {
+    if disk.size()? != 512 {
+        return Err(Fail::new("another size"));
+    }
+    Ok(disk.read_at(0, &mut [0; 4]).is_ok())
 }
 
 /// A file that another program has made shorter behind the device's back keeps its size and fails.
@@ -145,33 +196,34 @@ fn a_file_past_the_largest_image_is_only_read(rt: HostRuntime) -> Result<(), Fai
 fn a_read_past_the_end_fails(rt: HostRuntime) -> Result<(), Fail> {
     let path = fresh(&rt, "file_disk_cut");
     let mut disk = FileDisk::create(&rt, path, 512)?;
-    OpenOptions::new().write(true).open(&rt, path)?.set_len(3)?;
-    if disk.size()? != 512 {
-        return Err(Fail::new("another size"));
-    }
-    assert!(rt; disk.read_at(0, &mut [0; 4]).is_err());
+    set_length(&rt, path, 3)?;
+    let can_be_read = can_be_read(&mut disk)?;
     fs::remove_file(&rt, path)?;
+    assert!(rt; !can_be_read);
     Ok(())
+}
+
+/// The body of cell 2, where it is full. Then it is filled.
+fn filled(disk: FileDisk) -> Result<Option<[u8; 511]>, Fail> {
+    let mut cells = Cells::new(disk);
+    if cells.size()? / 512 <= 2 {
+        return Err(Fail::new("a device of three cells at least"));
+    }
+    let mut body = [0; 511];
+    let is_full = cells.read_cell(2, &mut body)?;
+    cells.sync()?;
+    cells.replace(2, &[7; 511])?;
+    Ok(is_full.then_some(body))
 }
 
 /// Cells stand on it as on any device.
 #[test]
 fn a_cell_is_full_after_reopening(rt: HostRuntime) -> Result<(), Fail> {
     let path = fresh(&rt, "file_disk_cells");
-    let mut cells = Cells::new(FileDisk::create(&rt, path, 4 * 512)?);
-    let mut body = [0; 511];
-    for full in [false, true] {
-        if cells.size()? / 512 <= 2 {
-            return Err(Fail::new("a device of three cells at least"));
-        }
-        assert_eq!(rt; cells.read_cell(2, &mut body)?, full);
-        cells.sync()?;
-        cells.replace(2, &[7; 511])?;
-        drop(cells);
-        cells = Cells::new(FileDisk::open(&rt, path)?);
-    }
-    assert_eq!(rt; body, [7; 511]);
+    let first = filled(FileDisk::create(&rt, path, 4 * 512)?)?;
+    let second = filled(FileDisk::open(&rt, path)?)?;
     fs::remove_file(&rt, path)?;
+    assert!(rt; [first, second] == [None, Some([7; 511])]);
     Ok(())
 }
 
@@ -275,52 +327,94 @@ fn range(from: usize, to: usize) -> [bool; SIZE] {
     range
 }
 
+/// A write and a sync behind it.
+#[derive(Drop)]
+struct Round {
+    at: u64,
+    bytes: &'static [u8],
+    fails: bool,
+    /// Which bytes the last sync that succeeded put on the disk.
+    saved: (usize, usize),
+}
+
+impl Round {
+    const fn new(at: u64, bytes: &'static [u8], fails: bool, saved: (usize, usize)) -> Round {
+        Round {
+            at,
+            bytes,
+            fails,
+            saved,
+        }
+    }
+}
+
+/// Makes the round, and says whether the sync did as the file. What is read stands on the disk then if and only if it succeeded.
+fn is_right(
+    disk: &mut FileDisk<&Forgetful>,
+    file: &Forgetful,
+    round: &Round,
+) -> Result<bool, Fail> {
+    if round.bytes.len() > SIZE || round.at > SIZE as u64 - round.bytes.len() as u64 {
+        return Err(Fail::new("past the end"));
+    }
+    if disk.size()? != SIZE as u64 {
+        return Err(Fail::new("another size"));
+    }
+    disk.write_at(round.at, round.bytes)?;
+    file.fails.set(round.fails);
+    let is_synced = disk.sync().is_ok();
+    let (from, to) = round.saved;
+    let is_on_disk = file.disk.get() == file.seen.get();
+    Ok(is_synced != round.fails && is_on_disk != round.fails && file.saved.get() == range(from, to))
+}
+
+/// The number of the first round that is not right.
+fn first_wrong(rounds: &[Round]) -> Result<Option<usize>, Fail> {
+    let file = Forgetful::new();
+    let mut disk = FileDisk::over(&file, SIZE as u64);
+    for (number, round) in rounds.iter().enumerate() {
+        if !is_right(&mut disk, &file, round)? {
+            return Ok(Some(number));
+        }
+    }
+    Ok(None)
+}
+
 /// After failed syncs the next one writes again what was written since the last that succeeded, and no other byte: the body
 /// of block 1, and both parts of block 2, of which the file has 76 bytes.
 #[test]
 fn what_a_failed_sync_forgets_is_written_again(rt: HostRuntime) -> Result<(), Fail> {
-    let file = Forgetful::new();
-    let mut disk = FileDisk::over(&file, SIZE as u64);
-    disk.write_at(0, &[1; 512])?;
-    disk.sync()?;
-    assert_eq!(rt; file.saved.get(), range(0, 512));
-    file.fails.set(true);
-    disk.write_at(513, &[2; 511])?;
-    assert!(rt; disk.sync().is_err());
-    disk.write_at(1_024, &[3])?;
-    assert!(rt; disk.sync().is_err());
-    file.fails.set(false);
-    disk.write_at(1_099, &[4])?;
-    assert!(rt; file.disk.get() != file.seen.get());
-    disk.sync()?;
-    assert_eq!(rt; file.saved.get(), range(513, SIZE));
-    assert_eq!(rt; file.disk.get(), file.seen.get());
-    disk.sync()?;
-    assert_eq!(rt; file.saved.get(), range(0, 0));
+    let rounds = [
+        Round::new(0, &[1; 512], false, (0, 512)),
+        Round::new(513, &[2; 511], true, (0, 512)),
+        Round::new(1_024, &[3], true, (0, 512)),
+        Round::new(1_099, &[4], false, (513, SIZE)),
+        Round::new(0, &[], false, (0, 0)),
+    ];
+    assert_eq!(rt; first_wrong(&rounds)?, None);
     Ok(())
 }
 
 /// A gate is written again without the body behind it, which is not pending.
 #[test]
 fn a_gate_is_written_again_alone(rt: HostRuntime) -> Result<(), Fail> {
-    let file = Forgetful::new();
-    let mut disk = FileDisk::over(&file, SIZE as u64);
-    disk.write_at(512, &[0xA5])?;
-    file.fails.set(true);
-    assert!(rt; disk.sync().is_err());
-    file.fails.set(false);
-    disk.sync()?;
-    assert_eq!(rt; file.saved.get(), range(512, 513));
-    assert_eq!(rt; file.disk.get(), file.seen.get());
+    let rounds = [
+        Round::new(512, &[0xA5], true, (0, 0)),
+        Round::new(0, &[], false, (512, 513)),
+    ];
+    assert_eq!(rt; first_wrong(&rounds)?, None);
     Ok(())
 }
 
 /// What a user is told.
 #[test]
 fn a_fault_is_told(rt: HostRuntime) -> Result<(), Fail> {
-    let said = FileFault::TooLarge.to_string(rt.alloc())?;
-    assert_eq!(rt; said.as_str(), "an image has at most 4328448 bytes");
-    let said = FileFault::InUse.to_string(rt.alloc())?;
-    assert_eq!(rt; said.as_str(), "in use: end the program that has it open");
+    for (fault, text) in [
+        (FileFault::TooLarge, "an image has at most 4328448 bytes"),
+        (FileFault::InUse, "in use: end the program that has it open"),
+    ] {
+        let said = fault.to_string(rt.alloc())?;
+        assert_eq!(rt; said.as_str(), text);
+    }
     Ok(())
 }

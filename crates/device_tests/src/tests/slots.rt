@@ -76,12 +76,29 @@ fn newest_in(cells: &mut Engine, atom: u16) -> Result<(u8, u64), DiskFault> {
     }
 }
 
-/// The slot that is written next.
-fn next_in(cells: &mut Engine, atom: u16) -> Result<u8, DiskFault> {
-    if cells.size()? / 512 <= slot_cell(atom, 1) {
+/// The slot of atom 0 that is written next.
+fn next_in(disk: MemDisk) -> Result<u8, DiskFault> {
+    let mut cells = Engine::new(disk);
+    if cells.size()? / 512 <= slot_cell(0, 1) {
         return Ok(2);
     }
-    slot_to_write(cells, atom)
+    slot_to_write(&mut cells, 0)
+}
+
+/// The counts in both slots of an atom, and the slot and the count of its newest state.
+type Slots = ([u64; 2], (u8, u64));
+
+fn slots_of(cells: &mut Engine, atom: u16) -> Result<Slots, DiskFault> {
+    let first = count_in(cells, atom, 0)?;
+    let second = count_in(cells, atom, 1)?;
+    Ok(([first, second], newest_in(cells, atom)?))
+}
+
+/// The slots of both atoms.
+fn found_in(disk: MemDisk) -> Result<[Slots; 2], DiskFault> {
+    let mut cells = Engine::new(disk);
+    let first = slots_of(&mut cells, 0)?;
+    Ok([first, slots_of(&mut cells, 1)?])
 }
 
 /// The device before the call: the two counts of atom 0, where 0 stands for an empty slot, and count 3 in slot 1 of atom 1.
@@ -98,6 +115,9 @@ fn prepared(alloc: Global, counts: [u64; 2]) -> Result<MemDisk, Fail> {
     Ok(disk)
 }
 
+/// The slots of atom 1 before and after each store.
+const ATOM_1: Slots = ([0, 3], (1, 3));
+
 /// Slots of atom 0 before a store, the slot and the count that are stored, and what is the newest before it and after it.
 #[derive(Clone, Copy)]
 struct Row {
@@ -108,44 +128,51 @@ struct Row {
 }
 
 /// Whether the slots are what a stop may leave, and where the call ended what they have to be.
-fn is_right(row: Row, ok: bool, disk: MemDisk) -> Result<bool, Fail> {
-    let mut cells = Engine::new(disk);
-    let first = count_in(&mut cells, 0, 0)?;
-    let second = count_in(&mut cells, 0, 1)?;
-    let newest = newest_in(&mut cells, 0)?;
-    let others = (count_in(&mut cells, 1, 0)?, newest_in(&mut cells, 1)?);
+fn is_right(row: Row, ok: bool, found: [Slots; 2]) -> bool {
+    let [(counts, newest), others] = found;
     let (written, old, kept) = if row.slot == 0 {
-        (first, row.before[0], second == row.before[1])
+        (counts[0], row.before[0], counts[1] == row.before[1])
     } else {
-        (second, row.before[1], first == row.before[0])
+        (counts[1], row.before[1], counts[0] == row.before[0])
     };
-    let new = (row.slot, row.count);
-    if !kept || others != (0, (1, 3)) {
-        return Ok(false);
+    if !kept || others != ATOM_1 {
+        return false;
     }
     if ok || written == row.count {
-        return Ok(written == row.count && newest == new);
+        return written == row.count && newest == (row.slot, row.count);
     }
-    Ok((written == old || written == 0) && newest == row.newest)
+    (written == old || written == 0) && newest == row.newest
+}
+
+/// The store on its device, which is dead from its `k`-th device call on.
+fn stored(alloc: Global, row: Row, k: u64) -> Result<(bool, MemDisk), Fail> {
+    if row.count > AT {
+        return Err(Fail::new("no such count"));
+    }
+    let disk = prepared(alloc, row.before)?;
+    stopped(disk, row.slot, parcel_of(0, row.count), k)
+}
+
+/// Stops the store at its `k`-th device call under each tear: whether it ended before, and how many stops fell inside it.
+fn ends_before(rt: &impl Abort, alloc: Global, row: Row, k: u64) -> Result<(bool, u64), Fail> {
+    let mut ended = false;
+    let mut stops = 0u64;
+    for tear in TEARS {
+        let (ok, disk) = stored(alloc, row, k)?;
+        let found = found_in(disk.stop(tear))?;
+        assert!(rt; is_right(row, ok, found), "device call {k}");
+        stops = stops.saturating_add(u64::from(!ok));
+        ended = ok;
+    }
+    Ok((ended, stops))
 }
 
 /// Stops the store at each of its device calls under each tear: how many device calls it makes, and how many stops there were.
 fn stops(rt: &impl Abort, alloc: Global, row: Row) -> Result<(u64, u64), Fail> {
     let mut all = 0u64;
     for k in 1..50 {
-        let mut ended = false;
-        for tear in TEARS {
-            if row.count > AT {
-                return Err(Fail::new("no such count"));
-            }
-            let mut cells = Engine::new(prepared(alloc, row.before)?);
-            assert_eq!(rt; next_in(&mut cells, 0)?, row.slot);
-            let disk = cells.into_disk();
-            let (ok, disk) = stopped(disk, row.slot, parcel_of(0, row.count), k)?;
-            assert!(rt; is_right(row, ok, disk.stop(tear))?, "device call {k}");
-            all = all.saturating_add(u64::from(!ok));
-            ended = ok;
-        }
+        let (ended, stops) = ends_before(rt, alloc, row, k)?;
+        all = all.saturating_add(stops);
         if ended {
             return Ok((k - 1, all));
         }
@@ -171,7 +198,9 @@ fn a_stop_inside_a_store_leaves_the_old_newest_or_the_new(rt: HostRuntime) -> Re
             count,
             newest,
         };
-        assert_eq!(rt; stops(&rt, rt.alloc(), row)?, (calls, 4 * calls));
+        let next = next_in(prepared(rt.alloc(), before)?)?;
+        let found = (next, stops(&rt, rt.alloc(), row)?);
+        assert_eq!(rt; found, (slot, (calls, 4 * calls)));
     }
     Ok(())
 }
@@ -181,39 +210,56 @@ fn a_stop_inside_a_store_leaves_the_old_newest_or_the_new(rt: HostRuntime) -> Re
 fn a_store_over_the_newest_may_lose_it(rt: HostRuntime) -> Result<(), Fail> {
     let disk = prepared(rt.alloc(), [4, 7])?;
     let (ok, disk) = stopped(disk, 1, parcel_of(0, 9), 6)?;
-    assert!(rt; !ok);
-    let mut cells = Engine::new(disk.stop(Tear::Old));
-    assert_eq!(rt; newest_in(&mut cells, 0)?, (0, 4));
+    let left = found_in(disk.stop(Tear::Old))?;
+    assert_eq!(rt; (ok, left), (false, [([4, 0], (0, 4)), ATOM_1]));
     Ok(())
+}
+
+/// The device with a state of atom 1 in the first slot of atom 0.
+fn with_a_stranger(disk: MemDisk) -> Result<MemDisk, Fail> {
+    let mut cells = Engine::new(disk);
+    if cells.size()? / 512 <= 3 {
+        return Err(Fail::new("a device of four cells at least"));
+    }
+    let body = Saved::new(1, 8, AT, 8, &[8]).to_body();
+    cells.sync()?;
+    cells.replace(3, &body)?;
+    Ok(cells.into_disk())
 }
 
 /// The state of another atom in a slot counts for nothing there.
 #[test]
 fn a_slot_holds_its_own_atom_alone(rt: HostRuntime) -> Result<(), Fail> {
-    let disk = prepared(rt.alloc(), [0, 0])?;
-    let mut cells = Engine::new(disk);
-    if cells.size()? / 512 <= 6 {
-        return Err(Fail::new("a device of seven cells at least"));
-    }
-    let encoded = Saved::new(1, 8, AT, 8, &[8]).to_body();
-    cells.sync()?;
-    cells.replace(3, &encoded)?;
-    assert_eq!(rt; count_in(&mut cells, 0, 0)?, 0);
-    assert_eq!(rt; newest_in(&mut cells, 0)?, (2, 0));
-    assert_eq!(rt; newest_in(&mut cells, 1)?, (1, 3));
+    let disk = with_a_stranger(prepared(rt.alloc(), [0, 0])?)?;
+    assert_eq!(rt; found_in(disk)?, [([0, 0], (2, 0)), ATOM_1]);
     Ok(())
+}
+
+/// What a parcel holds: atom, count, last record and marking.
+fn numbers_in(parcel: &Parcel) -> (u16, u64, u64, u64) {
+    let places = parcel.state().places();
+    (parcel.atom(), parcel.count(), parcel.at(), places)
+}
+
+/// Whether it is the same as one of atom 1 and count 5, of another atom and of another count.
+fn sames_of(parcel: &Parcel) -> [bool; 3] {
+    [
+        parcel.same(&parcel_of(1, 5)),
+        parcel.same(&parcel_of(0, 5)),
+        parcel.same(&parcel_of(1, 6)),
+    ]
+}
+
+/// Whether this is the one value of its state.
+fn has_value(parcel: Parcel, value: i64) -> bool {
+    parcel.into_state().values() == [value].as_slice()
 }
 
 /// A parcel gives back what it was made of, also once it is encoded.
 #[test]
-fn a_parcel_keeps_its_state(rt: HostRuntime) -> Result<(), Fail> {
+fn a_parcel_keeps_its_state(rt: HostRuntime) {
     let parcel = encode(parcel_of(1, 5)).into_parcel();
-    assert_eq!(rt; (parcel.atom(), parcel.count(), parcel.at()), (1, 5, AT));
-    assert!(rt; parcel.same(&parcel_of(1, 5)));
-    assert!(rt; !parcel.same(&parcel_of(0, 5)));
-    assert!(rt; !parcel.same(&parcel_of(1, 6)));
-    assert_eq!(rt; parcel.state().places(), 5);
-    let state = parcel.into_state();
-    assert!(rt; state.values() == [5].as_slice());
-    Ok(())
+    let found = (numbers_in(&parcel), sames_of(&parcel));
+    assert_eq!(rt; found, ((1, 5, AT, 5), [true, false, false]));
+    assert!(rt; has_value(parcel, 5));
 }
