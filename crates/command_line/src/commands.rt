@@ -13,30 +13,24 @@ use crate::help::{
     TRACE_ABOUT, TRACE_AFTER, TRACE_BRIEF, VERSION, WHY_ABOUT, WHY_AFTER, WHY_BRIEF,
 };
 use crate::names::{
-    CHECK, CHOICES, CommandName, DRAW, EXPLORE, FORMAT, RECOVER, RUN, STEP, TRACE, WHY,
+    CHECK, CHOICES, COMMANDS, CommandName, DRAW, EXPLORE, FORMAT, RECOVER, RUN, STEP, TRACE, WHY,
 };
 use clap::{Arg, Command};
 use std::alloc::{AllocError, Global};
 
 /// The program with its commands.
 pub(crate) fn program<'a>(alloc: Global) -> Result<Command<'a>, AllocError> {
-    let program = Command::new(alloc, "bip_run")
+    let mut program = Command::new(alloc, "bip_run")
         .version(VERSION)
         .about(BRIEF)
         .long_about(ABOUT)
         .after_long_help(AFTER)
         .subcommand_required(true)
         .arg_required_else_help(true);
-    let program = with_command(Ok(program), check_command(alloc));
-    let program = with_command(program, choices_command(alloc));
-    let program = with_command(program, why_command(alloc));
-    let program = with_command(program, trace_command(alloc));
-    let program = with_command(program, step_command(alloc));
-    let program = with_command(program, draw_command(alloc));
-    let program = with_command(program, format_command(alloc));
-    let program = with_command(program, run_command(alloc));
-    let program = with_command(program, recover_command(alloc));
-    with_command(program, explore_command(alloc))
+    for name in COMMANDS {
+        program = program.subcommand(command_called(alloc, name)?)?;
+    }
+    Ok(program)
 }
 
 /// The command with this name alone, as a part of the program: what it answers shows how it is used.
@@ -44,32 +38,45 @@ pub(crate) fn command_alone<'a>(
     alloc: Global,
     name: CommandName,
 ) -> Result<Command<'a>, AllocError> {
+    command_called(alloc, name)?.bin_name(words_of(name))
+}
+
+/// The words that call for the command.
+fn words_of(name: CommandName) -> &'static str {
     match name {
-        CommandName::Check => check_command(alloc)?.bin_name("bip_run check"),
-        CommandName::Choices => choices_command(alloc)?.bin_name("bip_run choices"),
-        CommandName::Why => why_command(alloc)?.bin_name("bip_run why"),
-        CommandName::Trace => trace_command(alloc)?.bin_name("bip_run trace"),
-        CommandName::Step => step_command(alloc)?.bin_name("bip_run step"),
-        CommandName::Draw => draw_command(alloc)?.bin_name("bip_run draw"),
-        CommandName::Format => format_command(alloc)?.bin_name("bip_run format"),
-        CommandName::Run => run_command(alloc)?.bin_name("bip_run run"),
-        CommandName::Recover => recover_command(alloc)?.bin_name("bip_run recover"),
-        CommandName::Explore => explore_command(alloc)?.bin_name("bip_run explore"),
+        CommandName::Check => "bip_run check",
+        CommandName::Choices => "bip_run choices",
+        CommandName::Why => "bip_run why",
+        CommandName::Trace => "bip_run trace",
+        CommandName::Step => "bip_run step",
+        CommandName::Draw => "bip_run draw",
+        CommandName::Format => "bip_run format",
+        CommandName::Run => "bip_run run",
+        CommandName::Recover => "bip_run recover",
+        CommandName::Explore => "bip_run explore",
     }
 }
 
-/// The program with one more command, where there was memory for both.
-//
-// The parts of the program are put together by calls that hand want of memory on: a function with a `?` at each part takes the
-// prover as long as all else of this crate.
-fn with_command<'a>(
-    program: Result<Command<'a>, AllocError>,
-    command: Result<Command<'a>, AllocError>,
-) -> Result<Command<'a>, AllocError> {
-    program?.subcommand(command?)
+/// The command with this name.
+fn command_called<'a>(alloc: Global, name: CommandName) -> Result<Command<'a>, AllocError> {
+    match name {
+        CommandName::Check => check_command(alloc),
+        CommandName::Choices => choices_command(alloc),
+        CommandName::Why => why_command(alloc),
+        CommandName::Trace => trace_command(alloc),
+        CommandName::Step => step_command(alloc),
+        CommandName::Draw => draw_command(alloc),
+        CommandName::Format => format_command(alloc),
+        CommandName::Run => run_command(alloc),
+        CommandName::Recover => recover_command(alloc),
+        CommandName::Explore => explore_command(alloc),
+    }
 }
 
 /// The command with one more argument, where there was memory for it.
+//
+// A command is put together by calls that hand want of memory on: a function with a `?` at each argument takes the prover as long as
+// all else of this crate.
 fn with_argument<'a>(
     command: Result<Command<'a>, AllocError>,
     argument: Arg<'a>,

@@ -92,6 +92,20 @@ pub(crate) enum CommandName {
     Explore,
 }
 
+/// All commands, in the order of the help.
+pub(crate) const COMMANDS: [CommandName; 10] = [
+    CommandName::Check,
+    CommandName::Choices,
+    CommandName::Why,
+    CommandName::Trace,
+    CommandName::Step,
+    CommandName::Draw,
+    CommandName::Format,
+    CommandName::Run,
+    CommandName::Recover,
+    CommandName::Explore,
+];
+
 /// The command that the word names.
 pub(crate) fn command_named(word: &str) -> Option<CommandName>
     ensures { result ≡ command_in word.now }
