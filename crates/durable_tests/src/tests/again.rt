@@ -1,11 +1,11 @@
 // Stops on a device that an earlier run or an earlier stop has left: it is formatted again, or booted. What writes and syncs there are, and what each leaves, is
 // worked out by hand.
-use super::common::{SAMPLE, TEARS, Untold};
+use super::common::{TEARS, Untold, sample};
 use super::runs::{
     A_SAVED, FIRE_0, FLUSH, NEVER, Shown, booted_to, run, settled, shown, torn_flush, whole_run,
 };
 use disk_model::{MemDisk, Tear};
-use plant_text::plant_of_text;
+use plant_core::Front;
 use recovery::{BootFault, FormatFault, boot, format};
 use std::alloc::Global;
 use std::test::Fail;
@@ -24,6 +24,23 @@ fn formatted_again(alloc: Global, system: &System, k: u64, tear: Tear) -> Result
     }
 }
 
+/// What that boots to.
+fn booted_again(alloc: Global, system: &System, k: u64, tear: Tear) -> Result<Option<Shown>, Fail> {
+    let left = formatted_again(alloc, system, k, tear)?;
+    booted_to(alloc, system, left)
+}
+
+/// What it has to boot to: up to the `last` stop the run, from the `first` on the first state, and nothing between them.
+fn wanted_at(k: u64, last: u64, first: u64) -> Option<Shown> {
+    if k <= last {
+        Some((4, 3, settled(4)))
+    } else if k < first {
+        None
+    } else {
+        Some((0, 0, settled(0)))
+    }
+}
+
 /// First the gate of the identity is closed, and a sync follows. Then the gates of a base, three slots and four records are closed, and a sync follows.
 /// Then four cells are set by four changes each, the identity last. So at the second change its gate is pending, and again at the last two.
 #[test]
@@ -31,7 +48,7 @@ fn a_stop_inside_formatting_leaves_what_was_there_or_nothing_or_the_first_state(
     rt: HostRuntime,
 ) -> Result<(), Fail> {
     let alloc = rt.alloc();
-    let system = plant_of_text(alloc, SAMPLE)?;
+    let system = sample(alloc)?;
     let changes = 2 + 9 + 4 * 4;
     // The last stop that leaves the run, and the first that leaves the first state.
     for (tear, last, first) in [
@@ -41,15 +58,8 @@ fn a_stop_inside_formatting_leaves_what_was_there_or_nothing_or_the_first_state(
         (Tear::Mixed, 2, changes + 1),
     ] {
         for k in 1..=changes + 1 {
-            let wanted: Option<Shown> = if k <= last {
-                Some((4, 3, settled(4)))
-            } else if k < first {
-                None
-            } else {
-                Some((0, 0, settled(0)))
-            };
-            let left = formatted_again(alloc, &system, k, tear)?;
-            assert_eq!(rt; booted_to(alloc, &system, left)?, wanted, "at {k}");
+            let found = booted_again(alloc, &system, k, tear)?;
+            assert_eq!(rt; found, wanted_at(k, last, first), "at {k}");
         }
     }
     Ok(())
@@ -75,11 +85,24 @@ fn booted_until(
     }
 }
 
+/// Whether a boot of the torn flush comes to its end where its `k`-th write or sync is stopped, and what the next boot shows.
+fn booted_twice(
+    alloc: Global,
+    system: &System,
+    torn: Tear,
+    k: u64,
+    tear: Tear,
+) -> Result<(bool, Shown), Fail> {
+    let disk = torn_flush(alloc, system, torn)?;
+    let (ended, left) = booted_until(alloc, system, disk, k, tear)?;
+    Ok((ended, shown(alloc, system, left)?))
+}
+
 /// Two records are acknowledged, and the gates of two more are torn. A boot syncs, closes the gate of a record behind one that is closed, and syncs.
 #[test]
 fn however_often_a_boot_is_stopped_the_same_is_booted(rt: HostRuntime) -> Result<(), Fail> {
     let alloc = rt.alloc();
-    let system = plant_of_text(alloc, SAMPLE)?;
+    let system = sample(alloc)?;
     for (torn, wanted, changes) in [
         (Tear::Old, (2, 1, settled(2)), 2),
         (Tear::New, (4, 3, settled(4)), 2),
@@ -88,14 +111,18 @@ fn however_often_a_boot_is_stopped_the_same_is_booted(rt: HostRuntime) -> Result
     ] {
         for k in 1..=changes + 1 {
             for tear in TEARS {
-                let disk = torn_flush(alloc, &system, torn)?;
-                let (ended, left) = booted_until(alloc, &system, disk, k, tear)?;
-                assert_eq!(rt; ended, k > changes);
-                assert_eq!(rt; shown(alloc, &system, left)?, wanted, "at {k}");
+                let found = booted_twice(alloc, &system, torn, k, tear)?;
+                assert_eq!(rt; found, (k > changes, wanted), "at {k}");
             }
         }
     }
     Ok(())
+}
+
+/// The front of one more that is fired and flushed on the device, and what it is booted to then.
+fn one_more(alloc: Global, system: &System, disk: MemDisk) -> Result<(Front, Shown), Fail> {
+    let ran = run(alloc, system, disk, NEVER, &[FIRE_0, FLUSH])?;
+    Ok((ran.front, shown(alloc, system, ran.disk)?))
 }
 
 /// Records 3 and 4 go in one flush, which is stopped with the first gate closed and the second open. The boot empties the second, and so it is
@@ -103,10 +130,9 @@ fn however_often_a_boot_is_stopped_the_same_is_booted(rt: HostRuntime) -> Result
 #[test]
 fn a_record_past_the_end_is_never_read_again(rt: HostRuntime) -> Result<(), Fail> {
     let alloc = rt.alloc();
-    let system = plant_of_text(alloc, SAMPLE)?;
+    let system = sample(alloc)?;
     let torn = torn_flush(alloc, &system, Tear::Mixed)?;
-    let again = run(alloc, &system, torn, NEVER, &[FIRE_0, FLUSH])?;
-    assert_eq!(rt; again.front, settled(3));
-    assert_eq!(rt; shown(alloc, &system, again.disk)?, (3, 1, settled(3)));
+    let found = one_more(alloc, &system, torn)?;
+    assert_eq!(rt; found, (settled(3), (3, 1, settled(3))));
     Ok(())
 }

@@ -4,6 +4,7 @@ ghost use Rattle.disk_model.specs.DiskState.{size_of};
 ghost use Rattle.disk_model.specs.MemDisk.{state_of};
 
 use disk_model::{Disk, DiskFault, MemDisk, Tear};
+use plant_text::plant_of_text;
 use record_codec::ring::device_cells;
 use record_codec::{LEAST_RING, MOST_RING};
 use recovery::format;
@@ -14,6 +15,16 @@ use step_core::System;
 /// A counts, and B takes what A has counted.
 pub(super) const SAMPLE: &[u8] =
     b"atom A\nplace s init\nvar n 0\nport t n\ntrans t from s to s do n := + n 1\natom B\nplace s init\nvar m 0\nport u m\ntrans u from s to s\nconnector tick A.t\nconnector send A.t B.u\nmove B.m := A.n\n";
+
+/// The sample, of which contracts are told nothing.
+pub(super) fn sample(alloc: Global) -> Result<System, Fail> {
+    plant(alloc, SAMPLE)
+}
+
+/// The plant of a text, of which contracts are told nothing.
+pub(super) fn plant(alloc: Global, text: &[u8]) -> Result<System, Fail> {
+    Ok(plant_of_text(alloc, text)?)
+}
 
 /// All ways in which a stop tears what is pending.
 pub(super) const TEARS: [Tear; 4] = [Tear::Old, Tear::New, Tear::Gates, Tear::Mixed];

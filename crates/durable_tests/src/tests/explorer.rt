@@ -4,12 +4,11 @@ ghost use Rattle.crash_explorer.specs.Judging.{IsRunOf};
 ghost use Rattle.step_core.specs.Chosen.{choice_of};
 ghost use Rattle.step_core.specs.System.{plant_of};
 
-use super::common::SAMPLE;
-use super::runs::{ASK_A, FIRE_0, FIRE_1, FLUSH, PUT_A, whole_run};
-use crash_explorer::{Cut, Explorer, Found, Stage, TEARS, explore, judge};
+use super::common::{SAMPLE, plant, sample};
+use super::runs::{ASK_A, FIRE_0, FIRE_1, FLUSH, PUT_A, TWO_AND_TWO, whole_run};
+use crash_explorer::{Cut, Explorer, Found, Stage, Trial, explore, judge};
 use disk_model::Tear;
 use plant_core::Event;
-use plant_text::plant_of_text;
 use std::alloc::Global;
 use std::test::Fail;
 use step_core::{Choice, Stepper, System};
@@ -63,12 +62,22 @@ const OVER_THE_END: [Event; 15] = [
     FIRE_0, FIRE_0, FLUSH,
 ];
 
+/// Tick, send, tick and a flush, and then send and a flush.
+const THREE_AND_ONE: [Event; 6] = [FIRE_0, FIRE_1, FIRE_0, FLUSH, FIRE_1, FLUSH];
+
+/// How often a run of these events is stopped, how many of the stops leave what is not right, and how many writes and syncs the run makes by itself.
+fn explored(alloc: Global, text: &[u8], events: &[Event]) -> Result<(u64, u64, u64), Fail> {
+    let system = plant(alloc, text)?;
+    let report = explore(alloc, &system, 8, events)?;
+    let alone = whole_run(alloc, &system, events)?;
+    Ok((report.stops, report.bad, alone.disk.changes()))
+}
+
 /// Formatting makes the first cell empty and all others, a sync each, and sets a base, a slot of each atom and the identity, by four changes each; a boot
 /// syncs twice: that is 20 for two atoms, and 24 for three. A flush writes a body and a gate for each record, and syncs twice. A state is stored by four
 /// changes, and by two more where it goes to a full slot. So is a base; then the gates of the dropped records are closed, and a sync follows.
 #[test]
 fn a_run_is_stopped_at_each_of_its_writes_and_syncs(rt: HostRuntime) -> Result<(), Fail> {
-    let alloc = rt.alloc();
     for (text, events, stops) in [
         (SAMPLE, NONE.as_slice(), 20),
         (SAMPLE, &TWELVE, 20 + 6 + 8 + 6),
@@ -78,76 +87,84 @@ fn a_run_is_stopped_at_each_of_its_writes_and_syncs(rt: HostRuntime) -> Result<(
         (SAMPLE, &TRIMMED_TWICE, 20 + 6 + 4 + 7 + 4 + 6 + 4 + 8),
         (SAMPLE, &OVER_THE_END, 20 + 14 + 4 + 11 + 10),
     ] {
-        let system = plant_of_text(alloc, text)?;
-        let report = explore(alloc, &system, 8, events)?;
-        assert_eq!(rt; (report.stops, report.bad), (stops, 0));
-        assert_eq!(rt; whole_run(alloc, &system, events)?.disk.changes(), stops);
+        assert_eq!(rt; explored(rt.alloc(), text, events)?, (stops, 0, stops));
     }
     Ok(())
+}
+
+/// What is told of a trial: the tear, what the device boots to, how many choices were fired and how many of them acknowledged, and whether it stopped a
+/// sync of the running plant and is right.
+type Told = (Tear, Found, u64, u64, bool);
+
+fn told_of(trial: &Trial) -> Told {
+    let is_sync = trial.cut == Some(Cut::Sync) && trial.stage == Stage::Running;
+    let is_right = is_sync && trial.right;
+    (trial.tear, trial.found, trial.fired, trial.acked, is_right)
+}
+
+/// How many stops and how many trials there are of these events, and what is told of those at the last stop.
+fn last_trials(
+    alloc: Global,
+    system: &System,
+    events: &[Event],
+) -> Result<(u64, u32, Vec<Told>), Fail> {
+    let mut explorer = Explorer::new(alloc, system, 8, events)?;
+    let last = explorer.stops();
+    let mut told = Vec::new(alloc);
+    for number in 0..1_000 {
+        let Some(trial) = explorer.next_trial(alloc)? else {
+            return Ok((last, number, told));
+        };
+        if trial.stop == last {
+            told.push(told_of(&trial))?;
+        }
+    }
+    Err(Fail::new("too many trials"))
 }
 
 /// The last sync of a flush is stopped, whose two gates stand in an even and in an odd cell.
 #[test]
 fn a_trial_tells_what_a_stop_does(rt: HostRuntime) -> Result<(), Fail> {
-    let alloc = rt.alloc();
-    let system = plant_of_text(alloc, SAMPLE)?;
-    let events = [FIRE_0, FIRE_1, FLUSH, FIRE_0, FIRE_1, FLUSH];
-    let mut explorer = Explorer::new(alloc, &system, 8, &events)?;
-    let last = explorer.stops();
-    assert_eq!(rt; last, 32);
-    let mut seen = 0u8;
-    for _ in 0..128 {
-        if let Some(trial) = explorer.next_trial(alloc)?
-            && trial.stop == last
-        {
-            let boots = match trial.tear {
-                Tear::Old | Tear::Mixed => 2,
-                Tear::New | Tear::Gates => 4,
-            };
-            assert_eq!(rt; trial.found, Found::Booted(boots));
-            assert_eq!(rt;
-                (
-                    trial.cut,
-                    trial.stage,
-                    trial.fired,
-                    trial.acked,
-                    trial.right
-                ),
-                (Some(Cut::Sync), Stage::Running, 4, 2, true)
-            );
-            seen = seen.saturating_add(1);
-        }
-    }
-    assert_eq!(rt; usize::from(seen), TEARS.len());
-    assert!(rt; explorer.next_trial(alloc)?.is_none());
+    let system = sample(rt.alloc())?;
+    let (stops, trials, told) = last_trials(rt.alloc(), &system, &TWO_AND_TWO)?;
+    let wanted = [
+        (Tear::Old, Found::Booted(2), 4, 2, true),
+        (Tear::New, Found::Booted(4), 4, 2, true),
+        (Tear::Gates, Found::Booted(4), 4, 2, true),
+        (Tear::Mixed, Found::Booted(2), 4, 2, true),
+    ];
+    assert_eq!(rt;
+        (stops, trials, told.as_slice()),
+        (32, 4 * 32, wanted.as_slice())
+    );
     Ok(())
+}
+
+/// Whether the device of a run that flushed so many of its four choices is right, where so many are taken as acknowledged.
+fn judged(alloc: Global, system: &System, events: usize, acked: usize) -> Result<bool, Fail> {
+    let four = choices_of(alloc, system, &[0, 1, 0, 1])?;
+    if four.len() < acked || events > THREE_AND_ONE.len() {
+        return Err(Fail::new("too few choices"));
+    }
+    let left = whole_run(alloc, system, &THREE_AND_ONE[..events])?.disk;
+    let (front, rest) = four.split_at(acked);
+    Ok(judge(alloc, system, front, rest, left.stop(Tear::New))?)
 }
 
 #[test]
 fn a_device_is_right_with_all_that_was_acknowledged_and_a_front_of_the_rest(
     rt: HostRuntime,
 ) -> Result<(), Fail> {
-    let alloc = rt.alloc();
-    let system = plant_of_text(alloc, SAMPLE)?;
-    let four = choices_of(alloc, &system, &[0, 1, 0, 1])?;
-    let events = [FIRE_0, FIRE_1, FIRE_0, FLUSH, FIRE_1, FLUSH];
-    // How many choices were flushed, how many of four are taken as acknowledged, and whether that is right.
-    for (flushed, acked, wanted) in [
+    let system = sample(rt.alloc())?;
+    // How many of the events were made, how many of four choices are taken as acknowledged, and whether that is right.
+    for (events, acked, wanted) in [
         (6, 4, true),
         (6, 2, true),
         (4, 4, false),
         (4, 3, true),
         (4, 0, true),
     ] {
-        let left = whole_run(alloc, &system, &events[..flushed])?.disk;
-        if four.len() < acked {
-            return Err(Fail::new("too few choices"));
-        }
-        let (front, rest) = four.split_at(acked);
-        assert_eq!(rt;
-            judge(alloc, &system, front, rest, left.stop(Tear::New))?,
-            wanted
-        );
+        assert_eq!(rt; judged(rt.alloc(), &system, events, acked)?, wanted);
     }
     Ok(())
 }

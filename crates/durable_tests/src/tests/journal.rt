@@ -249,6 +249,19 @@ fn is_right(n: Ring, call: Call, ok: bool, found: (u64, u64, u64)) -> bool {
     }
 }
 
+/// Stops the call at its `k`-th device call under this tear: whether it ended before, and what the cells read for.
+fn left_by(
+    alloc: Global,
+    n: Ring,
+    start: Start,
+    call: Call,
+    k: u64,
+    tear: Tear,
+) -> Result<(bool, (u64, u64, u64)), Fail> {
+    let (ok, disk) = stopped(alloc, started(alloc, n, start)?, n, call, k)?;
+    Ok((ok, read(disk.stop(tear), n.ring)?))
+}
+
 /// Stops the call at its `k`-th device call under each tear: whether it ended before, and how many stops fell inside it.
 fn ends_before(
     rt: &impl Abort,
@@ -261,8 +274,7 @@ fn ends_before(
     let mut ended = false;
     let mut stops = 0u64;
     for tear in TEARS {
-        let (ok, disk) = stopped(alloc, started(alloc, n, start)?, n, call, k)?;
-        let found = read(disk.stop(tear), n.ring)?;
+        let (ok, found) = left_by(alloc, n, start, call, k, tear)?;
         assert!(rt; is_right(n, call, ok, found), "device call {k}");
         stops = stops.saturating_add(u64::from(!ok));
         ended = ok;
@@ -326,56 +338,50 @@ fn a_stop_inside_an_append_leaves_a_front_of_the_new_records(rt: HostRuntime) ->
 /// Later it is full: 2 reads, 3 calls to empty it, and the same. In all 4 * 38 stops.
 #[test]
 fn a_stop_inside_a_move_leaves_the_old_base_or_the_new(rt: HostRuntime) -> Result<(), Fail> {
-    let full = journal_of(8, 4, 11);
-    let first = stops(&rt, rt.alloc(), full, Start::OneBase, Call::Move(7))?;
-    assert_eq!(rt; first, (12, 48));
-    let in_second_cell = Ring {
-        base_cell: 2,
-        ..full
-    };
-    let later = stops(
-        &rt,
-        rt.alloc(),
-        in_second_cell,
-        Start::TwoBases,
-        Call::Move(12),
-    )?;
-    assert_eq!(rt; later, (26, 104));
+    for (base_cell, start, to, calls) in [
+        (1, Start::OneBase, 7, 12),
+        (2, Start::TwoBases, 12, 26),
+    ] {
+        let n = Ring {
+            base_cell,
+            ..journal_of(8, 4, 11)
+        };
+        let found = stops(&rt, rt.alloc(), n, start, Call::Move(to))?;
+        assert_eq!(rt; found, (calls, 4 * calls));
+    }
     Ok(())
 }
 
 /// Six cells are read, of which one is full, and a sync. In all 4 * 8 stops.
 #[test]
 fn a_stop_inside_cleaning_leaves_the_live_records(rt: HostRuntime) -> Result<(), Fail> {
-    let found = stops(
-        &rt,
-        rt.alloc(),
-        journal_of(8, 1, 2),
-        Start::OpenPastTheEnd,
-        Call::Clean,
-    )?;
+    let n = journal_of(8, 1, 2);
+    let found = stops(&rt, rt.alloc(), n, Start::OpenPastTheEnd, Call::Clean)?;
     assert_eq!(rt; found, (8, 32));
     Ok(())
 }
 
-/// Record 2 of a batch that was stopped stands open behind the empty cell of record 1. Cleaned, it is never read.
+/// What the cells of a device with a stale record read for behind these calls.
+fn read_behind(alloc: Global, calls: &[Call]) -> Result<(u64, u64, u64), Fail> {
+    let n = journal_of(8, 1, 0);
+    let mut disk = started(alloc, n, Start::OpenPastTheEnd)?;
+    for call in calls {
+        let (_, left) = stopped(alloc, disk, n, *call, u64::MAX)?;
+        disk = left;
+    }
+    Ok(read(disk, n.ring)?)
+}
+
+/// Record 2 of a batch that was stopped stands open behind the empty cell of record 1. Cleaned, it is never read. Without that, it would be the second.
 #[test]
 fn a_stale_record_is_never_read(rt: HostRuntime) -> Result<(), Fail> {
-    let alloc = rt.alloc();
-    let n = journal_of(8, 1, 0);
-    assert_eq!(rt;
-        read(started(alloc, n, Start::OpenPastTheEnd)?, 8)?,
-        (1, 0, 1)
-    );
-    let torn = started(alloc, n, Start::OpenPastTheEnd)?;
-    let (_, clean) = stopped(alloc, torn, n, Call::Clean, u64::MAX)?;
-    let (_, one) = stopped(alloc, clean, n, Call::Append(1), u64::MAX)?;
-    assert_eq!(rt; read(one, 8)?, (1, 1, 1));
-
-    // What the cleaning is for: without it the stale record would be the second.
-    let torn = started(alloc, n, Start::OpenPastTheEnd)?;
-    let (_, two) = stopped(alloc, torn, n, Call::Append(1), u64::MAX)?;
-    assert_eq!(rt; read(two, 8)?, (1, 2, 2));
+    for (calls, found) in [
+        ([].as_slice(), (1, 0, 1)),
+        (&[Call::Clean, Call::Append(1)], (1, 1, 1)),
+        (&[Call::Append(1)], (1, 2, 2)),
+    ] {
+        assert_eq!(rt; read_behind(rt.alloc(), calls)?, found);
+    }
     Ok(())
 }
 

@@ -4,7 +4,7 @@ ghost use Rattle.std.specs.Prelude.{◌≡◌, IfOk, length};
 ghost use Rattle.plant_core.specs.Plants.{definition_of};
 
 use super::common::{SAMPLE, Untold};
-use super::runs::{FIRE_0, FIRE_1, FLUSH, ROOM, settled, value_of};
+use super::runs::{FIRE_0, FIRE_1, FLUSH, ROOM, Shown, settled, value_of};
 use crash_explorer::{ExploreFault, Report, explore};
 use disk_model::{BODY, Cells, Disk, MemDisk};
 use plant_core::{Event, Hands, Happened, Plant, drive};
@@ -142,21 +142,33 @@ fn driven(
     Ok(drive(alloc, plant, &TWO, hands)?)
 }
 
+/// A device that is formatted for the plant, with a cell that a boot empties.
+fn new_plant(rt: &impl Print, alloc: Global, system: &System) -> Result<Untold, Fail> {
+    let disk = new_disk(rt, alloc)?;
+    with_a_stale_cell(formatted(rt, alloc, system, disk)?)
+}
+
+/// The plant that the device is booted to, driven: how many answers there are, the values of its atoms, and the front.
+fn booted_and_driven(
+    rt: &impl Print,
+    alloc: Global,
+    system: &System,
+    disk: Untold,
+) -> Result<(usize, Shown), Fail> {
+    let mut plant = booted(rt, alloc, system, disk)?;
+    let mut hands = new_hands(rt, alloc, plant.system().atoms().len())?;
+    let answers = driven(rt, alloc, &mut plant, &mut hands)?;
+    let shown = (value_of(&plant, 0), value_of(&plant, 1), plant.front());
+    Ok((answers.len(), shown))
+}
+
 #[test]
 fn a_refused_growth_changes_nothing(rt: HostRuntime) -> Result<(), Fail> {
     let alloc = rt.alloc();
     let system = plant_read(&rt, alloc)?;
-    let disk = new_disk(&rt, alloc)?;
-    let disk = formatted(&rt, alloc, &system, disk)?;
-    let disk = with_a_stale_cell(disk)?;
-    let mut plant = booted(&rt, alloc, &system, disk)?;
-    let mut hands = new_hands(&rt, alloc, plant.system().atoms().len())?;
-    let answers = driven(&rt, alloc, &mut plant, &mut hands)?;
-    assert_eq!(rt; answers.len(), TWO.len());
-    assert_eq!(rt;
-        (value_of(&plant, 0), value_of(&plant, 1), plant.front()),
-        (2, 1, settled(2))
-    );
+    let disk = new_plant(&rt, alloc, &system)?;
+    let found = booted_and_driven(&rt, alloc, &system, disk)?;
+    assert_eq!(rt; found, (TWO.len(), (2, 1, settled(2))));
     Ok(())
 }
 
@@ -174,13 +186,7 @@ fn explored(rt: &impl Print, alloc: Global, system: &System) -> Result<Report, F
 fn a_refused_growth_ends_an_exploration(rt: HostRuntime) -> Result<(), Fail> {
     let alloc = rt.alloc();
     let system = plant_read(&rt, alloc)?;
-    assert_eq!(rt;
-        explored(&rt, alloc, &system)?,
-        Report {
-            stops: 20,
-            boots: 80,
-            bad: 0
-        }
-    );
+    let report = explored(&rt, alloc, &system)?;
+    assert_eq!(rt; (report.stops, report.boots, report.bad), (20, 80, 0));
     Ok(())
 }

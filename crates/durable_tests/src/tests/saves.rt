@@ -1,29 +1,53 @@
 // States that are asked for and put, but are not those that a plant keeps. What is put as it was asked for is a case of the program.
-use super::common::{SAMPLE, Untold};
+use super::common::{Untold, sample};
 use super::runs::{FIRE_0, new_device, whole_run};
 use petri_atom::AtomState;
 use plant_core::{Event, Plant, PutRefused, Refused};
-use plant_text::plant_of_text;
 use recovery::boot;
 use snapshot_writer::{Parcel, encode};
 use std::alloc::Global;
 use std::test::Fail;
 use step_core::System;
 
+/// Why the last event is refused, and how many calls of the device are made.
+fn asked(alloc: Global, system: &System, events: &[Event]) -> Result<(Option<Refused>, u64), Fail> {
+    let ran = whole_run(alloc, system, events)?;
+    Ok((ran.refused, ran.calls))
+}
+
 /// There is no such atom, and no hand for one. No call of the device is made.
 #[test]
 fn an_atom_that_is_not_there_is_neither_copied_nor_stored(rt: HostRuntime) -> Result<(), Fail> {
     let alloc = rt.alloc();
-    let system = plant_of_text(alloc, SAMPLE)?;
-    let none = whole_run(alloc, &system, &[])?;
+    let system = sample(alloc)?;
+    let (_, calls) = asked(alloc, &system, &[])?;
     for (event, refused) in [
         (Event::Ask(7), Some(Refused::Stranger)),
         (Event::Put(7), None),
     ] {
-        let asked = whole_run(alloc, &system, &[FIRE_0, event])?;
-        assert_eq!(rt; (asked.refused, asked.calls), (refused, none.calls));
+        let found = asked(alloc, &system, &[FIRE_0, event])?;
+        assert_eq!(rt; found, (refused, calls));
     }
     Ok(())
+}
+
+/// A new plant.
+fn booted<'s>(alloc: Global, system: &'s System) -> Result<Plant<'s, Untold>, Fail> {
+    match boot(alloc, Untold::over(new_device(alloc, system, 8)?), system) {
+        Ok(plant) => Ok(plant),
+        Err(_) => Err(Fail::new("the image is refused")),
+    }
+}
+
+/// Ticks, and asks for A.
+fn ticked(plant: &mut Plant<'_, Untold>) -> Result<Parcel, Fail> {
+    if plant.fire(0).is_err() {
+        return Err(Fail::new("the tick is refused"));
+    }
+    match plant.ask(0) {
+        Ok(state) => Ok(state),
+        Err(_) => Err(Fail::new("the ask is refused")),
+    }
 }
 
 /// The sample behind two ticks, of which A was asked for behind each, all of it acknowledged: the plant, the first state and the second.
@@ -31,25 +55,20 @@ fn asked_twice<'s>(
     alloc: Global,
     system: &'s System,
 ) -> Result<(Plant<'s, Untold>, Parcel, Parcel), Fail> {
-    let disk = Untold::over(new_device(alloc, system, 8)?);
-    let Ok(mut plant) = boot(alloc, disk, system) else {
-        return Err(Fail::new("the image is refused"));
-    };
-    if plant.fire(0).is_err() {
-        return Err(Fail::new("the first tick is refused"));
-    }
-    let Ok(first) = plant.ask(0) else {
-        return Err(Fail::new("the first ask is refused"));
-    };
-    if plant.fire(0).is_err() {
-        return Err(Fail::new("the second tick is refused"));
-    }
-    let Ok(second) = plant.ask(0) else {
-        return Err(Fail::new("the second ask is refused"));
-    };
+    let mut plant = booted(alloc, system)?;
+    let first = ticked(&mut plant)?;
+    let second = ticked(&mut plant)?;
     match plant.flush() {
         Ok(2) => Ok((plant, first, second)),
         _ => Err(Fail::new("the flush is refused")),
+    }
+}
+
+/// The last record of the state that is stored, or why it is not.
+fn put(plant: &mut Plant<'_, Untold>, state: Parcel) -> Result<u64, Refused> {
+    match plant.put(encode(state)) {
+        Ok(at) => Ok(at),
+        Err(PutRefused { refused, .. }) => Err(refused),
     }
 }
 
@@ -61,44 +80,51 @@ fn refused_put(plant: &mut Plant<'_, Untold>, state: Parcel) -> Result<(Refused,
     }
 }
 
-/// The first state was asked for once, and another since. It comes back, and the second is stored.
+/// The first state was asked for once, and another since. It comes back, and the second is stored. It is stored once: then no copy of it is kept.
 #[test]
 fn only_the_state_that_was_asked_for_last_is_stored(rt: HostRuntime) -> Result<(), Fail> {
     let alloc = rt.alloc();
-    let system = plant_of_text(alloc, SAMPLE)?;
+    let system = sample(alloc)?;
     let (mut plant, first, second) = asked_twice(alloc, &system)?;
     let (refused, back) = refused_put(&mut plant, first)?;
+    let came_back = (back.count(), back.at());
+    let stored = put(&mut plant, second);
+    let (again, _) = refused_put(&mut plant, back)?;
     assert_eq!(rt;
-        (refused, back.count(), back.at()),
-        (Refused::Stranger, 1, 1)
+        (refused, came_back, stored, again),
+        (Refused::Stranger, (1, 1), Ok(2), Refused::Stranger)
     );
-    assert_eq!(rt; plant.put(encode(second)).ok(), Some(2));
-    // It is stored once. Then no copy of it is kept.
-    let (refused, _) = refused_put(&mut plant, back)?;
-    assert_eq!(rt; refused, Refused::Stranger);
     Ok(())
 }
 
-/// A state that differs from the one that was asked for in its atom, its count, its last record, a place or a value is none that was asked for.
+/// The state of an atom with one value.
+fn state_of(atom: u16, count: u64, at: u64, marking: u64, value: i64) -> Result<Parcel, Fail> {
+    if atom >= 64 || count > at || at > 100 {
+        return Err(Fail::new("no such state"));
+    }
+    Ok(Parcel::new(atom, count, at, AtomState::with(marking, &[value])))
+}
+
+/// A state that differs from the one that was asked for in its atom, its count, its last record, a place or a value is none that was asked for. Behind
+/// them nothing has changed: an equal one is taken for it.
 #[test]
 fn a_state_that_was_not_asked_for_is_not_stored(rt: HostRuntime) -> Result<(), Fail> {
     let alloc = rt.alloc();
-    let system = plant_of_text(alloc, SAMPLE)?;
+    let system = sample(alloc)?;
     let (mut plant, _, second) = asked_twice(alloc, &system)?;
-    for other in [
-        Parcel::new(1, 2, 2, AtomState::with(1, &[2])),
-        Parcel::new(0, 1, 2, AtomState::with(1, &[2])),
-        Parcel::new(0, 2, 3, AtomState::with(1, &[2])),
-        Parcel::new(0, 2, 2, AtomState::with(3, &[2])),
-        Parcel::new(0, 2, 2, AtomState::with(1, &[3])),
-        Parcel::new(7, 2, 2, AtomState::with(1, &[2])),
+    for (atom, count, at, marking, value, wanted) in [
+        (1, 2, 2, 1, 2, Err(Refused::Stranger)),
+        (0, 1, 2, 1, 2, Err(Refused::Stranger)),
+        (0, 2, 3, 1, 2, Err(Refused::Stranger)),
+        (0, 2, 2, 3, 2, Err(Refused::Stranger)),
+        (0, 2, 2, 1, 3, Err(Refused::Stranger)),
+        (7, 2, 2, 1, 2, Err(Refused::Stranger)),
+        (0, 2, 2, 1, 2, Ok(2)),
     ] {
-        let (refused, _) = refused_put(&mut plant, other)?;
-        assert_eq!(rt; refused, Refused::Stranger);
+        let other = state_of(atom, count, at, marking, value)?;
+        let is_same = other.same(&second);
+        let found = put(&mut plant, other);
+        assert_eq!(rt; (is_same, found), (wanted.is_ok(), wanted));
     }
-    // Nothing has changed. An equal one is taken for it.
-    let equal = Parcel::new(0, 2, 2, AtomState::with(1, &[2]));
-    assert!(rt; equal.same(&second));
-    assert_eq!(rt; plant.put(encode(equal)).ok(), Some(2));
     Ok(())
 }
