@@ -4,8 +4,8 @@
 # of other sources is never taken for one of these, however files came to be as they are, and a program is there whole or not at all.
 
 root=$(cd "$(dirname "$(readlink -f "${BASH_SOURCE[0]}")")/.." && pwd) || exit 3
-# What ./prove takes from nothing, in minutes: as measured on four cores that do nothing else.
-minutes_to_prove=31
+# What ./prove takes from nothing, in minutes: as measured on four cores, for a part of it beside other work.
+minutes_to_prove=44
 
 # The repository's crates with the libraries that each uses, from crates.txt.
 declare -A uses
