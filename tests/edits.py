@@ -62,15 +62,17 @@ class Edits(unittest.TestCase):
         self.assertLessEqual(sum(len(edits_of(crate)) for crate in WITH_EDITS), MOST_EDITS)
 
     def check_texts(self, crate):
-        """Beside the edits no file stands there. Each old text stands once in its file, and another takes its place."""
+        """Beside the edits no file stands there. Each old text stands once in what the changes before it make of its file, and another takes its place."""
         edits = edits_of(crate)
         self.assertEqual(sorted((CRATES / crate / "must-fail").iterdir()), edits)
         for edit in edits:
-            changes = list(changes_in(edit))
+            changes, texts = list(changes_in(edit)), {}
             self.assertTrue(changes, f"{edit.name} changes nothing")
             for file, old, new in changes:
+                text = texts.get(file) or (CRATES / crate / file).read_text()
                 self.assertNotEqual(old, new, edit.name)
-                self.assertEqual((CRATES / crate / file).read_text().count(old), 1, f"{edit.name}: how often `{old}` stands in {file}")
+                self.assertEqual(text.count(old), 1, f"{edit.name}: how often `{old}` stands in {file}")
+                texts[file] = text.replace(old, new)
 
 
 def suite(program, words):
