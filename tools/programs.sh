@@ -58,7 +58,7 @@ sum_of() {
 # sum is needed.
 kept() {
     local program
-    compgen -G "$root/out/$1/$2-*" > /dev/null && program=$root/out/$1/$2-$(sum_of "$1" "$2") && [[ -x $program ]] && echo "$program"
+    (cd "$root/out/$1" 2> /dev/null && compgen -G "$2-*") > /dev/null && program=$root/out/$1/$2-$(sum_of "$1" "$2") && [[ -x $program ]] && echo "$program"
 }
 
 # Keeps a program that was built of the sources with this sum in place of the earlier ones of its kind and name.
