@@ -43,24 +43,37 @@ fn wanted_at(k: u64, last: u64, first: u64) -> Option<Shown> {
 
 /// First the gate of the identity is closed, and a sync follows. Then the gates of a base, three slots and four records are closed, and a sync follows.
 /// Then four cells are set by four changes each, the identity last. So at the second change its gate is pending, and again at the last two.
+const CHANGES: u64 = 2 + 9 + 4 * 4;
+
+/// The first change at which a stop leaves something else.
+fn first_wrong(
+    alloc: Global,
+    system: &System,
+    tear: Tear,
+    last: u64,
+    first: u64,
+) -> Result<Option<u64>, Fail> {
+    for k in 1..=CHANGES + 1 {
+        if booted_again(alloc, system, k, tear)? != wanted_at(k, last, first) {
+            return Ok(Some(k));
+        }
+    }
+    Ok(None)
+}
+
 #[test]
 fn a_stop_inside_formatting_leaves_what_was_there_or_nothing_or_the_first_state(
     rt: HostRuntime,
 ) -> Result<(), Fail> {
-    let alloc = rt.alloc();
-    let system = sample(alloc)?;
-    let changes = 2 + 9 + 4 * 4;
+    let system = sample(rt.alloc())?;
     // The last stop that leaves the run, and the first that leaves the first state.
     for (tear, last, first) in [
-        (Tear::Old, 2, changes + 1),
-        (Tear::New, 1, changes),
-        (Tear::Gates, 2, changes - 1),
-        (Tear::Mixed, 2, changes + 1),
+        (Tear::Old, 2, CHANGES + 1),
+        (Tear::New, 1, CHANGES),
+        (Tear::Gates, 2, CHANGES - 1),
+        (Tear::Mixed, 2, CHANGES + 1),
     ] {
-        for k in 1..=changes + 1 {
-            let found = booted_again(alloc, &system, k, tear)?;
-            assert_eq!(rt; found, wanted_at(k, last, first), "at {k}");
-        }
+        assert_eq!(rt; first_wrong(rt.alloc(), &system, tear, last, first)?, None);
     }
     Ok(())
 }
@@ -98,23 +111,37 @@ fn booted_twice(
     Ok((ended, shown(alloc, system, left)?))
 }
 
+/// The first of so many writes and syncs of the boot, or the one behind them, at which a stop does something else.
+fn first_wrong_boot(
+    alloc: Global,
+    system: &System,
+    torn: Tear,
+    wanted: Shown,
+    changes: u64,
+) -> Result<Option<u64>, Fail> {
+    let end = changes.saturating_add(1);
+    for k in 1..=end {
+        for tear in TEARS {
+            if booted_twice(alloc, system, torn, k, tear)? != (k > changes, wanted) {
+                return Ok(Some(k));
+            }
+        }
+    }
+    Ok(None)
+}
+
 /// Two records are acknowledged, and the gates of two more are torn. A boot syncs, closes the gate of a record behind one that is closed, and syncs.
 #[test]
 fn however_often_a_boot_is_stopped_the_same_is_booted(rt: HostRuntime) -> Result<(), Fail> {
-    let alloc = rt.alloc();
-    let system = sample(alloc)?;
+    let system = sample(rt.alloc())?;
     for (torn, wanted, changes) in [
         (Tear::Old, (2, 1, settled(2)), 2),
         (Tear::New, (4, 3, settled(4)), 2),
         (Tear::Gates, (4, 3, settled(4)), 2),
         (Tear::Mixed, (2, 1, settled(2)), 3),
     ] {
-        for k in 1..=changes + 1 {
-            for tear in TEARS {
-                let found = booted_twice(alloc, &system, torn, k, tear)?;
-                assert_eq!(rt; found, (k > changes, wanted), "at {k}");
-            }
-        }
+        let found = first_wrong_boot(rt.alloc(), &system, torn, wanted, changes)?;
+        assert_eq!(rt; found, None);
     }
     Ok(())
 }
@@ -133,6 +160,6 @@ fn a_record_past_the_end_is_never_read_again(rt: HostRuntime) -> Result<(), Fail
     let system = sample(alloc)?;
     let torn = torn_flush(alloc, &system, Tear::Mixed)?;
     let found = one_more(alloc, &system, torn)?;
-    assert_eq!(rt; found, (settled(3), (3, 1, settled(3))));
+    assert!(rt; found == (settled(3), (3, 1, settled(3))));
     Ok(())
 }

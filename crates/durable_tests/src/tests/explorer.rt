@@ -133,10 +133,8 @@ fn a_trial_tells_what_a_stop_does(rt: HostRuntime) -> Result<(), Fail> {
         (Tear::Gates, Found::Booted(4), 4, 2, true),
         (Tear::Mixed, Found::Booted(2), 4, 2, true),
     ];
-    assert_eq!(rt;
-        (stops, trials, told.as_slice()),
-        (32, 4 * 32, wanted.as_slice())
-    );
+    assert_eq!(rt; (stops, trials), (32, 4 * 32));
+    assert!(rt; told.as_slice() == wanted.as_slice());
     Ok(())
 }
 

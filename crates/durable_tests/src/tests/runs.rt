@@ -66,11 +66,20 @@ pub(super) fn stopped_run(
     run(alloc, system, new_device(alloc, system, 8)?, k, events)
 }
 
+/// The answers of the plant to these events.
+pub(super) fn answers_of(
+    alloc: Global,
+    plant: &mut Plant<'_, Untold>,
+    events: &[Event],
+) -> Result<Vec<Happened>, Fail> {
+    let mut hands = Hands::new(alloc, plant.system().atoms().len())?;
+    Ok(drive(alloc, plant, events, &mut hands)?)
+}
+
 /// The run that these events make on the plant.
 fn driven(alloc: Global, plant: Plant<'_, Untold>, events: &[Event]) -> Result<Outcome, Fail> {
     let mut plant = plant;
-    let mut hands = Hands::new(alloc, plant.system().atoms().len())?;
-    let answers = drive(alloc, &mut plant, events, &mut hands)?;
+    let answers = answers_of(alloc, &mut plant, events)?;
     let last = match answers.last() {
         Some(happened) => refusal_in(happened),
         None => None,
@@ -205,6 +214,14 @@ fn shows(plant: &Plant<'_, Untold>, wanted: &Stepper<'_>) -> bool {
     plant.look(count as u16).is_none()
 }
 
+/// Whether this front is all acknowledged, is one of what was told to be fired, with all that was told to be acknowledged, and has the base that was told or
+/// one behind it, up to this.
+fn is_left(found: Front, told: Front, last_base: u64) -> bool {
+    let is_fired = told.acked <= found.fired && found.fired <= told.fired;
+    let is_based = told.base <= found.base && found.base <= last_base;
+    is_fired && is_based && found.acked == found.fired
+}
+
 /// Whether the image that a stop of the run left boots to a state behind some front of what was fired, with all that was acknowledged; the base is the
 /// one that was told or one behind it, up to this.
 pub(super) fn boots_right(
@@ -220,11 +237,5 @@ pub(super) fn boots_right(
     };
     let found = plant.front();
     let wanted = stepped(alloc, system, events, found.fired)?;
-    Ok(
-        told.acked <= found.fired
-            && found.fired <= told.fired
-            && found.acked == found.fired
-            && (told.base..=last_base).contains(&found.base)
-            && shows(&plant, &wanted),
-    )
+    Ok(is_left(found, told, last_base) && shows(&plant, &wanted))
 }
