@@ -43,31 +43,55 @@ def work_of(words):
     return words[words.index("--crate-name") + 1], kind
 
 
-def processes():
-    """Each process of the prover with its start, its work and the processor seconds that it has had by itself."""
+def every_process():
+    """Each process of this machine: its number, with its folder and its fields behind the name in brackets."""
+    found = {}
     for folder in Path("/proc").iterdir():
-        if not folder.name.isdigit():
-            continue
         try:
-            work = work_of((folder / "cmdline").read_bytes().decode(errors="replace").split("\0"))
-            if work:
-                # What stands behind the name in brackets: the times are the 14th and 15th field, the start the 22nd.
-                fields = (folder / "stat").read_text().rsplit(")", 1)[1].split()
-                yield (folder.name, fields[19]), work, (int(fields[11]) + int(fields[12])) / TICKS
+            if folder.name.isdigit():
+                found[int(folder.name)] = folder, (folder / "stat").read_text().rsplit(")", 1)[1].split()
         except OSError:
             continue
+    return found
+
+
+def below(top, found):
+    """The processes that `top` began, and that those began: another prover on the machine is none of them."""
+    begun = defaultdict(list)
+    for number, (_, fields) in found.items():
+        begun[int(fields[1])].append(number)
+    ahead = [top]
+    while ahead:
+        number = ahead.pop()
+        yield number
+        ahead += begun[number]
+
+
+def processes(top):
+    """Each process of the prover below `top` with its start, its work and the processor seconds that it has had."""
+    found = every_process()
+    for number in below(top, found):
+        try:
+            folder, fields = found[number]
+            work = work_of((folder / "cmdline").read_bytes().decode(errors="replace").split("\0"))
+        except (KeyError, OSError):
+            continue
+        if work:
+            # The times are the 14th and 15th field of the whole line, the start the 22nd.
+            yield (number, fields[19]), work, (int(fields[11]) + int(fields[12])) / TICKS
 
 
 class Watch:
-    """What the prover's processes were seen to take."""
+    """What the prover's processes below one process were seen to take."""
 
-    def __init__(self):
+    def __init__(self, top):
+        self.top = top
         self.taken, self.clock, self.ended = {}, {}, threading.Event()
 
     def look(self):
         while not self.ended.wait(PAUSE):
             now = time.monotonic()
-            for process, work, seconds in processes():
+            for process, work, seconds in processes(self.top):
                 self.taken[process] = work, seconds
                 self.clock[work] = self.clock.get(work, (now - PAUSE, 0))[0], now
 
@@ -105,11 +129,12 @@ class Watch:
 
 
 def main(file, *command):
-    watch = Watch()
+    run = subprocess.Popen(command, env={**os.environ, "PYTHONUNBUFFERED": "1"})
+    watch = Watch(run.pid)
     watcher = threading.Thread(target=watch.look)
     watcher.start()
     try:
-        status = subprocess.run(command, env={**os.environ, "PYTHONUNBUFFERED": "1"}).returncode
+        status = run.wait()
     finally:
         watch.ended.set()
         watcher.join()
