@@ -8,7 +8,7 @@ import hashlib
 import itertools
 from dataclasses import dataclass, field
 
-CELL = 512
+CELL = 1024
 OPEN = 0xA5
 GREATEST = (1 << 63) - 1
 
@@ -241,7 +241,7 @@ def record_in(body):
     """The number, the connector and the entries."""
     fields = Body(body)
     number, connector, many = fields.number(8), fields.number(2), fields.number(1)
-    if not 1 <= number <= GREATEST or connector > 63 or not 1 <= many <= 8:
+    if not 1 <= number <= GREATEST or connector > 63 or not 1 <= many <= 16:
         return None
     entries = [entry_in(fields, number) for _ in range(many)]
     if None in entries or any(one[0] >= other[0] for one, other in zip(entries, entries[1:])):
@@ -295,7 +295,7 @@ class Image:
         body = self.body(0)
         if body is None or body[:4] != b"BIPF":
             raise Refused("1 NotFormatted")
-        if body[4:6] != b"\0\1":
+        if body[4:6] != b"\0\2":
             raise Refused("2 OtherVersion")
         identity = identity_in(body)
         if identity is None:

@@ -19,7 +19,7 @@ DIGEST = "9c7e1145c9ae08c423f0f7ca90e43310e0aedbd94cbdbfb825a0ddefb2081b48"
 # Behind tick, send, tick, send, a flush and a save of A. The fields are: magic, version, atoms, ring, digest. Base. Atom, count, at, marking, how many
 # values, value. Number, connector, how many entries, and of each its atom, transition, participation number, how many values, mask, value.
 IMAGE = {
-    0: f"a5 42495046 0001 0002 00000008 {DIGEST}",
+    0: f"a5 42495046 0002 0002 00000008 {DIGEST}",
     1: "a5 0000000000000001",
     3: "a5 0000 0000000000000000 0000000000000000 0000000000000001 01 0000000000000000",
     4: "a5 0000 0000000000000004 0000000000000004 0000000000000001 01 0000000000000004",

@@ -229,7 +229,7 @@ class Reader:
             before, deepest = word, max(deepest, level)
         require(level == 0, 10)
         for broken, fault in [
-            (len(leaves) > 8, "TooManyLeaves"),
+            (len(leaves) > 16, "TooManyLeaves"),
             (deepest > 7, "TooDeep"),
             (len({atom for atom, _ in leaves}) < len(leaves), "SameAtom"),
             (empty, "Empty"),

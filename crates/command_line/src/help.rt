@@ -235,7 +235,7 @@ goes on where the one before it ended, whatever ended it. IMAGE is made where no
 there. A file that is there must have the size of the image, and loses all that it held.
 
 The image has room for the records of N interactions, from 8 to 4096. It has 3 cells, 2
-more for each atom, and one for each record, each of 512 bytes. Prints one line: how many
+more for each atom, and one for each record, each of 1,024 bytes. Prints one line: how many
 cells it has.";
 
 pub(crate) const FORMAT_AFTER: &str = "Example:

@@ -131,22 +131,22 @@ an_illegal_byte_behind_an_end_without_its_begin = refl
 
 -- ---- faults of trees
 
-eight_ports : read (codes "a.p b.p c.p d.p e.p f.p g.p h.p") ≡
-    Ok (synchron 0 ∷ synchron 1 ∷ synchron 2 ∷ synchron 3 ∷ synchron 4 ∷ synchron 5 ∷ synchron 6 ∷ synchron 7 ∷ [])
+sixteen_ports : read (codes "a.p b.p c.p d.p e.p f.p g.p h.p i.p j.p k.p l.p m.p n.p o.p p.p") ≡
+    Ok (synchron 0 ∷ synchron 1 ∷ synchron 2 ∷ synchron 3 ∷ synchron 4 ∷ synchron 5 ∷ synchron 6 ∷ synchron 7 ∷ synchron 8 ∷ synchron 9 ∷ synchron 10 ∷ synchron 11 ∷ synchron 12 ∷ synchron 13 ∷ synchron 14 ∷ synchron 15 ∷ [])
 unfolding read synchron
-eight_ports = refl
+sixteen_ports = refl
 
-nine_ports : read (codes "a.p b.p c.p d.p e.p f.p g.p h.p i.p") ≡ Err (Tree TooManyLeaves)
+seventeen_ports : read (codes "a.p b.p c.p d.p e.p f.p g.p h.p i.p j.p k.p l.p m.p n.p o.p p.p q.p") ≡ Err (Tree TooManyLeaves)
 unfolding read
-nine_ports = refl
+seventeen_ports = refl
 
-an_unknown_name_behind_eight_ports : read (codes "a.p b.p c.p d.p e.p f.p g.p h.p I.p") ≡ Err UnknownName
+an_unknown_name_behind_sixteen_ports : read (codes "a.p b.p c.p d.p e.p f.p g.p h.p i.p j.p k.p l.p m.p n.p o.p p.p I.p") ≡ Err UnknownName
 unfolding read
-an_unknown_name_behind_eight_ports = refl
+an_unknown_name_behind_sixteen_ports = refl
 
-an_illegal_byte_behind_nine_ports : read (codes "a.p b.p c.p d.p e.p f.p g.p h.p i.p " ++ 228 ∷ []) ≡ Err NotAscii
+an_illegal_byte_behind_seventeen_ports : read (codes "a.p b.p c.p d.p e.p f.p g.p h.p i.p j.p k.p l.p m.p n.p o.p p.p q.p " ++ 228 ∷ []) ≡ Err NotAscii
 unfolding read
-an_illegal_byte_behind_nine_ports = refl
+an_illegal_byte_behind_seventeen_ports = refl
 
 eight_levels : read (codes "[ [ [ [ [ [ [ a.p ] ] ] ] ] ] ]") ≡
     Ok (Open ∷ Open ∷ Open ∷ Open ∷ Open ∷ Open ∷ Open ∷ synchron 0

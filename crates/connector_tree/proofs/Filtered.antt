@@ -19,7 +19,7 @@ abbrev pub passing : (ℕ → Bool) → ℕ → List ℕ
 passing p n = filter p (range_with_len 0 n)
 
 -- one number further
-passing-suc : (p : ℕ → Bool) (n : ℕ) → passing p (suc n) ≡ passing p n ++ cond (p n) (n ∷ []) []
+pub passing-suc : (p : ℕ → Bool) (n : ℕ) → passing p (suc n) ≡ passing p n ++ cond (p n) (n ∷ []) []
 passing-suc p n =
     let z : 0 + n ≡ n = omega arith in
     ap (filter p) (range-more 0 n)
@@ -31,17 +31,6 @@ passing-keeps p n passes = passing-suc p n ∙ ap (λ b. passing p n ++ cond b (
 
 passing-skips : (p : ℕ → Bool) (n : ℕ) → p n ≡ false → passing p (suc n) ≡ passing p n
 passing-skips p n passes = passing-suc p n ∙ ap (λ b. passing p n ++ cond b (n ∷ []) []) passes ∙ append-nil (passing p n)
-
--- a list of the numbers below n that pass, one number further
-pub passing_keeps : (p : ℕ → Bool) (n : ℕ) (ns : List ℕ) → ns ≡ passing p n → p n ≡ true → ns ++ (n ∷ []) ≡ passing p (n + 1)
-passing_keeps p n ns so_far passes =
-    let e : suc n ≡ n + 1 = omega arith in
-    ap (λ xs. xs ++ (n ∷ [])) so_far ∙ sym (passing-keeps p n passes) ∙ ap (passing p) e
-
-pub passing_skips : (p : ℕ → Bool) (n : ℕ) (ns : List ℕ) → ns ≡ passing p n → p n ≡ false → ns ≡ passing p (n + 1)
-passing_skips p n ns so_far passes =
-    let e : suc n ≡ n + 1 = omega arith in
-    so_far ∙ sym (passing-skips p n passes) ∙ ap (passing p) e
 
 -- each of them is below n and passes
 pub passing_is : (p : ℕ → Bool) (n m : ℕ) → Contains (passing p n) m → (m < n) × (p m ≡ true)

@@ -1,8 +1,10 @@
 pub mod Algebra
 pub mod Exact
 pub mod Filtered
+pub mod FromTree
 pub mod Gives
 mod Rows
+pub mod Joined
 pub mod Sets
 pub mod Sound
 pub mod Trees

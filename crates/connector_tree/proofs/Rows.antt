@@ -114,14 +114,14 @@ empty_bracket : fault_of (tree_with (synchron (port 0) ∷ synchron (group []) �
 empty_bracket = refl
 
 -- what the faults say
-messages : (message_of TooManyLeaves ≡ codes "a connector may have at most 8 ports") × (message_of TooDeep ≡ codes "a connector may nest at most 8 levels, the root included") × (message_of SameAtom ≡ codes "an atom may stand only once in a connector") × (message_of Empty ≡ codes "a connector and its brackets may not be empty") × (message_of Memory ≡ codes "not enough memory to list a connector's interactions")
+messages : (message_of TooManyLeaves ≡ codes "a connector may have at most 16 ports") × (message_of TooDeep ≡ codes "a connector may nest at most 8 levels, the root included") × (message_of SameAtom ≡ codes "an atom may stand only once in a connector") × (message_of Empty ≡ codes "a connector and its brackets may not be empty") × (message_of Memory ≡ codes "not enough memory to list a connector's interactions")
 unfolding digits
 messages = (refl, refl, refl, refl, refl)
 
 -- ---- limits
 
-eight_leaves_at_most : MAX_LEAVES ≡ 8
-eight_leaves_at_most = refl
+sixteen_leaves_at_most : MAX_LEAVES ≡ 16
+sixteen_leaves_at_most = refl
 
 eight_levels_at_most : MAX_DEPTH ≡ 8
 eight_levels_at_most = refl
@@ -136,8 +136,8 @@ abbrev port_in_brackets : ℕ → Tree
 port_in_brackets zero = child false (port 0) no_child
 port_in_brackets (suc n) = child false (bracket (port_in_brackets n)) no_child
 
-eight_leaves_and_nine : (fault_of (ports_of_atoms 8) ≡ None) × (fault_of (ports_of_atoms 9) ≡ Some TooManyLeaves)
-eight_leaves_and_nine = (refl, refl)
+sixteen_leaves_and_seventeen : (fault_of (ports_of_atoms 16) ≡ None) × (fault_of (ports_of_atoms 17) ≡ Some TooManyLeaves)
+sixteen_leaves_and_seventeen = (refl, refl)
 
 eight_levels_and_nine : (fault_of (port_in_brackets 7) ≡ None) × (fault_of (port_in_brackets 8) ≡ Some TooDeep)
 eight_levels_and_nine = (refl, refl)

@@ -29,10 +29,6 @@ leaves-leaf node atom port is = ap (λ n. branch_leaves (branch_of n)) is ∙ ap
 pub leaves-fusion : (node : Node) (children : Vec Child Global) → node ≡ Fusion children → branch_leaves (branch_of node) ≡ leaves (tree_in children.items)
 leaves-fusion node children is = ap (λ n. branch_leaves (branch_of n)) is ∙ ap branch_leaves (branch-fusion children)
 
--- what a walk sees of a port in memory, and of a bracket
-pub seen-leaf : (node : Node) (atom port : ℕ) → node ≡ Leaf atom port → seen (branch_of node) ≡ seen (leaf atom port)
-seen-leaf node atom port is = ap (λ n. seen (branch_of n)) is ∙ ap seen (branch-leaf atom port)
-
 pub beside_assoc : (one other : Tree) (trigger : Bool) (branch : Branch) → beside (beside one (child trigger branch no_child)) other ≡ beside one (child trigger branch other)
 beside_assoc no_child other trigger branch = refl
 beside_assoc (child t b rest) other trigger branch = ap (child t b) (beside_assoc rest other trigger branch)

@@ -3,6 +3,7 @@ pub mod PortSets
 pub mod Masks
 pub mod Faults
 pub mod Walk
+pub mod MaskLists
 pub mod Ports
 pub mod Tokens
 pub mod TokenFaults

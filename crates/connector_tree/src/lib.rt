@@ -12,8 +12,10 @@
 //!   of the empty set or one of theirs.
 //!
 //! The leaves are numbered from 0, left to right, and a mask has bit j for leaf j (`specs/Masks.antt`).
-//! `interactions` (`walk`) lists exactly the masks whose ports are a port set, rising, each once. It looks at
-//! each mask once, by one walk down the tree: `specs/Walk.antt` is that walk, and no public clause cites it.
+//! `interactions` (`walk`) lists exactly the masks whose ports are a port set, rising, each once. It makes the
+//! masks of a bracket from those of its children (`specs/MaskLists.antt`), so it looks at no mask in which a child has
+//! leaves that are none of its port sets. `specs/Walk.antt` tells of one mask whether its ports are a port set, and the proof
+//! compares the list with it. No public clause cites either.
 //! What is no connector is told before, without memory, by its first fault (`shape`, `specs/Faults.antt`).
 //!
 //! A connector is also written as a flat list of tokens (`token`): a port with its mark, a bracket that begins, a bracket that

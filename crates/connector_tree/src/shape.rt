@@ -31,7 +31,7 @@ pub fn first_fault(connector: &Connector) -> Option<TreeFault>
 
 /// The number of leaves, or the first number that is too many.
 #[cycle(count)]
-pub(crate) fn count_leaves(children: &[Child]) -> usize
+fn count_leaves(children: &[Child]) -> usize
     ensures { result ≡ min (length (leaves (tree_in children.now))) (MAX_LEAVES + 1) }
 {
     let mut count = 0;
@@ -42,7 +42,7 @@ pub(crate) fn count_leaves(children: &[Child]) -> usize
 }
 
 #[cycle(count)]
-fn count_node(node: &Node) -> usize
+pub(crate) fn count_node(node: &Node) -> usize
     ensures { result ≡ min (length (branch_leaves (branch_of node.now))) (MAX_LEAVES + 1) }
 {
     match node {

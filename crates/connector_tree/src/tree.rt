@@ -2,7 +2,7 @@
 pub type Mask = u16;
 
 /// How many leaves a connector may have.
-pub const MAX_LEAVES: usize = 8;
+pub const MAX_LEAVES: usize = 16;
 
 /// How many levels a connector may have: the root is the first, and each bracket adds one.
 pub const MAX_DEPTH: usize = 8;

@@ -3,6 +3,7 @@ use Rattle.std.proofs.Common.{◌≡◌, ⊎_elim, ℕ, ◌+◌, ◌-◌, ◌≤
 use Rattle.std.proofs.lemmas.Bool.{false≢true}
 use Rattle.std.proofs.lemmas.List.{drop_all, length-drop, length-take-le, take_all, take-append-drop}
 use Rattle.std.proofs.lemmas.Option.{none-some}
+use Rattle.disk_model.specs.declared.cells.TheConstants.{BODY}
 use Rattle.disk_model.specs.Cells.{Cell, cells_of, seen_cells}
 use Rattle.disk_model.specs.DiskState.{DiskState, Moment, size_of}
 use Rattle.disk_model.specs.declared.change.Tear.{Tear}
@@ -62,7 +63,7 @@ module _ (plant : PlantDefinition) (digest : List ℕ) where
       right
 
   -- what was opened is told as what its cells boot to
-  pub found-opened : (s : DiskState) (o : Opened) → IsOpened plant digest s o → IsFound plant digest (size_of s) (seen_cells 512 s) (found_in o)
+  pub found-opened : (s : DiskState) (o : Opened) → IsOpened plant digest s o → IsFound plant digest (size_of s) (seen_cells (BODY + 1) s) (found_in o)
   found-opened s (opened.Plant p) is =
       let none : length (view_of p).tail ≡ 0 = ap (λ (cs : List ChoiceDefinition). length cs) is.3.tail in
       (is.3.sound, omega (arith, is.3.number, none))
@@ -74,9 +75,9 @@ module _ (plant : PlantDefinition) (digest : List ℕ) where
     is.0,
     is.1,
     is.2 ∙ ap (λ (m : Moment). length m.seen) same,
-    subst (λ (m : Moment). IsBooted plant digest (length m.seen) (cells_of 512 m.seen) (view_of p)) same is.3,
+    subst (λ (m : Moment). IsBooted plant digest (length m.seen) (cells_of (BODY + 1) m.seen) (view_of p)) same is.3,
   )
-  opened-alike s t (opened.Refused fault) same is = subst (λ (m : Moment). fault_of plant digest (length m.seen) (cells_of 512 m.seen) ≡ Some fault) same is
+  opened-alike s t (opened.Refused fault) same is = subst (λ (m : Moment). fault_of plant digest (length m.seen) (cells_of (BODY + 1) m.seen) ≡ Some fault) same is
 
   -- a plant that goes on as it should is right, where there is one
   pub next-right : (bytes : ℕ) (tear : Tear) (fired : List ChoiceDefinition) (cells : List Cell) (found : Found) (next : Option Next) → IsNextOf plant digest bytes tear fired cells found next → IsRightNext next

@@ -3,6 +3,7 @@ use Rattle.std.proofs.Common.{◌≡◌, inl, inr, ⊎_elim, ℕ, ◌+◌, ◌-�
 use Rattle.std.proofs.Math.Seq.{drop-append-add, take-append-add}
 use Rattle.std.proofs.lemmas.Bool.{le-ltb}
 use Rattle.std.proofs.lemmas.List.{get_or-replicate, length-append, length-replicate, length-take-le}
+use Rattle.disk_model.specs.declared.cells.TheConstants.{BODY}
 use Rattle.disk_model.specs.Cells.{Cell, MayBe, body_at, cell, cells_in, seen_cells}
 use Rattle.disk_model.specs.DiskState.{DiskState, size_of}
 use Rattle.disk_model.specs.MemDisk.{fresh}
@@ -45,7 +46,7 @@ module _ (plant : PlantDefinition) (digest : List ℕ) where
 
   -- so is a run that ended before anything was fired, where what a stop leaves of its device is
   pub ended-first : (bytes : ℕ) (e : Ended) (stage : Stage) → e.fired.items ≡ [] → e.acked ≡ 0 → e.stage ≡ stage → size_of (device_in e) ≡ bytes
-      → ((cells : List Cell) → MayBe 512 (device_in e) cells → IsRightStop plant digest bytes [] [] (is_formatting stage) cells) → IsEnded plant digest bytes e
+      → ((cells : List Cell) → MayBe (BODY + 1) (device_in e) cells → IsRightStop plant digest bytes [] [] (is_formatting stage) cells) → IsEnded plant digest bytes e
   ended-first bytes e stage none zero at size right = record {
     run = subst (λ (l : List Choice). IsRunOf plant (map choice_of l)) (sym none) refl;
     acked = omega (arith, zero);
@@ -59,11 +60,11 @@ module _ (plant : PlantDefinition) (digest : List ℕ) where
   -- ---- while the device was formatted
 
   -- a device with an empty first cell reads as never formatted
-  unformatted : (bytes : ℕ) (cells : List Cell) → nat_lt bytes 512 ≡ false → cell cells identity_cell ≡ None → fault_of plant digest bytes cells ≡ Some NotFormatted
+  unformatted : (bytes : ℕ) (cells : List Cell) → nat_lt bytes (BODY + 1) ≡ false → cell cells identity_cell ≡ None → fault_of plant digest bytes cells ≡ Some NotFormatted
   unformatted bytes cells large empty = rw (large, empty) refl
 
   -- the first cell of a device that was all zeros, at which nothing is pending, is empty
-  zeros-empty : (bytes : ℕ) (cells : List Cell) → 512 ≤ bytes → MayBe 512 (fresh (replicate bytes 0)) cells → cell cells identity_cell ≡ None
+  zeros-empty : (bytes : ℕ) (cells : List Cell) → (BODY + 1) ≤ bytes → MayBe (BODY + 1) (fresh (replicate bytes 0)) cells → cell cells identity_cell ≡ None
   zeros-empty bytes cells large may =
       let image : List ℕ = may.image in
       let zeros : List ℕ = replicate bytes 0 in
@@ -71,10 +72,10 @@ module _ (plant : PlantDefinition) (digest : List ℕ) where
       let bytes_long : length zeros ≡ bytes = length-replicate bytes 0 in
       let settled : get_or (replicate (length zeros) false) 0 false ≡ false = get_or-replicate (length zeros) 0 false false (omega arith) in
       let zero : get_or image 0 0 ≡ 0 = may.left.others 0 settled ∙ get_or-replicate bytes 0 0 0 (omega arith) in
-      let inside : 0 < cells_in 512 (length image) = omega arith in
+      let inside : 0 < cells_in (BODY + 1) (length image) = omega arith in
       ap (λ (l : List Cell). cell l 0) may.same
-      ∙ cell-cells_of 512 image 0 inside
-      ∙ ap (λ (g : ℕ). cond (eqb g 165) (Some (body_at 512 image 0)) None) zero
+      ∙ cell-cells_of (BODY + 1) image 0 inside
+      ∙ ap (λ (g : ℕ). cond (eqb g 165) (Some (body_at (BODY + 1) image 0)) None) zero
 
   -- what a stop leaves of a device that was all zeros and is formatted
   pub formatting-right : (ring : ℕ) (s : DiskState) (cells : List Cell) → s ≡ fresh (replicate (formatted_size plant ring) 0) → IsFormatting plant digest s cells
@@ -82,20 +83,20 @@ module _ (plant : PlantDefinition) (digest : List ℕ) where
   formatting-right ring s cells zeros is =
       let bytes : ℕ = formatted_size plant ring in
       let size : size_of s ≡ bytes = ap size_of zeros ∙ length-replicate bytes 0 in
-      let large : 512 ≤ bytes = omega arith in
-      let small : nat_lt bytes 512 ≡ false = le-ltb bytes 512 large in
+      let large : (BODY + 1) ≤ bytes = omega arith in
+      let small : nat_lt bytes (BODY + 1) ≡ false = le-ltb bytes (BODY + 1) large in
       ⊎_elim
-      (λ may. inr (refl, unformatted bytes cells small (zeros-empty bytes cells large (subst (λ (d : DiskState). MayBe 512 d cells) zeros may))))
+      (λ may. inr (refl, unformatted bytes cells small (zeros-empty bytes cells large (subst (λ (d : DiskState). MayBe (BODY + 1) d cells) zeros may))))
       (λ made. ⊎_elim (λ empty. inr (refl, unformatted bytes cells small empty)) (λ stands. first-right bytes true cells (subst (λ (n : ℕ). StandsForFirst n cells) size stands)) made)
       is
 
   -- ---- while the plant was booted
 
   -- what a stop leaves of a formatted device while it is booted
-  pub booting-right : (s : DiskState) (cells : List Cell) → ((left : List Cell) → MayBe 512 s left → StandsForFirst (size_of s) left) → IsBooting plant digest s cells → StandsForFirst (size_of s) cells
+  pub booting-right : (s : DiskState) (cells : List Cell) → ((left : List Cell) → MayBe (BODY + 1) s left → StandsForFirst (size_of s) left) → IsBooting plant digest s cells → StandsForFirst (size_of s) cells
   booting-right s cells formatted is = ⊎_elim (λ may. formatted cells may)
       (λ alike.
-      let seen = formatted (seen_cells 512 s) (seen_may 512 s) in
+      let seen = formatted (seen_cells (BODY + 1) s) (seen_may (BODY + 1) s) in
       let states : alike.states ≡ initial_states plant = sym alike.stood.states_are ∙ seen.states_are in
       let number : alike.number ≡ 0 = sym alike.stood.number_is ∙ seen.number_is in
       record { sound = alike.stand.sound; states_are = alike.stand.states_are ∙ states; number_is = alike.stand.number_is ∙ number })

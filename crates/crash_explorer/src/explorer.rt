@@ -12,11 +12,10 @@ ghost use Rattle.crash_explorer.specs.declared.explorer.TheConstants.{MOST_STOPS
 
 use crate::booting::Found;
 use crate::fault::ExploreFault;
-use crate::loading::CELL;
 use crate::outcome::{Next, outcome_of};
 use crate::running::{Stage, run};
 use crate::watched::Cut;
-use disk_model::{MemDisk, Tear};
+use disk_model::{CELL, MemDisk, Tear};
 use plant_core::Event;
 use record_codec::ring::device_cells;
 use std::alloc::{AllocError, Global};
@@ -191,7 +190,7 @@ fn device(alloc: Global, system: &System, ring: u32, events: usize) -> Result<Me
     let room = events
         .saturating_add(cells as usize)
         .saturating_mul(CHANGES);
-    MemDisk::new(alloc, CELL * cells, room)
+    MemDisk::with_cells(alloc, CELL * cells, room, CELL)
 }
 
 /// How many cells the device has for the plant and a ring of so many records.

@@ -8,11 +8,8 @@ ghost use Rattle.disk_model.specs.declared.cells.TheConstants.{BODY};
 ghost use Rattle.disk_model.specs.declared.fuse.Fuse.TheVariants.{Off};
 ghost use Rattle.crash_explorer.specs.Judging.{IsKept};
 
-use disk_model::{BODY, Disk, MemDisk};
+use disk_model::{BODY, CELL, Disk, MemDisk};
 use std::alloc::{AllocError, Global};
-
-/// How many bytes a cell has: its gate and its body.
-pub(crate) const CELL: u64 = BODY as u64 + 1;
 
 /// The gate of a full cell.
 const OPEN: u8 = 0xA5;

@@ -5,8 +5,7 @@ ghost use Rattle.disk_model.specs.MemDisk.{cell_of, state_of};
 ghost use Rattle.disk_model.specs.declared.cells.TheConstants.{BODY};
 ghost use Rattle.crash_explorer.specs.Watching.{IsCountable, IsWhole};
 
-use crate::loading::CELL;
-use disk_model::{Disk, DiskFault, MemDisk};
+use disk_model::{CELL, Disk, DiskFault, MemDisk};
 
 /// What of a device a stop falls in.
 #[derive(Clone, Copy, Debug, PartialEq, Eq)]

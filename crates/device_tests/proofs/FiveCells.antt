@@ -1,16 +1,17 @@
 -- What the tests' devices of five cells have.
-use Rattle.std.proofs.Common.{◌≡◌, ℕ, zero, suc, ◌/◌, ◌<◌, List, [], ◌∷◌, get_or, refl, ap, arith}
+use Rattle.std.proofs.Common.{◌+◌, ◌≡◌, ℕ, zero, suc, ◌/◌, ◌<◌, List, [], ◌∷◌, get_or, refl, ap, arith}
+use Rattle.disk_model.specs.declared.cells.TheConstants.{BODY}
 use Rattle.disk_model.specs.DiskState.{DiskState, size_of}
 use Rattle.disk_model.specs.Cells.{cell_count, Erased}
 use Rattle.disk_model.specs.Moments.{closed_at_rest}
 use Rattle.disk_model.specs.Steps.{AreInside, AreClosed, AllDiffer}
 
-pub one_of_five : (s : DiskState) (k : ℕ) → size_of s ≡ 2560 → k < 5 → k < cell_count 512 s
-one_of_five s k size lt = let five : size_of s / 512 ≡ 5 = ap (λ (n : ℕ). n / 512) size in omega (arith, five)
+pub one_of_five : (s : DiskState) (k : ℕ) → size_of s ≡ 5120 → k < 5 → k < cell_count (BODY + 1) s
+one_of_five s k size lt = let five : size_of s / (BODY + 1) ≡ 5 = ap (λ (n : ℕ). n / (BODY + 1)) size in omega (arith, five)
 
 -- what was erased is closed
-pub closed_after_erase : (old s : DiskState) (ks : List ℕ) → Erased 512 ks old s → AreClosed 512 s ks
-closed_after_erase old s ks e i lt = closed_at_rest 512 s (get_or ks i 0) e.settled (e.each i lt)
+pub closed_after_erase : (old s : DiskState) (ks : List ℕ) → Erased (BODY + 1) ks old s → AreClosed (BODY + 1) s ks
+closed_after_erase old s ks e i lt = closed_at_rest (BODY + 1) s (get_or ks i 0) e.settled (e.each i lt)
 
 pub three_differ : AllDiffer (1 ∷ 2 ∷ 3 ∷ [])
 three_differ zero zero h k is = refl
@@ -27,7 +28,7 @@ three_differ zero (suc (suc (suc j))) h k is = absurd (omega arith)
 three_differ (suc zero) (suc (suc (suc j))) h k is = absurd (omega arith)
 three_differ (suc (suc zero)) (suc (suc (suc j))) h k is = absurd (omega arith)
 
-pub three_inside : (s : DiskState) → size_of s ≡ 2560 → AreInside 512 s (1 ∷ 2 ∷ 3 ∷ [])
+pub three_inside : (s : DiskState) → size_of s ≡ 5120 → AreInside (BODY + 1) s (1 ∷ 2 ∷ 3 ∷ [])
 three_inside s size zero lt = one_of_five s 1 size (omega arith)
 three_inside s size (suc zero) lt = one_of_five s 2 size (omega arith)
 three_inside s size (suc (suc zero)) lt = one_of_five s 3 size (omega arith)

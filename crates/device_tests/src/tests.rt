@@ -5,4 +5,5 @@ mod cells;
 mod common;
 mod devices;
 mod files;
+mod first_layout;
 mod slots;

@@ -3,7 +3,7 @@ use Rattle.std.proofs.Common.{◌≡◌, ◌⊎◌, inl, inr, ℕ, zero, suc, �
 use Rattle.disk_model.specs.declared.cells.TheConstants.{BODY}
 use Rattle.disk_model.specs.declared.calls.TheConstants.{OPEN, CLOSED}
 use Rattle.disk_model.specs.declared.change.TheConstants.{LONGEST}
-use Rattle.disk_model.specs.declared.memory.TheConstants.{CELL}
+use Rattle.disk_model.specs.declared.cells.TheConstants.{FIRST_BODY, FIRST_CELL}
 use Rattle.disk_model.specs.declared.change.Tear.TheVariants.{Old, New, Gates, Mixed}
 use Rattle.disk_model.specs.declared.fuse.Fuse.TheVariants.{Once, Dead, Change}
 use Rattle.disk_model.specs.DiskState.{Moment, DiskState, MayLeave, LeftSince, counted, counted_times, overwritten, is_within, moment_of}
@@ -12,8 +12,8 @@ use Rattle.disk_model.specs.Recording.{at_rest, byte_left}
 use Rattle.disk_model.specs.Fuse.{burns, fuse_after}
 
 -- the sizes and the bytes of a gate
-a_body_has_511_bytes : BODY ≡ 511
-a_body_has_511_bytes = refl
+a_body_has_1023_bytes : BODY ≡ 1023
+a_body_has_1023_bytes = refl
 
 a_full_cell_has_gate_165 : OPEN ≡ 165
 a_full_cell_has_gate_165 = refl
@@ -24,8 +24,8 @@ an_emptied_cell_has_gate_0 = refl
 a_device_in_memory_takes_1024_bytes_at_once : LONGEST ≡ 1024
 a_device_in_memory_takes_1024_bytes_at_once = refl
 
-its_cells_have_512_bytes : CELL ≡ 512
-its_cells_have_512_bytes = refl
+cells_of_the_first_layout_have_512_bytes : FIRST_CELL ≡ 512
+cells_of_the_first_layout_have_512_bytes = refl
 
 -- counts rise by one, and stay at the greatest u64
 count_rises : counted true 5 ≡ 6

@@ -10,9 +10,19 @@ use std::marker::Model;
 use std::slice;
 
 /// The bytes of a body, as the engine's cells have them.
-pub const BODY: usize = 511;
+pub const BODY: usize = 1023;
 
-/// A device as cells of one gate and a body of [`BODY`] bytes. A cell is full or empty.
+/// The bytes of a cell: its gate and its body.
+pub const CELL: u64 = BODY as u64 + 1;
+
+/// The bytes of a body of the first layout.
+pub const FIRST_BODY: usize = 511;
+
+/// The bytes of a cell of the first layout.
+pub const FIRST_CELL: u64 = FIRST_BODY as u64 + 1;
+
+/// A device as cells of one gate and a body of [`BODY`] bytes. A cell is full or empty. Cells of the first layout are
+/// [`FirstCells`](crate::FirstCells).
 //
 // The length of a body is no parameter: where code that is generic in the device drops such a value or calls it, it would
 // have to show that the whole struct fits in memory, which no bound on the device gives.

@@ -8,7 +8,8 @@
 //! and the counts has not: so a device of which nothing is known can be a `Disk` too.
 //!
 //! - `Disk` is the trait, and `MemDisk` a device in memory that is proved to keep the model, with fuses and torn stops.
-//! - `Cells` empties and fills cells so that a stop at any moment leaves each of them old or empty, or empty or new.
+//! - `Cells` empties and fills cells so that a stop at any moment leaves each of them old or empty, or empty or new. `FirstCells`
+//!   reads those of the first layout.
 //! - `laws` has what the definitions say of one another.
 //!
 //! The lemmas that a crate above cites, to carry what a stop leaves over several calls, stand in `specs/Moments.antt`.
@@ -19,13 +20,15 @@ mod calls;
 mod cells;
 mod change;
 mod disk;
+mod first_cells;
 mod fuse;
 pub mod laws;
 mod memory;
 mod recorded;
 mod run;
 
-pub use cells::{BODY, Cells};
+pub use cells::{BODY, CELL, Cells, FIRST_BODY, FIRST_CELL};
 pub use change::{LONGEST, Tear};
 pub use disk::{Disk, DiskFault};
+pub use first_cells::FirstCells;
 pub use memory::MemDisk;

@@ -2,14 +2,12 @@ ghost use Rattle.std.specs.Prelude.{◌≡◌, ℕ, ◌+◌, ◌^◌, ◌<◌, �
 ghost use Rattle.disk_model.specs.DiskState.{MayLeave, size_of, moment_of, is_pending, Counts, IsUnchanged, Writes, FailsToWrite, Syncs};
 ghost use Rattle.disk_model.specs.Recording.{byte_left};
 
+use crate::cells::FIRST_CELL;
 use crate::change::{LONGEST, Tear};
 use crate::fuse::Fuse;
 use crate::recorded::Recorded;
 use crate::{Disk, DiskFault};
 use std::alloc::{AllocError, Global};
-
-/// The bytes of a cell, gate and body, where no other size is asked for.
-const CELL: u64 = 512;
 
 /// A device in memory that always keeps the disk model, for tests. It fails where a fuse says so, and a stop tears what
 /// is pending by one of four patterns. Once it is made its calls take no memory: it keeps a record of its changes in a
@@ -30,7 +28,7 @@ impl MemDisk {
     ghost use Rattle.disk_model.specs.declared.fuse.Fuse.TheVariants.{Off, Once, Dead, Change};
     ghost use Rattle.disk_model.specs.MemDisk.{state_of, fuse_of, room_of, cell_of, changes_of, synced_of, fresh, AsksNoChange};
 
-    /// All zeros, with room for so many changes, at cells of 512 bytes.
+    /// All zeros, with room for so many changes, at cells of the first layout, which have 512 bytes.
     pub fn new(alloc: Global, size: u64, room: usize) -> Result<MemDisk, AllocError>
         ensures state { IfOk result (λ d. state_of d ≡ fresh (replicate size 0)) }
         ensures room { IfOk result (λ d. room_of d ≡ room) }
@@ -39,7 +37,7 @@ impl MemDisk {
         ensures changes { IfOk result (λ d. changes_of d ≡ 0) }
         ensures synced { IfOk result (λ d. synced_of d ≡ replicate size 0) }
     {
-        MemDisk::with_cells(alloc, size, room, CELL)
+        MemDisk::with_cells(alloc, size, room, FIRST_CELL)
     }
 
     /// The same, at cells of `cell` bytes, of which `Tear::Mixed` speaks. Of 0 it makes 1.

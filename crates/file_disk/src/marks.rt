@@ -5,7 +5,7 @@ use std::io;
 use std::os::unix::fs::FileExt;
 
 /// The bytes of the largest image that a plant can have: two slots for each of 64 atoms, a ring of 4,096 records and three
-/// cells more. Its cells have 512 bytes; there is room for cells of 1,024.
+/// cells more, each of 1,024 bytes.
 pub const LARGEST_IMAGE: u64 = 4_227 * 1_024;
 
 /// The bytes of a block.

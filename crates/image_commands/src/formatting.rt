@@ -12,15 +12,12 @@ ghost use Rattle.image_commands.specs.declared.ending.ImageEnding.TheVariants.{R
 
 use crate::ending::ImageEnding;
 use crate::printing::hand_on;
-use disk_model::{BODY, Disk};
+use disk_model::{CELL, Disk};
 use record_codec::ring::device_cells;
 use std::alloc::Global;
 use std::io::Write;
 use step_core::System;
 use text_io::{WriteFault, end_line, print_number, print_text};
-
-/// How many bytes a cell has: its gate and its body.
-const CELL: u64 = BODY as u64 + 1;
 
 /// How many cells the image of a plant has that has room for so many records.
 fn image_cells(system: &System, ring: u32) -> u64

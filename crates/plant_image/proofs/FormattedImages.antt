@@ -1,9 +1,9 @@
--- A freshly formatted device stands for the first state of its plant.
-use Rattle.std.proofs.Common.{◌≡◌, ℕ, ◌-◌, ◌*◌, ◌<◌, ◌==◌, ◌&&◌, ◌^◌, nat_lt, nat_eq, Bool, true, false, not, if◌then◌else◌, is_none, unwrap_or, List, [], ◌∷◌, ◌++◌, length, map, drop, replicate, get_or, slice_get, Option, Some, None, option_map, Ok, refl, sym, ◌∙◌, ap, arith, append_assoc, lit≤}
+-- A device that holds a state of a plant stands for it, as a freshly formatted one for the first.
+use Rattle.std.proofs.Common.{◌≡◌, ℕ, ◌+◌, ◌-◌, ◌*◌, ◌<◌, ◌==◌, ◌&&◌, nat_lt, nat_eq, Bool, true, false, not, if◌then◌else◌, is_none, unwrap_or, List, [], ◌∷◌, ◌++◌, length, map, drop, get_or, slice_get, Option, Some, None, option_map, Ok, refl, sym, ◌∙◌, ap, subst, arith, append_assoc, lit≤}
 use Rattle.std.specs.List.{range_with_len, starts_with}
 use Rattle.std.specs.Option.{option_and_then, option_map_or}
 use Rattle.std.specs.Str.{bytes_eq}
-use Rattle.std.proofs.lemmas.Bool.{eq-eqb, lt-ltb, le-ltb}
+use Rattle.std.proofs.lemmas.Bool.{eq-eqb, le-ltb}
 use Rattle.std.proofs.lemmas.List.{length-map, length-replicate, get_or-replicate}
 use Rattle.std.proofs.lemmas.Option.{slice_get-map, slice_get_within, same_Some}
 use Rattle.std.proofs.lemmas.Slice.Eq.{bytes_eq-Decides}
@@ -13,9 +13,9 @@ use Rattle.gated_journal.specs.Bases.{base_of, base_cell_of, counts_before}
 use Rattle.gated_journal.specs.Bases as bases
 use Rattle.gated_journal.specs.Live.{record_in}
 use Rattle.gated_journal.proofs.Fronts.{front}
-use Rattle.petri_atom.specs.Definition.{AtomDefinition, initial, is_marked_first}
+use Rattle.petri_atom.specs.Definition.{AtomDefinition, Fits, initial, is_marked_first}
 use Rattle.petri_atom.specs.Local.{Local}
-use Rattle.petri_atom.proofs.Sets.{set_below-lt}
+use Rattle.petri_atom.proofs.Sets.{has-above, set_below-lt}
 use Rattle.record_codec.specs.Base.{base_in}
 use Rattle.record_codec.specs.Bytes.{padded, zeros, two_bytes, four_bytes, two_byte_number}
 use Rattle.record_codec.specs.Fired.{FiredFields}
@@ -31,20 +31,21 @@ use Rattle.record_replay.specs.Records.{count_of}
 use Rattle.record_replay.specs.Replay.{Position, replay_from}
 use Rattle.snapshot_writer.specs.Slots.{newest, newest_of, saved_at, saved_of}
 use Rattle.snapshot_writer.specs.Storing.{HoldsSaved}
-use Rattle.snapshot_writer.specs.Parcels.{local_in}
+use Rattle.snapshot_writer.specs.Parcels.{local_in, saved_by}
 use Rattle.step_core.specs.Plant.{PlantDefinition}
 use Rattle.step_core.specs.Rules.{first_of}
 use Rattle.step_core.specs.Step.{initial_states}
 use Rattle.plant_image.specs.Contents.{contents_of, identity_held, ring_held, base_held, newest_held, saved_position, unsaved}
-use Rattle.plant_image.specs.Faults.{atom_fault, base_fault, cell_bytes, cells_fault, fault_where, first_cell_fault, first_fault, identity_fault, is_any, is_for, is_full_but_not, is_of_atom, marks_known, records_fault}
-use Rattle.plant_image.specs.Standing.{IsFormatted, Leads, StandsFor, first_saved, identity_for}
+use Rattle.plant_image.specs.Faults.{atom_fault, base_fault, cell_bytes, cells_fault, fault_where, first_cell_fault, first_fault, identity_fault, is_any, is_for, is_full_but_not, is_of_atom, record_fault, records_fault}
+use Rattle.plant_image.specs.Standing.{HasRoom, HoldsState, Leads, StandsFor, first_counts, identity_for}
 use Rattle.plant_image.specs.declared.fault.ImageFault.{ImageFault}
 use Rattle.plant_image.specs.declared.fault.ImageFault.TheVariants.{Damaged, NotFormatted, OtherSystem, OtherVersion, WrongSize}
 use Rattle.plant_image.proofs.AtomSlots.{slot_held}
-use Rattle.plant_image.proofs.ByAtoms.{told_none}
+use Rattle.plant_image.proofs.ByAtoms.{element_at, told_none}
 use Rattle.plant_image.proofs.KeptCells.{none_of, record_empty, records_none}
 use Rattle.plant_image.proofs.MovedImages.{base_sound, held_right}
 use Rattle.plant_image.proofs.NumberFaults.{record_at, live_ends}
+use Rattle.plant_image.proofs.SavedFits.{fitting_passes}
 use Rattle.plant_image.proofs.Standings.{leads_stands}
 use Rattle.plant_image.proofs.StoredImages.{atom_none, holding_right}
 use Rattle.plant_image.proofs.WholeImage.{records_read, ring_is}
@@ -77,70 +78,74 @@ first_cell_none identity c is full =
 held_is : (identity : IdentityFields) (cells : List Cell) → IsIdentity identity → cell cells 0 ≡ Some (padded BODY (identity_bytes identity)) → identity_held cells ≡ Some identity
 held_is identity cells is full = ap (option_and_then identity_in) full ∙ identity_reads_back identity BODY (lit≤ tt) is
 
--- ---- a first state
+-- ---- a device that holds a state
 
-first_passes : (atom : ℕ) (a : AtomDefinition) → is_of_atom atom a (first_saved atom a) ≡ true
-first_passes atom a =
-    ap (λ (t : Bool). t && length (initial a).values == length a.variables && marks_known a (initial a).marking) (eq-eqb atom atom refl)
-    ∙ ap (λ (t : Bool). t && marks_known a (initial a).marking) (eq-eqb (length (initial a).values) (length a.variables) (length-map a.variables (λ v. v.first)))
-    ∙ lt-ltb (initial a).marking (2 ^ length a.places) (set_below-lt (length a.places) (is_marked_first a.places))
-
-module _ (plant : PlantDefinition) (digest : List ℕ) (ring bytes : ℕ) (cells : List Cell) (is : IsIdentity (identity_for plant digest ring)) (formatted : IsFormatted plant digest ring bytes cells) where
+module _ (plant : PlantDefinition) (digest : List ℕ) (ring bytes : ℕ) (states : List Local) (counts : List ℕ) (number : ℕ) (cells : List Cell) (is : IsIdentity (identity_for plant digest ring))
+    (room : HasRoom plant states counts number) (holds : HoldsState plant digest ring bytes states counts number cells) where
   held : identity_held cells ≡ Some (identity_for plant digest ring)
-  held = held_is (identity_for plant digest ring) cells is formatted.identity
+  held = held_is (identity_for plant digest ring) cells is holds.identity
 
   ring_held_is : ring_held cells ≡ ring
   ring_held_is = ring_is cells (identity_for plant digest ring) held
 
   identity_none : identity_fault (length plant.atoms) digest bytes cells ≡ None
   identity_none =
-      let size = formatted.size in
+      let size = holds.size in
       let big : nat_lt bytes cell_bytes ≡ false = le-ltb bytes cell_bytes (omega arith) in
       let own : is_for (length plant.atoms) digest (identity_for plant digest ring) ≡ true = ap (λ (t : Bool). t && bytes_eq digest digest) (eq-eqb (length plant.atoms) (length plant.atoms) refl) ∙ (bytes_eq-Decides digest digest).1 refl in
       let sized : (bytes == cell_bytes * device_cells (length plant.atoms) ring) ≡ true = eq-eqb bytes (cell_bytes * device_cells (length plant.atoms) ring) size in
       ap (λ (t : Bool). first_of (fault_where t WrongSize) (first_fault (first_cell_fault (cell cells 0) ∷ fault_where (not (option_map_or (is_for (length plant.atoms) digest) (identity_held cells) false)) OtherSystem ∷ fault_where (not (bytes == cell_bytes * device_cells (length plant.atoms) (ring_held cells))) WrongSize ∷ []))) big
-      ∙ ap (λ (o : Option ImageFault). first_of o (first_fault (fault_where (not (option_map_or (is_for (length plant.atoms) digest) (identity_held cells) false)) OtherSystem ∷ fault_where (not (bytes == cell_bytes * device_cells (length plant.atoms) (ring_held cells))) WrongSize ∷ []))) (first_cell_none (identity_for plant digest ring) (cell cells 0) is formatted.identity)
+      ∙ ap (λ (o : Option ImageFault). first_of o (first_fault (fault_where (not (option_map_or (is_for (length plant.atoms) digest) (identity_held cells) false)) OtherSystem ∷ fault_where (not (bytes == cell_bytes * device_cells (length plant.atoms) (ring_held cells))) WrongSize ∷ []))) (first_cell_none (identity_for plant digest ring) (cell cells 0) is holds.identity)
       ∙ ap (λ (t : Bool). first_of (fault_where (not t) OtherSystem) (first_fault (fault_where (not (bytes == cell_bytes * device_cells (length plant.atoms) (ring_held cells))) WrongSize ∷ []))) (ap (λ (o : Option IdentityFields). option_map_or (is_for (length plant.atoms) digest) o false) held ∙ own)
       ∙ ap (λ (t : Bool). first_of (fault_where (not t) WrongSize) None) (ap (λ (r : ℕ). bytes == cell_bytes * device_cells (length plant.atoms) r) ring_held_is ∙ sized)
 
-  first_base : bases.base_held (cell cells 1) ≡ Some 1
-  first_base = ap bases.base_held formatted.base ∙ base_reads_back 1 BODY (lit≤ tt) (record { positive = lit≤ tt; within = lit≤ tt })
+  first_base : bases.base_held (cell cells 1) ≡ Some (number + 1)
+  first_base = ap bases.base_held holds.base ∙ base_reads_back (number + 1) BODY (lit≤ tt) (record { positive = omega arith; within = omega (arith, room.number_within) })
 
   at_first : base_cell_of cells ≡ 1
-  at_first = ap (λ (o : Option ℕ). if counts_before o (bases.base_held (cell cells 1)) then base_cell 1 else base_cell 0) (ap bases.base_held formatted.no_base)
+  at_first = ap (λ (o : Option ℕ). if counts_before o (bases.base_held (cell cells 1)) then base_cell 1 else base_cell 0) (ap bases.base_held holds.no_base)
 
-  base_is_one : base_of cells ≡ Some 1
-  base_is_one = ap (λ (k : ℕ). bases.base_held (cell cells k)) at_first ∙ first_base
+  base_is : base_of cells ≡ Some (number + 1)
+  base_is = ap (λ (k : ℕ). bases.base_held (cell cells k)) at_first ∙ first_base
 
-  base_held_is : base_held cells ≡ 1
-  base_held_is = ap (λ (o : Option ℕ). unwrap_or o 1) base_is_one
+  base_held_is : base_held cells ≡ number + 1
+  base_held_is = ap (λ (o : Option ℕ). unwrap_or o 1) base_is
 
   base_none : base_fault cells ≡ None
-  base_none = base_sound cells 1 base_is_one (held_right (cell cells 1) 1 first_base) (ap (is_full_but_not base_in (is_any {V = ℕ})) formatted.no_base)
+  base_none = base_sound cells (number + 1) base_is (held_right (cell cells 1) (number + 1) first_base) (ap (is_full_but_not base_in (is_any {V = ℕ})) holds.no_base)
+
+  -- the state of an atom
+  state_of : (atom : ℕ) (a : AtomDefinition) → slice_get plant.atoms atom ≡ Some a → (state : Local) × (slice_get states atom ≡ Some state)
+  state_of atom a at = element_at states atom (omega (arith, slice_get_within plant.atoms atom a at, room.of_plant))
 
   atom_none_at : (atom : ℕ) (a : AtomDefinition) → slice_get plant.atoms atom ≡ Some a → atom_fault cells atom a ≡ None
   atom_none_at atom a at =
       let below : atom < length plant.atoms = slice_get_within plant.atoms atom a at in
-      let there : HoldsSaved (first_saved atom a) (cell cells (slot_cell atom 0)) = formatted.slots atom a at in
+      let its = state_of atom a at in
+      let kept : SavedFields = saved_by atom (count_of counts atom) number its.0 in
+      let there : HoldsSaved kept (cell cells (slot_cell atom 0)) = holds.slots atom its.0 its.1 in
       atom_none cells atom a
-      (holding_right a (first_saved atom a) (first_passes atom a) (cell cells (slot_cell atom 0)) there)
-      (ap (is_full_but_not saved_in (is_of_atom atom a)) (formatted.no_slots atom below))
+      (holding_right a kept (fitting_passes atom (count_of counts atom) number a its.0 (room.fits atom a its.0 at its.1)) (cell cells (slot_cell atom 0)) there)
+      (ap (is_full_but_not saved_in (is_of_atom atom a)) (holds.no_slots atom below))
       (ap (λ (c : Cell). is_none c && is_none (cell cells (slot_cell atom 1))) there.body)
 
-  newest_is : (atom : ℕ) (a : AtomDefinition) → slice_get plant.atoms atom ≡ Some a → newest_held cells atom ≡ first_saved atom a
-  newest_is atom a at =
-      let below : atom < length plant.atoms = slice_get_within plant.atoms atom a at in
-      let there : HoldsSaved (first_saved atom a) (cell cells (slot_cell atom 0)) = formatted.slots atom a at in
-      let none : saved_at atom 1 cells ≡ None = ap (saved_of atom) (formatted.no_slots atom below) in
-      let both : newest atom cells ≡ Some (first_saved atom a) = ap (λ (o : Option SavedFields). newest_of (saved_at atom 0 cells) o) none ∙ there.held in
+  newest_is : (atom : ℕ) (state : Local) → atom < length plant.atoms → slice_get states atom ≡ Some state → newest_held cells atom ≡ saved_by atom (count_of counts atom) number state
+  newest_is atom state below its =
+      let kept : SavedFields = saved_by atom (count_of counts atom) number state in
+      let there : HoldsSaved kept (cell cells (slot_cell atom 0)) = holds.slots atom state its in
+      let none : saved_at atom 1 cells ≡ None = ap (saved_of atom) (holds.no_slots atom below) in
+      let both : newest atom cells ≡ Some kept = ap (λ (o : Option SavedFields). newest_of (saved_at atom 0 cells) o) none ∙ there.held in
       ap (λ (o : Option SavedFields). unwrap_or o (unsaved atom)) both
 
-  live_none : front (record_at plant cells ring) 1 ring ≡ []
-  live_none = live_ends plant cells ring 1 ring (ap (record_in 1) (formatted.no_records 1))
+  live_none : front (record_at plant cells ring) (number + 1) ring ≡ []
+  live_none = live_ends plant cells ring (number + 1) ring (ap (record_in (number + 1)) (holds.no_records (number + 1)))
 
   records_none_there : records_fault plant cells ≡ None
-  records_none_there = records_none plant cells ring 1 [] (sym ring_held_is) (sym base_held_is) live_none
-      (record { fit = refl; behind = λ some. record_empty plant cells ring 1 (formatted.no_records 1) })
+  records_none_there =
+      let behind : number + 1 ≡ number + 1 + 0 = omega arith in
+      let empty : record_fault plant cells ring (number + 1) ≡ None = record_empty plant cells ring (number + 1) (holds.no_records (number + 1)) in
+      records_none plant cells ring (number + 1) [] (sym ring_held_is) (sym base_held_is) live_none
+      (record { fit = refl; behind = λ some. subst (λ (n : ℕ). record_fault plant cells ring n ≡ None) behind empty })
 
   none_there : cells_fault plant digest bytes cells ≡ None
   none_there = none_of plant digest bytes cells (record {
@@ -151,28 +156,44 @@ module _ (plant : PlantDefinition) (digest : List ℕ) (ring bytes : ℕ) (cells
   })
 
   no_records : (contents_of (length plant.atoms) cells).records ≡ []
-  no_records = sym (records_read cells ring 1 (sym ring_held_is) (sym base_held_is) (length plant.atoms)) ∙ live_none
+  no_records = sym (records_read cells ring (number + 1) (sym ring_held_is) (sym base_held_is) (length plant.atoms)) ∙ live_none
 
-  position_is : (atom : ℕ) (a : AtomDefinition) → slice_get plant.atoms atom ≡ Some a → saved_position (contents_of (length plant.atoms) cells) atom ≡ record { state = initial a; count = 0 }
-  position_is atom a at =
-      let slot : get_or (map (newest_held cells) (range_with_len 0 (length plant.atoms))) atom (unsaved atom) ≡ first_saved atom a = slot_held cells (length plant.atoms) atom (slice_get_within plant.atoms atom a at) ∙ newest_is atom a at in
+  position_is : (atom : ℕ) (state : Local) → atom < length plant.atoms → slice_get states atom ≡ Some state
+      → saved_position (contents_of (length plant.atoms) cells) atom ≡ record { state = state; count = count_of counts atom }
+  position_is atom state below its =
+      let kept : SavedFields = saved_by atom (count_of counts atom) number state in
+      let slot : get_or (map (newest_held cells) (range_with_len 0 (length plant.atoms))) atom (unsaved atom) ≡ kept = slot_held cells (length plant.atoms) atom below ∙ newest_is atom state below its in
       ap (λ (s : SavedFields). record { state = local_in s; count = s.count }) slot
 
-  leads : Leads plant (contents_of (length plant.atoms) cells) (initial_states plant) (replicate (length plant.atoms) 0) 0
-  leads = record {
+  pub held_leads : Leads plant (contents_of (length plant.atoms) cells) states counts number
+  held_leads = record {
     last = omega (arith, base_held_is, ap (λ (l : List FiredFields). length l) no_records);
-    as_many = length-map plant.atoms initial;
-    counted = omega (arith, length-replicate {A = ℕ} (length plant.atoms) 0);
-    each = λ atom a s at its.
-        let below : atom < length plant.atoms = slice_get_within plant.atoms atom a at in
-        let state : initial a ≡ s = same_Some (initial a) s (sym (slice_get-map initial plant.atoms atom ∙ ap (option_map initial) at) ∙ its) in
-        let count : count_of (replicate (length plant.atoms) 0) atom ≡ 0 = get_or-replicate (length plant.atoms) atom 0 0 below in
+    as_many = room.of_plant;
+    counted = room.counted;
+    each = λ atom a state at its.
         ap (replay_from a atom (saved_position (contents_of (length plant.atoms) cells) atom)) no_records
-        ∙ ap (λ (p : Position). Ok p) (position_is atom a at)
-        ∙ ap (λ (w : Local). Ok (record { state = w; count = 0 })) state
-        ∙ ap (λ (k : ℕ). Ok (record { state = s; count = k })) (sym count);
-    within = λ atom below. omega (arith, get_or-replicate {A = ℕ} (length plant.atoms) atom 0 0 below);
+        ∙ ap (λ (p : Position). Ok p) (position_is atom state (slice_get_within plant.atoms atom a at) its);
+    within = room.within;
   }
 
-  pub formatted_stands : StandsFor plant digest bytes cells (initial_states plant) 0
-  formatted_stands = leads_stands plant digest bytes cells (initial_states plant) 0 (replicate (length plant.atoms) 0) none_there leads
+  pub held_stands : StandsFor plant digest bytes cells states number
+  held_stands = leads_stands plant digest bytes cells states number counts none_there held_leads
+
+-- ---- the first state
+
+-- it fits each atom
+first_fits : (a : AtomDefinition) → Fits a (initial a)
+first_fits a = record {
+  variables = length-map a.variables (λ v. v.first);
+  places = λ k past. has-above (initial a).marking (length a.places) k (set_below-lt (length a.places) (is_marked_first a.places)) past;
+}
+
+pub first_has_room : (plant : PlantDefinition) → HasRoom plant (initial_states plant) (first_counts plant) 0
+first_has_room plant = record {
+  of_plant = length-map plant.atoms initial;
+  fits = λ atom a state at its.
+      subst (Fits a) (same_Some (initial a) state (sym (slice_get-map initial plant.atoms atom ∙ ap (option_map initial) at) ∙ its)) (first_fits a);
+  counted = omega (arith, length-replicate {A = ℕ} (length plant.atoms) 0);
+  within = λ atom below. omega (arith, get_or-replicate {A = ℕ} (length plant.atoms) atom 0 0 below);
+  number_within = lit≤ tt;
+}

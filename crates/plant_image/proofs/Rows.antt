@@ -131,10 +131,10 @@ gap_before_ahead = refl
 
 -- ---- cells
 
-too_small : fault_of plant [] 511 [] ≡ Some WrongSize
+too_small : fault_of plant [] 1023 [] ≡ Some WrongSize
 too_small = refl
 
-empty_device : fault_of plant [] 512 [] ≡ Some NotFormatted
+empty_device : fault_of plant [] 1024 [] ≡ Some NotFormatted
 empty_device = refl
 
 no_base : base_fault (None ∷ None ∷ None ∷ []) ≡ Some (Damaged 1)

@@ -1,9 +1,11 @@
 -- Which state of a plant an image stands for.
-use Rattle.std.specs.Prelude.{◌≡◌, ℕ, ◌+◌, ◌-◌, ◌*◌, ◌≤◌, ◌<◌, ◌++◌, List, None, Some, Ok, length, take, drop, slice_get, slice_set, true}
+use Rattle.std.specs.Prelude.{◌≡◌, ℕ, ◌+◌, ◌-◌, ◌*◌, ◌≤◌, ◌<◌, ◌++◌, List, None, Some, Ok, length, take, drop, replicate, slice_get, slice_set, true}
 use Rattle.std.specs.List.{list_all}
 use Rattle.petri_atom.specs.Local.{Local}
-use Rattle.petri_atom.specs.Definition.{AtomDefinition, initial}
+use Rattle.petri_atom.specs.Definition.{AtomDefinition}
+use Rattle.step_core.specs.Fitting.{IsOf, AllFit}
 use Rattle.step_core.specs.Plant.{PlantDefinition}
+use Rattle.step_core.specs.Step.{initial_states}
 use Rattle.disk_model.specs.Cells.{Cell, cell}
 use Rattle.disk_model.specs.declared.cells.TheConstants.{BODY}
 use Rattle.record_codec.specs.Base.{base_bytes}
@@ -12,6 +14,7 @@ use Rattle.record_codec.specs.Fired.{FiredFields}
 use Rattle.record_codec.specs.Identity.{IdentityFields, identity_bytes}
 use Rattle.record_codec.specs.Ring.{identity_cell, base_cell, slot_cell, record_cell, device_cells}
 use Rattle.record_codec.specs.Saved.{SavedFields}
+use Rattle.record_codec.specs.declared.layout.TheConstants.{LAST_NUMBER}
 use Rattle.record_replay.specs.Records.{count_of}
 use Rattle.record_replay.specs.Replay.{replay_from, is_behind}
 use Rattle.snapshot_writer.specs.Parcels.{saved_by}
@@ -59,22 +62,36 @@ pub record IsOnTheWay (c : Contents) (a : AtomDefinition) (saved : SavedFields) 
 abbrev pub AreBehind : Contents → List FiredFields → Type 0
 AreBehind c records = (atom : ℕ) → list_all (is_behind atom (saved_position c atom).count) records ≡ true
 
--- the first saved state of an atom: it has not taken part yet
-abbrev pub first_saved : ℕ → AtomDefinition → SavedFields
-first_saved atom a = saved_by atom 0 0 (initial a)
-
 -- what a device is formatted for
 abbrev pub identity_for : PlantDefinition → List ℕ → ℕ → IdentityFields
 identity_for plant digest ring = record { atoms = length plant.atoms; ring = ring; digest = digest }
 
--- What a freshly formatted device of so many bytes holds, for a plant with this digest and a ring of so many records: the identity, base 1
--- in the first base cell, and each atom's first state in its slot 0. All other cells are empty.
-pub record IsFormatted (plant : PlantDefinition) (digest : List ℕ) (ring bytes : ℕ) (cells : List Cell) : Type 0 where
+-- A state of the plant, in which each atom has taken part so often and the last record has this number, has room on a device: there is a
+-- state for each atom, which fits it, and a count, which is not above the number.
+pub record HasRoom (plant : PlantDefinition) (states : List Local) (counts : List ℕ) (number : ℕ) : Type 0 where
+  pub of_plant : IsOf plant states
+  pub fits : AllFit plant states
+  pub counted : length plant.atoms ≤ length counts
+  pub within : (atom : ℕ) → atom < length plant.atoms → count_of counts atom ≤ number
+  pub number_within : number ≤ LAST_NUMBER
+
+-- What a device of so many bytes holds that is written afresh with a state, for a plant with this digest and a ring of so many records: the
+-- identity, the base behind the number in the first base cell, and in slot 0 of each atom its state, saved at the number with its count. All
+-- other cells are empty.
+pub record HoldsState (plant : PlantDefinition) (digest : List ℕ) (ring bytes : ℕ) (states : List Local) (counts : List ℕ) (number : ℕ) (cells : List Cell) : Type 0 where
   pub size : bytes ≡ cell_bytes * device_cells (length plant.atoms) ring
   pub count : length cells ≡ device_cells (length plant.atoms) ring
   pub identity : cell cells identity_cell ≡ Some (padded BODY (identity_bytes (identity_for plant digest ring)))
-  pub base : cell cells (base_cell 0) ≡ Some (padded BODY (base_bytes 1))
+  pub base : cell cells (base_cell 0) ≡ Some (padded BODY (base_bytes (number + 1)))
   pub no_base : cell cells (base_cell 1) ≡ None
-  pub slots : (atom : ℕ) (a : AtomDefinition) → slice_get plant.atoms atom ≡ Some a → HoldsSaved (first_saved atom a) (cell cells (slot_cell atom 0))
+  pub slots : (atom : ℕ) (state : Local) → slice_get states atom ≡ Some state → HoldsSaved (saved_by atom (count_of counts atom) number state) (cell cells (slot_cell atom 0))
   pub no_slots : (atom : ℕ) → atom < length plant.atoms → cell cells (slot_cell atom 1) ≡ None
   pub no_records : (n : ℕ) → cell cells (record_cell (length plant.atoms) ring n) ≡ None
+
+-- at first no atom has taken part
+abbrev pub first_counts : PlantDefinition → List ℕ
+first_counts plant = replicate (length plant.atoms) 0
+
+-- What a freshly formatted device holds: the first state of the plant, in which no atom has taken part, and the number 0. So its base is 1.
+abbrev pub IsFormatted : PlantDefinition → List ℕ → ℕ → ℕ → List Cell → Type 0
+IsFormatted plant digest ring bytes cells = HoldsState plant digest ring bytes (initial_states plant) (first_counts plant) 0 cells

@@ -9,13 +9,10 @@ ghost use Rattle.plant_image.specs.Reading.{Tells};
 
 use crate::bodies::body_of;
 use crate::fault::ImageFault;
-use disk_model::BODY;
+use disk_model::{BODY, CELL};
 use record_codec::ring::{IDENTITY_CELL, device_cells};
 use record_codec::{Identity, VERSION};
 use step_core::System;
-
-/// How many bytes a cell has: its gate and its body.
-const CELL: u64 = BODY as u64 + 1;
 
 /// What the device was formatted for. It is this system, and the device has the size for it.
 pub(crate) fn read_identity(

@@ -19,7 +19,7 @@ ghost use Rattle.step_core.specs.Runs.{IsRun};
 ghost use Rattle.step_core.specs.Step.{initial_states};
 ghost use Rattle.plant_image.specs.Contents.{Contents, contents_of, counts_of, ring_in};
 ghost use Rattle.plant_image.specs.Faults.{cells_fault, is_of_atom};
-ghost use Rattle.plant_image.specs.Standing.{AreBehind, IsFormatted, IsOnTheWay, Leads, StandsFor, cut_to, identity_for, with_records, with_saved};
+ghost use Rattle.plant_image.specs.Standing.{AreBehind, HasRoom, HoldsState, IsFormatted, IsOnTheWay, Leads, StandsFor, cut_to, identity_for, with_records, with_saved};
 
 // ---- what stands leads
 
@@ -34,6 +34,18 @@ pub fn what_stands_leads()
 {}
 
 // ---- the first image
+
+/// A device that is written afresh with a state leads to it, and stands for it and for the number that it was saved at.
+pub fn a_device_that_holds_a_state_stands_for_it()
+    ensures leads { (plant : PlantDefinition) (digest : List ℕ) (ring bytes number : ℕ) (states : List Local) (counts : List ℕ) (cells : List Cell)
+        → IsIdentity (identity_for plant digest ring) → HasRoom plant states counts number
+        → HoldsState plant digest ring bytes states counts number cells
+        → Leads plant (contents_of (length plant.atoms) cells) states counts number }
+    ensures stands { (plant : PlantDefinition) (digest : List ℕ) (ring bytes number : ℕ) (states : List Local) (counts : List ℕ) (cells : List Cell)
+        → IsIdentity (identity_for plant digest ring) → HasRoom plant states counts number
+        → HoldsState plant digest ring bytes states counts number cells
+        → StandsFor plant digest bytes cells states number }
+{}
 
 /// A freshly formatted device stands for the first state of the plant, and for the number 0.
 pub fn a_formatted_device_stands_for_the_first_state()

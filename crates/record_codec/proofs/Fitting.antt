@@ -1,18 +1,20 @@
 -- What is read from bytes fits its type.
-use Rattle.std.proofs.Common.{ℕ, zero, suc, ◌^◌, ◌<◌, Bool, true, false, ℤ, List, [], ◌∷◌, length, take, drop, get_or, Option, IfSome, All, FitsSigned, w64, inl, inr, refl, arith}
+use Rattle.std.proofs.Common.{◌≡◌, ◌≤◌, ℕ, zero, suc, ◌^◌, ◌<◌, Bool, true, false, ℤ, List, [], ◌∷◌, length, take, drop, get_or, Option, IfSome, All, FitsSigned, w64, inl, inr, refl, arith}
 use Rattle.std.proofs.lemmas.Bool.{cases_lt}
-use Rattle.std.proofs.lemmas.List.{get_or_past}
+use Rattle.std.proofs.lemmas.List.{get_or_past, length-take-le}
+use Rattle.std.proofs.lemmas.Nat.{be_bytes_2}
+use Rattle.std.specs.Int.{w16, from_be_bytes}
 use Rattle.std.proofs.lemmas.List.Elements.{All-nil, All-cons, All-take, All-drop}
 use Rattle.std.proofs.Math.Facts.{sfits_to_z}
 use Rattle.record_codec.specs.declared.layout.TheConstants.{MOST_EXPORTED}
-use Rattle.record_codec.specs.Bytes.{AreBytes, eight_byte_number, signed_number, signed_numbers}
+use Rattle.record_codec.specs.Bytes.{AreBytes, two_bytes, two_byte_number, eight_byte_number, signed_number, signed_numbers}
 use Rattle.record_codec.specs.Entry.{EntryFits, bits_of, value_at, behind_value, values_at, behind_values, mask_at, behind_mask, entry_at, behind_entry, entries_at}
 
 abbrev pub IsByte : ℕ → Type 0
 IsByte byte = byte < 256
 
-below : (bytes : List ℕ) → AreBytes bytes → (i : ℕ) → get_or bytes i 0 < 256
-below bytes h i =
+byte_below : (bytes : List ℕ) → AreBytes bytes → (i : ℕ) → get_or bytes i 0 < 256
+byte_below bytes h i =
     elim (cases_lt i (length bytes)) [
       | inl lt ↦ h i 0 lt
       | inr past ↦ rw (get_or_past bytes i 0 past) (omega arith)
@@ -21,16 +23,28 @@ below bytes h i =
 AreBytes-drop : (n : ℕ) (bytes : List ℕ) → AreBytes bytes → AreBytes (drop n bytes)
 AreBytes-drop n bytes h = All-drop IsByte n bytes h
 
+pub two_byte_number_below : (bytes : List ℕ) → AreBytes bytes → two_byte_number bytes < 2 ^ 16
+unfolding two_byte_number
+two_byte_number_below bytes h =
+    let each = byte_below (take 2 bytes) (All-take IsByte 2 bytes h) in
+    omega (arith, each 0, each 1)
+
+-- a number that was read from two bytes is spelled by them
+pub two_bytes-two_byte_number : (bytes : List ℕ) → AreBytes bytes → 2 ≤ length bytes → two_bytes (two_byte_number bytes) ≡ take 2 bytes
+unfolding two_bytes two_byte_number
+two_bytes-two_byte_number bytes h long =
+    be_bytes_2 (take 2 bytes) (from_be_bytes w16 (take 2 bytes)) (length-take-le 2 bytes long) (byte_below (take 2 bytes) (All-take IsByte 2 bytes h)) refl
+
 pub eight_byte_number_below : (bytes : List ℕ) → AreBytes bytes → eight_byte_number bytes < 2 ^ 64
 unfolding eight_byte_number
 eight_byte_number_below bytes h =
-    let each = below (take 8 bytes) (All-take IsByte 8 bytes h) in
+    let each = byte_below (take 8 bytes) (All-take IsByte 8 bytes h) in
     omega (arith, each 0, each 1, each 2, each 3, each 4, each 5, each 6, each 7)
 
 signed_number_fits : (bytes : List ℕ) → AreBytes bytes → FitsSigned w64 (signed_number bytes)
 unfolding signed_number
 signed_number_fits bytes h =
-    let each = below (take 8 bytes) (All-take IsByte 8 bytes h) in
+    let each = byte_below (take 8 bytes) (All-take IsByte 8 bytes h) in
     sfits_to_z {w = w64} (omega (arith, each 0, each 1, each 2, each 3, each 4, each 5, each 6, each 7))
 
 pub signed_numbers_fit : (n : ℕ) (bytes : List ℕ) → AreBytes bytes → All (FitsSigned w64) (signed_numbers n bytes)

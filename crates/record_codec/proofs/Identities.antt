@@ -49,12 +49,15 @@ spelled_identity_is_held version body identity h =
     let is : identity_fields body ≡ identity = ap identity_fields (h.spelled ∙ padded_is (length body) (identity_bytes_of version identity)) ∙ identity_fields-identity_bytes version identity (zeros (length body - length (identity_bytes_of version identity))) h.in_range in
     ap (λ (i : IdentityFields). if_spelled (is_identity i) i (identity_bytes_of version i) body) is ∙ if_spelled_is (is_identity identity) identity (identity_bytes_of version identity) body (is_identity-true identity h.in_range) h.spelled
 
-length-identity_bytes : (identity : IdentityFields) → length (identity_bytes identity) ≡ 12 + length identity.digest
-length-identity_bytes identity =
-    simp length-append (omega (arith, length-two_bytes VERSION, length-two_bytes identity.atoms, length-four_bytes identity.ring))
+pub length-identity_bytes_of : (version : ℕ) (identity : IdentityFields) → length (identity_bytes_of version identity) ≡ 12 + length identity.digest
+length-identity_bytes_of version identity =
+    simp length-append (omega (arith, length-two_bytes version, length-two_bytes identity.atoms, length-four_bytes identity.ring))
 
 -- what is written is read again
+pub identity_of_reads_back : (version : ℕ) (identity : IdentityFields) (len : ℕ) → 12 + DIGEST ≤ len → IsIdentity identity → identity_of version (padded len (identity_bytes_of version identity)) ≡ Some identity
+identity_of_reads_back version identity len fits h =
+    spelled_identity_is_held version (padded len (identity_bytes_of version identity)) identity (record { in_range = h; spelled = padded_to_own len (identity_bytes_of version identity) (omega (arith, length-identity_bytes_of version identity, h.digest_len)) })
+
 pub identity_reads_back : (identity : IdentityFields) (len : ℕ) → 12 + DIGEST ≤ len → IsIdentity identity → identity_in (padded len (identity_bytes identity)) ≡ Some identity
 unfolding identity_in
-identity_reads_back identity len fits h =
-    spelled_identity_is_held VERSION (padded len (identity_bytes identity)) identity (record { in_range = h; spelled = padded_to_own len (identity_bytes identity) (omega (arith, length-identity_bytes identity, h.digest_len)) })
+identity_reads_back identity len fits h = identity_of_reads_back VERSION identity len fits h

@@ -8,4 +8,5 @@ pub mod Entries
 pub mod Rising
 pub mod Fitting
 pub mod Records
+pub mod FirstLayout
 mod Rows

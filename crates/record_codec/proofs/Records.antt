@@ -8,7 +8,7 @@ use Rattle.record_codec.specs.declared.entry.Entry.{Entry}
 use Rattle.record_codec.specs.declared.layout.TheConstants.{LONGEST_ENTRY, MOST_ENTRIES}
 use Rattle.record_codec.specs.Bytes.{AreBytes, padded, if_spelled, zeros, one_byte, two_bytes, eight_bytes, one_byte_number, two_byte_number, eight_byte_number}
 use Rattle.record_codec.specs.Entry.{IsEntry, is_entry, entry_bytes, entries_at}
-use Rattle.record_codec.specs.Fired.{FiredFields, IsFiredUpTo, IsFired, IsFiredBodyUpTo, FiredFits, atoms_of, is_rising, is_fired_up_to, fired_bytes, fired_fields, fired_up_to, fired_in}
+use Rattle.record_codec.specs.Fired.{FiredFields, IsFiredUpTo, IsFired, IsFiredBodyUpTo, FiredFits, atoms_of, is_rising, is_fired_up_to, fired_bytes, fired_fields, fired_up_to}
 use Rattle.std.proofs.lemmas.List.Elements.{All-drop}
 use Rattle.record_codec.proofs.Fitting.{IsByte, entries_fit}
 use Rattle.record_codec.proofs.Spelled.{if_spelled-some, if_spelled_is}
@@ -72,24 +72,42 @@ fired_fields_fit body bytes =
     let from_entries = All-drop IsByte 1 (drop 2 (drop 8 body)) from_count in
     record { entries = entries_fit (one_byte_number (drop 2 (drop 8 body))) (drop 1 (drop 2 (drop 8 body))) from_entries }
 
+-- a body that holds a record is its spelling, where the record fits its types, as a body of bytes sees to
+pub held_fired_that_fits : (most : ℕ) (body : List ℕ) (fired : FiredFields) → FiredFits fired → fired_up_to most body ≡ Some fired → IsFiredBodyUpTo most body fired
+held_fired_that_fits most body fired fits e =
+    let f = fired_fields body in
+    let p = if_spelled-some (is_fired_up_to most f) f fired (fired_bytes f) body e in
+    rw (← p.same) (record { in_range = IsFired-from_test most f p.in_range; fits = rw p.same fits; spelled = p.spelled })
+
 pub held_fired_is_spelled : (most : ℕ) (body : List ℕ) (fired : FiredFields) → AreBytes body → fired_up_to most body ≡ Some fired → IsFiredBodyUpTo most body fired
 held_fired_is_spelled most body fired bytes e =
     let f = fired_fields body in
     let p = if_spelled-some (is_fired_up_to most f) f fired (fired_bytes f) body e in
-    rw (← p.same) (record { in_range = IsFired-from_test most f p.in_range; fits = fired_fields_fit body bytes; spelled = p.spelled })
+    held_fired_that_fits most body fired (rw (← p.same) (fired_fields_fit body bytes)) e
 
 pub spelled_fired_is_held : (most : ℕ) (body : List ℕ) (fired : FiredFields) → IsFiredBodyUpTo most body fired → fired_up_to most body ≡ Some fired
 spelled_fired_is_held most body fired h =
     let is : fired_fields body ≡ fired = ap fired_fields (h.spelled ∙ padded_is (length body) (fired_bytes fired)) ∙ fired_fields-fired_bytes most fired (zeros (length body - length (fired_bytes fired))) h.in_range h.fits in
     ap (λ (f : FiredFields). if_spelled (is_fired_up_to most f) f (fired_bytes f) body) is ∙ if_spelled_is (is_fired_up_to most fired) fired (fired_bytes fired) body (is_fired-true most fired h.in_range) h.spelled
 
-length-fired_bytes : (fired : FiredFields) → FiredFits fired → length (fired_bytes fired) ≤ 11 + LONGEST_ENTRY * length fired.entries
+pub length-fired_bytes : (fired : FiredFields) → FiredFits fired → length (fired_bytes fired) ≤ 11 + LONGEST_ENTRY * length fired.entries
 length-fired_bytes fired fits =
     let entries = length-entries fired.entries fits.entries in
     simp length-append (omega (arith, length-eight_bytes fired.number, length-two_bytes fired.connector, length-one_byte (length fired.entries), entries))
 
+-- the ranges of a record are those of its number of entries and the others
+pub IsFiredUpTo-most : (most other : ℕ) (fired : FiredFields) → length fired.entries ≤ most → IsFiredUpTo other fired → IsFiredUpTo most fired
+IsFiredUpTo-most most other fired few h = record {
+  number_positive = h.number_positive;
+  number_within = h.number_within;
+  connector_within = h.connector_within;
+  some_entry = h.some_entry;
+  entries_within = few;
+  entries = h.entries;
+  rising = h.rising;
+}
+
 -- what is written is read again
-pub fired_reads_back : (fired : FiredFields) (len : ℕ) → 11 + LONGEST_ENTRY * MOST_ENTRIES ≤ len → IsFired fired → FiredFits fired → fired_in (padded len (fired_bytes fired)) ≡ Some fired
-unfolding fired_in
-fired_reads_back fired len room h fits =
-    spelled_fired_is_held MOST_ENTRIES (padded len (fired_bytes fired)) fired (record { in_range = h; fits = fits; spelled = padded_to_own len (fired_bytes fired) (omega (arith, length-fired_bytes fired fits, h.entries_within)) })
+pub fired_reads_back : (most : ℕ) (fired : FiredFields) (len : ℕ) → 11 + LONGEST_ENTRY * length fired.entries ≤ len → length fired.entries ≤ most → IsFired fired → FiredFits fired → fired_up_to most (padded len (fired_bytes fired)) ≡ Some fired
+fired_reads_back most fired len room few h fits =
+    spelled_fired_is_held most (padded len (fired_bytes fired)) fired (record { in_range = IsFiredUpTo-most most MOST_ENTRIES fired few h; fits = fits; spelled = padded_to_own len (fired_bytes fired) (omega (arith, length-fired_bytes fired fits)) })

@@ -57,12 +57,20 @@ saved_fields_fit body bytes =
       values = signed_numbers_fit (one_byte_number (drop 8 (drop 8 (drop 8 (drop 2 body))))) (drop 1 (drop 8 (drop 8 (drop 8 (drop 2 body))))) from_values;
     }
 
+-- a body that holds a saved state is its spelling, where the state fits its types, as a body of bytes sees to
+pub held_saved_that_fits : (body : List ℕ) (saved : SavedFields) → SavedFits saved → saved_in body ≡ Some saved → IsSavedBody body saved
+unfolding saved_in
+held_saved_that_fits body saved fits e =
+    let s = saved_fields body in
+    let p = if_spelled-some (is_saved s) s saved (saved_bytes s) body e in
+    rw (← p.same) (record { in_range = IsSaved-from_test s p.in_range; fits = rw p.same fits; spelled = p.spelled })
+
 pub held_saved_is_spelled : (body : List ℕ) (saved : SavedFields) → AreBytes body → saved_in body ≡ Some saved → IsSavedBody body saved
 unfolding saved_in
 held_saved_is_spelled body saved bytes e =
     let s = saved_fields body in
     let p = if_spelled-some (is_saved s) s saved (saved_bytes s) body e in
-    rw (← p.same) (record { in_range = IsSaved-from_test s p.in_range; fits = saved_fields_fit body bytes; spelled = p.spelled })
+    held_saved_that_fits body saved (rw (← p.same) (saved_fields_fit body bytes)) e
 
 pub spelled_saved_is_held : (body : List ℕ) (saved : SavedFields) → IsSavedBody body saved → saved_in body ≡ Some saved
 unfolding saved_in
@@ -70,7 +78,7 @@ spelled_saved_is_held body saved h =
     let is : saved_fields body ≡ saved = ap saved_fields (h.spelled ∙ padded_is (length body) (saved_bytes saved)) ∙ saved_fields-saved_bytes saved (zeros (length body - length (saved_bytes saved))) h.in_range h.fits in
     ap (λ (s : SavedFields). if_spelled (is_saved s) s (saved_bytes s) body) is ∙ if_spelled_is (is_saved saved) saved (saved_bytes saved) body (is_saved-true saved h.in_range) h.spelled
 
-length-saved_bytes : (saved : SavedFields) → length (saved_bytes saved) ≡ 27 + 8 * length saved.values
+pub length-saved_bytes : (saved : SavedFields) → length (saved_bytes saved) ≡ 27 + 8 * length saved.values
 length-saved_bytes saved =
     simp length-append (omega (arith, length-two_bytes saved.atom, length-eight_bytes saved.count, length-eight_bytes saved.at, length-eight_bytes saved.marking, length-one_byte (length saved.values), length-signed_run saved.values))
 

@@ -28,3 +28,8 @@ if_spelled_is r value bytes body in_range spelled =
 pub if_held : {V : Type 0} (P : V → Type 0) (result held : Option V) → result ≡ held → ((value : V) → held ≡ Some value → P value) → IfSome result P
 if_held P None held e each = tt
 if_held P (Some value) held e each = each value (sym e)
+
+-- the same, of a value that fits its types
+pub if_held_fits : {V : Type 0} (Fits P : V → Type 0) (result held : Option V) → result ≡ held → IfSome result Fits → ((value : V) → Fits value → held ≡ Some value → P value) → IfSome result P
+if_held_fits Fits P None held e fits each = tt
+if_held_fits Fits P (Some value) held e fits each = each value fits (sym e)

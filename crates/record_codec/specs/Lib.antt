@@ -5,3 +5,4 @@ pub mod Saved
 pub mod Entry
 pub mod Fired
 pub mod Ring
+pub mod FirstLayout

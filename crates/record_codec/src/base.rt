@@ -1,4 +1,4 @@
-ghost use Rattle.std.specs.Prelude.{◌≡◌, ℕ, IfSome, Some};
+ghost use Rattle.std.specs.Prelude.{◌≡◌, ◌≤◌, ℕ, IfSome, Some};
 ghost use Rattle.record_codec.specs.Bytes.{padded};
 ghost use Rattle.record_codec.specs.Base.{IsBase, IsBaseBody, base_bytes, base_in};
 
@@ -46,13 +46,34 @@ impl Base {
         ensures spelled { result ≡ padded BODY (base_bytes self.now) }
         ensures reads_back { base_in result ≡ Some self.now }
     {
+        self.spelled()
+    }
+
+    /// The base that the body holds, or `None` where it is no base's body.
+    pub fn from_body(body: &[u8; BODY]) -> Option<Base>
+        ensures exact { result ≡ base_in body.now }
+        ensures found { IfSome result (IsBaseBody body.now) }
+        ensures only { (number : ℕ) → IsBaseBody body.now number → result ≡ Some number }
+    {
+        Base::read(body)
+    }
+
+    /// The body of this length that holds this base.
+    pub(crate) fn spelled<const LENGTH: usize>(&self) -> [u8; LENGTH]
+        requires room { 8 ≤ LENGTH }
+        requires within { LENGTH ≤ BODY }
+        ensures spelled { result ≡ padded LENGTH (base_bytes self.now) }
+        ensures reads_back { base_in result ≡ Some self.now }
+    {
         let mut writer = Writer::new();
         writer.eight(self.number);
         writer.body()
     }
 
-    /// The base that the body holds, or `None` where it is no base's body.
-    pub fn from_body(body: &[u8; BODY]) -> Option<Base>
+    /// The base that a body of this length holds, or `None` where it is no base's body.
+    pub(crate) fn read<const LENGTH: usize>(body: &[u8; LENGTH]) -> Option<Base>
+        requires room { 8 ≤ LENGTH }
+        requires within { LENGTH ≤ BODY }
         ensures exact { result ≡ base_in body.now }
         ensures found { IfSome result (IsBaseBody body.now) }
         ensures only { (number : ℕ) → IsBaseBody body.now number → result ≡ Some number }
@@ -62,7 +83,9 @@ impl Base {
 
     // The body of what the fields say is compared with the whole body, so nothing else of it is judged here.
     #[tactic(auto, unfolding(crate::specs::Base::base_in))]
-    fn held(body: &[u8; BODY]) -> Option<Base>
+    fn held<const LENGTH: usize>(body: &[u8; LENGTH]) -> Option<Base>
+        requires room { 8 ≤ LENGTH }
+        requires within { LENGTH ≤ BODY }
         ensures { result ≡ base_in body.now }
     {
         let mut reader = Reader::new(body);
@@ -71,7 +94,7 @@ impl Base {
             return None;
         }
         let base = Base::new(number);
-        if base.to_body() == *body {
+        if base.spelled() == *body {
             Some(base)
         } else {
             None

@@ -1,8 +1,9 @@
-ghost use Rattle.std.specs.Prelude.{◌≡◌, IfSome, Some};
+ghost use Rattle.std.specs.Prelude.{◌≡◌, ◌+◌, ◌*◌, ◌≤◌, ℕ, IfSome, Some, length};
+ghost use Rattle.record_codec.specs.declared.layout.TheConstants.{LONGEST_ENTRY};
 ghost use Rattle.std.specs.List.{list_all};
 ghost use Rattle.record_codec.specs.Bytes.{padded};
 ghost use Rattle.record_codec.specs.Entry.{is_entry};
-ghost use Rattle.record_codec.specs.Fired.{FiredFields, IsFired, IsFiredBody, atoms_of, is_rising, is_fired, fired_bytes, fired_in};
+ghost use Rattle.record_codec.specs.Fired.{FiredFields, IsFired, IsFiredBody, IsFiredBodyUpTo, FiredFits, atoms_of, is_rising, is_fired_up_to, fired_bytes, fired_in, fired_up_to};
 
 use crate::entry::Entry;
 use crate::layout::{BODY, LAST_NUMBER, MOST_CONNECTORS, MOST_ENTRIES};
@@ -78,6 +79,29 @@ impl Fired {
         ensures spelled { result ≡ padded BODY (fired_bytes self.now) }
         ensures reads_back { fired_in result ≡ Some self.now }
     {
+        // A body has room for so many entries.
+        prove!(self.participants <= MOST_ENTRIES);
+        self.spelled()
+    }
+
+    /// The record that the body holds, or `None` where it is no record's body.
+    #[tactic(auto, unfolding(crate::specs::Fired::fired_in))]
+    pub fn from_body(body: &[u8; BODY]) -> Option<Fired>
+        ensures exact { result ≡ fired_in body.now }
+        ensures found { IfSome result (IsFiredBody body.now) }
+        ensures only { (fired : FiredFields) → IsFiredBody body.now fired → result ≡ Some fired }
+    {
+        Fired::read(body, MOST_ENTRIES)
+    }
+
+    /// The body of this length that holds this record.
+    pub(crate) fn spelled<const LENGTH: usize>(&self) -> [u8; LENGTH]
+        requires room { 11 + LONGEST_ENTRY * length self.now.entries ≤ LENGTH }
+        requires within { LENGTH ≤ BODY }
+        ensures spelled { result ≡ padded LENGTH (fired_bytes self.now) }
+        ensures fits { FiredFits self.now }
+        ensures reads_back { (most : ℕ) → length self.now.entries ≤ most → fired_up_to most result ≡ Some self.now }
+    {
         let entries = self.entries();
         let mut writer = Writer::new();
         writer.eight(self.number);
@@ -87,35 +111,41 @@ impl Fired {
         writer.body()
     }
 
-    /// The record that the body holds, or `None` where it is no record's body.
-    pub fn from_body(body: &[u8; BODY]) -> Option<Fired>
-        ensures exact { result ≡ fired_in body.now }
-        ensures found { IfSome result (IsFiredBody body.now) }
-        ensures only { (fired : FiredFields) → IsFiredBody body.now fired → result ≡ Some fired }
+    /// The record of at most so many entries that a body of this length holds, or `None` where it is no such record's body.
+    pub(crate) fn read<const LENGTH: usize>(body: &[u8; LENGTH], most: usize) -> Option<Fired>
+        requires few { most ≤ MOST_ENTRIES }
+        requires room { 11 + LONGEST_ENTRY * most ≤ LENGTH }
+        requires within { LENGTH ≤ BODY }
+        ensures exact { result ≡ fired_up_to most body.now }
+        ensures found { IfSome result (IsFiredBodyUpTo most body.now) }
+        ensures only { (fired : FiredFields) → IsFiredBodyUpTo most body.now fired → result ≡ Some fired }
     {
-        Fired::held(body)
+        Fired::held(body, most)
     }
 
     // The body of what the fields say is compared with the whole body, so nothing else of it is judged here.
-    #[tactic(auto, unfolding(crate::specs::Fired::fired_in))]
-    fn held(body: &[u8; BODY]) -> Option<Fired>
-        ensures { result ≡ fired_in body.now }
+    fn held<const LENGTH: usize>(body: &[u8; LENGTH], most: usize) -> Option<Fired>
+        requires few { most ≤ MOST_ENTRIES }
+        requires room { 11 + LONGEST_ENTRY * most ≤ LENGTH }
+        requires within { LENGTH ≤ BODY }
+        ensures exact { result ≡ fired_up_to most body.now }
+        ensures fits { IfSome result FiredFits }
     {
         let mut reader = Reader::new(body);
         let number = reader.eight();
         let connector = reader.two();
         let participants = reader.one() as usize;
-        if participants > MOST_ENTRIES {
+        if participants > most {
             return None;
         }
         let mut entries = [Entry::NOTHING; MOST_ENTRIES];
         let entries = &mut entries[..participants];
         reader.entries(entries);
-        if !is_in_range(number, connector, entries) {
+        if !is_in_range(number, connector, entries, most) {
             return None;
         }
         let fired = Fired::new(number, connector, entries);
-        if fired.to_body() == *body {
+        if fired.spelled() == *body {
             Some(fired)
         } else {
             None
@@ -123,14 +153,14 @@ impl Fired {
     }
 }
 
-fn is_in_range(number: u64, connector: u16, entries: &[Entry]) -> bool
-    ensures { result ≡ is_fired (record { number = number; connector = connector; entries = entries.now }) }
+fn is_in_range(number: u64, connector: u16, entries: &[Entry], most: usize) -> bool
+    ensures { result ≡ is_fired_up_to most (record { number = number; connector = connector; entries = entries.now }) }
 {
     number >= 1
         && number <= LAST_NUMBER
         && connector < MOST_CONNECTORS
         && !entries.is_empty()
-        && entries.len() <= MOST_ENTRIES
+        && entries.len() <= most
         && all_within(number, entries)
         && atoms_rise(entries)
 }

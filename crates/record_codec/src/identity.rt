@@ -1,6 +1,6 @@
-ghost use Rattle.std.specs.Prelude.{◌≡◌, IfSome, Some};
+ghost use Rattle.std.specs.Prelude.{◌≡◌, ◌+◌, ◌≤◌, IfSome, Some, length};
 ghost use Rattle.record_codec.specs.Bytes.{padded};
-ghost use Rattle.record_codec.specs.Identity.{IdentityFields, IsIdentity, IsIdentityBody, identity_bytes, identity_in, version_in};
+ghost use Rattle.record_codec.specs.Identity.{IdentityFields, IsIdentity, IsIdentityBody, IsIdentityBodyOf, identity_bytes, identity_bytes_of, identity_in, identity_of, version_in};
 
 use crate::layout::{BODY, DIGEST, LEAST_RING, MAGIC, MOST_ATOMS, MOST_RING, VERSION};
 use crate::reader::Reader;
@@ -66,32 +66,63 @@ impl Identity {
     }
 
     /// The body of the cell that holds this identity.
+    #[tactic(auto, unfolding(crate::specs::Identity::identity_in))]
     pub fn to_body(&self) -> [u8; BODY]
         ensures spelled { result ≡ padded BODY (identity_bytes self.now) }
         ensures reads_back { identity_in result ≡ Some self.now }
     {
+        self.spelled(VERSION)
+    }
+
+    /// The identity that the body holds, or `None` where it is no identity's body.
+    #[tactic(auto, unfolding(crate::specs::Identity::identity_in))]
+    pub fn from_body(body: &[u8; BODY]) -> Option<Identity>
+        ensures exact { result ≡ identity_in body.now }
+        ensures found { IfSome result (IsIdentityBody body.now) }
+        ensures only { (identity : IdentityFields) → IsIdentityBody body.now identity → result ≡ Some identity }
+    {
+        Identity::read(body, VERSION)
+    }
+
+    /// The version of the layout that the device is formatted with, or `None` where the body does not begin
+    /// as an identity of any version does. Of another version nothing else can be read.
+    pub fn version_in(body: &[u8; BODY]) -> Option<u16>
+        ensures { result ≡ version_in body.now }
+    {
+        Identity::version_told(body)
+    }
+
+    /// The body of this length that holds this identity in a layout of the version.
+    pub(crate) fn spelled<const LENGTH: usize>(&self, version: u16) -> [u8; LENGTH]
+        requires room { 12 + DIGEST ≤ LENGTH }
+        requires within { LENGTH ≤ BODY }
+        ensures spelled { result ≡ padded LENGTH (identity_bytes_of version self.now) }
+        ensures reads_back { identity_of version result ≡ Some self.now }
+    {
         let mut writer = Writer::new();
         writer.bytes(&MAGIC);
-        writer.two(VERSION);
+        writer.two(version);
         writer.two(self.atoms);
         writer.four(self.ring);
         writer.bytes(&self.digest);
         writer.body()
     }
 
-    /// The identity that the body holds, or `None` where it is no identity's body.
-    pub fn from_body(body: &[u8; BODY]) -> Option<Identity>
-        ensures exact { result ≡ identity_in body.now }
-        ensures found { IfSome result (IsIdentityBody body.now) }
-        ensures only { (identity : IdentityFields) → IsIdentityBody body.now identity → result ≡ Some identity }
+    /// The identity that a body of this length holds in a layout of the version, or `None` where it is no identity's body of that version.
+    pub(crate) fn read<const LENGTH: usize>(body: &[u8; LENGTH], version: u16) -> Option<Identity>
+        requires room { 12 + DIGEST ≤ LENGTH }
+        requires within { LENGTH ≤ BODY }
+        ensures exact { result ≡ identity_of version body.now }
+        ensures found { IfSome result (IsIdentityBodyOf version body.now) }
+        ensures only { (identity : IdentityFields) → IsIdentityBodyOf version body.now identity → result ≡ Some identity }
     {
-        Identity::held(body)
+        Identity::held(body, version)
     }
 
-    /// The version of the layout that the device is formatted with, or `None` where the body does not begin
-    /// as an identity of any version does. Of another version nothing else can be read.
+    /// The version that a body of any length tells, or `None` where it does not begin as an identity does.
     #[tactic(auto, unfolding(crate::specs::Identity::version_in))]
-    pub fn version_in(body: &[u8; BODY]) -> Option<u16>
+    pub(crate) fn version_told(body: &[u8]) -> Option<u16>
+        requires { 6 ≤ length body.now }
         ensures { result ≡ version_in body.now }
     {
         if !body.starts_with(&MAGIC) {
@@ -103,9 +134,10 @@ impl Identity {
     }
 
     // The body of what the fields say is compared with the whole body, so nothing else of it is judged here.
-    #[tactic(auto, unfolding(crate::specs::Identity::identity_in))]
-    fn held(body: &[u8; BODY]) -> Option<Identity>
-        ensures { result ≡ identity_in body.now }
+    fn held<const LENGTH: usize>(body: &[u8; LENGTH], version: u16) -> Option<Identity>
+        requires room { 12 + DIGEST ≤ LENGTH }
+        requires within { LENGTH ≤ BODY }
+        ensures { result ≡ identity_of version body.now }
     {
         let mut reader = Reader::new(body);
         reader.skip(MAGIC.len());
@@ -117,7 +149,7 @@ impl Identity {
             return None;
         }
         let identity = Identity::new(atoms, ring, digest);
-        if identity.to_body() == *body {
+        if identity.spelled(version) == *body {
             Some(identity)
         } else {
             None

@@ -1,11 +1,14 @@
 //! Laws over the definitions alone: each is the contract of a function with an empty body.
 
-ghost use Rattle.std.specs.Prelude.{◌≡◌, ◌≢◌, ◌↔◌, ℕ, ◌+◌, ◌<◌, List, Some};
+ghost use Rattle.std.specs.Prelude.{◌≡◌, ◌≢◌, ◌↔◌, ℕ, ◌+◌, ◌<◌, List, length, Some};
+ghost use Rattle.std.specs.Option.{option_map};
+ghost use Rattle.record_codec.specs.declared.v1.TheConstants.{BODY as FIRST_BODY, VERSION as FIRST_VERSION, MOST_ENTRIES as FIRST_MOST_ENTRIES};
 ghost use Rattle.record_codec.specs.Bytes.{AreBytes};
 ghost use Rattle.record_codec.specs.Base.{IsBaseBody, base_in};
-ghost use Rattle.record_codec.specs.Identity.{IdentityFields, IsIdentityBody, IsIdentityBodyOf, identity_in, identity_of};
+ghost use Rattle.record_codec.specs.Identity.{IdentityFields, IsIdentityBody, IsIdentityBodyOf, identity_in, identity_of, version_in};
 ghost use Rattle.record_codec.specs.Saved.{SavedFields, IsSavedBody, saved_in};
 ghost use Rattle.record_codec.specs.Fired.{FiredFields, IsFiredBody, IsFiredBodyUpTo, fired_in, fired_up_to};
+ghost use Rattle.record_codec.specs.FirstLayout.{todays_body, todays_version, todays_identity, todays_record};
 ghost use Rattle.record_codec.specs.Ring.{AreSameSlot, identity_cell, base_cell, slot_cell, record_cell, device_cells};
 
 /// A body holds a base exactly where it is the base's spelling, and zeros.
@@ -30,6 +33,31 @@ pub fn fired_grammar()
     ensures this_layout { (body : List ℕ) (fired : FiredFields) → AreBytes body → ((fired_in body ≡ Some fired) ↔ IsFiredBody body fired) }
     ensures any_layout { (most : ℕ) (body : List ℕ) (fired : FiredFields) → AreBytes body
         → ((fired_up_to most body ≡ Some fired) ↔ IsFiredBodyUpTo most body fired) }
+{}
+
+/// Today's body of a base of the first layout holds the base that it held, or none.
+pub fn first_layout_bases()
+    ensures { (body : List ℕ) → length body ≡ FIRST_BODY → base_in (todays_body body) ≡ base_in body }
+{}
+
+/// Today's body of a saved state of the first layout holds the state that it held, or none.
+pub fn first_layout_saved_states()
+    ensures { (body : List ℕ) → AreBytes body → length body ≡ FIRST_BODY → saved_in (todays_body body) ≡ saved_in body }
+{}
+
+/// Today's body of an identity of the first layout holds the identity that it held, or none. It tells the
+/// version that the old body told, with the first and today's exchanged.
+pub fn first_layout_identities()
+    ensures identity { (body : List ℕ) → AreBytes body → length body ≡ FIRST_BODY
+        → identity_in (todays_identity body) ≡ identity_of FIRST_VERSION body }
+    ensures version { (body : List ℕ) → AreBytes body → length body ≡ FIRST_BODY
+        → version_in (todays_identity body) ≡ option_map todays_version (version_in body) }
+{}
+
+/// Today's body of a record of the first layout holds the record that it held, or none.
+pub fn first_layout_records()
+    ensures { (body : List ℕ) → AreBytes body → length body ≡ FIRST_BODY
+        → fired_in (todays_record body) ≡ fired_up_to FIRST_MOST_ENTRIES body }
 {}
 
 /// Two records whose numbers are less than the ring's length apart have cells of their own.

@@ -1,13 +1,13 @@
 //! The layout of a cell's body: its sizes, limits and fixed words, each in this one place.
 
 /// How many bytes a body has.
-pub const BODY: usize = 511;
+pub const BODY: usize = 1023;
 
 /// The bytes that an identity begins with.
 pub const MAGIC: [u8; 4] = *b"BIPF";
 
 /// The version of this layout.
-pub const VERSION: u16 = 1;
+pub const VERSION: u16 = 2;
 
 /// How many atoms a plant has at most. An atom's number is below it.
 pub const MOST_ATOMS: u16 = 64;
@@ -40,4 +40,7 @@ pub const MOST_EXPORTED: usize = 4;
 pub const LONGEST_ENTRY: usize = 14 + 8 * MOST_EXPORTED;
 
 /// How many entries a record has at most.
-pub const MOST_ENTRIES: usize = 8;
+pub const MOST_ENTRIES: usize = 16;
+
+/// Which byte of a record's body says how many entries it has.
+pub const ENTRY_COUNT_AT: usize = 10;

@@ -22,7 +22,8 @@
 //! - `layout`: sizes and limits, each in one place.
 //! - `ring`: which cell of a device holds which value.
 //! - `reader`, `writer`: one field at a time, over bodies of any length.
-//! - `identity`, `base`, `saved`, `entry`, `fired`: the values.
+//! - `identity`, `base`, `saved`, `entry`, `fired`: the values, in bodies of any length that has room for them.
+//! - `v1`: the bodies of the first layout, and today's bodies of them.
 #![tactic(auto)]
 
 mod base;
@@ -34,6 +35,7 @@ mod layout;
 mod reader;
 pub mod ring;
 mod saved;
+pub mod v1;
 mod writer;
 
 pub use base::Base;

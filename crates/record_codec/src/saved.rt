@@ -1,6 +1,6 @@
-ghost use Rattle.std.specs.Prelude.{◌≡◌, IfSome, Some};
+ghost use Rattle.std.specs.Prelude.{◌≡◌, ◌+◌, ◌*◌, ◌≤◌, IfSome, Some};
 ghost use Rattle.record_codec.specs.Bytes.{padded};
-ghost use Rattle.record_codec.specs.Saved.{SavedFields, IsSaved, IsSavedBody, saved_bytes, saved_in};
+ghost use Rattle.record_codec.specs.Saved.{SavedFields, IsSaved, IsSavedBody, SavedFits, saved_bytes, saved_in};
 
 use crate::layout::{BODY, LAST_NUMBER, MOST_ATOMS, MOST_VARIABLES};
 use crate::reader::Reader;
@@ -94,6 +94,26 @@ impl Saved {
         ensures spelled { result ≡ padded BODY (saved_bytes self.now) }
         ensures reads_back { saved_in result ≡ Some self.now }
     {
+        self.spelled()
+    }
+
+    /// The saved state that the body holds, or `None` where it is no saved state's body.
+    pub fn from_body(body: &[u8; BODY]) -> Option<Saved>
+        ensures exact { result ≡ saved_in body.now }
+        ensures found { IfSome result (IsSavedBody body.now) }
+        ensures only { (saved : SavedFields) → IsSavedBody body.now saved → result ≡ Some saved }
+    {
+        Saved::read(body)
+    }
+
+    /// The body of this length that holds this state.
+    pub(crate) fn spelled<const LENGTH: usize>(&self) -> [u8; LENGTH]
+        requires room { 27 + 8 * MOST_VARIABLES ≤ LENGTH }
+        requires within { LENGTH ≤ BODY }
+        ensures spelled { result ≡ padded LENGTH (saved_bytes self.now) }
+        ensures fits { SavedFits self.now }
+        ensures reads_back { saved_in result ≡ Some self.now }
+    {
         let values = self.values();
         let mut writer = Writer::new();
         writer.two(self.atom);
@@ -105,8 +125,10 @@ impl Saved {
         writer.body()
     }
 
-    /// The saved state that the body holds, or `None` where it is no saved state's body.
-    pub fn from_body(body: &[u8; BODY]) -> Option<Saved>
+    /// The saved state that a body of this length holds, or `None` where it is no saved state's body.
+    pub(crate) fn read<const LENGTH: usize>(body: &[u8; LENGTH]) -> Option<Saved>
+        requires room { 27 + 8 * MOST_VARIABLES ≤ LENGTH }
+        requires within { LENGTH ≤ BODY }
         ensures exact { result ≡ saved_in body.now }
         ensures found { IfSome result (IsSavedBody body.now) }
         ensures only { (saved : SavedFields) → IsSavedBody body.now saved → result ≡ Some saved }
@@ -116,8 +138,11 @@ impl Saved {
 
     // The body of what the fields say is compared with the whole body, so nothing else of it is judged here.
     #[tactic(auto, unfolding(crate::specs::Saved::saved_in))]
-    fn held(body: &[u8; BODY]) -> Option<Saved>
-        ensures { result ≡ saved_in body.now }
+    fn held<const LENGTH: usize>(body: &[u8; LENGTH]) -> Option<Saved>
+        requires room { 27 + 8 * MOST_VARIABLES ≤ LENGTH }
+        requires within { LENGTH ≤ BODY }
+        ensures exact { result ≡ saved_in body.now }
+        ensures fits { IfSome result SavedFits }
     {
         let mut reader = Reader::new(body);
         let atom = reader.two();
@@ -135,7 +160,7 @@ impl Saved {
             return None;
         }
         let saved = Saved::new(atom, count, at, marking, values);
-        if saved.to_body() == *body {
+        if saved.spelled() == *body {
             Some(saved)
         } else {
             None

@@ -123,15 +123,15 @@ then_a_participant : said_in Modulo sample (codes "tick B.u/0 C.t/0") ≡ Some (
 unfolding sample
 then_a_participant = refl
 
--- a line of 1,025 bytes is too long, whatever it says, but a comment is one
-most_bytes_of_a_line : MAX_PICK_LINE ≡ 1024
+-- a line of 2,049 bytes is too long, whatever it says, but a comment is one
+most_bytes_of_a_line : MAX_PICK_LINE ≡ 2048
 most_bytes_of_a_line = refl
 
-one_byte_more : said_in Modulo sample (codes "0" ++ replicate 1024 32) ≡ Some (misread TooLong)
+one_byte_more : said_in Modulo sample (codes "0" ++ replicate 2048 32) ≡ Some (misread TooLong)
 one_byte_more = refl
 
-one_byte_less : said_in Modulo sample (codes "0" ++ replicate 1023 32) ≡ Some (counted 0)
+one_byte_less : said_in Modulo sample (codes "0" ++ replicate 2047 32) ≡ Some (counted 0)
 one_byte_less = refl
 
-a_long_comment : said_in Modulo sample (codes "#" ++ replicate 1024 32) ≡ None
+a_long_comment : said_in Modulo sample (codes "#" ++ replicate 2048 32) ≡ None
 a_long_comment = refl

@@ -8,9 +8,9 @@ use arrayvec::ArrayVec;
 use run_text::ReadFault;
 use std::io::BufRead;
 
-/// How many bytes a line may have, without its line end: more than the longest fired line has, which is a name and 8 participants of
+/// How many bytes a line may have, without its line end: more than the longest fired line has, which is a name and 16 participants of
 /// two names and a number of three digits. A comment may be longer.
-pub const MAX_PICK_LINE: usize = 1_024;
+pub const MAX_PICK_LINE: usize = 2_048;
 
 /// How many bytes of a line are kept: the longest that a pick can have, and its line end, which has two at most. So a line that is too
 /// long is still seen to be too long.

@@ -1,5 +1,7 @@
-pub mod FirstStates
-pub mod FormattedCells
+pub mod Ranges
+pub mod WrittenCells
 pub mod PartlyLoaded
+pub mod OldCells
 pub mod Prepared
+pub mod Migrated
 pub mod Lifetimes

@@ -1,12 +1,15 @@
 -- What periods one after another come to.
 use Rattle.std.proofs.Common.{◌≡◌, ℕ, ◌+◌, ◌-◌, ◌≤◌, refl, sym, ◌∙◌, ap, subst, List, [], ◌∷◌, ◌++◌, length, take, drop, arith}
 use Rattle.std.proofs.lemmas.List.{length-append, length-take-le, take-append-drop, take-take}
-use Rattle.disk_model.specs.Cells.{Cell}
+use Rattle.disk_model.specs.Cells.{Cell, MayBe}
+use Rattle.disk_model.specs.DiskState.{DiskState, size_of}
+use Rattle.disk_model.specs.declared.cells.TheConstants.{BODY}
 use Rattle.petri_atom.specs.Local.{Local}
 use Rattle.step_core.specs.Choice.{ChoiceDefinition}
 use Rattle.step_core.specs.Plant.{PlantDefinition}
 use Rattle.step_core.specs.Runs.{IsRun, fold}
 use Rattle.step_core.proofs.OnRuns.{runs-cut, runs-join}
+use Rattle.plant_image.specs.Contents.{last_number}
 use Rattle.plant_image.specs.Standing.{StandsFor}
 use Rattle.plant_core.specs.Events.{IsAckedOf, all_fired}
 use Rattle.plant_core.specs.Stops.{number_held}
@@ -14,6 +17,8 @@ use Rattle.plant_core.proofs.EventByEvent.{front-since}
 use Rattle.plant_core.proofs.EventRuns.{events-ack, events-run, fold-append}
 use Rattle.recovery.specs.Booting.{StandAlike}
 use Rattle.recovery.specs.Lifetimes.{HoldAcknowledged, IsLifetime, IsPeriod, Period, acked_in, all_kept, cut_short, kept_in, opening}
+use Rattle.recovery.specs.Migrating.{IsMigrated}
+use Rattle.recovery.specs.OldImage.{OldStandsFor, old_contents}
 
 module _ (plant : PlantDefinition) (digest : List ℕ) (bytes : ℕ) where
   -- ---- one period
@@ -101,6 +106,34 @@ module _ (plant : PlantDefinition) (digest : List ℕ) (bytes : ℕ) where
   pub life-holds : (periods : List Period) (first last : List Cell) → IsLifetime plant digest bytes first periods last → HoldAcknowledged plant periods
   life-holds [] first last life = tt
   life-holds (s ∷ rest) first last life = (holds first s life.0, life-holds rest s.left last life.1)
+
+  -- ---- from an image of the first layout
+
+  module _ (ring : ℕ) (old first : List Cell) (made : DiskState) (brought : IsMigrated plant digest ring (old_contents plant old) made) (may : MayBe (BODY + 1) made first) where
+    -- whatever a stop leaves of the device that it was brought over to stands for what it stood for
+    pub brought-stands : (states : List Local) (number : ℕ) → OldStandsFor plant digest bytes old states number → StandsFor plant digest (size_of made) first states number
+    brought-stands states number stood =
+        subst (λ (n : ℕ). StandsFor plant digest (size_of made) first states n) stood.number_is
+        (subst (λ ss. StandsFor plant digest (size_of made) first ss (last_number (old_contents plant old))) stood.states_are (brought.stands first may))
+
+  -- ---- a run in front
+
+  module _ (first last : List Cell) (before : List ChoiceDefinition) (periods : List Period) (states : List Local) (stood : StandsFor plant digest bytes first (fold plant states before) (length before))
+      (life : IsLifetime plant digest bytes first periods last) where
+    abbrev more : List ChoiceDefinition
+    more = all_kept plant periods
+
+    pub front-stands : StandsFor plant digest bytes last (fold plant states (before ++ more)) (length (before ++ more))
+    front-stands =
+        subst (λ (n : ℕ). StandsFor plant digest bytes last (fold plant states (before ++ more)) n) (sym (length-append before more))
+        (subst (λ ss. StandsFor plant digest bytes last ss (length before + length more)) (sym (fold-append plant before more states))
+        (life-stands periods first last (fold plant states before) (length before) stood life))
+
+    pub front-runs : IsRun plant states before (fold plant states before) → IsRun plant states (before ++ more) (fold plant states (before ++ more))
+    front-runs run =
+        subst (IsRun plant states (before ++ more)) (sym (fold-append plant before more states))
+        (runs-join plant before more states (fold plant states before) (fold plant (fold plant states before) more) run
+        (life-runs periods first last (fold plant states before) (length before) stood life))
 
   -- ---- a boot that is cut short
 

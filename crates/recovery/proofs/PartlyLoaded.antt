@@ -1,22 +1,26 @@
 -- What the cells of a device stand for that are loaded up to as many as any device for the plant has.
-use Rattle.std.proofs.Common.{◌≡◌, ◌≢◌, ℕ, ◌+◌, ◌*◌, ◌<◌, ◌≤◌, ◌==◌, min, nat_lt, Bool, true, false, not, List, [], ◌∷◌, ◌++◌, length, take, Option, Some, None, refl, sym, ◌∙◌, ap, arith}
+use Rattle.std.proofs.Common.{◌≡◌, ◌≢◌, ℕ, ◌+◌, ◌-◌, ◌*◌, ◌^◌, ◌<◌, ◌≤◌, ◌==◌, min, nat_lt, Bool, true, false, not, List, [], ◌∷◌, ◌++◌, length, take, Option, Some, None, Result, Ok, Err, MatchResult, refl, sym, ◌∙◌, ap, subst, arith}
 use Rattle.std.specs.Option.{option_and_then, option_map_or}
 use Rattle.std.proofs.lemmas.Bool.{eqb-true, ltb-true, ltb-false}
 use Rattle.std.proofs.lemmas.List.{get_or-take, take_all, take_more}
 use Rattle.disk_model.specs.Cells.{Cell, cell, cells_in, seen_cells}
 use Rattle.disk_model.specs.DiskState.{Counts, CountsUpTo, DiskState, Reads, counted, size_of}
-use Rattle.disk_model.specs.Moments.{seen_length}
-use Rattle.disk_model.specs.declared.cells.TheConstants.{BODY}
+use Rattle.disk_model.specs.Reading.{reads_seen}
 use Rattle.record_codec.specs.Identity.{IdentityFields, identity_in}
 use Rattle.record_codec.specs.Ring.{device_cells, identity_cell}
 use Rattle.record_codec.specs.declared.layout.TheConstants.{MOST_RING, VERSION}
 use Rattle.record_codec.proofs.Identities.{held_identity_is_spelled}
 use Rattle.step_core.specs.Plant.{PlantDefinition}
+use Rattle.step_core.specs.declared.limits.TheConstants.{MAX_ATOMS}
 use Rattle.step_core.specs.Rules.{first_of, first_told}
 use Rattle.plant_image.specs.Contents.{contents_of, identity_held, ring_held}
 use Rattle.plant_image.specs.Faults.{atom_fault, base_fault, cell_bytes, cells_fault, fault_of, fault_where, first_cell_fault, first_fault, identity_fault, is_for, leading_fault, records_fault}
 use Rattle.plant_image.specs.declared.fault.ImageFault.{ImageFault}
 use Rattle.plant_image.specs.declared.fault.ImageFault.TheVariants.{WrongSize, OtherSystem}
+use Rattle.plant_image.specs.declared.standing.Standing.{Standing}
+use Rattle.recovery.specs.Booting.{has_failed, is_disk}
+use Rattle.recovery.specs.Judged.{WasReadOf}
+use Rattle.recovery.specs.declared.fault.BootFault.{BootFault}
 use Rattle.plant_image.proofs.AtomSlots.{no_first, no_later, not_wrong}
 use Rattle.plant_image.proofs.KeptCells.{identity_same, sound_of}
 
@@ -25,13 +29,14 @@ not_false : (t : Bool) → not t ≡ false → t ≡ true
 not_false true is = refl
 not_false false is = absurd (let is = is in cc)
 
--- as many as the most, or as there are
-pub taken : {X : Type 0} (most count read : ℕ) (all : List X) → length all ≡ count → read ≡ min most count → take read all ≡ take most all
+-- as many as the most, or as there are, where the bytes tell how many there are
+pub taken : {X : Type 0} (most count read : ℕ) (all : List X) → (count < most → length all ≡ count) → read ≡ min most count → take read all ≡ take most all
 taken {X} most count read all long is = by_test (nat_lt count most) refl
   where
     by_test : (t : Bool) → nat_lt count most ≡ t → take read all ≡ take most all
     by_test true less =
         let below : count < most = ltb-true count most less in
+        let told : length all ≡ count = long below in
         take_all read all (omega arith) ∙ sym (take_all most all (omega arith))
     by_test false more =
         let above : most ≤ count = ltb-false count most more in
@@ -103,7 +108,7 @@ same_fault plant digest bytes cells others same some =
 abbrev pub most : PlantDefinition → ℕ
 most plant = device_cells (length plant.atoms) MOST_RING
 
-module _ (plant : PlantDefinition) (digest : List ℕ) (bytes : ℕ) (all : List Cell) (many : length all ≡ cells_in cell_bytes bytes) where
+module _ (plant : PlantDefinition) (digest : List ℕ) (bytes : ℕ) (all : List Cell) (many : cells_in cell_bytes bytes ≤ most plant → length all ≤ most plant) where
   -- the first cell is among those that are loaded
   first_loaded : cell (take (most plant) all) identity_cell ≡ cell all identity_cell
   first_loaded = get_or-take (most plant) all identity_cell None (omega arith)
@@ -112,11 +117,11 @@ module _ (plant : PlantDefinition) (digest : List ℕ) (bytes : ℕ) (all : List
   pub all_loaded : fault_of plant digest bytes (take (most plant) all) ≡ None → take (most plant) all ≡ all
   all_loaded none =
       let sound = sound_of plant digest bytes (take (most plant) all) (no_first (cells_fault plant digest bytes (take (most plant) all)) _ none) in
-      let few = cells_most (length plant.atoms) digest bytes (take (most plant) all) sound.identity in
+      let few : length all ≤ most plant = many (cells_most (length plant.atoms) digest bytes (take (most plant) all) sound.identity) in
       take_all (most plant) all (omega arith)
 
   too_many : most plant < length all → identity_fault (length plant.atoms) digest bytes (take (most plant) all) ≢ None
-  too_many more none = let few = cells_most (length plant.atoms) digest bytes (take (most plant) all) none in absurd (omega arith)
+  too_many more none = let few : length all ≤ most plant = many (cells_most (length plant.atoms) digest bytes (take (most plant) all) none) in absurd (omega arith)
 
   -- what is wrong with them is what is wrong with all
   pub loaded_alike : fault_of plant digest bytes (take (most plant) all) ≡ fault_of plant digest bytes all
@@ -128,19 +133,26 @@ module _ (plant : PlantDefinition) (digest : List ℕ) (bytes : ℕ) (all : List
           (sym (identity_same all (take (most plant) all) first_loaded (length plant.atoms) digest bytes))
           (too_many (ltb-true (most plant) (length all) is))
 
-module _ (plant : PlantDefinition) (digest : List ℕ) (bytes : ℕ) (list : List Cell) (s : DiskState) (size : bytes ≡ size_of s) (loaded : list ≡ take (most plant) (seen_cells (BODY + 1) s)) where
-  -- so what was loaded of a device tells what is wrong with it
-  pub told_alike : fault_of plant digest bytes list ≡ fault_of plant digest (size_of s) (seen_cells (BODY + 1) s)
-  told_alike =
-      ap (λ (n : ℕ). fault_of plant digest n list) size
-      ∙ ap (fault_of plant digest (size_of s)) loaded
-      ∙ loaded_alike plant digest (size_of s) (seen_cells (BODY + 1) s) (seen_length (BODY + 1) s)
+-- what was loaded behind some reading is what it would have been before
+pub loaded_before : (size count : ℕ) (todays : List Cell → List Cell) (old mid : DiskState) (list : List Cell) → Reads false old mid → old.keeps ≡ true
+    → list ≡ take count (todays (seen_cells size mid)) → list ≡ take count (todays (seen_cells size old))
+loaded_before size count todays old mid list reads keeps is = is ∙ ap (λ (l : List Cell). take count (todays l)) (reads_seen size old mid reads keeps)
+
+-- Of all cells the first were loaded that any device for the plant has, and their bytes tell how many there are, where a u64 does.
+module _ (plant : PlantDefinition) (digest : List ℕ) (bytes told count : ℕ) (all list : List Cell) (few : length plant.atoms ≤ MAX_ATOMS) (size : bytes ≡ told) (long : length all ≡ count)
+    (exact : cells_in cell_bytes told < 2 ^ 54 - 1 → cells_in cell_bytes told ≡ count) (loaded : list ≡ take (most plant) all) where
+  many : cells_in cell_bytes told ≤ most plant → length all ≤ most plant
+  many fit = let same : cells_in cell_bytes told ≡ count = exact (omega arith) in omega arith
+
+  -- so what was loaded tells what is wrong with all
+  pub told_alike : fault_of plant digest bytes list ≡ fault_of plant digest told all
+  told_alike = ap (λ (n : ℕ). fault_of plant digest n list) size ∙ ap (fault_of plant digest told) loaded ∙ loaded_alike plant digest told all many
 
   -- and where nothing is, it is all
-  pub read_whole : fault_of plant digest bytes list ≡ None → list ≡ seen_cells (BODY + 1) s
+  pub read_whole : fault_of plant digest bytes list ≡ None → list ≡ all
   read_whole none =
-      loaded ∙ all_loaded plant digest (size_of s) (seen_cells (BODY + 1) s) (seen_length (BODY + 1) s)
-      (ap (fault_of plant digest (size_of s)) (sym loaded) ∙ ap (λ (n : ℕ). fault_of plant digest n list) (sym size) ∙ none)
+      loaded ∙ all_loaded plant digest told all many
+      (ap (fault_of plant digest told) (sym loaded) ∙ ap (λ (n : ℕ). fault_of plant digest n list) (sym size) ∙ none)
 
 -- a sync and then reading alone
 pub sync_then_read : (old mid new : DiskState) → Counts false true old mid → Reads false mid new → Counts false true old new
@@ -160,4 +172,21 @@ sync_up_to_read failed old mid new first second = record {
   synced = 1;
   few = omega arith;
   syncs = second.counts.syncs ∙ first.syncs;
+}
+
+-- what judging comes to that begins with a sync and goes on by reading
+pub judged_counts : (r : Result Standing BootFault) (old mid new : DiskState) → Counts false true old mid → Reads (has_failed r) mid new → MatchResult r (λ _. Counts false true old new) (λ fault. CountsUpTo (is_disk fault) 1 old new)
+judged_counts (Ok standing) old mid new synced reads = sync_then_read old mid new synced reads
+judged_counts (Err fault) old mid new synced reads = sync_up_to_read (is_disk fault) old mid new synced reads
+
+-- what was read before some reading is read behind it
+pub read_then : {failed : Bool} (plant : PlantDefinition) (digest : List ℕ) (size : ℕ) (told : ℕ → ℕ) (todays : List Cell → List Cell) (standing : Standing) (old new : DiskState) → Reads failed old new
+    → WasReadOf plant digest (told (size_of old)) old.keeps (todays (seen_cells size old)) standing → WasReadOf plant digest (told (size_of new)) new.keeps (todays (seen_cells size new)) standing
+read_then plant digest size told todays standing old new reads was = record {
+  cells = was.cells;
+  seen = λ still.
+      let keeps : old.keeps ≡ true = sym reads.counts.keeps ∙ still in
+      was.seen keeps ∙ ap todays (sym (reads_seen size old new reads keeps));
+  sound = subst (λ (n : ℕ). fault_of plant digest (told n) was.cells ≡ None) (sym reads.counts.size) was.sound;
+  is = was.is;
 }

@@ -1,7 +1,7 @@
 -- What is made in memory while a plant is booted.
 use Rattle.std.specs.Prelude.{◌≡◌, ℕ, ◌+◌, ◌≤◌, true, false, List, [], None, length, replicate, vec_capacity}
 use Rattle.disk_model.specs.DiskState.{DiskState, size_of}
-use Rattle.disk_model.specs.Cells.{Cell, cell_count, seen_cells}
+use Rattle.disk_model.specs.Cells.{cell_count, seen_cells}
 use Rattle.disk_model.specs.declared.cells.TheConstants.{BODY}
 use Rattle.gated_journal.specs.Rings.{cells_of_ring}
 use Rattle.record_replay.specs.Records.{count_of}
@@ -10,8 +10,7 @@ use Rattle.step_core.specs.Running.{states_in, system_in}
 use Rattle.step_core.specs.System.{plant_of, digest_of}
 use Rattle.step_core.specs.declared.system.System.{System}
 use Rattle.plant_image.specs.Contents.{contents_of, ring_in}
-use Rattle.plant_image.specs.Faults.{fault_of}
-use Rattle.plant_image.specs.Reading.{IsStanding, contents_in}
+use Rattle.plant_image.specs.Reading.{contents_in}
 use Rattle.plant_image.specs.declared.standing.Standing.{Standing}
 use Rattle.plant_core.specs.Kept.{IsAtRest}
 use Rattle.plant_core.specs.Marks.{marks_of}
@@ -20,14 +19,12 @@ use Rattle.plant_core.specs.View.{View, view_by}
 use Rattle.plant_core.specs.declared.limits.TheConstants.{MOST_TAIL}
 use Rattle.trimmer.specs.Covered.{saved_count}
 use Rattle.recovery.specs.Booting.{IsBooted}
+use Rattle.recovery.specs.Judged.{WasReadOf}
 use Rattle.recovery.specs.declared.booting.InMemory.{InMemory}
 
--- What stands was read of some cells with which nothing is wrong: those that a read of the device gives, where it keeps the disk model.
-pub record WasRead (plant : PlantDefinition) (digest : List ℕ) (s : DiskState) (standing : Standing) : Type 0 where
-  pub cells : List Cell
-  pub seen : s.keeps ≡ true → cells ≡ seen_cells (BODY + 1) s
-  pub sound : fault_of plant digest (size_of s) cells ≡ None
-  pub is : IsStanding plant cells standing
+-- What stands was read of what the device holds.
+abbrev pub WasRead : PlantDefinition → List ℕ → DiskState → Standing → Type 0
+WasRead plant digest s standing = WasReadOf plant digest (size_of s) s.keeps (seen_cells (BODY + 1) s) standing
 
 -- Room for a tail is there, and nothing in it.
 pub record IsEmptyTail (memory : InMemory) : Type 0 where

@@ -1,4 +1,8 @@
+pub mod Judged
+pub mod OldImage
+pub mod Writing
 pub mod Formatting
+pub mod Migrating
 pub mod Booting
 pub mod InMemory
 pub mod Lifetimes

@@ -1,10 +1,19 @@
 //! What the life of a plant comes to. These functions make no call: their clauses are the laws.
-ghost use Rattle.std.specs.Prelude.{◌≡◌, ◌⊎◌, ◌+◌, ℕ, List, length};
-ghost use Rattle.disk_model.specs.Cells.{Cell, MayBe, seen_cells};
+ghost use Rattle.std.specs.Prelude.{◌≡◌, ◌⊎◌, ◌+◌, ◌++◌, ◌<◌, ℕ, List, is_none, length, option_and_then};
+ghost use Rattle.std.specs.Option.{option_map};
+ghost use Rattle.disk_model.specs.Cells.{Cell, MayBe, cell, seen_cells};
 ghost use Rattle.disk_model.specs.DiskState.{DiskState, size_of};
 ghost use Rattle.disk_model.specs.declared.cells.TheConstants.{BODY};
 ghost use Rattle.petri_atom.specs.Local.{Local};
+ghost use Rattle.record_codec.specs.declared.v1.TheConstants.{VERSION as FIRST_VERSION, MOST_ENTRIES as FIRST_MOST_ENTRIES};
+ghost use Rattle.record_codec.specs.Base.{base_in};
+ghost use Rattle.record_codec.specs.Fired.{fired_in, fired_up_to};
+ghost use Rattle.record_codec.specs.FirstLayout.{todays_version};
+ghost use Rattle.record_codec.specs.Identity.{identity_in, identity_of, version_in};
+ghost use Rattle.record_codec.specs.Ring.{base_cell, identity_cell, record_cell, slot_cell};
+ghost use Rattle.record_codec.specs.Saved.{saved_in};
 ghost use Rattle.plant_image.specs.Standing.{StandsFor};
+ghost use Rattle.step_core.specs.Choice.{ChoiceDefinition};
 ghost use Rattle.step_core.specs.Plant.{PlantDefinition};
 ghost use Rattle.step_core.specs.Runs.{IsRun, fold};
 ghost use Rattle.step_core.specs.Step.{initial_states};
@@ -12,6 +21,8 @@ ghost use Rattle.plant_core.specs.Stops.{StandsForFront};
 ghost use Rattle.plant_core.specs.View.{View};
 ghost use Rattle.recovery.specs.Booting.{IsBooting, StandAlike};
 ghost use Rattle.recovery.specs.Lifetimes.{HoldAcknowledged, IsLifetime, IsPeriod, Period, all_kept, cut_short};
+ghost use Rattle.recovery.specs.Migrating.{IsMigrated};
+ghost use Rattle.recovery.specs.OldImage.{AreOldCells, OldStandsFor, old_contents, todays_cells};
 
 /// However many periods a plant has, each booted from what the one before left at any moment: what the last one leaves stands for the state that
 /// some run leads to from the state at the beginning. The run joins what each period fired and its stop left, and of each period that holds
@@ -40,6 +51,26 @@ pub fn lifetimes()
         → IsLifetime plant digest bytes first periods last → HoldAcknowledged plant periods }
 {}
 
+/// The same of a device that an image of the first layout was brought over to: whatever a stop leaves of it stands for what the old image stood
+/// for. Where that was the end of a run from the first state of the plant, this run stands in front, and the length of both is the
+/// number of the last record.
+pub fn a_life_goes_on_from_the_first_layout()
+    ensures begins { (plant : PlantDefinition) (digest : List ℕ) (bytes ring : ℕ) (cells first : List Cell) (made : DiskState) (states : List Local) (number : ℕ)
+        → OldStandsFor plant digest bytes cells states number → IsMigrated plant digest ring (old_contents plant cells) made → MayBe (BODY + 1) made first
+        → StandsFor plant digest (size_of made) first states number }
+    ensures stands { (plant : PlantDefinition) (digest : List ℕ) (bytes ring : ℕ) (cells first last : List Cell) (made : DiskState) (before : List ChoiceDefinition) (periods : List Period)
+        → OldStandsFor plant digest bytes cells (fold plant (initial_states plant) before) (length before)
+        → IsMigrated plant digest ring (old_contents plant cells) made → MayBe (BODY + 1) made first → IsLifetime plant digest (size_of made) first periods last
+        → StandsFor plant digest (size_of made) last (fold plant (initial_states plant) (before ++ all_kept plant periods)) (length (before ++ all_kept plant periods)) }
+    ensures run { (plant : PlantDefinition) (digest : List ℕ) (bytes ring : ℕ) (cells first last : List Cell) (made : DiskState) (before : List ChoiceDefinition) (periods : List Period)
+        → OldStandsFor plant digest bytes cells (fold plant (initial_states plant) before) (length before)
+        → IsRun plant (initial_states plant) before (fold plant (initial_states plant) before)
+        → IsMigrated plant digest ring (old_contents plant cells) made → MayBe (BODY + 1) made first → IsLifetime plant digest (size_of made) first periods last
+        → IsRun plant (initial_states plant) (before ++ all_kept plant periods) (fold plant (initial_states plant) (before ++ all_kept plant periods)) }
+    ensures acknowledged { (plant : PlantDefinition) (digest : List ℕ) (bytes : ℕ) (first last : List Cell) (periods : List Period)
+        → IsLifetime plant digest bytes first periods last → HoldAcknowledged plant periods }
+{}
+
 /// A boot that a stop cuts short is a period in which nothing happens. Where the plant is booted again without a stop, something of what it wrote last
 /// may be pending still, until the boot's first sync: then the stop may also end the period before with another front.
 pub fn a_boot_cut_short_is_a_period()
@@ -49,4 +80,22 @@ pub fn a_boot_cut_short_is_a_period()
         → ((cells : List Cell) → MayBe (BODY + 1) s cells → StandsForFront plant digest (size_of s) closed cells) → IsBooting plant digest s left
         → StandsForFront plant digest (size_of s) closed left
         ⊎ IsPeriod plant digest (size_of s) (seen_cells (BODY + 1) s) (cut_short plant (seen_cells (BODY + 1) s) left) }
+{}
+
+/// Today's cells of an image of the first layout are as many, full where its own are, and hold the same: the identity that its first layout
+/// tells, each base, each saved state, and each record of no more entries than the first layout has. What holds none there holds none here.
+pub fn todays_cells_hold_the_same()
+    ensures count { (atoms : ℕ) (cells : List Cell) → length (todays_cells atoms cells) ≡ length cells }
+    ensures full { (atoms k : ℕ) (cells : List Cell) → is_none (cell (todays_cells atoms cells) k) ≡ is_none (cell cells k) }
+    ensures version { (atoms : ℕ) (cells : List Cell) → AreOldCells cells
+        → option_and_then version_in (cell (todays_cells atoms cells) identity_cell) ≡ option_map todays_version (option_and_then version_in (cell cells identity_cell)) }
+    ensures identity { (atoms : ℕ) (cells : List Cell) → AreOldCells cells
+        → option_and_then identity_in (cell (todays_cells atoms cells) identity_cell) ≡ option_and_then (identity_of FIRST_VERSION) (cell cells identity_cell) }
+    ensures bases { (atoms base : ℕ) (cells : List Cell) → AreOldCells cells → base < 2
+        → option_and_then base_in (cell (todays_cells atoms cells) (base_cell base)) ≡ option_and_then base_in (cell cells (base_cell base)) }
+    ensures slots { (atoms atom slot : ℕ) (cells : List Cell) → AreOldCells cells → atom < atoms → slot < 2
+        → option_and_then saved_in (cell (todays_cells atoms cells) (slot_cell atom slot)) ≡ option_and_then saved_in (cell cells (slot_cell atom slot)) }
+    ensures records { (atoms ring number : ℕ) (cells : List Cell) → AreOldCells cells
+        → option_and_then fired_in (cell (todays_cells atoms cells) (record_cell atoms ring number))
+        ≡ option_and_then (fired_up_to FIRST_MOST_ENTRIES) (cell cells (record_cell atoms ring number)) }
 {}

@@ -1,7 +1,7 @@
 //! Loading the cells of a device, and judging what they stand for.
-ghost use Rattle.std.specs.Prelude.{◌≡◌, ◌+◌, ◌<◌, ◌≤◌, true, false, length, take, is_err, IfErr, IfOk, MatchResult, OnOk, Option};
+ghost use Rattle.std.specs.Prelude.{◌≡◌, ◌+◌, ◌≤◌, true, false, length, take, IfErr, IfOk, MatchResult, OnOk, Option};
 ghost use Rattle.disk_model.specs.DiskState.{Counts, CountsUpTo, IsSettled, Reads, size_of};
-ghost use Rattle.disk_model.specs.Cells.{Leaves, MayBe, cell, cell_count, seen_cells};
+ghost use Rattle.disk_model.specs.Cells.{Leaves, MayBe, cell_count, seen_cells};
 ghost use Rattle.plant_image.specs.Faults.{fault_of};
 ghost use Rattle.plant_image.specs.declared.fault.ImageFault.{ImageFault};
 ghost use Rattle.record_codec.specs.Ring.{device_cells};
@@ -10,17 +10,16 @@ ghost use Rattle.step_core.specs.System.{plant_of, digest_of};
 ghost use Rattle.step_core.specs.declared.limits.TheConstants.{MAX_ATOMS};
 ghost use Rattle.recovery.specs.Booting.{IsToldBy, has_failed, is_disk};
 ghost use Rattle.recovery.specs.InMemory.{WasRead};
+ghost use Rattle.recovery.specs.Judged.{WasReadOf};
 
 use crate::fault::BootFault;
-use disk_model::{BODY, Cells, Disk, DiskFault};
+use crate::reading::ReadAsToday;
+use disk_model::{BODY, CELL, Cells, Disk};
 use plant_image::{Standing, read_image};
 use record_codec::MOST_RING;
 use record_codec::ring::device_cells;
 use std::alloc::Global;
 use step_core::System;
-
-/// How many bytes a cell has: its gate and its body.
-const CELL: u64 = BODY as u64 + 1;
 
 /// What the device stands for, or the first thing that is wrong with it. Nothing is written, and behind it a stop leaves what a
 /// read gives.
@@ -38,59 +37,67 @@ pub(crate) fn judge<D: Disk>(
         → IfErr result (IsToldBy (fault_of (plant_of system.now) (digest_of system.now) (size_of cells.old) (seen_cells (BODY + 1) cells.old))) }
 {
     cells.sync()?;
-    let bytes = cells.size()?;
+    read(alloc, cells, system)
+}
+
+/// What a device of either layout stands for, by what a read gives of it, or the first thing that is wrong with that. Only reading is done.
+pub(crate) fn read<C: ReadAsToday>(
+    alloc: Global,
+    cells: &mut C,
+    system: &System,
+) -> Result<Standing, BootFault>
+    ensures reads { Reads (has_failed result) (C.state cells.old) (C.state cells.new) }
+    ensures read { IfOk result (WasReadOf (plant_of system.now) (digest_of system.now)
+        (C.todays_bytes (size_of (C.state cells.old))) (C.state cells.old).keeps
+        (C.todays (length (plant_of system.now).atoms) (seen_cells C.bytes_of_cell (C.state cells.old)))) }
+    ensures refused { (C.state cells.old).keeps ≡ true
+        → IfErr result (IsToldBy (fault_of (plant_of system.now) (digest_of system.now) (C.todays_bytes (size_of (C.state cells.old)))
+        (C.todays (length (plant_of system.now).atoms) (seen_cells C.bytes_of_cell (C.state cells.old))))) }
+{
+    system.keeps_its_rules();
+    let bytes = cells.bytes()?;
     let list = load(alloc, cells, system, bytes)?;
     Ok(read_image(alloc, system, bytes, &list)?)
 }
 
-/// The cells that decide what a device of so many bytes stands for: all of them, or as many as any device for the system has. One
-/// with more is of the wrong size by its first cell, and may be huge.
-fn load<D: Disk>(
+/// The cells that decide what a device stands for whose cells take so many bytes as today's: all of them, or as many as any device for the
+/// system has. One with more is of the wrong size by its first cell, and may be huge.
+fn load<C: ReadAsToday>(
     alloc: Global,
-    cells: &mut Cells<D>,
+    cells: &mut C,
     system: &System,
     bytes: u64,
 ) -> Result<Vec<Option<[u8; BODY]>>, BootFault>
-    requires { bytes ≡ size_of cells.old }
-    ensures reads { Reads (has_failed result) cells.old cells.new }
+    requires { bytes ≡ C.todays_bytes (size_of (C.state cells.old)) }
+    ensures reads { Reads (has_failed result) (C.state cells.old) (C.state cells.new) }
     ensures silent { (found : Option ImageFault) → IfErr result (IsToldBy found) }
-    ensures loaded { cells.old.keeps ≡ true
-        → IfOk result (λ list. list.items ≡ take (device_cells (length (plant_of system.now).atoms) MOST_RING) (seen_cells (BODY + 1) cells.old)) }
+    ensures loaded { (C.state cells.old).keeps ≡ true
+        → IfOk result (λ list. list.items ≡ take (device_cells (length (plant_of system.now).atoms) MOST_RING)
+        (C.todays (length (plant_of system.now).atoms) (seen_cells C.bytes_of_cell (C.state cells.old)))) }
 {
     system.keeps_its_rules();
-    let most = device_cells(system.atoms().len() as u16, MOST_RING);
-    load_cells(alloc, cells, most.min(bytes / CELL))
+    let atoms = system.atoms().len() as u16;
+    let most = device_cells(atoms, MOST_RING);
+    load_cells(alloc, cells, atoms, most.min(bytes / CELL))
 }
 
-/// The first cells of the device.
-fn load_cells<D: Disk>(
+/// The first cells of a device for so many atoms, as today's.
+fn load_cells<C: ReadAsToday>(
     alloc: Global,
-    cells: &mut Cells<D>,
+    cells: &mut C,
+    atoms: u16,
     count: u64,
 ) -> Result<Vec<Option<[u8; BODY]>>, BootFault>
-    requires inside { count ≤ cell_count (BODY + 1) cells.old }
+    requires inside { count ≤ cell_count C.bytes_of_cell (C.state cells.old) }
     requires few { count ≤ device_cells MAX_ATOMS MOST_RING }
-    ensures reads { Reads (has_failed result) cells.old cells.new }
+    ensures reads { Reads (has_failed result) (C.state cells.old) (C.state cells.new) }
     ensures silent { (found : Option ImageFault) → IfErr result (IsToldBy found) }
-    ensures loaded { cells.old.keeps ≡ true → IfOk result (λ list. list.items ≡ take count (seen_cells (BODY + 1) cells.old)) }
+    ensures loaded { (C.state cells.old).keeps ≡ true
+        → IfOk result (λ list. list.items ≡ take count (C.todays atoms (seen_cells C.bytes_of_cell (C.state cells.old)))) }
 {
     let mut list = Vec::with_capacity(alloc, count as usize)?;
     for k in 0..count {
-        list.push_reserved(load_cell(cells, k)?);
+        list.push_reserved(cells.load_cell(atoms, k)?);
     }
     Ok(list)
-}
-
-/// The body of cell `k`, where it is full.
-fn load_cell<D: Disk>(cells: &mut Cells<D>, k: u64) -> Result<Option<[u8; BODY]>, DiskFault>
-    requires { k < cell_count (BODY + 1) cells.old }
-    ensures reads { Reads (is_err result) cells.old cells.new }
-    ensures loaded { cells.old.keeps ≡ true → IfOk result (λ found. found ≡ cell (seen_cells (BODY + 1) cells.old) k) }
-{
-    let mut body = [0; BODY];
-    if cells.read_cell(k, &mut body)? {
-        Ok(Some(body))
-    } else {
-        Ok(None)
-    }
 }

@@ -1,5 +1,6 @@
 use Rattle.std.proofs.Common.{◌≡◌, ℕ, zero, suc, ◌+◌, ◌*◌, ◌/◌, ◌%◌, ◌<◌, ◌≤◌, ◌-◌, ◌^◌, refl, sym, ◌∙◌, ap, subst, List, [], ◌∷◌, ◌++◌, length, map, get_or, take, drop, arith, mul_comm, mul-div_cancel, div-add-mod', div-lt_iff_lt-mul, mod-lt, mul-zero, mul-le-mul, pow-add}
 use Rattle.std.specs.Prelude.{Some, slice_get, flat_map, option_map}
+use Rattle.std.proofs.Math.Nat.{mul_assoc}
 use Rattle.std.proofs.lemmas.List.{length-append, length-map, take_all}
 use Rattle.std.proofs.lemmas.Option.{slice_get-map, slice_get-get_or, slice_get_within, get_or_from_slice_get}
 use Rattle.step_core.specs.Choice.{combinations}
@@ -58,11 +59,24 @@ module _ {X : Type 0} (rest : List (List X)) where
       ap (slice_get (rows xs)) (sym (div-add-mod' place (length rest))) ∙
       rows-at xs (place / length rest) r x (get_or rest r []) first (slice_get-get_or rest r [] below)
 
+-- there are as many rows of lists behind one another as the product of those of each part
+pub length-combinations-append : {X : Type 0} (xs ys : List (List X)) → length (combinations (xs ++ ys)) ≡ length (combinations xs) * length (combinations ys)
+length-combinations-append [] ys = omega arith
+length-combinations-append (x ∷ xs) ys =
+    length-rows (combinations (xs ++ ys)) x ∙ ap (λ n. length x * n) (length-combinations-append xs ys)
+    ∙ sym (mul_assoc (length x) (length (combinations xs)) (length (combinations ys)))
+    ∙ ap (λ n. n * length (combinations ys)) (sym (length-rows (combinations xs) x))
+
 -- powers of 2 that bound a product
 pub product-bound : (a b k n : ℕ) → a ≤ 128 → b ≤ 2 ^ (7 * k) → n ≡ suc k → a * b ≤ 2 ^ (7 * n)
 product-bound a b k n small few e =
     let sum : 7 * n ≡ 7 + 7 * k = omega arith in
     subst (λ x. a * b ≤ x) (sym (ap (λ m. 2 ^ m) sum ∙ pow-add 2 7 (7 * k))) (mul-le-mul small few)
+
+pub parts-bound : (a b m n k : ℕ) → a ≤ 2 ^ (7 * m) → b ≤ 2 ^ (7 * n) → m + n ≡ k → a * b ≤ 2 ^ (7 * k)
+parts-bound a b m n k few many e =
+    let sum : 7 * k ≡ 7 * m + 7 * n = omega arith in
+    subst (λ x. a * b ≤ x) (sym (ap (λ j. 2 ^ j) sum ∙ pow-add 2 (7 * m) (7 * n))) (mul-le-mul few many)
 
 -- a list that is not empty, as its first element and the others
 pub first-later : {X : Type 0} (xs : List X) (d : X) → 1 ≤ length xs → xs ≡ get_or xs 0 d ∷ take (length xs - 1) (drop 1 xs)

@@ -10,7 +10,7 @@ use Rattle.petri_atom.specs.Definition.{AtomDefinition}
 use Rattle.step_core.specs.Plant.{WireDefinition, PlantDefinition}
 use Rattle.step_core.specs.Choice.{Interaction, ChoiceDefinition, active_in, named, is_possible, is_possible_at, is_allowed_at, choices_of, flat_from}
 use Rattle.step_core.specs.ChoicesIn.{AreAllPossible, choices_in, choices_where, is_kept_at}
-use Rattle.step_core.specs.Ways.{AreWays}
+use Rattle.step_core.specs.Ways.{ways_at}
 use Rattle.priority_filter.specs.Active.{active}
 use Rattle.priority_filter.specs.Decided.{is_overruled}
 use Rattle.priority_filter.specs.declared.seen.At.{At}
@@ -63,10 +63,10 @@ module _ (atoms : List AtomDefinition) (wires : List WireDefinition) (states : L
   none-past n past = false_from_ne_true (kept n) (λ here. absurd (omega (arith, past, kept-within n here)))
 
   -- how many choices a kept interaction has
-  ways-given : (ways : List ℕ) (n : ℕ) → AreWays atoms wires states all ways → n < length all → kept n ≡ true → length (gives n (get_or all n no_interaction)) ≡ get_or ways n 0
-  ways-given ways n counted within yes_ =
+  ways-given : (n : ℕ) → n < length all → kept n ≡ true → length (gives n (get_or all n no_interaction)) ≡ ways_at atoms states all n
+  ways-given n within yes_ =
       ap length (all-given n (get_or all n no_interaction) yes_) ∙
-      sym (counted n (possible n yes_) ∙ ap (λ o. option_map_or (λ i. length (choices_of atoms states i)) o 0) (slice_get-get_or all n no_interaction within))
+      sym (ap (λ o. option_map_or (λ i. length (choices_of atoms states i)) o 0) (slice_get-get_or all n no_interaction within))
 
   -- how many choices the interactions below a number have
   abbrev pub count_below : ℕ → ℕ
@@ -77,10 +77,10 @@ module _ (atoms : List AtomDefinition) (wires : List WireDefinition) (states : L
   count-skips i k past none = flat-added gives all i no_interaction k past (λ m from below within. none-given m (get_or all m no_interaction) (none m from below))
 
   -- one kept interaction more
-  pub count-adds : (ways : List ℕ) (n : ℕ) → AreWays atoms wires states all ways → kept n ≡ true → count_below (n + 1) ≡ count_below n + get_or ways n 0
-  count-adds ways n counted yes_ =
+  pub count-adds : (n : ℕ) → kept n ≡ true → count_below (n + 1) ≡ count_below n + ways_at atoms states all n
+  count-adds n yes_ =
       let within : n < length all = kept-within n yes_ in
-      flat-more gives all n no_interaction within ∙ ap (λ k. count_below n + k) (ways-given ways n counted within yes_)
+      flat-more gives all n no_interaction within ∙ ap (λ k. count_below n + k) (ways-given n within yes_)
 
   -- all of them
   pub count-all : (n : ℕ) → ((m : ℕ) → n ≤ m → kept m ≡ false) → count_below n ≡ length (choices_in atoms states all kept)
@@ -97,17 +97,17 @@ module _ (atoms : List AtomDefinition) (wires : List WireDefinition) (states : L
   entries-skip i k past none = flat-passed gives all i no_interaction k past (λ m from below within. none-given m (get_or all m no_interaction) (none m from below))
 
   -- an entry of a kept interaction
-  pub entry-here : (ways : List ℕ) (n place : ℕ) → AreWays atoms wires states all ways → kept n ≡ true → place < get_or ways n 0 → slice_get (from_number n) place ≡ slice_get (choices_of atoms states (get_or all n no_interaction)) place
-  entry-here ways n place counted yes_ inside =
+  pub entry-here : (n place : ℕ) → kept n ≡ true → place < ways_at atoms states all n → slice_get (from_number n) place ≡ slice_get (choices_of atoms states (get_or all n no_interaction)) place
+  entry-here n place yes_ inside =
       let within : n < length all = kept-within n yes_ in
-      let long = ways-given ways n counted within yes_ in
+      let long = ways-given n within yes_ in
       flat-here gives all n no_interaction within place (omega (arith, long)) ∙ ap (λ ys. slice_get ys place) (all-given n (get_or all n no_interaction) yes_)
 
   -- an entry behind it
-  pub entry-behind : (ways : List ℕ) (n place : ℕ) → AreWays atoms wires states all ways → kept n ≡ true → get_or ways n 0 ≤ place → slice_get (from_number n) place ≡ slice_get (from_number (n + 1)) (place - get_or ways n 0)
-  entry-behind ways n place counted yes_ past =
+  pub entry-behind : (n place : ℕ) → kept n ≡ true → ways_at atoms states all n ≤ place → slice_get (from_number n) place ≡ slice_get (from_number (n + 1)) (place - ways_at atoms states all n)
+  entry-behind n place yes_ past =
       let within : n < length all = kept-within n yes_ in
-      let long = ways-given ways n counted within yes_ in
+      let long = ways-given n within yes_ in
       flat-behind gives all n no_interaction within place (omega (arith, long)) ∙ ap (λ k. slice_get (from_number (n + 1)) (place - k)) long
 
   -- no entry where nothing is kept any more

@@ -3,6 +3,7 @@ pub mod Judging
 pub mod Combinations
 pub mod Flattened
 pub mod Counted
+mod FittingWords
 mod Offering
 pub mod FirstTold
 mod Found

@@ -7,7 +7,7 @@ ghost use Rattle.step_core.specs.Choice.{named};
 ghost use Rattle.step_core.specs.Interaction.{interaction_of};
 ghost use Rattle.step_core.specs.ChoicesIn.{AreAllPossible, choices_in, choices_in_below, is_kept_at};
 ghost use Rattle.step_core.specs.Possible.{ArePossible};
-ghost use Rattle.step_core.specs.Ways.{AreWays};
+ghost use Rattle.step_core.specs.Ways.{AreWays, each_fits_word};
 ghost use Rattle.step_core.specs.Wire.{wire_of};
 ghost use Rattle.priority_filter.specs.Active.{may_be_marked};
 ghost use Rattle.priority_filter.specs.declared.interaction_set.TheConstants.{ROW_WORDS};
@@ -27,8 +27,10 @@ pub(crate) struct PriorityJudge<'a> {
     pub(crate) order: &'a Order,
     pub(crate) seen: &'a [Seen; SEEN_ATOMS],
     pub(crate) possible: &'a InteractionSet,
+    pub(crate) fit_words: bool,
     pub(crate) ways: &'a [u64; MAX_INTERACTIONS],
     ghost few: { length interactions.now ≤ MAX_INTERACTIONS },
+    ghost fitting: { fit_words ≡ each_fits_word (map interaction_of interactions.now) },
     ghost ordered: { order.now.interactions ≡ map named (map interaction_of interactions.now) },
     ghost known: { ArePossible (map definition_of judged.atoms.now) (map wire_of judged.wires.now) judged.states.now (map interaction_of interactions.now) possible.now },
     ghost counted: { AreWays (map definition_of judged.atoms.now) (map wire_of judged.wires.now) judged.states.now (map interaction_of interactions.now) ways.now },
@@ -74,14 +76,19 @@ impl PriorityJudge<'_> {
     fn count_word(&self, kept: &InteractionSet, place: usize) -> u128
         requires place { place < ROW_WORDS }
         requires possible { AreAllPossible (judged_plant self.now).atoms (judged_plant self.now).wires self.now.judged.states.now (judged_interactions self.now) (contains kept.now) }
-        ensures few { result ≤ 64 * 2 ^ 64 }
+        ensures few { result ≤ 64 * 2 ^ 112 }
         ensures count { length (choices_in_below (judged_plant self.now).atoms self.now.judged.states.now (judged_interactions self.now) (contains kept.now) (64 * (place + 1))) ≡ length (choices_in_below (judged_plant self.now).atoms self.now.judged.states.now (judged_interactions self.now) (contains kept.now) (64 * place)) + result }
     {
         let mut total = 0;
         let mut left = kept.word(place);
         while left != 0 {
             let bit = left.trailing_zeros() as usize;
-            total += u128::from(self.ways[64 * place + bit]);
+            total += self.judged.ways_of(
+                self.interactions,
+                self.fit_words,
+                self.ways,
+                64 * place + bit,
+            );
             left &= !(1 << bit);
         }
         total

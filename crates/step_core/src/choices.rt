@@ -12,7 +12,7 @@ ghost use Rattle.step_core.specs.EnabledTransitions.{AreOffered, AreCounted, cou
 ghost use Rattle.step_core.specs.Dependents.{is_noted, row_of_port};
 ghost use Rattle.step_core.specs.Possible.{ArePossible, ArePossibleBut, AreAllowed};
 ghost use Rattle.step_core.specs.Sights.{AreSeen};
-ghost use Rattle.step_core.specs.Ways.{AreWays, AreWaysBut, IsSame};
+ghost use Rattle.step_core.specs.Ways.{AreWays, AreWaysBut, IsSame, ways_at};
 ghost use Rattle.step_core.specs.Wire.{wire_of};
 ghost use Rattle.priority_filter.specs.Active.{may_be_marked};
 ghost use Rattle.priority_filter.specs.declared.interaction_set.TheConstants.{ROW_WORDS};
@@ -91,7 +91,8 @@ impl System {
         let mut touched = InteractionSet::new();
         let is_new = self.judge_offers_again(states, changed, &mut touched, judgement);
         let is_seen_new = see_again(&self.order, states, changed, &mut judgement.seen);
-        if is_new | is_seen_new {
+        // Where a number of choices does not fit a word, it is not kept, and nobody knows whether it changed.
+        if is_new | is_seen_new | !self.fit_words {
             judgement.allowed.clear();
             judgement.total = self.allow(
                 states,
@@ -237,6 +238,7 @@ impl System {
             order: &self.order,
             seen,
             possible,
+            fit_words: self.fit_words,
             ways,
         };
         filtered.keep(rivals, kept)
@@ -302,9 +304,9 @@ impl System {
         while word != 0 {
             let bit = word.trailing_zeros() as usize;
             let number = 64 * at + bit;
-            let ways = u128::from(judgement.ways[number]);
+            let ways = self.ways_of(states, judgement, number);
             if left < ways {
-                return Ok(self.choice_at(states, judgement, number as u16, left as u64));
+                return Ok(self.choice_at(states, judgement, number as u16, ways, left));
             }
             left -= ways;
             word &= !(1 << bit);
@@ -312,19 +314,38 @@ impl System {
         Err(left)
     }
 
-    /// The choice with this place among those of the interaction with this number.
+    /// How many choices the interaction with this number has, which is possible.
+    fn ways_of(&self, states: &PlantState, judgement: &Judgement, number: usize) -> u128
+        requires of_plant { IsOf (plant_of self.now) states.now }
+        requires judged { IsOffering (plant_of self.now) (interactions_in self.now) states.now judgement.now }
+        requires number { number < length self.now.interactions.items }
+        requires possible { is_possible_at (plant_of self.now).atoms (plant_of self.now).wires states.now (interactions_in self.now) number ≡ true }
+        ensures { result ≡ ways_at (plant_of self.now).atoms states.now (interactions_in self.now) number }
+    {
+        let judged = InteractionJudge {
+            atoms: &self.atoms,
+            wires: &self.wires,
+            bound: &self.bound,
+            states,
+            offers: &judgement.offers,
+        };
+        judged.ways_of(&self.interactions, self.fit_words, &judgement.ways, number)
+    }
+
+    /// The choice with this place among those of the interaction with this number, which has so many.
     fn choice_at(
         &self,
         states: &PlantState,
         judgement: &Judgement,
         number: u16,
-        place: u64,
+        ways: u128,
+        place: u128,
     ) -> Choice
         requires of_plant { IsOf (plant_of self.now) states.now }
         requires judged { IsOffering (plant_of self.now) (interactions_in self.now) states.now judgement.now }
         requires number { number < length self.now.interactions.items }
-        requires possible { is_possible_at (plant_of self.now).atoms (plant_of self.now).wires states.now (interactions_in self.now) number ≡ true }
-        requires place { place < slice_index_or judgement.now.ways number 0 }
+        requires ways { ways ≡ ways_at (plant_of self.now).atoms states.now (interactions_in self.now) number }
+        requires place { place < ways }
         ensures { (i : Interaction) → slice_get (interactions_in self.now) number ≡ Some i → slice_get (choices_of (plant_of self.now).atoms states.now i) place ≡ Some (choice_of result) }
     {
         let judged = InteractionJudge {
@@ -338,11 +359,7 @@ impl System {
         Choice {
             connector: interaction.connector,
             mask: interaction.mask,
-            moves: judged.nth_row(
-                &interaction.ports,
-                judgement.ways[usize::from(number)],
-                place,
-            ),
+            moves: judged.nth_row(&interaction.ports, ways, place),
         }
     }
 }

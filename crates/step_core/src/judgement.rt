@@ -6,9 +6,8 @@ use crate::limits::MAX_INTERACTIONS;
 use priority_filter::{InteractionSet, SEEN_ATOMS, Seen};
 
 /// What a state of a plant offers: what each atom offers, the possible interactions, for each of these how many choices it has
-/// where no priority forbids it, what is seen of the atoms for the conditions of priority rules, the allowed interactions, and how
-/// many choices these have in all. It is of fixed size and takes
-/// no memory.
+/// where no priority forbids it, if that fits a word, what is seen of the atoms for the conditions of priority rules, the allowed
+/// interactions, and how many choices these have in all. It is of fixed size and takes no memory.
 #[derive(Drop)]
 pub(crate) struct Judgement {
     pub(crate) offers: EnabledTransitions,

@@ -20,7 +20,7 @@ pub fn a_plant_is_within_limits()
     ensures { (plant : PlantDefinition) → fault_of plant ≡ None → IsWithinLimits plant }
 {}
 
-/// Each interaction of a plant is one of a connector of the plant, with 1 to 8 of its ports, in rising order of their atoms,
+/// Each interaction of a plant is one of a connector of the plant, with 1 to 16 of its ports, in rising order of their atoms,
 /// which are the plant's.
 pub fn an_interaction_is_of_its_plant()
     ensures { (plant : PlantDefinition) (i : Interaction) → fault_of plant ≡ None
@@ -34,7 +34,7 @@ pub fn an_allowed_choice_takes_up_an_interaction()
         → (number : ℕ) × IsTaking plant states number c }
 {}
 
-/// So it names a connector of the plant, and has 1 to 8 moves, of atoms of the plant in rising order, each by a transition that its
+/// So it names a connector of the plant, and has 1 to 16 moves, of atoms of the plant in rising order, each by a transition that its
 /// atom has.
 pub fn an_allowed_choice_is_in_range()
     ensures { (plant : PlantDefinition) (states : List Local) (c : ChoiceDefinition) → fault_of plant ≡ None

@@ -12,3 +12,5 @@ pub const MAX_GUARDS: usize = 8;
 pub const MAX_TRANSFERS: usize = 32;
 /// How many interactions a plant may have.
 pub const MAX_INTERACTIONS: usize = 1024;
+/// The most ports of an interaction whose number of choices is kept in a word: 128 moves at each of them make 2^63.
+pub(crate) const PORTS_IN_A_WORD: usize = 9;

@@ -1,6 +1,6 @@
 //! A global state with the offered transitions of its atoms, each judged once: which interactions are possible in it, and how
 //! their participants can move.
-ghost use Rattle.std.specs.Prelude.{◌≡◌, ℕ, true, false, [], ◌≤◌, ◌<◌, ◌+◌, ◌*◌, ◌/◌, ◌%◌, ◌^◌, ◌++◌, Some, None, List, map, length, get_or, slice_get, slice_index_or, flat_map, option_map};
+ghost use Rattle.std.specs.Prelude.{◌≡◌, ◌↔◌, ℕ, true, false, [], ◌≤◌, ◌<◌, ◌+◌, ◌*◌, ◌/◌, ◌%◌, ◌^◌, ◌++◌, Some, None, List, map, length, get_or, slice_get, slice_index_or, flat_map, option_map};
 ghost use Rattle.std.specs.FinSet.{contains};
 ghost use Rattle.petri_atom.specs.Atom.{definition_of};
 ghost use Rattle.petri_atom.specs.declared.parts.TheConstants.{MAX_TRANSITIONS};
@@ -9,7 +9,7 @@ ghost use Rattle.step_core.specs.Choice.{is_offered_port, passes_guards, is_poss
 ghost use Rattle.step_core.specs.Interaction.{interaction_of};
 ghost use Rattle.step_core.specs.Possible.{ArePossible, ArePossibleBut};
 ghost use Rattle.step_core.specs.BoundExpressions.{AreGuarding};
-ghost use Rattle.step_core.specs.Ways.{IsWays, AreWays, AreWaysBut, IsSame};
+ghost use Rattle.step_core.specs.Ways.{IsWays, AreWays, AreWaysBut, IsSame, each_fits_word, ways_at};
 ghost use Rattle.step_core.specs.Dependents.{at_port, is_in_row, AreOnPorts, IsOnEmpty};
 ghost use Rattle.step_core.specs.Words.{in_word, IsRightIn};
 ghost use Rattle.step_core.specs.Wire.{wire_of};
@@ -18,14 +18,14 @@ ghost use Rattle.priority_filter.specs.Members.{has_bit};
 ghost use Rattle.petri_atom.specs.declared.parts.TheConstants.{MAX_PORTS};
 ghost use Rattle.priority_filter.specs.declared.interaction_set.TheConstants.{ROW_WORDS};
 ghost use Rattle.step_core.specs.declared.choice.Move.{Move};
-ghost use Rattle.step_core.specs.declared.limits.TheConstants.{MAX_INTERACTIONS};
+ghost use Rattle.step_core.specs.declared.limits.TheConstants.{MAX_INTERACTIONS, PORTS_IN_A_WORD};
 
 use crate::bound_expressions::BoundExpressions;
 use crate::choice::{Move, Moves};
 use crate::dependents::port_row;
 use crate::enabled_transitions::EnabledTransitions;
 use crate::interaction::Interaction;
-use crate::limits::MAX_INTERACTIONS;
+use crate::limits::{MAX_INTERACTIONS, PORTS_IN_A_WORD};
 use crate::state::PlantState;
 use crate::wire::Wire;
 use connector_tree::Port;
@@ -86,9 +86,9 @@ impl InteractionJudge<'_> {
         }
     }
 
-    /// How many rows of one move for each port there are.
+    /// How many rows of one move for each port there are, of so few ports that the number fits a word.
     fn row_count(&self, ports: &[Port]) -> u64
-        requires { length ports.now ≤ MAX_LEAVES }
+        requires { length ports.now ≤ PORTS_IN_A_WORD }
         ensures few { result ≤ 2 ^ (7 * length ports.now) }
         ensures count { result ≡ length (combinations (map (moves_of (judged_atoms self.now) self.now.states.now) ports.now)) }
     {
@@ -105,9 +105,55 @@ impl InteractionJudge<'_> {
         }
     }
 
+    /// How many rows of one move for each port there are.
+    fn long_row_count(&self, ports: &[Port]) -> u128
+        requires { length ports.now ≤ MAX_LEAVES }
+        ensures few { result ≤ 2 ^ (7 * length ports.now) }
+        ensures count { result ≡ length (combinations (map (moves_of (judged_atoms self.now) self.now.states.now) ports.now)) }
+    {
+        let middle = ports.len().min(PORTS_IN_A_WORD);
+        u128::from(self.row_count(&ports[..middle])) * u128::from(self.row_count(&ports[middle..]))
+    }
+
+    /// What is kept of how many rows there are: the number, where it fits a word; else 1 where there is a row, and 0 where there is none.
+    fn kept_count(&self, ports: &[Port]) -> u64
+        requires { length ports.now ≤ MAX_LEAVES }
+        ensures none { (result ≡ 0) ↔ (length (combinations (map (moves_of (judged_atoms self.now) self.now.states.now) ports.now)) ≡ 0) }
+        ensures count { length ports.now ≤ PORTS_IN_A_WORD → result ≡ length (combinations (map (moves_of (judged_atoms self.now) self.now.states.now) ports.now)) }
+    {
+        if ports.len() > PORTS_IN_A_WORD {
+            u64::from(self.long_row_count(ports) != 0)
+        } else {
+            self.row_count(ports)
+        }
+    }
+
+    /// How many choices the interaction with this number has, which is possible. The row has this where it fits a word, and where each
+    /// fits one nothing else is looked at.
+    pub(crate) fn ways_of(
+        &self,
+        interactions: &[Interaction],
+        fit_words: bool,
+        ways: &[u64; MAX_INTERACTIONS],
+        number: usize,
+    ) -> u128
+        requires there { number < length interactions.now }
+        requires few { length interactions.now ≤ MAX_INTERACTIONS }
+        requires fitting { fit_words ≡ each_fits_word (map interaction_of interactions.now) }
+        requires counted { AreWays (judged_atoms self.now) (judged_wires self.now) self.now.states.now (map interaction_of interactions.now) ways.now }
+        requires possible { is_possible_at (judged_atoms self.now) (judged_wires self.now) self.now.states.now (map interaction_of interactions.now) number ≡ true }
+        ensures few { result ≤ 2 ^ 112 }
+        ensures value { result ≡ ways_at (judged_atoms self.now) self.now.states.now (map interaction_of interactions.now) number }
+    {
+        if fit_words {
+            return u128::from(ways[number]);
+        }
+        self.long_row_count(&interactions[number].ports)
+    }
+
     /// Adds the row with this place, from 0, of one move for each port, of which the last varies fastest; `total` is how
     /// many rows there are.
-    fn push_row(&self, ports: &[Port], total: u64, place: u64, moves: &mut Moves)
+    fn push_row(&self, ports: &[Port], total: u128, place: u128, moves: &mut Moves)
         requires room { length moves.old + length ports.now ≤ MAX_LEAVES }
         requires total { total ≡ length (combinations (map (moves_of (judged_atoms self.now) self.now.states.now) ports.now)) }
         requires place { place < total }
@@ -116,7 +162,8 @@ impl InteractionJudge<'_> {
         match ports {
             [] => {}
             [first, later @ ..] => {
-                let split = split_place(total, self.move_count(first), place);
+                let count = u128::from(self.move_count(first));
+                let split = split_place(total, count, place);
                 moves.push(self.nth_move(first, split.own as usize));
                 self.push_row(later, split.below, split.rest, moves);
             }
@@ -138,7 +185,7 @@ impl InteractionJudge<'_> {
     }
 
     /// The row with this place, from 0, of one move for each port, of which there are `total`.
-    pub(crate) fn nth_row(&self, ports: &[Port], total: u64, place: u64) -> Moves
+    pub(crate) fn nth_row(&self, ports: &[Port], total: u128, place: u128) -> Moves
         requires few { length ports.now ≤ MAX_LEAVES }
         requires total { total ≡ length (combinations (map (moves_of (judged_atoms self.now) self.now.states.now) ports.now)) }
         requires place { place < total }
@@ -234,7 +281,7 @@ impl InteractionJudge<'_> {
         let number = 64 * place + bit;
         match interactions.get(number) {
             Some(interaction) => {
-                let count = self.row_count(&interaction.ports);
+                let count = self.kept_count(&interaction.ports);
                 if count == 0 {
                     return Verdict {
                         ruled_out: self.ruled_out(rows, place, &interaction.ports),
@@ -311,15 +358,15 @@ fn word_of_port(rows: &[InteractionSet], port: &Port, place: usize) -> u64
 #[derive(Drop)]
 struct Split {
     /// The place among the moves of the first port.
-    own: u64,
+    own: u128,
     /// How many rows there are for each of these.
-    below: u64,
+    below: u128,
     /// The place among those.
-    rest: u64,
+    rest: u128,
 }
 
 /// Splits the place of a row of `total`, where the first port has `count` moves.
-fn split_place(total: u64, count: u64, place: u64) -> Split
+fn split_place(total: u128, count: u128, place: u128) -> Split
     requires some { 0 < count }
     requires whole { 0 < total / count }
     requires place { place < total }

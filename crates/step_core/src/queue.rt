@@ -19,7 +19,10 @@ impl<T> Queue<T> {
         ensures { items_in result ≡ [] }
     {
         Queue {
-            places: [None, None, None, None, None, None, None, None],
+            places: [
+                None, None, None, None, None, None, None, None, None, None, None, None, None, None,
+                None, None,
+            ],
         }
     }
 

@@ -84,7 +84,7 @@ impl System {
             &touched,
             &mut judgement.opened,
         );
-        if is_new | is_seen_new | is_open_new {
+        if is_new | is_seen_new | is_open_new | !self.fit_words {
             judgement.judgement.allowed.clear();
             judgement.judgement.total = self.keep_sure(
                 parts,

@@ -8,6 +8,7 @@ ghost use Rattle.step_core.specs.Made.{plant_by};
 ghost use Rattle.step_core.specs.BoundExpressions.{AreGuarding, AreDelivering};
 ghost use Rattle.step_core.specs.Rules.{fault_of, first_fault, fault_of_count, IsFaultOf};
 ghost use Rattle.step_core.specs.Dependents.{AreDependents, AreOnPorts};
+ghost use Rattle.step_core.specs.Ways.{each_fits_word, fits_word};
 ghost use Rattle.step_core.specs.Wire.{wire_of};
 ghost use Rattle.step_core.specs.declared.dependents.TheConstants.{ATOM_ROWS};
 ghost use Rattle.std.specs.List.{list_all};
@@ -20,7 +21,7 @@ use crate::dependents::dependent_rows;
 use crate::fault::SystemFault;
 use crate::interaction::Interaction;
 use crate::interactions::connector_interactions;
-use crate::limits::MAX_INTERACTIONS;
+use crate::limits::{MAX_INTERACTIONS, PORTS_IN_A_WORD};
 use crate::wire::Wire;
 use crate::{rules, wire_rules};
 use connector_tree::Port;
@@ -33,7 +34,8 @@ use std::alloc::{AllocError, Global};
 ///
 /// It keeps each rule of a plant, so that what can be asked of it cannot fail. It has all interactions at hand, the
 /// leaves of each connector, its guard clauses and transfers with their variables found, the order of the priority rules, and for
-/// each atom the interactions that depend on it, so that no step takes memory.
+/// each atom the interactions that depend on it, so that no step takes memory. It knows whether the number of choices of each
+/// interaction fits a word.
 #[derive(Drop)]
 pub struct System {
     pub(crate) atoms: Vec<Atom>,
@@ -42,6 +44,7 @@ pub struct System {
     pub(crate) ports: Vec<Vec<Port>>,
     pub(crate) bound: Vec<BoundExpressions>,
     pub(crate) interactions: Vec<Interaction>,
+    pub(crate) fit_words: bool,
     pub(crate) order: Order,
     pub(crate) dependents: Vec<InteractionSet>,
     ghost valid: { fault_of (plant_by atoms.items wires.items order.rules) ≡ None },
@@ -49,6 +52,7 @@ pub struct System {
     ghost guarding: { AreGuarding (map definition_of atoms.items) (map wire_of wires.items) bound.items },
     ghost delivering: { AreDelivering (map definition_of atoms.items) (map wire_of wires.items) bound.items },
     ghost listed: { map interaction_of interactions.items ≡ plant_interactions (plant_by atoms.items wires.items order.rules) },
+    ghost fitting: { fit_words ≡ each_fits_word (map interaction_of interactions.items) },
     ghost ordered: { order.interactions ≡ map named (map interaction_of interactions.items) },
     ghost rows: { length dependents.items ≡ length atoms.items * ATOM_ROWS },
     ghost touched: { AreDependents (map wire_of wires.items) (map interaction_of interactions.items) dependents.items },
@@ -81,6 +85,7 @@ impl System {
         if let Some(fault) = fault_of_count(interactions.len()) {
             return Err(fault);
         }
+        let fit_words = fit_words(&interactions);
         let order = order_of(alloc, rules, &interactions)?;
         let dependents = dependent_rows(alloc, atoms.len(), &wires, &ports, &interactions)?;
         Ok(System {
@@ -90,6 +95,7 @@ impl System {
             ports,
             bound,
             interactions,
+            fit_words,
             order,
             dependents,
         })
@@ -159,6 +165,15 @@ impl System {
     {
         self.order.rules()
     }
+}
+
+/// Whether the number of choices of each interaction fits a word.
+fn fit_words(interactions: &[Interaction]) -> bool
+    ensures { result ≡ list_all (λ i. fits_word (interaction_of i)) interactions.now }
+{
+    interactions
+        .iter()
+        .all(|interaction| interaction.ports.len() <= PORTS_IN_A_WORD)
 }
 
 /// The order that the rules put on the interactions.

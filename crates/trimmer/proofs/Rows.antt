@@ -4,8 +4,8 @@ use Rattle.std.specs.List.{prefix_len}
 use Rattle.trimmer.specs.Covered.{MarkFields, is_covered}
 use Rattle.trimmer.specs.declared.mark.TheConstants.{MOST_PARTICIPANTS}
 
-eight_participants_at_most : MOST_PARTICIPANTS ≡ 8
-eight_participants_at_most = refl
+sixteen_participants_at_most : MOST_PARTICIPANTS ≡ 16
+sixteen_participants_at_most = refl
 
 -- three records: atom 0 alone, atoms 0 and 1, atom 0 alone
 first : MarkFields

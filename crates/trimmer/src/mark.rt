@@ -6,7 +6,7 @@ ghost use Rattle.trimmer.specs.declared.mark.TheConstants.{MOST_PARTICIPANTS};
 use std::marker::Model;
 
 /// How many participants a record has at most.
-pub const MOST_PARTICIPANTS: usize = 8;
+pub const MOST_PARTICIPANTS: usize = 16;
 
 /// One participant of a record.
 #[derive(Clone, Copy, Debug, PartialEq, Eq)]

@@ -6,9 +6,9 @@ use record_codec::{BODY, Base, Entry, Fired, Identity, Saved};
 const BASE: [u8; 8] = [0, 0, 0, 0, 0, 0, 0, 9];
 
 // What an identity begins with, of two atoms and a ring of 8, and of the most that there may be.
-const SAMPLE_FRONT: [u8; 12] = [0x42, 0x49, 0x50, 0x46, 0, 1, 0, 2, 0, 0, 0, 8];
+const SAMPLE_FRONT: [u8; 12] = [0x42, 0x49, 0x50, 0x46, 0, 2, 0, 2, 0, 0, 0, 8];
 
-const LARGEST_FRONT: [u8; 12] = [0x42, 0x49, 0x50, 0x46, 0, 1, 0, 64, 0, 0, 0x10, 0];
+const LARGEST_FRONT: [u8; 12] = [0x42, 0x49, 0x50, 0x46, 0, 2, 0, 64, 0, 0, 0x10, 0];
 
 // The SHA-256 of the sample plant's text, with which each identity here ends.
 const DIGEST: [u8; 32] = [
@@ -50,21 +50,21 @@ fn longest_saved() -> [u8; BODY] {
     body
 }
 
-// Number 2^63 - 1, connector 63, and eight entries of atoms 56 to 63, each with transition 127,
-// participation number 2^63 - 1 and four values -1: 379 bytes.
+// Number 2^63 - 1, connector 63, and sixteen entries of atoms 48 to 63, each with transition 127,
+// participation number 2^63 - 1 and four values -1: 747 bytes.
 fn longest_record() -> [u8; BODY] {
     let mut body = [0; BODY];
-    for i in 0..379 {
+    for i in 0..747 {
         body[i] = 0xff;
     }
     body[0] = 0x7f;
     body[8] = 0;
     body[9] = 63;
-    body[10] = 8;
-    for entry in 0..8 {
+    body[10] = 16;
+    for entry in 0..16 {
         let at = 11 + 46 * entry;
         body[at] = 0;
-        body[at + 1] = 56 + entry as u8;
+        body[at + 1] = 48 + entry as u8;
         body[at + 2] = 0;
         body[at + 3] = 127;
         body[at + 4] = 0x7f;
@@ -149,21 +149,21 @@ fn version_in(body: &[u8; BODY]) -> Option<u16> {
 #[test]
 fn identities(rt: HostRuntime) {
     for (front, version, numbers) in [
-        (SAMPLE_FRONT, Some(1), Some((2, 8))),
-        (LARGEST_FRONT, Some(1), Some((64, 4096))),
+        (SAMPLE_FRONT, Some(2), Some((2, 8))),
+        (LARGEST_FRONT, Some(2), Some((64, 4096))),
         (
-            [0x42, 0x49, 0x50, 0x46, 0, 1, 0, 64, 0, 0, 0x10, 1],
-            Some(1),
+            [0x42, 0x49, 0x50, 0x46, 0, 2, 0, 64, 0, 0, 0x10, 1],
+            Some(2),
             None,
         ),
         (
-            [0x42, 0x49, 0x50, 0x46, 0, 1, 0, 65, 0, 0, 0x10, 0],
-            Some(1),
+            [0x42, 0x49, 0x50, 0x46, 0, 2, 0, 65, 0, 0, 0x10, 0],
+            Some(2),
             None,
         ),
         (
-            [0x42, 0x49, 0x50, 0x46, 0, 3, 0, 2, 0, 0, 0, 8],
-            Some(3),
+            [0x42, 0x49, 0x50, 0x46, 0, 1, 0, 2, 0, 0, 0, 8],
+            Some(1),
             None,
         ),
         ([0; 12], None, None),
@@ -252,7 +252,7 @@ fn numbers_in(body: &[u8; BODY]) -> Option<(u64, u16, usize)> {
 #[test]
 fn records(rt: HostRuntime) {
     assert_eq!(rt; numbers_in(&body_of(&RECORD)), Some((2, 1, 2)));
-    assert_eq!(rt; numbers_in(&longest_record()), Some((MOST, 63, 8)));
+    assert_eq!(rt; numbers_in(&longest_record()), Some((MOST, 63, 16)));
     assert!(rt; sample_record() == body_of(&RECORD));
 }
 
@@ -347,7 +347,7 @@ fn single_bytes_changed(rt: HostRuntime) {
         (Kind::LongestSaved, 3 + 38 + 40 + 16 * 40),
         // number, connector, and of the entries the atom, transition, participation, mask, value
         (Kind::Record, 36 + 2 + 3 + 1 + 1 + 3 + 1 + 1 + 40),
-        (Kind::LongestRecord, 3 + 3 + 8 * (3 + 38 + 4 * 40)),
+        (Kind::LongestRecord, 3 + 3 + 16 * (3 + 38 + 4 * 40)),
     ] {
         assert_eq!(rt; changes_read(kind), count);
     }

@@ -10,7 +10,7 @@ ghost use Rattle.gated_journal.specs.Rings.{IsReadFor, cells_of_ring, appended};
 ghost use Rattle.gated_journal.specs.Stops.{IsReady, moved};
 ghost use Rattle.device_tests.specs.AppendThenMove.{IsFollowedOrCut, empty_journal, record_of};
 
-use disk_model::{BODY, Cells, Disk, DiskFault, MemDisk};
+use disk_model::{BODY, CELL, Cells, Disk, DiskFault, MemDisk};
 use gated_journal::Journal;
 use record_codec::{Base, Entry, Fired};
 use std::alloc::{AllocError, Global};
@@ -44,11 +44,11 @@ fn append_then_move<D: Disk>(
 /// A new device with base 1, for a ring of eight records behind two atoms.
 fn new_cells(alloc: Global) -> Result<Cells<MemDisk>, Fail>
     ensures keeps { IfOk result (λ s. s.keeps ≡ true) }
-    ensures size { IfOk result (λ s. size_of s ≡ 7680) }
+    ensures size { IfOk result (λ s. size_of s ≡ 15360) }
     ensures ready { IfOk result (λ s. IsReady empty_journal s) }
     ensures read { IfOk result (λ s. IsReadFor empty_journal (seen_cells (BODY + 1) s)) }
 {
-    let disk = MemDisk::new(alloc, 7680, 64)?;
+    let disk = MemDisk::with_cells(alloc, 15 * CELL, 64, CELL)?;
     let mut cells = Cells::new(disk);
     cells.sync()?;
     let base = Base::new(1);
@@ -84,7 +84,7 @@ fn keep_the_last_of_three<D: Disk>(
     journal: &mut Journal,
 ) -> Result<(), DiskFault>
     requires journal { journal.old ≡ empty_journal }
-    requires size { size_of cells.old ≡ 7680 }
+    requires size { size_of cells.old ≡ 15360 }
     requires ready { cells.old.keeps ≡ true → IsReady empty_journal cells.old }
     requires read { cells.old.keeps ≡ true → IsReadFor empty_journal (seen_cells (BODY + 1) cells.old) }
 {

@@ -5,7 +5,7 @@ ghost use Rattle.disk_model.specs.Cells.{cell_count, seen_cells, Leaves, OldOrEm
 ghost use Rattle.disk_model.specs.MemDisk.{state_of};
 
 use super::common::TEARS;
-use disk_model::{BODY, Cells, Disk, DiskFault, MemDisk, Tear};
+use disk_model::{BODY, CELL, Cells, Disk, DiskFault, MemDisk, Tear};
 use std::alloc::Global;
 use std::process::Abort;
 use std::test::Fail;
@@ -20,7 +20,7 @@ fn check_whole(rt: &impl Abort, body: &[u8; BODY]) {
 
 /// The byte of each body, and 0 for an empty cell.
 fn seen(rt: &impl Abort, disk: MemDisk) -> Result<[u8; 5], DiskFault>
-    requires { size_of (state_of disk) ≡ 2560 }
+    requires { size_of (state_of disk) ≡ 5120 }
 {
     let mut cells = Engine::new(disk);
     let mut all = [0; 5];
@@ -36,12 +36,12 @@ fn seen(rt: &impl Abort, disk: MemDisk) -> Result<[u8; 5], DiskFault>
 
 /// Cells 1 to 4 are full, with bodies of 1 to 4.
 fn filled(alloc: Global) -> Result<MemDisk, Fail>
-    ensures { IfOk result (λ d. size_of (state_of d) ≡ 2560) }
+    ensures { IfOk result (λ d. size_of (state_of d) ≡ 5120) }
 {
-    let mut disk = MemDisk::new(alloc, 2560, 64)?;
+    let mut disk = MemDisk::with_cells(alloc, 5 * CELL, 64, CELL)?;
     for k in 1..5 {
-        disk.write_at(512 * k, &[0xA5])?;
-        disk.write_at(512 * k + 1, &[k as u8; BODY])?;
+        disk.write_at(CELL * k, &[0xA5])?;
+        disk.write_at(CELL * k + 1, &[k as u8; BODY])?;
     }
     disk.sync()?;
     Ok(disk)
@@ -58,8 +58,8 @@ enum Call {
 
 /// Makes the call on cells 1 to 3, or on cell 2 alone, with the device dead from its `k`-th device call on.
 fn stopped(disk: MemDisk, call: Call, k: u64) -> Result<(bool, MemDisk), DiskFault>
-    requires { size_of (state_of disk) ≡ 2560 }
-    ensures { IfOk result (λ r. size_of (state_of r.1) ≡ 2560) }
+    requires { size_of (state_of disk) ≡ 5120 }
+    ensures { IfOk result (λ r. size_of (state_of r.1) ≡ 5120) }
 {
     match call {
         Call::Erase => {
@@ -173,8 +173,8 @@ fn a_stop_leaves_each_cell_old_or_empty_or_new(rt: HostRuntime) -> Result<(), Fa
 
 /// Empties a full cell and an empty one.
 fn two_erased(disk: MemDisk) -> Result<MemDisk, DiskFault>
-    requires { size_of (state_of disk) ≡ 2560 }
-    ensures { IfOk result (λ d. size_of (state_of d) ≡ 2560) }
+    requires { size_of (state_of disk) ≡ 5120 }
+    ensures { IfOk result (λ d. size_of (state_of d) ≡ 5120) }
 {
     let mut cells = Engine::new(disk);
     cells.erase(2)?;
@@ -184,11 +184,11 @@ fn two_erased(disk: MemDisk) -> Result<MemDisk, DiskFault>
 
 /// The gate of cell 2.
 fn gate_in(disk: MemDisk) -> Result<u8, DiskFault>
-    requires { size_of (state_of disk) ≡ 2560 }
+    requires { size_of (state_of disk) ≡ 5120 }
 {
     let mut disk = disk;
     let mut gate = [7];
-    disk.read_at(1024, &mut gate)?;
+    disk.read_at(2 * CELL, &mut gate)?;
     Ok(gate[0])
 }
 
@@ -217,8 +217,8 @@ fn emptied<D: Disk>(cells: &mut Cells<D>, k: u64) -> Result<u64, DiskFault>
 
 /// Empties cell 1 by that caller.
 fn first_emptied(disk: MemDisk) -> Result<(u64, MemDisk), DiskFault>
-    requires { size_of (state_of disk) ≡ 2560 }
-    ensures { IfOk result (λ r. size_of (state_of r.1) ≡ 2560) }
+    requires { size_of (state_of disk) ≡ 5120 }
+    ensures { IfOk result (λ r. size_of (state_of r.1) ≡ 5120) }
 {
     let mut cells = Engine::new(disk);
     cells.sync()?;
@@ -229,6 +229,6 @@ fn first_emptied(disk: MemDisk) -> Result<(u64, MemDisk), DiskFault>
 #[test]
 fn cells_of_any_device_are_emptied(rt: HostRuntime) -> Result<(), Fail> {
     let (size, disk) = first_emptied(filled(rt.alloc())?)?;
-    assert_eq!(rt; (size, seen(&rt, disk)?), (2560, [0, 0, 2, 3, 4]));
+    assert_eq!(rt; (size, seen(&rt, disk)?), (5120, [0, 0, 2, 3, 4]));
     Ok(())
 }

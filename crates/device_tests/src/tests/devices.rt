@@ -3,7 +3,7 @@ ghost use Rattle.std.specs.Prelude.{◌≡◌, ◌+◌, ◌≤◌, length, IfOk}
 ghost use Rattle.disk_model.specs.DiskState.{size_of};
 ghost use Rattle.disk_model.specs.MemDisk.{state_of};
 
-use disk_model::{Disk, DiskFault, MemDisk, Tear};
+use disk_model::{CELL, Disk, DiskFault, MemDisk, Tear};
 use record_codec::ring::{IDENTITY_CELL, base_cell, device_cells, record_cell, slot_cell};
 use std::alloc::{AllocError, Global};
 use std::test::Fail;
@@ -124,7 +124,7 @@ fn last_byte_left(alloc: Global, size: u64) -> Result<u8, Fail> {
     if size == 0 {
         return Err(Fail::new("no byte"));
     }
-    let mut disk = MemDisk::with_cells(alloc, size, 2, 512)?;
+    let mut disk = MemDisk::with_cells(alloc, size, 2, CELL)?;
     disk.write_at(size - 1, &[7])?;
     disk.sync()?;
     let mut disk = disk.stop(Tear::Old);
@@ -136,9 +136,9 @@ fn last_byte_left(alloc: Global, size: u64) -> Result<u8, Fail> {
 /// The largest device that a plant can have: two slots for each of 64 atoms, and a ring of 4,096 records.
 #[test]
 fn there_is_memory_for_the_largest_device(rt: HostRuntime) -> Result<(), Fail> {
-    let size = 512 * device_cells(64, 4096);
-    let last = 512 * record_cell(64, 4096, u64::MAX) + 511;
-    assert_eq!(rt; (size, last), (2_164_224, 2_164_223));
+    let size = CELL * device_cells(64, 4096);
+    let last = CELL * (record_cell(64, 4096, u64::MAX) + 1) - 1;
+    assert_eq!(rt; (size, last), (4_328_448, 4_328_447));
     assert_eq!(rt; last_byte_left(rt.alloc(), size)?, 7);
     Ok(())
 }

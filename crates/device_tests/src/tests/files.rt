@@ -1,5 +1,5 @@
 // A device over a file, on files in the folder where the tests run, and on one in memory that forgets.
-use disk_model::{Cells, Disk};
+use disk_model::{BODY, CELL, Cells, Disk};
 use file_disk::{FileDisk, FileFault, LARGEST_IMAGE};
 use record_codec::ring::device_cells;
 use std::cell::Cell;
@@ -204,15 +204,15 @@ fn a_read_past_the_end_fails(rt: HostRuntime) -> Result<(), Fail> {
 }
 
 /// The body of cell 2, where it is full. Then it is filled.
-fn filled(disk: FileDisk) -> Result<Option<[u8; 511]>, Fail> {
+fn filled(disk: FileDisk) -> Result<Option<[u8; BODY]>, Fail> {
     let mut cells = Cells::new(disk);
-    if cells.size()? / 512 <= 2 {
+    if cells.size()? / CELL <= 2 {
         return Err(Fail::new("a device of three cells at least"));
     }
-    let mut body = [0; 511];
+    let mut body = [0; BODY];
     let is_full = cells.read_cell(2, &mut body)?;
     cells.sync()?;
-    cells.replace(2, &[7; 511])?;
+    cells.replace(2, &[7; BODY])?;
     Ok(is_full.then_some(body))
 }
 
@@ -220,10 +220,10 @@ fn filled(disk: FileDisk) -> Result<Option<[u8; 511]>, Fail> {
 #[test]
 fn a_cell_is_full_after_reopening(rt: HostRuntime) -> Result<(), Fail> {
     let path = fresh(&rt, "file_disk_cells");
-    let first = filled(FileDisk::create(&rt, path, 4 * 512)?)?;
+    let first = filled(FileDisk::create(&rt, path, 4 * CELL)?)?;
     let second = filled(FileDisk::open(&rt, path)?)?;
     fs::remove_file(&rt, path)?;
-    assert!(rt; [first, second] == [None, Some([7; 511])]);
+    assert!(rt; [first, second] == [None, Some([7; BODY])]);
     Ok(())
 }
 

@@ -2,7 +2,7 @@
 ghost use Rattle.std.specs.Prelude.{◌≡◌, ◌<◌, ◌≤◌};
 
 use super::common::TEARS;
-use disk_model::{BODY, Cells, DiskFault, MemDisk, Tear};
+use disk_model::{CELL, Cells, DiskFault, MemDisk, Tear};
 use petri_atom::AtomState;
 use record_codec::Saved;
 use record_codec::ring::{device_cells, slot_cell};
@@ -43,7 +43,7 @@ fn count_of(saved: &Saved) -> u64 {
 fn stopped(disk: MemDisk, slot: u8, parcel: Parcel, k: u64) -> Result<(bool, MemDisk), Fail> {
     let encoded = encode(parcel);
     let mut cells = Engine::new(disk);
-    if slot > 1 || cells.size()? / 512 <= slot_cell(encoded.parcel().atom(), slot) {
+    if slot > 1 || cells.size()? / CELL <= slot_cell(encoded.parcel().atom(), slot) {
         return Err(Fail::new("no such slot"));
     }
     cells.sync()?;
@@ -56,7 +56,7 @@ fn stopped(disk: MemDisk, slot: u8, parcel: Parcel, k: u64) -> Result<(bool, Mem
 
 /// The count in the slot, and 0 where it holds no state.
 fn count_in(cells: &mut Engine, atom: u16, slot: u8) -> Result<u64, DiskFault> {
-    if cells.size()? / 512 <= slot_cell(atom, slot) {
+    if cells.size()? / CELL <= slot_cell(atom, slot) {
         return Ok(ANOTHER);
     }
     match read_slot(cells, atom, slot)? {
@@ -67,7 +67,7 @@ fn count_in(cells: &mut Engine, atom: u16, slot: u8) -> Result<u64, DiskFault> {
 
 /// The slot and the count of the newest state, and slot 2 where there is none.
 fn newest_in(cells: &mut Engine, atom: u16) -> Result<(u8, u64), DiskFault> {
-    if cells.size()? / 512 <= slot_cell(atom, 1) {
+    if cells.size()? / CELL <= slot_cell(atom, 1) {
         return Ok((2, ANOTHER));
     }
     match read_newest(cells, atom)? {
@@ -79,7 +79,7 @@ fn newest_in(cells: &mut Engine, atom: u16) -> Result<(u8, u64), DiskFault> {
 /// The slot of atom 0 that is written next.
 fn next_in(disk: MemDisk) -> Result<u8, DiskFault> {
     let mut cells = Engine::new(disk);
-    if cells.size()? / 512 <= slot_cell(0, 1) {
+    if cells.size()? / CELL <= slot_cell(0, 1) {
         return Ok(2);
     }
     slot_to_write(&mut cells, 0)
@@ -103,7 +103,7 @@ fn found_in(disk: MemDisk) -> Result<[Slots; 2], DiskFault> {
 
 /// The device before the call: the two counts of atom 0, where 0 stands for an empty slot, and count 3 in slot 1 of atom 1.
 fn prepared(alloc: Global, counts: [u64; 2]) -> Result<MemDisk, Fail> {
-    let mut disk = MemDisk::new(alloc, 512 * device_cells(2, 8), 64)?;
+    let mut disk = MemDisk::with_cells(alloc, CELL * device_cells(2, 8), 64, CELL)?;
     for slot in 0..2u8 {
         let count = counts[usize::from(slot)];
         if count > 0 && count <= AT {
@@ -218,7 +218,7 @@ fn a_store_over_the_newest_may_lose_it(rt: HostRuntime) -> Result<(), Fail> {
 /// The device with a state of atom 1 in the first slot of atom 0.
 fn with_a_stranger(disk: MemDisk) -> Result<MemDisk, Fail> {
     let mut cells = Engine::new(disk);
-    if cells.size()? / 512 <= 3 {
+    if cells.size()? / CELL <= 3 {
         return Err(Fail::new("a device of four cells at least"));
     }
     let body = Saved::new(1, 8, AT, 8, &[8]).to_body();

@@ -2,11 +2,12 @@
 // worked out by hand.
 use super::common::{TEARS, Untold, sample};
 use super::runs::{
-    A_SAVED, FIRE_0, FLUSH, NEVER, Shown, booted_to, run, settled, shown, torn_flush, whole_run,
+    A_SAVED, FIRE_0, FLUSH, NEVER, Shown, booted_to, run, settled, shown, torn_flush, try_boot,
+    whole_run,
 };
 use disk_model::{MemDisk, Tear};
 use plant_core::Front;
-use recovery::{BootFault, FormatFault, boot, format};
+use recovery::{FormatFault, format};
 use std::alloc::Global;
 use std::test::Fail;
 use step_core::System;
@@ -88,13 +89,9 @@ fn booted_until(
 ) -> Result<(bool, MemDisk), Fail> {
     let mut disk = disk;
     disk.fuse_change(k);
-    match boot(alloc, Untold::over(disk), system) {
+    match try_boot(alloc, Untold::over(disk), system)? {
         Ok(plant) => Ok((true, plant.into_disk().into_memory().stop(tear))),
-        Err(refused) if refused.fault == BootFault::Disk => Ok((
-            false,
-            refused.disk.into_memory().stop(tear),
-        )),
-        Err(_) => Err(Fail::new("the image is refused")),
+        Err(disk) => Ok((false, disk.into_memory().stop(tear))),
     }
 }
 

@@ -3,7 +3,7 @@ ghost use Rattle.std.specs.Prelude.{◌≡◌, ◌^◌, ◌<◌, false};
 ghost use Rattle.disk_model.specs.DiskState.{size_of};
 ghost use Rattle.disk_model.specs.MemDisk.{state_of};
 
-use disk_model::{Disk, DiskFault, MemDisk, Tear};
+use disk_model::{CELL, Disk, DiskFault, MemDisk, Tear};
 use plant_text::plant_of_text;
 use record_codec::ring::device_cells;
 use record_codec::{LEAST_RING, MOST_RING};
@@ -95,8 +95,8 @@ pub(super) fn formatted(
         return Err(Fail::new("no such ring"));
     }
     system.keeps_its_rules();
-    let bytes = 512 * device_cells(system.atoms().len() as u16, ring);
-    let disk = Untold::over(MemDisk::new(alloc, bytes, room)?);
+    let bytes = CELL * device_cells(system.atoms().len() as u16, ring);
+    let disk = Untold::over(MemDisk::with_cells(alloc, bytes, room, CELL)?);
     match format(alloc, disk, system, ring) {
         Ok(disk) => Ok(disk.into_memory()),
         Err(_) => Err(Fail::new("the device was not formatted")),

@@ -2,11 +2,10 @@
 use super::common::{Untold, sample};
 use super::runs::{
     FIRE_0, FIRE_1, FLUSH, NEVER, answers_of, boots_right, new_device, refusal_in, settled,
-    torn_flush, value_of,
+    torn_flush, try_boot, value_of,
 };
 use disk_model::{MemDisk, Tear};
 use plant_core::{Event, Front, Happened, Plant, Refused};
-use recovery::{BootFault, boot};
 use std::alloc::Global;
 use std::test::Fail;
 use step_core::System;
@@ -32,14 +31,11 @@ fn booted<'s>(
     system: &'s System,
     disk: MemDisk,
 ) -> Result<(Plant<'s, Untold>, u64), Fail> {
-    let refused = match boot(alloc, Untold::over(disk), system) {
+    let disk = match try_boot(alloc, Untold::over(disk), system)? {
         Ok(plant) => return Ok((plant, 0)),
-        Err(refused) => refused,
+        Err(disk) => disk,
     };
-    if refused.fault != BootFault::Disk {
-        return Err(Fail::new("the image is refused"));
-    }
-    match boot(alloc, refused.disk, system) {
+    match try_boot(alloc, disk, system)? {
         Ok(plant) => Ok((plant, 1)),
         Err(_) => Err(Fail::new("the second boot is refused")),
     }

@@ -6,7 +6,7 @@ ghost use Rattle.gated_journal.specs.Rings.{IsRing};
 ghost use Rattle.durable_tests.specs.Opened.{IsOpened};
 
 use super::common::{TEARS, Untold};
-use disk_model::{BODY, Cells, Disk, DiskFault, MemDisk, Tear};
+use disk_model::{BODY, CELL, Cells, Disk, DiskFault, MemDisk, Tear};
 use gated_journal::{Journal, Ring};
 use record_codec::ring::{base_cell, device_cells, record_cell};
 use record_codec::{Base, Entry, Fired};
@@ -77,7 +77,7 @@ fn opened(alloc: Global, disk: MemDisk, n: Ring, k: u64) -> Result<(Engine, Jour
 {
     let mut disk = disk;
     let size = disk.size()?;
-    if !is_in_range(n) || size < 512 * device_cells(n.atoms, n.ring) {
+    if !is_in_range(n) || size < CELL * device_cells(n.atoms, n.ring) {
         return Err(Fail::new("no such journal"));
     }
     disk.fuse_dead(k);
@@ -132,7 +132,7 @@ fn stopped(
 
 /// Whether cell `k` is full, and its body then.
 fn body_in(cells: &mut Engine, k: u64, body: &mut [u8; BODY]) -> Result<bool, DiskFault> {
-    if cells.size()? / 512 <= k {
+    if cells.size()? / CELL <= k {
         return Ok(false);
     }
     cells.read_cell(k, body)
@@ -171,7 +171,7 @@ fn read(disk: MemDisk, ring: u32) -> Result<(u64, u64, u64), DiskFault> {
 /// Writes a base into cell `k`.
 fn put_base(disk: MemDisk, k: u64, base: u64) -> Result<MemDisk, Fail> {
     let mut cells = cells_of(disk);
-    if cells.size()? / 512 <= k || base < 1 || base > 1_000_000 {
+    if cells.size()? / CELL <= k || base < 1 || base > 1_000_000 {
         return Err(Fail::new("no such base"));
     }
     cells.replace(k, &Base::new(base).to_body())?;
@@ -183,7 +183,7 @@ fn prepared(alloc: Global, n: Ring, both: bool) -> Result<MemDisk, Fail> {
     if !is_in_range(n) {
         return Err(Fail::new("no such journal"));
     }
-    let new = MemDisk::new(alloc, 512 * device_cells(n.atoms, n.ring), 256)?;
+    let new = MemDisk::with_cells(alloc, CELL * device_cells(n.atoms, n.ring), 256, CELL)?;
     let disk = if both {
         put_base(new, 3 - n.base_cell, 1)?
     } else {

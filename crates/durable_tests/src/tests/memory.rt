@@ -6,7 +6,7 @@ ghost use Rattle.plant_core.specs.Plants.{definition_of};
 use super::common::{SAMPLE, Untold};
 use super::runs::{FIRE_0, FIRE_1, FLUSH, ROOM, Shown, settled, value_of};
 use crash_explorer::{ExploreFault, Report, explore};
-use disk_model::{BODY, Cells, Disk, MemDisk};
+use disk_model::{BODY, CELL, Cells, Disk, MemDisk};
 use plant_core::{Event, Hands, Happened, Plant, drive};
 use plant_image::ImageFault;
 use plant_text::{Fault, read_plant};
@@ -16,7 +16,7 @@ use std::test::Fail;
 use step_core::System;
 
 /// The bytes of the sample's device with a ring of 8.
-const BYTES: usize = 7_680;
+const BYTES: usize = 15_360;
 
 /// The cell of record 5.
 const FIFTH: u64 = 12;
@@ -48,11 +48,11 @@ fn bytes_of(disk: &mut Untold) -> Result<[u8; BYTES], Fail> {
 
 /// A device of zeros.
 fn new_disk(rt: &impl Print, alloc: Global) -> Result<Untold, Fail> {
-    if let Ok(disk) = MemDisk::new(alloc, BYTES as u64, ROOM) {
+    if let Ok(disk) = MemDisk::with_cells(alloc, BYTES as u64, ROOM, CELL) {
         return Ok(Untold::over(disk));
     }
     rt.println("device")?;
-    Ok(Untold::over(MemDisk::new(alloc, BYTES as u64, ROOM)?))
+    Ok(Untold::over(MemDisk::with_cells(alloc, BYTES as u64, ROOM, CELL)?))
 }
 
 /// The device, formatted for the plant.
@@ -80,7 +80,7 @@ fn formatted(
 /// The device with a full cell of the ring that no record needs: a boot empties it.
 fn with_a_stale_cell(disk: Untold) -> Result<Untold, Fail> {
     let mut cells = Cells::new(disk);
-    if cells.size()? / 512 <= FIFTH {
+    if cells.size()? / CELL <= FIFTH {
         return Err(Fail::new("no such cell"));
     }
     cells.replace(FIFTH, &[7; BODY])?;

@@ -30,6 +30,19 @@ pub(super) struct Outcome {
     pub(super) refused: Option<Refused>,
 }
 
+/// The plant that the device is booted to, or the device, where it failed.
+pub(super) fn try_boot<'s>(
+    alloc: Global,
+    disk: Untold,
+    system: &'s System,
+) -> Result<Result<Plant<'s, Untold>, Untold>, Fail> {
+    match boot(alloc, disk, system) {
+        Ok(plant) => Ok(Ok(plant)),
+        Err(refused) if refused.fault == BootFault::Disk => Ok(Err(refused.disk)),
+        Err(_) => Err(Fail::new("the image is refused")),
+    }
+}
+
 /// Boots the plant on a device that is dead from its `k`-th call on, and makes these events. Where the boot is stopped nothing is fired.
 pub(super) fn run(
     alloc: Global,
@@ -40,14 +53,9 @@ pub(super) fn run(
 ) -> Result<Outcome, Fail> {
     let mut disk = disk;
     disk.fuse_dead(k);
-    match boot(alloc, Untold::over(disk), system) {
+    match try_boot(alloc, Untold::over(disk), system)? {
         Ok(plant) => driven(alloc, plant, events),
-        Err(refused) if refused.fault == BootFault::Disk => Ok(ended(
-            refused.disk,
-            settled(0),
-            None,
-        )),
-        Err(_) => Err(Fail::new("the image is refused")),
+        Err(disk) => Ok(ended(disk, settled(0), None)),
     }
 }
 
@@ -177,6 +185,17 @@ pub(super) fn torn_flush(alloc: Global, system: &System, tear: Tear) -> Result<M
     Ok(stopped.disk.stop(tear))
 }
 
+/// Fires the choice of this pick.
+fn step(stepper: &mut Stepper<'_>, pick: u64) -> Result<(), Fail> {
+    let choices = stepper.count();
+    if choices == 0 {
+        return Err(Fail::new("no choice"));
+    }
+    let choice = stepper.nth(u128::from(pick) % choices);
+    stepper.fire(&choice);
+    Ok(())
+}
+
 /// The plant behind the first `count` choices that these events fire, stepped without a device.
 fn stepped<'s>(
     alloc: Global,
@@ -187,15 +206,11 @@ fn stepped<'s>(
     let mut stepper = Stepper::first(alloc, system)?;
     let mut fired = 0u64;
     for event in events {
-        if let Event::Fire(pick) = event
-            && fired < count
-        {
-            let choices = stepper.count();
-            if choices == 0 {
-                return Err(Fail::new("no choice"));
-            }
-            let choice = stepper.nth(u128::from(*pick) % choices);
-            stepper.fire(&choice);
+        if fired == count {
+            break;
+        }
+        if let Event::Fire(pick) = event {
+            step(&mut stepper, *pick)?;
             fired = fired.saturating_add(1);
         }
     }

@@ -1,9 +1,8 @@
 // States that are asked for and put, but are not those that a plant keeps. What is put as it was asked for is a case of the program.
 use super::common::{Untold, sample};
-use super::runs::{FIRE_0, new_device, whole_run};
+use super::runs::{FIRE_0, new_device, try_boot, whole_run};
 use petri_atom::AtomState;
 use plant_core::{Event, Plant, PutRefused, Refused};
-use recovery::boot;
 use snapshot_writer::{Parcel, encode};
 use std::alloc::Global;
 use std::test::Fail;
@@ -33,9 +32,9 @@ fn an_atom_that_is_not_there_is_neither_copied_nor_stored(rt: HostRuntime) -> Re
 
 /// A new plant.
 fn booted<'s>(alloc: Global, system: &'s System) -> Result<Plant<'s, Untold>, Fail> {
-    match boot(alloc, Untold::over(new_device(alloc, system, 8)?), system) {
+    match try_boot(alloc, Untold::over(new_device(alloc, system, 8)?), system)? {
         Ok(plant) => Ok(plant),
-        Err(_) => Err(Fail::new("the image is refused")),
+        Err(_) => Err(Fail::new("the device failed")),
     }
 }
 

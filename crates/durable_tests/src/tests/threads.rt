@@ -1,9 +1,8 @@
 // A durable plant under a lock, which two threads fire and flush.
 use super::common::{Untold, formatted, sample};
-use super::runs::value_of;
+use super::runs::{try_boot, value_of};
 use disk_model::Disk;
 use plant_core::Plant;
-use recovery::boot;
 use std::alloc::Global;
 use std::sync::{Mutex, Wait};
 use std::test::Fail;
@@ -19,9 +18,9 @@ const RING: u32 = 64;
 /// A plant in its first state, with nothing fired.
 fn first_plant(alloc: Global, system: &System) -> Result<Plant<'_, Untold>, Fail> {
     let disk = formatted(alloc, system, RING, 1_000)?;
-    match boot(alloc, Untold::over(disk), system) {
+    match try_boot(alloc, Untold::over(disk), system)? {
         Ok(plant) => Ok(plant),
-        Err(_) => Err(Fail::new("the image is refused")),
+        Err(_) => Err(Fail::new("the device failed")),
     }
 }
 

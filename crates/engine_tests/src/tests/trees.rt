@@ -58,7 +58,7 @@ fn a_fault_of_a_tree_is_told(rt: HostRuntime) -> Result<(), Fail> {
     for (fault, text) in [
         (
             TreeFault::TooManyLeaves,
-            "a connector may have at most 8 ports",
+            "a connector may have at most 16 ports",
         ),
         (
             TreeFault::TooDeep,

@@ -1,8 +1,6 @@
-use Rattle.std.proofs.Common.{◌≡◌, filter}
-use Rattle.std.specs.List.{range_with_len}
-use Rattle.connector_tree.specs.Tree.{tree_in}
-use Rattle.connector_tree.specs.Walk.{takes}
+use Rattle.std.proofs.Common.{◌≡◌, take}
+use Rattle.connector_tree.specs.MaskLists.{masks_taken}
 use Rattle.connector_tree.proofs.walk.masks_taken.Given as goal
 
-abbrev pub invariant-loop-mask : goal.invariant-loop-mask
-invariant-loop-mask l = l.masks.items ≡ filter (takes (tree_in l.children)) (range_with_len 0 l.mask)
+abbrev pub invariant-loop-candidate : goal.invariant-loop-candidate
+invariant-loop-candidate l = l.masks.items ≡ masks_taken l.triggers (take l.candidate-index l.candidates)

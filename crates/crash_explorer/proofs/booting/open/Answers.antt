@@ -1,4 +1,5 @@
-use Rattle.std.proofs.Common.{◌≡◌, ℕ, List, refl, ap, subst}
+use Rattle.std.proofs.Common.{◌+◌, ◌≡◌, ℕ, List, refl, ap, subst}
+use Rattle.disk_model.specs.declared.cells.TheConstants.{BODY}
 use Rattle.disk_model.specs.Cells.{seen_cells}
 use Rattle.disk_model.specs.DiskState.{DiskState, size_of}
 use Rattle.disk_model.specs.MemDisk.{state_of}
@@ -17,7 +18,7 @@ returns c =
     let digest : List ℕ = digest_of c.args.system.now in
     let same : state_of c.over.result.disk ≡ state_of c.args.disk = ap (λ (m : MemDisk). state_of m) c.over.ensures in
     let s : DiskState = state_of c.args.disk in
-    let told : IsToldBy (fault_of plant digest (size_of s) (seen_cells 512 s)) c.in-Err.refused.fault =
-    subst (λ (d : DiskState). IsToldBy (fault_of plant digest (size_of d) (seen_cells 512 d)) c.in-Err.refused.fault) same (c.in-Err.ensures.refused refl) in
-    told-wrong (fault_of plant digest (size_of s) (seen_cells 512 s)) c.in-Image.fault c.in_default.not-Memory
-    (subst (λ (f : BootFault). IsToldBy (fault_of plant digest (size_of s) (seen_cells 512 s)) f) c.in-Image.is told)
+    let told : IsToldBy (fault_of plant digest (size_of s) (seen_cells (BODY + 1) s)) c.in-Err.refused.fault =
+    subst (λ (d : DiskState). IsToldBy (fault_of plant digest (size_of d) (seen_cells (BODY + 1) d)) c.in-Err.refused.fault) same (c.in-Err.ensures.refused refl) in
+    told-wrong (fault_of plant digest (size_of s) (seen_cells (BODY + 1) s)) c.in-Image.fault c.in_default.not-Memory
+    (subst (λ (f : BootFault). IsToldBy (fault_of plant digest (size_of s) (seen_cells (BODY + 1) s)) f) c.in-Image.is told)

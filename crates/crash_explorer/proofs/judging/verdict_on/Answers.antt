@@ -1,4 +1,5 @@
 use Rattle.std.proofs.Common.{◌≡◌, ℕ, ◌+◌, ◌-◌, List, length, map, None, Some, ◌∙◌, ap, subst, arith}
+use Rattle.disk_model.specs.declared.cells.TheConstants.{BODY}
 use Rattle.disk_model.specs.Cells.{Cell, cells_of, seen_cells}
 use Rattle.disk_model.specs.DiskState.{DiskState, Moment, size_of}
 use Rattle.disk_model.specs.MemDisk.{state_of}
@@ -25,15 +26,15 @@ returns-in-Ok-clause-verdict c =
     let tail : List ChoiceDefinition = map choice_of c.args.tail.now in
     let standing : Standing = c.in-Ok.standing in
     let bytes : c.size-bytes.result ≡ size_of old = c.size-bytes.ensures.size in
-    let cells : c.deref.result.now ≡ seen_cells 512 old =
-    c.deref.ensures.value ∙ c.in_ok-cells.ensures.cells ∙ ap (λ (m : Moment). cells_of 512 m.seen) c.size-bytes.ensures.kept.same.now in
-    let sound : fault_of plant digest (size_of old) (seen_cells 512 old) ≡ None =
+    let cells : c.deref.result.now ≡ seen_cells (BODY + 1) old =
+    c.deref.ensures.value ∙ c.in_ok-cells.ensures.cells ∙ ap (λ (m : Moment). cells_of (BODY + 1) m.seen) c.size-bytes.ensures.kept.same.now in
+    let sound : fault_of plant digest (size_of old) (seen_cells (BODY + 1) old) ≡ None =
     subst (λ (l : List Cell). fault_of plant digest (size_of old) l ≡ None) cells (subst (λ (n : ℕ). fault_of plant digest n c.deref.result.now ≡ None) bytes c.in-Ok.ensures.0) in
-    let stands : IsStanding plant (seen_cells 512 old) standing = subst (λ (l : List Cell). IsStanding plant l standing) cells c.in-Ok.ensures.1 in
+    let stands : IsStanding plant (seen_cells (BODY + 1) old) standing = subst (λ (l : List Cell). IsStanding plant l standing) cells c.in-Ok.ensures.1 in
     let many : c.len.result ≡ length standing.held.records.items = omega (arith, c.len.ensures, standing.held.records.ok.0) in
-    let last : standing.held.base + c.len.result - 1 ≡ last_number (contents_of (length plant.atoms) (seen_cells 512 old)) =
+    let last : standing.held.base + c.len.result - 1 ≡ last_number (contents_of (length plant.atoms) (seen_cells (BODY + 1) old)) =
     ap (λ (n : ℕ). standing.held.base + n - 1) many ∙ ap (λ (held : Contents). last_number held) stands.led.contents in
-    let iff = judged plant digest (size_of old) acked tail (seen_cells 512 old) c.in_ok-right-in-Ok.right standing.states (standing.held.base + c.len.result - 1) sound stands.led.states last c.in_ok-right-in-Ok.ensures in
+    let iff = judged plant digest (size_of old) acked tail (seen_cells (BODY + 1) old) c.in_ok-right-in-Ok.right standing.states (standing.held.base + c.len.result - 1) sound stands.led.states last c.in_ok-right-in-Ok.ensures in
     (sound, last, iff)
 
 pub returns : goal.returns
@@ -42,8 +43,8 @@ returns c =
     let digest : List ℕ = digest_of c.args.system.now in
     let old : DiskState = state_of c.args.disk.now in
     let bytes : c.size-bytes.result ≡ size_of old = c.size-bytes.ensures.size in
-    let cells : c.deref.result.now ≡ seen_cells 512 old =
-    c.deref.ensures.value ∙ c.in_ok-cells.ensures.cells ∙ ap (λ (m : Moment). cells_of 512 m.seen) c.size-bytes.ensures.kept.same.now in
+    let cells : c.deref.result.now ≡ seen_cells (BODY + 1) old =
+    c.deref.ensures.value ∙ c.in_ok-cells.ensures.cells ∙ ap (λ (m : Moment). cells_of (BODY + 1) m.seen) c.size-bytes.ensures.kept.same.now in
     let fault : ImageFault = c.in-Err.fault in
     let told : fault_of plant digest c.size-bytes.result c.deref.result.now ≡ Some fault =
     told-wrong (fault_of plant digest c.size-bytes.result c.deref.result.now) fault c.in_default.not-Memory c.in-Err.ensures in

@@ -1,4 +1,5 @@
-use Rattle.std.proofs.Common.{◌≡◌, ◌<◌, List, length, ◌∙◌, ap, arith}
+use Rattle.std.proofs.Common.{◌+◌, ◌≡◌, ◌<◌, List, length, ◌∙◌, ap, arith}
+use Rattle.disk_model.specs.declared.cells.TheConstants.{BODY}
 use Rattle.disk_model.specs.Cells.{Cell, cell, cells_of, seen_cells}
 use Rattle.disk_model.specs.DiskState.{Moment}
 use Rattle.disk_model.specs.MemDisk.{state_of}
@@ -11,9 +12,9 @@ pub loop-k-preserved : goal.loop-k-preserved
 loop-k-preserved c =
     let old = state_of c.args.disk.now in
     let mid = state_of c.loop-k.disk in
-    let all : List Cell = seen_cells 512 old in
-    let inside : c.loop-k.k < length all = omega (arith, seen_length 512 old, c.requires.inside) in
-    let same : seen_cells 512 mid ≡ all = ap (λ (m : Moment). cells_of 512 m.seen) c.loop-k.invariant.kept.same.now in
+    let all : List Cell = seen_cells (BODY + 1) old in
+    let inside : c.loop-k.k < length all = omega (arith, seen_length (BODY + 1) old, c.requires.inside) in
+    let same : seen_cells (BODY + 1) mid ≡ all = ap (λ (m : Moment). cells_of (BODY + 1) m.seen) c.loop-k.invariant.kept.same.now in
     record {
       room = omega arith;
       long = omega arith;

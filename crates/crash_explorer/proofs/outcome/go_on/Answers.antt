@@ -1,5 +1,6 @@
-use Rattle.std.proofs.Common.{◌≡◌, ◌<◌, ◌≤◌, inl, ℕ, List, [], length, map, slice_index, ◌∙◌, ap, subst, arith}
+use Rattle.std.proofs.Common.{◌+◌, ◌≡◌, ◌<◌, ◌≤◌, inl, ℕ, List, [], length, map, slice_index, ◌∙◌, ap, subst, arith}
 use Rattle.std.proofs.lemmas.List.{length-append, length-map}
+use Rattle.disk_model.specs.declared.cells.TheConstants.{BODY}
 use Rattle.disk_model.specs.Cells.{Cell, MayBe, cells_of}
 use Rattle.disk_model.specs.DiskState.{DiskState, Moment, MayLeave, is_pending, size_of}
 use Rattle.disk_model.specs.MemDisk.{cell_of, state_of, synced_of}
@@ -47,26 +48,26 @@ returns c =
     let may : MayLeave (device_in ended).now left = subst (λ (d : DiskState). MayLeave d.now left) of_device c.stop-left.ensures.left in
     let size : length left ≡ bytes = may.size ∙ is.size in
     let verdict : Verdict = c.in_ok-verdict.verdict in
-    let judged_by : IsVerdict plant (digest_of c.system-system.result.now) (length left) (map choice_of c.deref.result.now) [] (cells_of 512 left) verdict =
-    subst (λ (p : PlantDefinition). IsVerdict p (digest_of c.system-system.result.now) (length left) (map choice_of c.deref.result.now) [] (cells_of 512 left) verdict) c.system-system.ensures.plant c.in_ok-verdict.ensures.verdict in
-    let judged_digest : IsVerdict plant digest (length left) (map choice_of c.deref.result.now) [] (cells_of 512 left) verdict =
-    subst (λ (d : List ℕ). IsVerdict plant d (length left) (map choice_of c.deref.result.now) [] (cells_of 512 left) verdict) c.system-system.ensures.digest judged_by in
-    let judged_fired : IsVerdict plant digest (length left) fired [] (cells_of 512 left) verdict =
-    subst (λ (l : List Choice). IsVerdict plant digest (length left) (map choice_of l) [] (cells_of 512 left) verdict) c.deref.ensures.value judged_digest in
-    let judged : IsVerdict plant digest bytes fired [] (cells_of 512 left) verdict = subst (λ (n : ℕ). IsVerdict plant digest n fired [] (cells_of 512 left) verdict) size judged_fired in
+    let judged_by : IsVerdict plant (digest_of c.system-system.result.now) (length left) (map choice_of c.deref.result.now) [] (cells_of (BODY + 1) left) verdict =
+    subst (λ (p : PlantDefinition). IsVerdict p (digest_of c.system-system.result.now) (length left) (map choice_of c.deref.result.now) [] (cells_of (BODY + 1) left) verdict) c.system-system.ensures.plant c.in_ok-verdict.ensures.verdict in
+    let judged_digest : IsVerdict plant digest (length left) (map choice_of c.deref.result.now) [] (cells_of (BODY + 1) left) verdict =
+    subst (λ (d : List ℕ). IsVerdict plant d (length left) (map choice_of c.deref.result.now) [] (cells_of (BODY + 1) left) verdict) c.system-system.ensures.digest judged_by in
+    let judged_fired : IsVerdict plant digest (length left) fired [] (cells_of (BODY + 1) left) verdict =
+    subst (λ (l : List Choice). IsVerdict plant digest (length left) (map choice_of l) [] (cells_of (BODY + 1) left) verdict) c.deref.ensures.value judged_digest in
+    let judged : IsVerdict plant digest bytes fired [] (cells_of (BODY + 1) left) verdict = subst (λ (n : ℕ). IsVerdict plant digest n fired [] (cells_of (BODY + 1) left) verdict) size judged_fired in
     let found : Found = c.in_ok-found.found in
-    let found_there : IsFound (plant_of c.system-system.result.now) (digest_of c.system-system.result.now) (length left) (cells_of 512 left) found =
-    subst (λ (m : Moment). IsFound (plant_of c.system-system.result.now) (digest_of c.system-system.result.now) (length m.seen) (cells_of 512 m.seen) found) c.verdict_on.ensures.kept.same.now c.in_ok-found.ensures in
-    let found_by : IsFound plant (digest_of c.system-system.result.now) (length left) (cells_of 512 left) found =
-    subst (λ (p : PlantDefinition). IsFound p (digest_of c.system-system.result.now) (length left) (cells_of 512 left) found) c.system-system.ensures.plant found_there in
-    let found_digest : IsFound plant digest (length left) (cells_of 512 left) found = subst (λ (d : List ℕ). IsFound plant d (length left) (cells_of 512 left) found) c.system-system.ensures.digest found_by in
-    let found_is : IsFound plant digest bytes (cells_of 512 left) found = subst (λ (n : ℕ). IsFound plant digest n (cells_of 512 left) found) size found_digest in
-    let iff = c.is_right.ensures plant digest bytes fired [] (cells_of 512 left) judged found_is in
-    let all_right : (cells : List Cell) → MayBe 512 (device_in ended) cells → IsRight plant digest bytes fired [] cells = λ cells left_by.
+    let found_there : IsFound (plant_of c.system-system.result.now) (digest_of c.system-system.result.now) (length left) (cells_of (BODY + 1) left) found =
+    subst (λ (m : Moment). IsFound (plant_of c.system-system.result.now) (digest_of c.system-system.result.now) (length m.seen) (cells_of (BODY + 1) m.seen) found) c.verdict_on.ensures.kept.same.now c.in_ok-found.ensures in
+    let found_by : IsFound plant (digest_of c.system-system.result.now) (length left) (cells_of (BODY + 1) left) found =
+    subst (λ (p : PlantDefinition). IsFound p (digest_of c.system-system.result.now) (length left) (cells_of (BODY + 1) left) found) c.system-system.ensures.plant found_there in
+    let found_digest : IsFound plant digest (length left) (cells_of (BODY + 1) left) found = subst (λ (d : List ℕ). IsFound plant d (length left) (cells_of (BODY + 1) left) found) c.system-system.ensures.digest found_by in
+    let found_is : IsFound plant digest bytes (cells_of (BODY + 1) left) found = subst (λ (n : ℕ). IsFound plant digest n (cells_of (BODY + 1) left) found) size found_digest in
+    let iff = c.is_right.ensures plant digest bytes fired [] (cells_of (BODY + 1) left) judged found_is in
+    let all_right : (cells : List Cell) → MayBe (BODY + 1) (device_in ended) cells → IsRight plant digest bytes fired [] cells = λ cells left_by.
     right-all plant digest bytes ended.acked fired cells all
     (right-running plant digest bytes (acked_in ended) (tail_in ended) cells
     (subst (λ (st : Stage). IsRightStop plant digest bytes (acked_in ended) (tail_in ended) (is_formatting st) cells) c.in_ok-ended.ensures.stage (is.stops cells left_by))) in
-    let right = all_right (cells_of 512 left) (left_may 512 (device_in ended) left may) in
+    let right = all_right (cells_of (BODY + 1) left) (left_may (BODY + 1) (device_in ended) left may) in
     record {
       fired = fired;
       lived = subst (λ (n : ℕ). IsLived plant NEXT v behind fired n) many lived;
@@ -82,6 +83,6 @@ returns c =
             (subst (λ (d : MemDisk). i < size_of (state_of d) → slice_index left i ≡ byte_left c.args.tear (cell_of d) (is_pending (state_of d).now i) i (slice_index (state_of d).now.seen i) (slice_index (synced_of d) i)) same (c.stop-left.ensures.each i) inside);
       };
       found_is = found_is;
-      right_where = (λ yes. right-running plant digest bytes fired [] (cells_of 512 left) (iff.0 yes), λ is_right. iff.1 (inl is_right));
+      right_where = (λ yes. right-running plant digest bytes fired [] (cells_of (BODY + 1) left) (iff.0 yes), λ is_right. iff.1 (inl is_right));
       right_is = iff.1 (inl right);
     }

@@ -1,6 +1,7 @@
-use Rattle.std.proofs.Common.{◌≡◌, ◌≤◌, ℕ, List, ◌++◌, drop, length, map, take, Option, None, Some, refl, sym, ◌∙◌, ap, subst, arith}
+use Rattle.std.proofs.Common.{◌+◌, ◌≡◌, ◌≤◌, ℕ, List, ◌++◌, drop, length, map, take, Option, None, Some, refl, sym, ◌∙◌, ap, subst, arith}
 use Rattle.std.proofs.lemmas.Bool.{false≢true}
 use Rattle.std.proofs.lemmas.List.{length-map}
+use Rattle.disk_model.specs.declared.cells.TheConstants.{BODY}
 use Rattle.disk_model.specs.Cells.{Cell, seen_cells}
 use Rattle.disk_model.specs.DiskState.{DiskState, size_of}
 use Rattle.disk_model.specs.MemDisk.{state_of}
@@ -54,7 +55,7 @@ returns-then-not-stands c =
     let plant : PlantDefinition = plant_of c.args.system.now in
     let digest : List ℕ = digest_of c.args.system.now in
     let s : DiskState = state_of c.args.left in
-    let cells : List Cell = seen_cells 512 s in
+    let cells : List Cell = seen_cells (BODY + 1) s in
     let acked : ℕ = c.args.acked in
     let fired : List ChoiceDefinition = map choice_of c.args.fired.items in
     let verdict : Verdict = c.in_ok-verdict.verdict in
@@ -76,7 +77,7 @@ go_on-requires c =
     let plant : PlantDefinition = plant_of c.args.system.now in
     let digest : List ℕ = digest_of c.args.system.now in
     let s : DiskState = state_of c.args.left in
-    let cells : List Cell = seen_cells 512 s in
+    let cells : List Cell = seen_cells (BODY + 1) s in
     let acked : ℕ = c.args.acked in
     let fired : List ChoiceDefinition = map choice_of c.args.fired.items in
     let verdict : Verdict = c.in_ok-verdict.verdict in
@@ -106,7 +107,7 @@ returns-in_ok-next-in-Plant c =
     let plant : PlantDefinition = plant_of c.args.system.now in
     let digest : List ℕ = digest_of c.args.system.now in
     let s : DiskState = state_of c.args.left in
-    let cells : List Cell = seen_cells 512 s in
+    let cells : List Cell = seen_cells (BODY + 1) s in
     let acked : ℕ = c.args.acked in
     let fired : List ChoiceDefinition = map choice_of c.args.fired.items in
     let verdict : Verdict = c.in_ok-verdict.verdict in
@@ -146,7 +147,7 @@ returns-in-Refused c =
     let plant : PlantDefinition = plant_of c.args.system.now in
     let digest : List ℕ = digest_of c.args.system.now in
     let s : DiskState = state_of c.args.left in
-    let cells : List Cell = seen_cells 512 s in
+    let cells : List Cell = seen_cells (BODY + 1) s in
     let acked : ℕ = c.args.acked in
     let fired : List ChoiceDefinition = map choice_of c.args.fired.items in
     let verdict : Verdict = c.in_ok-verdict.verdict in

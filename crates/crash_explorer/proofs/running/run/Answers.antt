@@ -1,5 +1,6 @@
-use Rattle.std.proofs.Common.{◌≡◌, ℕ, List, refl, ◌∙◌, ap, subst, replicate}
+use Rattle.std.proofs.Common.{◌+◌, ◌≡◌, ℕ, List, refl, ◌∙◌, ap, subst, replicate}
 use Rattle.std.proofs.lemmas.List.{length-replicate}
+use Rattle.disk_model.specs.declared.cells.TheConstants.{BODY}
 use Rattle.disk_model.specs.Cells.{MayBe}
 use Rattle.disk_model.specs.DiskState.{DiskState, size_of}
 use Rattle.disk_model.specs.MemDisk.{fresh, state_of}
@@ -31,6 +32,6 @@ returns-in-WrongSize c =
           ended-first plant digest bytes ended Formatting c.before_the_first.ensures.fired c.before_the_first.ensures.acked c.before_the_first.ensures.stage
           (ap (λ (d : DiskState). size_of d) device ∙ size)
           (λ cells may. formatting-right plant digest c.args.ring old cells zeros
-          (leaves_now 512 (IsFormatting plant digest old) old left (c.in-Err.ensures.stops refl) cells (subst (λ (d : DiskState). MayBe 512 d cells) device may)));
+          (leaves_now (BODY + 1) (IsFormatting plant digest old) old left (c.in-Err.ensures.stops refl) cells (subst (λ (d : DiskState). MayBe (BODY + 1) d cells) device may)));
       made = made-none plant c.args.events.now ended Formatting c.before_the_first.ensures.fired c.before_the_first.ensures.stage refl c.before_the_first.ensures.acked;
     }

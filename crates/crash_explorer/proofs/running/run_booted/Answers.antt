@@ -1,4 +1,5 @@
-use Rattle.std.proofs.Common.{◌≡◌, ◌≤◌, ℕ, true, List, ◌++◌, length, drop, map, take, inl, refl, sym, ◌∙◌, ap, subst}
+use Rattle.std.proofs.Common.{◌+◌, ◌≡◌, ◌≤◌, ℕ, true, List, ◌++◌, length, drop, map, take, inl, refl, sym, ◌∙◌, ap, subst}
+use Rattle.disk_model.specs.declared.cells.TheConstants.{BODY}
 use Rattle.disk_model.specs.Cells.{Cell, MayBe}
 use Rattle.disk_model.specs.DiskState.{DiskState, size_of}
 use Rattle.disk_model.specs.MemDisk.{state_of}
@@ -32,10 +33,10 @@ returns c =
     let acked : c.front-acked.result.acked ≡ w.number = c.front-acked.ensures.acked in
     let left : state_of c.into_disk.result.disk ≡ device_of driven = c.into_disk.ensures in
     let keeps : (device_of driven).keeps ≡ true = ap (λ (s : DiskState). s.keeps) (sym left) in
-    let fronts : (cells : List Cell) → MayBe 512 (device_of driven) cells → StandsForFront plant digest bytes w cells =
-    subst (λ (n : ℕ). (cells : List Cell) → MayBe 512 (device_of driven) cells → StandsForFront plant digest n w cells) c.drive.ensures.size
-    (subst (λ (d : List ℕ). (cells : List Cell) → MayBe 512 (device_of driven) cells → StandsForFront plant d (size_of (device_of driven)) w cells) c.drive.ensures.digest
-    (subst (λ (p : PlantDefinition). (cells : List Cell) → MayBe 512 (device_of driven) cells → StandsForFront p (text_digest driven) (size_of (device_of driven)) w cells) c.drive.ensures.plant
+    let fronts : (cells : List Cell) → MayBe (BODY + 1) (device_of driven) cells → StandsForFront plant digest bytes w cells =
+    subst (λ (n : ℕ). (cells : List Cell) → MayBe (BODY + 1) (device_of driven) cells → StandsForFront plant digest n w cells) c.drive.ensures.size
+    (subst (λ (d : List ℕ). (cells : List Cell) → MayBe (BODY + 1) (device_of driven) cells → StandsForFront plant d (size_of (device_of driven)) w cells) c.drive.ensures.digest
+    (subst (λ (p : PlantDefinition). (cells : List Cell) → MayBe (BODY + 1) (device_of driven) cells → StandsForFront p (text_digest driven) (size_of (device_of driven)) w cells) c.drive.ensures.plant
     (c.stands_for_a_front.ensures keeps))) in
     record {
       ended = record {
@@ -44,7 +45,7 @@ returns c =
         size = ap size_of left ∙ c.drive.ensures.size;
         stops = λ cells may.
             let right : IsRight plant digest bytes (take w.number all) (drop w.number all) cells =
-            running-right plant digest bytes behind v w hs at run cells (fronts cells (subst (λ (s : DiskState). MayBe 512 s cells) left may)) in
+            running-right plant digest bytes behind v w hs at run cells (fronts cells (subst (λ (s : DiskState). MayBe (BODY + 1) s cells) left may)) in
             inl (subst (λ (n : ℕ). IsRight plant digest bytes (take n fired) (drop n fired) cells) (sym acked)
             (subst (λ (l : List ChoiceDefinition). IsRight plant digest bytes (take w.number l) (drop w.number l) cells) (sym same) right));
       };

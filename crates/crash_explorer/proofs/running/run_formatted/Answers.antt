@@ -1,4 +1,5 @@
-use Rattle.std.proofs.Common.{◌≡◌, ℕ, List, [], false, refl, sym, ◌∙◌, ap, subst, map, IfOk}
+use Rattle.std.proofs.Common.{◌+◌, ◌≡◌, ℕ, List, [], false, refl, sym, ◌∙◌, ap, subst, map, IfOk}
+use Rattle.disk_model.specs.declared.cells.TheConstants.{BODY}
 use Rattle.disk_model.specs.Cells.{MayBe, seen_cells}
 use Rattle.disk_model.specs.DiskState.{DiskState, size_of}
 use Rattle.disk_model.specs.MemDisk.{state_of}
@@ -24,7 +25,7 @@ run_booted-requires c =
     let s : DiskState = state_of c.args.disk.disk in
     subst (λ (p : PlantDefinition). IsAt p (map choice_of c.new.result.items) (view_of c.in-Ok.plant)) (sym c.in-Ok.ensures.system.0)
     (subst (λ (l : List Choice). IsAt plant (map choice_of l) (view_of c.in-Ok.plant)) (sym c.new.ensures.items)
-    (booted-at plant digest (size_of s) [] (seen_cells 512 s) (view_of c.in-Ok.plant) refl (c.in-Ok.ensures.booted refl) (c.requires (seen_cells 512 s) (seen_may 512 s))))
+    (booted-at plant digest (size_of s) [] (seen_cells (BODY + 1) s) (view_of c.in-Ok.plant) refl (c.in-Ok.ensures.booted refl) (c.requires (seen_cells (BODY + 1) s) (seen_may (BODY + 1) s))))
 
 pub returns-in-Ok-clause-made : goal.returns-in-Ok-clause-made
 returns-in-Ok-clause-made c =
@@ -32,7 +33,7 @@ returns-in-Ok-clause-made c =
     let digest : List ℕ = digest_of c.args.system.now in
     let s : DiskState = state_of c.args.disk.disk in
     let v : View = view_of c.in-Ok.plant in
-    let at : IsAt plant [] v = booted-at plant digest (size_of s) [] (seen_cells 512 s) v refl (c.in-Ok.ensures.booted refl) (c.requires (seen_cells 512 s) (seen_may 512 s)) in
+    let at : IsAt plant [] v = booted-at plant digest (size_of s) [] (seen_cells (BODY + 1) s) v refl (c.in-Ok.ensures.booted refl) (c.requires (seen_cells (BODY + 1) s) (seen_may (BODY + 1) s)) in
     made-running plant c.args.events.now v c.run_booted.result at
     (subst (λ (l : List Choice). IfOk c.run_booted.result (λ (e : Ended). IsLived plant c.args.events.now v (map choice_of l) (fired_in e) e.acked)) c.new.ensures.items
     (subst (λ (p : PlantDefinition). IfOk c.run_booted.result (λ (e : Ended). IsLived p c.args.events.now v (map choice_of c.new.result.items) (fired_in e) e.acked)) c.in-Ok.ensures.system.0
@@ -53,6 +54,6 @@ returns-in-Image c =
           ended-first plant digest (size_of s) ended Booting c.before_the_first.ensures.fired c.before_the_first.ensures.acked c.before_the_first.ensures.stage
           (ap (λ (d : DiskState). size_of d) device ∙ size)
           (λ cells may. first-right plant digest (size_of s) false cells
-          (booting-right plant digest s cells c.requires (leaves_now 512 (IsBooting plant digest s) s left (c.in-Err.ensures.stops refl) cells (subst (λ (d : DiskState). MayBe 512 d cells) device may))));
+          (booting-right plant digest s cells c.requires (leaves_now (BODY + 1) (IsBooting plant digest s) s left (c.in-Err.ensures.stops refl) cells (subst (λ (d : DiskState). MayBe (BODY + 1) d cells) device may))));
       made = made-none plant c.args.events.now ended Booting c.before_the_first.ensures.fired c.before_the_first.ensures.stage refl c.before_the_first.ensures.acked;
     }

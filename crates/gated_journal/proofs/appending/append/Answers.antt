@@ -1,4 +1,5 @@
 use Rattle.std.proofs.Common.{◌+◌, ℕ, List, length, sym, subst, arith}
+use Rattle.disk_model.specs.declared.cells.TheConstants.{BODY}
 use Rattle.disk_model.specs.DiskState.{DiskState}
 use Rattle.disk_model.specs.Cells.{Leaves, EmptyOrNew, Filled}
 use Rattle.disk_model.specs.Moments.{on_ok}
@@ -18,13 +19,13 @@ pub set_run-requires-clause-inside : goal.set_run-requires-clause-inside
 set_run-requires-clause-inside g c =
     let j : Ring = c.args.ring in
     let s : DiskState = c.args.cells.now in
-    subst (λ (ks : List ℕ). AreInside 512 s ks) (sym c.write_places.ensures) (places_inside 512 j (j.last + 1) (length c.args.room.now) s c.requires.ring.some c.requires.inside)
+    subst (λ (ks : List ℕ). AreInside (BODY + 1) s ks) (sym c.write_places.ensures) (places_inside (BODY + 1) j (j.last + 1) (length c.args.room.now) s c.requires.ring.some c.requires.inside)
 
 pub set_run-requires-clause-closed : goal.set_run-requires-clause-closed
 set_run-requires-clause-closed g c keeps =
     let j : Ring = c.args.ring in
     let s : DiskState = c.args.cells.now in
-    subst (λ (ks : List ℕ). AreClosed 512 s ks) (sym c.write_places.ensures) (places_closed j (length c.args.room.now) s (c.requires.ready keeps) (omega arith))
+    subst (λ (ks : List ℕ). AreClosed (BODY + 1) s ks) (sym c.write_places.ensures) (places_closed j (length c.args.room.now) s (c.requires.ready keeps) (omega arith))
 
 pub returns-clause-leaves : goal.returns-clause-leaves
 returns-clause-leaves g c keeps news are =
@@ -32,9 +33,9 @@ returns-clause-leaves g c keeps news are =
     let old : DiskState = c.args.cells.now in
     let new : DiskState = c.set_run.new.self in
     let bodies : List (List ℕ) = c.args.bodies.now in
-    let run : Leaves 512 (EmptyOrNew 512 old (places j (j.last + 1) (length bodies)) bodies) old new =
-    subst (λ (n : ℕ). Leaves 512 (EmptyOrNew 512 old (places j (j.last + 1) n) bodies) old new) c.requires.as_many
-    (subst (λ (ks : List ℕ). Leaves 512 (EmptyOrNew 512 old ks bodies) old new) c.write_places.ensures (c.set_run.ensures.leaves keeps)) in
+    let run : Leaves (BODY + 1) (EmptyOrNew (BODY + 1) old (places j (j.last + 1) (length bodies)) bodies) old new =
+    subst (λ (n : ℕ). Leaves (BODY + 1) (EmptyOrNew (BODY + 1) old (places j (j.last + 1) n) bodies) old new) c.requires.as_many
+    (subst (λ (ks : List ℕ). Leaves (BODY + 1) (EmptyOrNew (BODY + 1) old ks bodies) old new) c.write_places.ensures (c.set_run.ensures.leaves keeps)) in
     append_leaves j bodies news old new c.requires.ring (c.requires.ready keeps) are c.requires.room run
 
 pub returns-clause-appended : goal.returns-clause-appended
@@ -43,7 +44,7 @@ returns-clause-appended g c keeps news are =
     let old : DiskState = c.args.cells.now in
     let new : DiskState = c.set_run.new.self in
     let bodies : List (List ℕ) = c.args.bodies.now in
-    on_ok c.set_run.result (Filled 512 c.write_places.new.places bodies old new) (HasAppendedAll j news old new)
+    on_ok c.set_run.result (Filled (BODY + 1) c.write_places.new.places bodies old new) (HasAppendedAll j news old new)
     (λ filled. has_appended_all j bodies news old new c.requires.ring (c.requires.ready keeps) are c.requires.room c.set_run.ensures.counts.size
-    (subst (λ (n : ℕ). Filled 512 (places j (j.last + 1) n) bodies old new) c.requires.as_many (subst (λ (ks : List ℕ). Filled 512 ks bodies old new) c.write_places.ensures filled)))
+    (subst (λ (n : ℕ). Filled (BODY + 1) (places j (j.last + 1) n) bodies old new) c.requires.as_many (subst (λ (ks : List ℕ). Filled (BODY + 1) ks bodies old new) c.write_places.ensures filled)))
     (c.set_run.ensures.filled keeps)

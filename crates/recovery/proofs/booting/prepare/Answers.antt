@@ -1,5 +1,6 @@
-use Rattle.std.proofs.Common.{◌≡◌, ◌≤◌, vec_capacity, List, ℕ, length, true, false, refl, sym, ◌∙◌, ap, subst, rules}
+use Rattle.std.proofs.Common.{◌+◌, ◌≡◌, ◌≤◌, vec_capacity, List, ℕ, length, true, false, refl, sym, ◌∙◌, ap, subst, rules}
 use Rattle.std.proofs.lemmas.Result.{err_from_is_err_and}
+use Rattle.disk_model.specs.declared.cells.TheConstants.{BODY}
 use Rattle.disk_model.specs.Cells.{seen_cells}
 use Rattle.disk_model.specs.Counting.{up_to_one}
 use Rattle.disk_model.specs.DiskState.{DiskState}
@@ -85,13 +86,13 @@ returns-clause-prepared g c =
       none_asked = none_read plant digest mid standing was j journal known made.snapshots;
       rests = λ holds.
           let still : mid.keeps ≡ true = sym c.clean.ensures.counts.keeps ∙ holds in
-          let cleaned : HasCleaned first (seen_cells 512 mid) (seen_cells 512 new) = seen_after 512 (HasCleaned first (seen_cells 512 mid)) mid new (c.clean.ensures.leaves still) in
+          let cleaned : HasCleaned first (seen_cells (BODY + 1) mid) (seen_cells (BODY + 1) new) = seen_after (BODY + 1) (HasCleaned first (seen_cells (BODY + 1) mid)) mid new (c.clean.ensures.leaves still) in
           rests_read plant digest mid standing was j journal long new _ _ known still c.clean.ensures.counts.size made.acked made.counts made.snapshots
           (subst (λ r. IsReady r new) (sym kept) (c.in_ok-clean.ensures.cleaned still))
-          (subst (λ r. HasCleaned r (seen_cells 512 mid) (seen_cells 512 new)) (sym kept) cleaned);
+          (subst (λ r. HasCleaned r (seen_cells (BODY + 1) mid) (seen_cells (BODY + 1) new)) (sym kept) cleaned);
       marked = λ holds.
           let still : mid.keeps ≡ true = sym c.clean.ensures.counts.keeps ∙ holds in
-          let cleaned : HasCleaned first (seen_cells 512 mid) (seen_cells 512 new) = seen_after 512 (HasCleaned first (seen_cells 512 mid)) mid new (c.clean.ensures.leaves still) in
-          marked_read plant digest mid standing was j journal long new marks still made.marks (subst (λ r. HasCleaned r (seen_cells 512 mid) (seen_cells 512 new)) (sym kept) cleaned);
+          let cleaned : HasCleaned first (seen_cells (BODY + 1) mid) (seen_cells (BODY + 1) new) = seen_after (BODY + 1) (HasCleaned first (seen_cells (BODY + 1) mid)) mid new (c.clean.ensures.leaves still) in
+          marked_read plant digest mid standing was j journal long new marks still made.marks (subst (λ r. HasCleaned r (seen_cells (BODY + 1) mid) (seen_cells (BODY + 1) new)) (sym kept) cleaned);
       booted = λ keeps. shows_read plant digest mid standing was j journal old _ _ marks known (c.in_ok-standing.ensures.counts.keeps ∙ keeps) c.in_ok-standing.ensures.counts.size (c.judge.ensures.same keeps) made.acked made.counts made.marks made.snapshots;
     }

@@ -1,4 +1,5 @@
-use Rattle.std.proofs.Common.{ℕ, subst}
+use Rattle.std.proofs.Common.{◌+◌, ℕ, subst}
+use Rattle.disk_model.specs.declared.cells.TheConstants.{BODY}
 use Rattle.disk_model.specs.DiskState.{DiskState}
 use Rattle.disk_model.specs.Cells.{seen_cells, Leaves, OldEmptyOrNewAt, Replaced}
 use Rattle.disk_model.specs.Moments.{on_ok}
@@ -13,7 +14,7 @@ returns-clause-leaves g c keeps =
     let new : DiskState = c.replace.new.self in
     let saved : SavedFields = c.args.encoded.now in
     store_leaves c.args.slot saved c.body.result.now c.body.ensures old new
-    (subst (λ (k : ℕ). Leaves 512 (OldEmptyOrNewAt k c.body.result.now (seen_cells 512 old)) old new) c.cell.ensures (c.replace.ensures.leaves keeps))
+    (subst (λ (k : ℕ). Leaves (BODY + 1) (OldEmptyOrNewAt k c.body.result.now (seen_cells (BODY + 1) old)) old new) c.cell.ensures (c.replace.ensures.leaves keeps))
 
 pub returns-clause-stored : goal.returns-clause-stored
 returns-clause-stored g c keeps =
@@ -21,6 +22,6 @@ returns-clause-stored g c keeps =
     let new : DiskState = c.replace.new.self in
     let saved : SavedFields = c.args.encoded.now in
     let body = c.body.result.now in
-    on_ok c.replace.result (Replaced 512 c.cell.result body old new) (IsStored c.args.slot saved old new)
-    (λ done. is_stored c.args.slot saved body c.body.ensures old new (subst (λ (k : ℕ). Replaced 512 k body old new) c.cell.ensures done))
+    on_ok c.replace.result (Replaced (BODY + 1) c.cell.result body old new) (IsStored c.args.slot saved old new)
+    (λ done. is_stored c.args.slot saved body c.body.ensures old new (subst (λ (k : ℕ). Replaced (BODY + 1) k body old new) c.cell.ensures done))
     (c.replace.ensures.replaced keeps)

@@ -10,8 +10,8 @@ use Rattle.step_core.proofs.transfers.deliver_all.Goals.{then-has_all, else-has_
 
 pub loop-delivery-init : goal.loop-delivery-init
 loop-delivery-init c place m there first =
-    let within : place < 8 = omega (arith, c.requires.few, slice_get_within c.args.moves.now place m there) in
-    ap (λ row. slice_get row place) c.requires.nothing ∙ everywhere nothing_delivered 8 place within
+    let within : place < 16 = omega (arith, c.requires.few, slice_get_within c.args.moves.now place m there) in
+    ap (λ row. slice_get row place) c.requires.nothing ∙ everywhere nothing_delivered 16 place within
 
 pub loop-delivery-preserved : goal.loop-delivery-preserved
 loop-delivery-preserved c =

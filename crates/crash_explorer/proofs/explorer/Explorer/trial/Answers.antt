@@ -1,5 +1,6 @@
-use Rattle.std.proofs.Common.{◌≡◌, ◌<◌, ◌≤◌, ℕ, List, length, slice_index, refl, sym, ◌∙◌, ap, subst, arith}
+use Rattle.std.proofs.Common.{◌+◌, ◌≡◌, ◌<◌, ◌≤◌, ℕ, List, length, slice_index, refl, sym, ◌∙◌, ap, subst, arith}
 use Rattle.std.proofs.lemmas.List.{length-map}
+use Rattle.disk_model.specs.declared.cells.TheConstants.{BODY}
 use Rattle.disk_model.specs.Cells.{cells_of}
 use Rattle.disk_model.specs.DiskState.{DiskState, MayLeave, is_pending, size_of}
 use Rattle.disk_model.specs.MemDisk.{cell_of, state_of, synced_of}
@@ -33,10 +34,10 @@ returns c =
     let may : MayLeave (device_in ended).now left = subst (λ (d : DiskState). MayLeave d.now left) of_device c.stop-left.ensures.left in
     let size : length left ≡ bytes = may.size ∙ is.size in
     let outcome : Outcome = c.in_ok-outcome.outcome in
-    let become : IsOutcome plant digest bytes c.args.tear (fired_in ended) ended.acked (is_formatting ended.stage) (cells_of 512 left) outcome =
-    subst (λ (n : ℕ). IsOutcome plant digest n c.args.tear (fired_in ended) ended.acked (is_formatting ended.stage) (cells_of 512 left) outcome) size c.in_ok-outcome.ensures in
-    let right = is.stops (cells_of 512 left) (left_may 512 (device_in ended) left may) in
-    let next : IsNextOf plant digest bytes c.args.tear (fired_in ended) (cells_of 512 left) outcome.found outcome.next = become.next_is right in
+    let become : IsOutcome plant digest bytes c.args.tear (fired_in ended) ended.acked (is_formatting ended.stage) (cells_of (BODY + 1) left) outcome =
+    subst (λ (n : ℕ). IsOutcome plant digest n c.args.tear (fired_in ended) ended.acked (is_formatting ended.stage) (cells_of (BODY + 1) left) outcome) size c.in_ok-outcome.ensures in
+    let right = is.stops (cells_of (BODY + 1) left) (left_may (BODY + 1) (device_in ended) left may) in
+    let next : IsNextOf plant digest bytes c.args.tear (fired_in ended) (cells_of (BODY + 1) left) outcome.found outcome.next = become.next_is right in
     let many : c.len-fired.result ≡ length (fired_in ended) = omega (arith, c.len-fired.ensures, ended.fired.ok.0, length-map ended.fired.items choice_of) in
     record {
       stop_is = refl;
@@ -59,5 +60,5 @@ returns c =
       found_is = become.found_is;
       next_is = next;
       right_where = become.right_where;
-      right_is = become.right_where.1 (right, next-right plant digest bytes c.args.tear (fired_in ended) (cells_of 512 left) outcome.found outcome.next next);
+      right_is = become.right_where.1 (right, next-right plant digest bytes c.args.tear (fired_in ended) (cells_of (BODY + 1) left) outcome.found outcome.next next);
     }

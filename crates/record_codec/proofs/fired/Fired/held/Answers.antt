@@ -1,14 +1,14 @@
-use Rattle.std.proofs.Common.{◌∙◌, sym, arith}
+use Rattle.std.proofs.Common.{◌∙◌, sym, arith, le_trans}
 use Rattle.std.proofs.lemmas.Bool.Decides.{nat_tests}
 use Rattle.record_codec.specs.declared.layout.TheConstants.{MOST_ENTRIES}
-use Rattle.record_codec.specs.Fired.{fired_in}
 use Rattle.record_codec.proofs.Entries.{length-entries_at}
-use Rattle.record_codec.proofs.Records.{IsFired-from_test}
+use Rattle.record_codec.proofs.Records.{IsFired-from_test, IsFiredUpTo-most}
 use Rattle.record_codec.proofs.fired.Fired.held.Goals as goal
 
-pub returns-then-participants-gt-MOST_ENTRIES : goal.returns-then-participants-gt-MOST_ENTRIES
-unfolding fired_in
-returns-then-participants-gt-MOST_ENTRIES c = grind (arith, nat_tests, length-entries_at)
+pub returns-then-participants-most : goal.returns-then-participants-most
+returns-then-participants-most g c = record { exact = grind (arith, nat_tests, length-entries_at); fits = tt }
 
 pub new-fired-requires : goal.new-fired-requires
-new-fired-requires c = IsFired-from_test MOST_ENTRIES _ (sym c.is_in_range.ensures ∙ c.if-not-is_in_range.false)
+new-fired-requires g c =
+    let range = IsFired-from_test c.args.most _ (sym c.is_in_range.ensures ∙ c.if-not-is_in_range.false) in
+    IsFiredUpTo-most MOST_ENTRIES c.args.most _ (le_trans range.entries_within c.requires.few) range

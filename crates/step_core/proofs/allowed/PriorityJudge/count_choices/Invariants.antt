@@ -8,5 +8,5 @@ use Rattle.step_core.proofs.allowed.PriorityJudge.count_choices.Given as goal
 -- the choices of the interactions of the words so far are counted
 abbrev pub invariant-loop-place : goal.invariant-loop-place
 invariant-loop-place l =
-    (l.total ≤ l.place * (64 * 2 ^ 64)) ×
+    (l.total ≤ l.place * (64 * 2 ^ 112)) ×
     (l.total ≡ length (choices_in_below (map definition_of l.self.judged.atoms.now) l.self.judged.states.now (map interaction_of l.self.interactions.now) (contains l.kept) (64 * l.place)))

@@ -13,7 +13,7 @@ invariant-loop-left l =
     let states = l.self.judged.states.now in
     let all = map interaction_of l.self.interactions.now in
     let kept = contains l.kept in
-    (k : ℕ) × (k ≤ 64) × IsRest (λ j. kept (64 * l.place + j)) l.left k × (l.total ≤ k * 2 ^ 64) ×
+    (k : ℕ) × (k ≤ 64) × IsRest (λ j. kept (64 * l.place + j)) l.left k × (l.total ≤ k * 2 ^ 112) ×
     (length (choices_in_below atoms states all kept (64 * l.place + k)) ≡ length (choices_in_below atoms states all kept (64 * l.place)) + l.total)
 
 abbrev pub decreases-loop-left : goal.decreases-loop-left

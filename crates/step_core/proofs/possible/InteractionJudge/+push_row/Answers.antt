@@ -13,8 +13,8 @@ split_place-split-requires t c =
     let moves = moves_of (map definition_of judged.atoms.now) judged.states.now in
     let none : Port = record { atom = 0; port = 0 } in
     record {
-      some = count-positive moves c.args.ports.now none c.in-len1-up.len_at_least c.args.total c.move_count.result c.args.place c.requires.total c.move_count.ensures.count c.requires.place;
-      whole = below-positive moves c.args.ports.now none c.in-len1-up.len_at_least c.args.total c.move_count.result c.args.place c.requires.total c.move_count.ensures.count c.requires.place;
+      some = count-positive moves c.args.ports.now none c.in-len1-up.len_at_least c.args.total c.from-count.result c.args.place c.requires.total (c.from-count.ensures ∙ c.move_count.ensures.count) c.requires.place;
+      whole = below-positive moves c.args.ports.now none c.in-len1-up.len_at_least c.args.total c.from-count.result c.args.place c.requires.total (c.from-count.ensures ∙ c.move_count.ensures.count) c.requires.place;
       place = c.requires.place;
     }
 
@@ -24,7 +24,7 @@ nth_move-requires t c =
     let moves = moves_of (map definition_of judged.atoms.now) judged.states.now in
     let none : Port = record { atom = 0; port = 0 } in
     rw c.split_place-split.ensures.own
-    (first-within moves c.args.ports.now none c.in-len1-up.len_at_least c.args.total c.move_count.result c.args.place c.requires.total c.move_count.ensures.count c.requires.place)
+    (first-within moves c.args.ports.now none c.in-len1-up.len_at_least c.args.total c.from-count.result c.args.place c.requires.total (c.from-count.ensures ∙ c.move_count.ensures.count) c.requires.place)
 
 pub push_row-requires : goal.push_row-requires
 push_row-requires t c =
@@ -35,7 +35,7 @@ push_row-requires t c =
       omega (arith, long, c.decreases),
       (
         omega (arith, long, c.requires.room, ap length c.push.ensures, length-append c.args.moves.now (c.nth_move.result ∷ [])),
-        (c.split_place-split.ensures.below ∙ below-is moves c.args.ports.now none c.in-len1-up.len_at_least c.args.total c.move_count.result c.args.place c.requires.total c.move_count.ensures.count c.requires.place, rw (c.split_place-split.ensures.rest, c.split_place-split.ensures.below) (later-within moves c.args.ports.now none c.in-len1-up.len_at_least c.args.total c.move_count.result c.args.place c.requires.total c.move_count.ensures.count c.requires.place)),
+        (c.split_place-split.ensures.below ∙ below-is moves c.args.ports.now none c.in-len1-up.len_at_least c.args.total c.from-count.result c.args.place c.requires.total (c.from-count.ensures ∙ c.move_count.ensures.count) c.requires.place, rw (c.split_place-split.ensures.rest, c.split_place-split.ensures.below) (later-within moves c.args.ports.now none c.in-len1-up.len_at_least c.args.total c.from-count.result c.args.place c.requires.total (c.from-count.ensures ∙ c.move_count.ensures.count) c.requires.place)),
       ),
     )
 
@@ -45,6 +45,6 @@ returns-in-len1-up t c =
     let moves = moves_of (map definition_of judged.atoms.now) judged.states.now in
     let none : Port = record { atom = 0; port = 0 } in
     let nth = c.nth_move.ensures in
-    let row = row-by-first moves c.args.ports.now none c.in-len1-up.len_at_least c.args.total c.move_count.result c.args.place c.requires.total c.move_count.ensures.count c.requires.place c.nth_move.result (subst (λ k. slice_get (moves (get_or c.args.ports.now 0 none)) k ≡ Some c.nth_move.result) c.split_place-split.ensures.own nth) in
-    let rest = get_or (combinations (map moves (take (length c.args.ports.now - 1) (drop 1 c.args.ports.now)))) (c.args.place % (c.args.total / c.move_count.result)) [] in
+    let row = row-by-first moves c.args.ports.now none c.in-len1-up.len_at_least c.args.total c.from-count.result c.args.place c.requires.total (c.from-count.ensures ∙ c.move_count.ensures.count) c.requires.place c.nth_move.result (subst (λ k. slice_get (moves (get_or c.args.ports.now 0 none)) k ≡ Some c.nth_move.result) c.split_place-split.ensures.own nth) in
+    let rest = get_or (combinations (map moves (take (length c.args.ports.now - 1) (drop 1 c.args.ports.now)))) (c.args.place % (c.args.total / c.from-count.result)) [] in
     c.push_row.ensures ∙ ap (λ k. c.push.new.self ++ get_or (combinations (map moves (take (length c.args.ports.now - 1) (drop 1 c.args.ports.now)))) k []) c.split_place-split.ensures.rest ∙ ap (λ xs. xs ++ rest) c.push.ensures ∙ append_assoc c.args.moves.now (c.nth_move.result ∷ []) rest ∙ ap (λ xs. c.args.moves.now ++ xs) (sym row)

@@ -4,13 +4,13 @@ use Rattle.step_core.specs.Choice.{moves_of}
 use Rattle.step_core.proofs.Combinations.{product-bound, length-later, count-by-first}
 use Rattle.step_core.proofs.possible.InteractionJudge.+row_count.Goals as goal
 
--- at most 7 bits for each of 8 ports
+-- at most 7 bits for each of 9 ports
 pub overflow_mul-result : goal.overflow_mul-result
 overflow_mul-result t c =
     let ports = c.args.ports.now in
     let few = product-bound c.move_count-count.result c.row_count.result (length (take (length ports - 1) (drop 1 ports))) (length ports) c.move_count-count.ensures.few c.row_count.ensures.few (length-later ports c.in-len1-up.len_at_least) in
-    let bits : 7 * length ports ≤ 56 = omega (arith, c.requires) in
-    let bound : c.move_count-count.result * c.row_count.result ≤ 2 ^ 56 = le_trans few (pow_mono bits) in
+    let bits : 7 * length ports ≤ 63 = omega (arith, c.requires) in
+    let bound : c.move_count-count.result * c.row_count.result ≤ 2 ^ 63 = le_trans few (pow_mono bits) in
     omega arith
 
 pub returns-else-count-eq0-clause-few : goal.returns-else-count-eq0-clause-few

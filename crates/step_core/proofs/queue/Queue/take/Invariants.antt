@@ -6,6 +6,6 @@ use Rattle.step_core.proofs.queue.Queue.take.Given as goal
 abbrev pub invariant-loop-place : goal.invariant-loop-place
 invariant-loop-place g l = record {
   same : l.self.places ≡ l.fn.self.places;
-  long : length l.self.places ≡ 8;
+  long : length l.self.places ≡ 16;
   empty : (n : ℕ) → n < l.place → get_or l.self.places n None ≡ None;
 }

@@ -38,8 +38,8 @@ returns-in_default c place m there first =
     let small : mask < 2 ^ 16 = omega arith in
     let n = c.from.result in
     let past : length all ≤ n = subst (λ rs. length rs ≤ n) c.deref.ensures.value c.in_default.ensures.lookup.3 in
-    let few : place < 8 = omega (arith, c.as_slice-moves.ensures.few, ap length c.as_slice-moves.ensures.moves, slice_get_within c.args.choice.now.moves place m there) in
-    ap (λ row. slice_get row place) c.requires.nothing ∙ everywhere nothing_delivered 8 place few ∙
+    let few : place < 16 = omega (arith, c.as_slice-moves.ensures.few, ap length c.as_slice-moves.ensures.moves, slice_get_within c.args.choice.now.moves place m there) in
+    ap (λ row. slice_get row place) c.requires.nothing ∙ everywhere nothing_delivered 16 place few ∙
     ap Some
     (sym (ap (λ o. option_map_or (λ r. given_for states (map delivery_of r.deliveries.items) mask m.atom) o nothing_delivered) (slice_get_past all n past)) ∙
     system.delivering states mask n m.atom small ∙

@@ -1,14 +1,15 @@
-use Rattle.std.proofs.Common.{◌≡◌, ◌∙◌, ℕ, false, true, ap, sym, arith, map}
+use Rattle.std.proofs.Common.{◌≡◌, ◌∙◌, ◌||◌, not, ℕ, false, true, ap, sym, arith, map}
 use Rattle.std.specs.FinSet.{contains}
 use Rattle.std.specs.Option.{option_map_or}
-use Rattle.std.proofs.lemmas.Bool.{or_parts}
+use Rattle.std.proofs.lemmas.Bool.{not-false, or_parts}
 use Rattle.petri_atom.specs.Local.{has}
 use Rattle.priority_filter.specs.Active.{may_be_marked}
 use Rattle.priority_filter.proofs.Counting.{alike-counted}
 use Rattle.step_core.specs.Choice.{active_in, is_marked_at, is_possible_at}
 use Rattle.step_core.specs.Interaction.{interaction_of}
 use Rattle.step_core.specs.System.{plant_of}
-use Rattle.step_core.specs.Ways.{ways_at}
+use Rattle.step_core.specs.Ways.{fits_word_at, ways_at}
+use Rattle.step_core.proofs.FittingWords.{fits-at}
 use Rattle.step_core.proofs.Kept.{few_atoms_of_plant}
 use Rattle.step_core.proofs.Sighted.{marked-past}
 use Rattle.step_core.proofs.Unchanged.{allowed-same, total-same}
@@ -46,12 +47,14 @@ returns-else-is_new-is_seen_new c =
     let after = c.args.states.now in
     let touched = c.judge_offers_again-is_new.ensures in
     let sights = c.see_again-is_seen_new.ensures in
-    let parts = or_parts c.judge_offers_again-is_new.result c.see_again-is_seen_new.result c.if-is_new-is_seen_new.false in
+    let first = or_parts (c.judge_offers_again-is_new.result || c.see_again-is_seen_new.result) (not system.fit_words) c.if-is_new-is_seen_new.false in
+    let parts = or_parts c.judge_offers_again-is_new.result c.see_again-is_seen_new.result first.0 in
+    let all_fit : (n : ℕ) → fits_word_at all n ≡ true = λ n. fits-at all n (sym system.fitting ∙ not-false system.fit_words first.1) in
     let same = touched.same parts.0 in
     let possible : (n : ℕ) → is_possible_at plant.atoms plant.wires after all n ≡ is_possible_at plant.atoms plant.wires before all n =
     λ n. sym (touched.possible n) ∙ same.0 n ∙ behind.judged.possible n in
     let ways : (n : ℕ) → is_possible_at plant.atoms plant.wires after all n ≡ true → ways_at plant.atoms after all n ≡ ways_at plant.atoms before all n =
-    λ n yes_. sym (touched.ways n yes_) ∙ same.1 n ∙ behind.judged.ways n (sym (possible n) ∙ yes_) in
+    λ n yes_. sym (touched.ways n yes_ (all_fit n)) ∙ same.1 n ∙ behind.judged.ways n (sym (possible n) ∙ yes_) (all_fit n) in
     let counted : active_in plant after ≡ active_in plant before =
     alike-counted plant.rules (is_marked_at after) (is_marked_at before) (λ left right at there.
     sym (sights.seen left right at there) ∙ sights.same parts.1 left right at there ∙ ap (λ rows. may_be_marked rows at) touched.seen ∙ behind.judged.seen left right at there) in

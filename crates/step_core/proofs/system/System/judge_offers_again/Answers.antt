@@ -41,7 +41,7 @@ judge_touched-requires-clause-others c n outside =
     (cases_lt n (length all)))
 
 pub judge_touched-requires-clause-other_ways : goal.judge_touched-requires-clause-other_ways
-judge_touched-requires-clause-other_ways c n outside possible =
+judge_touched-requires-clause-other_ways c n outside possible fits =
     let system = c.args.self.now in
     let plant = plant_of system in
     let all = map interaction_of system.interactions.items in
@@ -64,7 +64,7 @@ judge_touched-requires-clause-other_ways c n outside possible =
     (λ within. untouched plant c.args.changed.now before after all rows n (system.rows ∙ ap (λ k. k * 33) (sym (behind.as_many ∙ c.requires.of_plant ∙ length-map system.atoms.items definition_of))) behind.as_many behind.stays system.touched (ap (λ rs. is_read_by rs c.args.changed.now n) (sym lent) ∙ judged.read n (low within) (outside within)) (told within (outside within)))
     (λ past. ap (λ o. option_map_or (is_possible plant.atoms plant.wires after) o false) (slice_get_past all n past) ∙ sym (ap (λ o. option_map_or (is_possible plant.atoms plant.wires before) o false) (slice_get_past all n past)))
     (cases_lt n (length all))) in
-    behind.ways n (before-possible ∙ possible) ∙
+    behind.ways n (before-possible ∙ possible) fits ∙
     sym (⊎_elim
     (λ within. untouched-ways plant c.args.changed.now before after all rows n (system.rows ∙ ap (λ k. k * 33) (sym (behind.as_many ∙ c.requires.of_plant ∙ length-map system.atoms.items definition_of))) behind.as_many behind.stays system.touched (ap (λ rs. is_read_by rs c.args.changed.now n) (sym lent) ∙ judged.read n (low within) (outside within)) (told within (outside within)))
     (λ past. ap (λ o. option_map_or (λ i. length (choices_of plant.atoms after i)) o 0) (slice_get_past all n past) ∙ sym (ap (λ o. option_map_or (λ i. length (choices_of plant.atoms before i)) o 0) (slice_get_past all n past)))

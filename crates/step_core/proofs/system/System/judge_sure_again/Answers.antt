@@ -1,8 +1,8 @@
-use Rattle.std.proofs.Common.{◌≡◌, ◌<◌, ◌∙◌, ◌||◌, ℕ, false, true, ap, sym, subst, ⊎_elim, arith, map, length}
+use Rattle.std.proofs.Common.{◌≡◌, ◌<◌, ◌∙◌, ◌||◌, not, ℕ, false, true, ap, sym, subst, ⊎_elim, arith, map, length}
 use Rattle.std.specs.Prelude.{option_map, slice_get}
 use Rattle.std.specs.FinSet.{contains}
 use Rattle.std.specs.Option.{option_map_or}
-use Rattle.std.proofs.lemmas.Bool.{cases_lt, or_parts}
+use Rattle.std.proofs.lemmas.Bool.{cases_lt, not-false, or_parts}
 use Rattle.std.proofs.lemmas.List.{length-map}
 use Rattle.std.proofs.lemmas.Option.{slice_get-map, slice_get_past}
 use Rattle.petri_atom.specs.Local.{has, is_in}
@@ -17,7 +17,8 @@ use Rattle.step_core.specs.Parts.{is_present, may_be_marked_in, may_count_in, sh
 use Rattle.step_core.specs.Possible.{ArePossible}
 use Rattle.step_core.specs.Sure.{is_open, is_open_at, is_sure_at}
 use Rattle.step_core.specs.System.{plant_of}
-use Rattle.step_core.specs.Ways.{AreWays, ways_at}
+use Rattle.step_core.specs.Ways.{AreWays, fits_word_at, ways_at}
+use Rattle.step_core.proofs.FittingWords.{fits-at}
 use Rattle.step_core.proofs.Judging.{counted-moves}
 use Rattle.step_core.proofs.Kept.{well_formed}
 use Rattle.step_core.proofs.Openness.{none-open, open-stays, present-past, sure-possible, sure-stays, unmarked-past, whole-present}
@@ -99,7 +100,9 @@ returns-else-is_new-is_seen_new c =
     let judged = c.judge_offers_again-is_new.ensures in
     let sights = c.see_again-is_seen_new.ensures in
     let opened = c.open_again-is_open_new.ensures in
-    let first = or_parts (c.judge_offers_again-is_new.result || c.see_again-is_seen_new.result) c.open_again-is_open_new.result c.if-is_new-is_seen_new.false in
+    let fitting = or_parts ((c.judge_offers_again-is_new.result || c.see_again-is_seen_new.result) || c.open_again-is_open_new.result) (not system.fit_words) c.if-is_new-is_seen_new.false in
+    let first = or_parts (c.judge_offers_again-is_new.result || c.see_again-is_seen_new.result) c.open_again-is_open_new.result fitting.0 in
+    let all_fit : (n : ℕ) → fits_word_at all n ≡ true = λ n. fits-at all n (sym system.fitting ∙ not-false system.fit_words fitting.1) in
     let second = or_parts c.judge_offers_again-is_new.result c.see_again-is_seen_new.result first.0 in
     let same = judged.same second.0 in
     let now_possible : ArePossible plant.atoms plant.wires (shown_in parts) all new.possible = subst (λ ss. ArePossible plant.atoms plant.wires ss all new.possible) states judged.possible in
@@ -107,7 +110,7 @@ returns-else-is_new-is_seen_new c =
     let possible : (n : ℕ) → is_possible_at plant.atoms plant.wires (shown_in parts) all n ≡ is_possible_at plant.atoms plant.wires (shown_in before) all n =
     λ n. sym (now_possible n) ∙ same.0 n ∙ behind.judged.possible n in
     let ways : (n : ℕ) → is_possible_at plant.atoms plant.wires (shown_in parts) all n ≡ true → ways_at plant.atoms (shown_in parts) all n ≡ ways_at plant.atoms (shown_in before) all n =
-    λ n yes_. sym (now_ways n yes_) ∙ same.1 n ∙ behind.judged.ways n (sym (possible n) ∙ yes_) in
+    λ n yes_. sym (now_ways n yes_ (all_fit n)) ∙ same.1 n ∙ behind.judged.ways n (sym (possible n) ∙ yes_) (all_fit n) in
     let still : (n : ℕ) → is_open_at plant.atoms parts all n ≡ is_open_at plant.atoms before all n =
     λ n. sym (opened.opened n) ∙ opened.same first.1 n ∙ behind.judged.opened n in
     let counted : may_count_in plant parts ≡ may_count_in plant before =

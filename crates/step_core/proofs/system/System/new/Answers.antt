@@ -6,6 +6,8 @@ use Rattle.connector_tree.specs.Tree.{leaves}
 use Rattle.priority_filter.specs.Decided.{order_fault}
 use Rattle.step_core.specs.Choice.{interactions_from, named, plant_interactions}
 use Rattle.step_core.specs.Interaction.{interaction_of}
+use Rattle.step_core.specs.Ways.{each_fits_word, fits_word}
+use Rattle.std.proofs.lemmas.List.Folds.{list_all-map}
 use Rattle.step_core.specs.BoundExpressions.{AreGuarding, AreDelivering}
 use Rattle.step_core.specs.Wire.{wire_of}
 use Rattle.step_core.specs.Made.{plant_by}
@@ -65,7 +67,7 @@ returns-in_err-order-clause-fault c =
     order-told plant c.in_err-order.field-0.0 c.from_residual-in_err-order.result
     (no_fault c.args.atoms.items c.deref.result.now c.args.wires.items c.deref-2.result.now c.args.rules.now c.first_fault.result c.deref.ensures.value c.deref-2.ensures.value c.first_fault.ensures c.in_default.is)
     (ap fault_of_count count ∙ sym c.fault_of_count.ensures ∙ c.in_default-fault_of_count.is)
-    (subst (λ xs. c.in_err-order.field-0.0 ≢ order.Memory → order_fault rules (map named xs) ≡ Some c.in_err-order.field-0.0) (ap (map interaction_of) c.deref-7.ensures.value ∙ listed) c.in_err-order.ensures.fault)
+    (subst (λ xs. c.in_err-order.field-0.0 ≢ order.Memory → order_fault rules (map named xs) ≡ Some c.in_err-order.field-0.0) (ap (map interaction_of) c.deref-8.ensures.value ∙ listed) c.in_err-order.ensures.fault)
     c.from_residual-in_err-order.ensures.1
 
 pub returns-in_err-dependents-clause-fault : goal.returns-in_err-dependents-clause-fault
@@ -108,16 +110,17 @@ invariant_of-result c =
     omega (arith, c.len-2.ensures, all.ok.0, length-map all.items interaction_of, ap length listed) in
     record {
       valid = subst (λ rs. fault_of (plant_by atoms wires rs) ≡ None) (sym order.ensures.rules)
-          (none-told plant none (ap fault_of_count count ∙ sym c.fault_of_count.ensures ∙ c.in_default-fault_of_count.is) (subst (λ xs. order_fault rules (map named xs) ≡ None) (ap (map interaction_of) c.deref-7.ensures.value ∙ listed) order.ensures.sound));
+          (none-told plant none (ap fault_of_count count ∙ sym c.fault_of_count.ensures ∙ c.in_default-fault_of_count.is) (subst (λ xs. order_fault rules (map named xs) ≡ None) (ap (map interaction_of) c.deref-8.ensures.value ∙ listed) order.ensures.sound));
       leaves = c.in_ok-ports.ensures ∙ ap (map (λ w. leaves (wire_of w).connector)) c.deref-3.ensures.value;
       guarding = subst (λ ws. AreGuarding (map definition_of atoms) (map wire_of ws) bound) c.deref-5.ensures.value
           (subst (λ xs. AreGuarding (map definition_of xs) (map wire_of c.deref-5.result.now) bound) c.deref-4.ensures.value c.in_ok-bound.ensures.guarding);
       delivering = subst (λ ws. AreDelivering (map definition_of atoms) (map wire_of ws) bound) c.deref-5.ensures.value
           (subst (λ xs. AreDelivering (map definition_of xs) (map wire_of c.deref-5.result.now) bound) c.deref-4.ensures.value c.in_ok-bound.ensures.delivering);
       listed = listed;
-      ordered = order.ensures.interactions ∙ ap (λ xs. map named (map interaction_of xs)) c.deref-7.ensures.value;
+      fitting = c.fit_words-fit_words.ensures ∙ sym (list_all-map fits_word interaction_of c.deref-7.result.now) ∙ ap (λ xs. each_fits_word (map interaction_of xs)) c.deref-7.ensures.value;
+      ordered = order.ensures.interactions ∙ ap (λ xs. map named (map interaction_of xs)) c.deref-8.ensures.value;
       rows = omega (arith, c.in_ok-dependents.ensures.rows, c.len-3.ensures, c.args.atoms.ok.0);
-      touched = subst (λ ws. AreDependents (map wire_of ws) (map interaction_of all.items) rows) c.deref-8.ensures.value
-          (subst (λ is. AreDependents (map wire_of c.deref-8.result.now) (map interaction_of is) rows) c.deref-10.ensures.value c.in_ok-dependents.ensures.dependents);
-      on_ports = subst (λ is. AreOnPorts (map interaction_of is) rows) c.deref-10.ensures.value c.in_ok-dependents.ensures.only;
+      touched = subst (λ ws. AreDependents (map wire_of ws) (map interaction_of all.items) rows) c.deref-9.ensures.value
+          (subst (λ is. AreDependents (map wire_of c.deref-9.result.now) (map interaction_of is) rows) c.deref-11.ensures.value c.in_ok-dependents.ensures.dependents);
+      on_ports = subst (λ is. AreOnPorts (map interaction_of is) rows) c.deref-11.ensures.value c.in_ok-dependents.ensures.only;
     }

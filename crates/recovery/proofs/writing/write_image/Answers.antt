@@ -1,0 +1,14 @@
+use Rattle.std.proofs.Common.{◌∙◌}
+use Rattle.step_core.specs.System.{digest_of, plant_of}
+use Rattle.recovery.proofs.WrittenCells.{asked_leaves}
+use Rattle.recovery.proofs.writing.write_image.Goals as goal
+
+pub returns-in-Ok-write_cells-clause-stops : goal.returns-in-Ok-write_cells-clause-stops
+returns-in-Ok-write_cells-clause-stops g c keeps =
+    asked_leaves (plant_of c.args.system.now) (digest_of c.args.system.now) c.args.states.now c.args.number c.args.cells.now c.size.new.self c.write_cells.new.cells c.in-Ok.ensures.reads keeps
+    (c.write_cells.ensures.stops (c.in-Ok.ensures.reads.counts.keeps ∙ keeps))
+
+pub returns-in-Err-clause-stops : goal.returns-in-Err-clause-stops
+returns-in-Err-clause-stops g c keeps =
+    asked_leaves (plant_of c.args.system.now) (digest_of c.args.system.now) c.args.states.now c.args.number c.args.cells.now c.size.new.self c.write_cells.new.cells c.in-Ok.ensures.reads keeps
+    (c.write_cells.ensures.stops (c.in-Ok.ensures.reads.counts.keeps ∙ keeps))

@@ -1,0 +1,15 @@
+-- What was judged of the cells of a device.
+use Rattle.std.specs.Prelude.{◌≡◌, ℕ, Bool, true, List, None}
+use Rattle.disk_model.specs.Cells.{Cell}
+use Rattle.step_core.specs.Plant.{PlantDefinition}
+use Rattle.plant_image.specs.Faults.{fault_of}
+use Rattle.plant_image.specs.Reading.{IsStanding}
+use Rattle.plant_image.specs.declared.standing.Standing.{Standing}
+
+-- What stands was read of some cells with which nothing is wrong, for a device of so many bytes: of those that a read gives, where the device
+-- keeps the disk model.
+pub record WasReadOf (plant : PlantDefinition) (digest : List ℕ) (bytes : ℕ) (keeps : Bool) (given : List Cell) (standing : Standing) : Type 0 where
+  pub cells : List Cell
+  pub seen : keeps ≡ true → cells ≡ given
+  pub sound : fault_of plant digest bytes cells ≡ None
+  pub is : IsStanding plant cells standing
