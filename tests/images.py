@@ -2,7 +2,7 @@
 
 Images of three plants are made by the program, by runs of random events. Then bytes are changed, gates are opened and closed, cells are exchanged,
 copied over others or taken from another image, and the file is cut or made longer. What `recover` must print, how it must refuse and what it
-must leave in the file is worked out by tests/reference.py.
+must leave in the file is worked out by tests/reference.py. So it is with images of the first layout and `migrate`.
 """
 
 import concurrent.futures
@@ -13,7 +13,8 @@ import tempfile
 import unittest
 from pathlib import Path
 
-from reference import CELL, Image, Refused, read_plant
+from folders import folder_in_memory
+from reference import CELL, FirstImage, Image, Refused, read_plant
 
 TESTS = Path(__file__).resolve().parent
 ROOT = TESTS.parent
@@ -22,6 +23,9 @@ ROUNDS = 20
 IMAGES_A_ROUND = 1000
 MADE_A_PLANT = 8
 EVENTS = 60
+# Images of the sample that an earlier version of the program made, and how many records the image is to have room for that they are brought over to.
+FIRST_IMAGES = [(TESTS / "migrate" / name / "image").read_bytes() for name in ("formatted", "run", "trimmed")]
+NEW_RING = 16
 
 
 def script(chosen, names):
@@ -42,10 +46,22 @@ def script(chosen, names):
     return "".join(f"{line}\n" for line in lines)
 
 
+class Changed(bytearray):
+    """The bytes of an image, and how many of them a cell has."""
+
+    cell = CELL
+
+
+class FirstChanged(Changed):
+    """The same of an image of the first layout."""
+
+    cell = FirstImage.bytes_of_cell
+
+
 def place_in(chosen, data):
     """The place of a byte, most often one of the first of a cell, where its fields are."""
-    cell = chosen.randrange(max(1, len(data) // CELL)) * CELL
-    return min(len(data) - 1, cell + chosen.randrange(CELL if chosen.randrange(5) == 0 else 60))
+    cell = chosen.randrange(max(1, len(data) // data.cell)) * data.cell
+    return min(len(data) - 1, cell + chosen.randrange(data.cell if chosen.randrange(5) == 0 else 60))
 
 
 def change_bytes(chosen, data, _):
@@ -56,48 +72,48 @@ def change_bytes(chosen, data, _):
 
 
 def change_gate(chosen, data, _):
-    cell = chosen.randrange(len(data) // CELL) * CELL
+    cell = chosen.randrange(len(data) // data.cell) * data.cell
     data[cell] = 0xA5 if data[cell] != 0xA5 else 0
 
 
 def change_state(chosen, data, _):
     """Another marking in a slot, or another transition in a record: the last bytes of these fields."""
     place = chosen.choice([26, 15])
-    cell = chosen.randrange(len(data) // CELL) * CELL
+    cell = chosen.randrange(len(data) // data.cell) * data.cell
     data[cell + place] = chosen.randrange(8)
 
 
 def put_cell(data, cell, bytes_of_cell):
-    data[cell * CELL : (cell + 1) * CELL] = bytes_of_cell
+    data[cell * data.cell : (cell + 1) * data.cell] = bytes_of_cell
 
 
 def exchange_cells(chosen, data, _):
-    one, other = (chosen.randrange(len(data) // CELL) for _ in range(2))
-    first = bytes(data[one * CELL : (one + 1) * CELL])
-    put_cell(data, one, bytes(data[other * CELL : (other + 1) * CELL]))
+    one, other = (chosen.randrange(len(data) // data.cell) for _ in range(2))
+    first = bytes(data[one * data.cell : (one + 1) * data.cell])
+    put_cell(data, one, bytes(data[other * data.cell : (other + 1) * data.cell]))
     put_cell(data, other, first)
 
 
 def copy_cell(chosen, data, others):
     """A cell of this image or of another one, over a cell of this."""
     source = chosen.choice([bytes(data), *others])
-    cell = chosen.randrange(len(source) // CELL) * CELL
-    put_cell(data, chosen.randrange(len(data) // CELL), source[cell : cell + CELL])
+    cell = chosen.randrange(len(source) // data.cell) * data.cell
+    put_cell(data, chosen.randrange(len(data) // data.cell), source[cell : cell + data.cell])
 
 
 def change_length(chosen, data, _):
-    if len(data) >= CELL and chosen.randrange(2):
-        del data[chosen.choice([chosen.randrange(len(data)), chosen.randrange(len(data) // CELL) * CELL]) :]
+    if len(data) >= data.cell and chosen.randrange(2):
+        del data[chosen.choice([chosen.randrange(len(data)), chosen.randrange(len(data) // data.cell) * data.cell]) :]
     else:
-        data += bytes(chosen.randrange(256) for _ in range(chosen.choice([1, CELL])))
+        data += bytes(chosen.randrange(256) for _ in range(chosen.choice([1, data.cell])))
 
 
 CHANGES = [change_bytes] * 6 + [change_state] * 4 + [change_gate] * 2 + [exchange_cells] * 2 + [copy_cell] * 3 + [change_length]
 
 
-def changed(chosen, image, others):
+def changed(chosen, image, others, kind=Changed):
     """The image after one or two changes; a change of its length is the last."""
-    data = bytearray(image)
+    data = kind(image)
     for change in sorted(chosen.choices(CHANGES, k=chosen.randint(1, 2)), key=lambda change: change is change_length):
         change(chosen, data, others)
     return bytes(data)
@@ -110,6 +126,15 @@ def expected(plant, data):
     except Refused as refusal:
         return 1, "", f"image: refusal {refusal}\n", data
     return 0, image.printed(), "", image.cleaned()
+
+
+def expected_of_migrate(plant, data):
+    """The status, the standard output, the standard error and the new file of `migrate`, which leaves the old one as it is."""
+    try:
+        image = FirstImage(plant, data)
+    except Refused as refusal:
+        return 1, "", f"image: refusal {refusal}\n", bytes(CELL * (3 + 2 * len(plant.atoms) + NEW_RING)), data
+    return 0, f"migrated {image.last}\n", "", image.migrated(NEW_RING), data
 
 
 class Images(unittest.TestCase):
@@ -156,13 +181,34 @@ class Images(unittest.TestCase):
             self.assertEqual(wrong, [])
 
 
+    def check_first_layout(self, number):
+        """Images of the first layout, which an earlier version of the program made, are changed and brought over to a file that is not there."""
+        with folder_in_memory() as folder:
+            plant = read_plant(PLANTS[0].read_bytes())
+
+            def check(count):
+                chosen = random.Random(f"first layout {number * IMAGES_A_ROUND + count}")
+                data = changed(chosen, chosen.choice(FIRST_IMAGES), FIRST_IMAGES, FirstChanged)
+                old, new = Path(folder) / f"old{count}", Path(folder) / f"new{count}"
+                old.write_bytes(data)
+                ran = self.ran("migrate", PLANTS[0], old, new, "--ring", NEW_RING)
+                found = ran.returncode, ran.stdout, ran.stderr, new.read_bytes(), old.read_bytes()
+                old.unlink()
+                new.unlink()
+                return None if found == expected_of_migrate(plant, data) else (count, found[:3], expected_of_migrate(plant, data)[:3])
+
+            with concurrent.futures.ThreadPoolExecutor(os.cpu_count()) as threads:
+                wrong = [each for each in threads.map(check, range(IMAGES_A_ROUND)) if each]
+            self.assertEqual(wrong, [])
+
+
 def suite(program, words):
     """The rounds whose name has one of the words in it; all, if there is no word."""
     Images.program = staticmethod(program)
     tests = unittest.TestSuite()
     for number in range(ROUNDS):
-        name = f"images/{number}"
-        if not words or any(word in name for word in words):
-            setattr(Images, f"test {name}", lambda self, number=number: self.check_round(number))
-            tests.addTest(Images(f"test {name}"))
+        for name, check in (f"images/{number}", Images.check_round), (f"images/first_layout_{number}", Images.check_first_layout):
+            if not words or any(word in name for word in words):
+                setattr(Images, f"test {name}", lambda self, number=number, check=check: check(self, number))
+                tests.addTest(Images(f"test {name}"))
     return tests

@@ -16,6 +16,9 @@ from reference import CELL, OPEN, Image
 from sample import FORMATTED, OnImage, end, fired_behind, image_of, standing, text, told
 from stops import state_behind
 
+# An image of the first layout that an earlier version of the program made, behind five firings.
+FIRST_IMAGE = sample.ROOT / "tests" / "migrate" / "trimmed" / "image"
+
 LIFETIMES = 4
 PERIODS = 8
 # Of how many events a script of a period is made, from and to; and of how many in a long life, by whose end there are so many firings.
@@ -162,6 +165,22 @@ class Power(OnImage):
             seen.add(self.standing_in(data))
         self.assertEqual(seen, set(answers))
 
+    def check_migrate(self):
+        """The new image stands for what it stood for, then for nothing, and at last for what the old one stands for, which is only read."""
+        old = self.folder / "old"
+        old.write_bytes(FIRST_IMAGE.read_bytes())
+        answers = [standing(4, 3), "image: refusal 1 NotFormatted\n", standing(5, 4, number=5, base=6)]
+        ran = self.watched("migrate plant old image --ring 8", image_of({}))
+        self.assertEqual(ran.printed, "migrated 5\n")
+        self.assertTrue(any(call.file == "old" for call in ran.calls))
+        self.assertFalse([call for call in ran.calls if call.file == "old" and "write" in call.name])
+        self.assertEqual(old.read_bytes(), FIRST_IMAGE.read_bytes())
+        seen = set()
+        for data, printed in self.left(image_of({}), ran, "migrate"):
+            self.assertIn(self.standing_in(data), answers[2:] if printed else answers)
+            seen.add(self.standing_in(data))
+        self.assertEqual(seen, set(answers))
+
     def events(self, chosen, length):
         """Mostly firings, with flushes, saves of atoms and trims between them."""
         lines = []
@@ -201,6 +220,12 @@ class Power(OnImage):
 
 def suite(program, words):
     reason = calls.why_not()
-    checks = {"power/run": Power.check_run, "power/recover": Power.check_recover, "power/format": Power.check_format, "power/long_life": Power.check_long_life}
+    checks = {
+        "power/run": Power.check_run,
+        "power/recover": Power.check_recover,
+        "power/format": Power.check_format,
+        "power/migrate": Power.check_migrate,
+        "power/long_life": Power.check_long_life,
+    }
     checks |= {f"power/lifetime_{number}": lambda self, number=number: self.expect_lifetime(f"lifetime {number}", SCRIPT) for number in range(LIFETIMES)}
     return sample.suite(Power, program, {name: unittest.skipIf(reason, reason)(check) for name, check in checks.items()}, words)

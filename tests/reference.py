@@ -237,11 +237,11 @@ def entry_in(fields, number):
     return atom, transition, participation, {place: fields.number(8, signed=True) for place in range(4) if mask >> place & 1}
 
 
-def record_in(body):
+def record_in(body, most_entries):
     """The number, the connector and the entries."""
     fields = Body(body)
     number, connector, many = fields.number(8), fields.number(2), fields.number(1)
-    if not 1 <= number <= GREATEST or connector > 63 or not 1 <= many <= 16:
+    if not 1 <= number <= GREATEST or connector > 63 or not 1 <= many <= most_entries:
         return None
     entries = [entry_in(fields, number) for _ in range(many)]
     if None in entries or any(one[0] >= other[0] for one, other in zip(entries, entries[1:])):
@@ -267,12 +267,18 @@ def fits(plant, record):
     return mask in plant.connectors[connector].interactions
 
 
+def spelled(number, length):
+    return (number % (1 << 8 * length)).to_bytes(length, "big")
+
+
 class Refused(Exception):
     """An image is refused: the number and the name of the refusal."""
 
 
 class Image:
     """An image, read in the order in which a boot reads it."""
+
+    bytes_of_cell, version, most_entries = CELL, 2, 16
 
     def __init__(self, plant, data):
         self.plant = plant
@@ -286,16 +292,16 @@ class Image:
 
     def body(self, cell):
         """The body of a full cell, and nothing of an empty one."""
-        start = cell * CELL
-        return self.data[start + 1 : start + CELL] if self.data[start] == OPEN else None
+        start = cell * self.bytes_of_cell
+        return self.data[start + 1 : start + self.bytes_of_cell] if self.data[start] == OPEN else None
 
     def read_identity(self):
-        if len(self.data) < CELL:
+        if len(self.data) < self.bytes_of_cell:
             raise Refused("4 WrongSize")
         body = self.body(0)
         if body is None or body[:4] != b"BIPF":
             raise Refused("1 NotFormatted")
-        if body[4:6] != b"\0\2":
+        if body[4:6] != spelled(self.version, 2):
             raise Refused("2 OtherVersion")
         identity = identity_in(body)
         if identity is None:
@@ -303,7 +309,7 @@ class Image:
         atoms, ring, digest = identity
         if atoms != len(self.plant.atoms) or digest != self.plant.digest:
             raise Refused("3 OtherSystem")
-        if len(self.data) != CELL * (3 + 2 * atoms + ring):
+        if len(self.data) != self.bytes_of_cell * (3 + 2 * atoms + ring):
             raise Refused("4 WrongSize")
         return ring
 
@@ -345,7 +351,7 @@ class Image:
             body = self.body(self.cell_of(number))
             if body is None:
                 break
-            record = record_in(body)
+            record = record_in(body, self.most_entries)
             if record is None:
                 raise Refused(f"5 Damaged({self.cell_of(number)})")
             if record[0] != number:
@@ -357,7 +363,8 @@ class Image:
 
     def replay(self):
         replayed = [self.replay_atom(number, atom) for number, atom in enumerate(self.plant.atoms)]
-        for number, (_, count) in enumerate(replayed):
+        self.counts = [count for _, count in replayed]
+        for number, count in enumerate(self.counts):
             if count > self.last:
                 raise Refused(f"6 Gap({number})")
         return [state for state, _ in replayed]
@@ -390,4 +397,22 @@ class Image:
         for cell in range(first, first + self.ring):
             if cell not in live and data[cell * CELL] == OPEN:
                 data[cell * CELL] = 0
+        return bytes(data)
+
+
+class FirstImage(Image):
+    """An image of the first layout, as `migrate` reads it."""
+
+    bytes_of_cell, version, most_entries = 512, 1, 8
+
+    def migrated(self, ring):
+        """The image that it is brought over to, with room for so many records, in a file that was not there."""
+        data = bytearray(CELL * (3 + 2 * len(self.plant.atoms) + ring))
+        bodies = {0: b"BIPF" + spelled(2, 2) + spelled(len(self.plant.atoms), 2) + spelled(ring, 4) + self.plant.digest, 1: spelled(self.last + 1, 8)}
+        for number, (state, count) in enumerate(zip(self.states, self.counts)):
+            marking = sum(1 << place for place in state.marked)
+            values = b"".join(spelled(value, 8) for value in state.values)
+            bodies[3 + 2 * number] = spelled(number, 2) + spelled(count, 8) + spelled(self.last, 8) + spelled(marking, 8) + spelled(len(state.values), 1) + values
+        for cell, body in bodies.items():
+            data[cell * CELL : cell * CELL + 1 + len(body)] = bytes([OPEN]) + body
         return bytes(data)

@@ -6,8 +6,11 @@ use Rattle.file_disk.specs.declared.fault.FileFault.TheVariants as file
 use Rattle.script_lines.specs.Message.{line_message}
 use Rattle.image_commands.specs.Refusals.{advice_for, refusal_line}
 use Rattle.image_commands.specs.Endings.{status_at}
+use Rattle.image_commands.specs.Migrations.{migrate_advice, migrate_line, migrate_status}
 use Rattle.image_commands.specs.declared.ending.ImageEnding.{ImageEnding}
 use Rattle.image_commands.specs.declared.ending.ImageEnding.TheVariants as image
+use Rattle.image_commands.specs.declared.migrate_ending.MigrateEnding.{MigrateEnding}
+use Rattle.image_commands.specs.declared.migrate_ending.MigrateEnding.TheVariants as migrating
 use Rattle.image_commands.specs.declared.exploring.ExploreEnding.{ExploreEnding}
 use Rattle.image_commands.specs.declared.exploring.ExploreEnding.TheVariants as exploring
 use Rattle.plant_tasks.specs.declared.ending.PlantEnding.TheVariants.{Memory}
@@ -15,7 +18,7 @@ use Rattle.plant_tasks.specs.Ending as plant
 use Rattle.plant_tasks.specs.Paths.{plant_alone}
 use Rattle.bip_image.specs.declared.ending.Paths.{Paths}
 use Rattle.bip_image.specs.declared.ending.Ending.{Ending}
-use Rattle.bip_image.specs.declared.ending.Ending.TheVariants.{OfPlant, Script, ScriptUnread, ImageUnopened, Image, NotRight}
+use Rattle.bip_image.specs.declared.ending.Ending.TheVariants.{OfPlant, Script, ScriptUnread, ImageUnopened, Image, NewUnopened, Migrate, NotRight}
 
 -- the exit status of the program: 0 done, 1 a refused plant, script or image, or a stop that left what is not right, 2 usage, 3 a file, a device, the memory or the output
 abbrev pub status_of : {A : Type 0} → Result A Ending → ℕ
@@ -25,6 +28,8 @@ status_of (Err (Script line)) = 1
 status_of (Err ScriptUnread) = 3
 status_of (Err (ImageUnopened fault)) = 3
 status_of (Err (Image ending)) = status_at ending
+status_of (Err (NewUnopened fault)) = 3
+status_of (Err (Migrate ending)) = migrate_status ending
 status_of (Err NotRight) = 1
 
 -- the ending where an exploration has no answer
@@ -43,6 +48,11 @@ image_text (image.Refused refusal) = refusal_line refusal ++ codes "\n"
 image_text image.Failed = []
 image_text image.Unwritten = []
 
+-- what is told where an image is not brought over
+abbrev pub migrate_text : MigrateEnding → List ℕ
+migrate_text (migrating.Refused refusal) = migrate_line refusal ++ codes "\n"
+migrate_text migrating.Unwritten = []
+
 -- what is told of an ending, where the texts and the image are at these paths
 abbrev pub told_text : Paths → Ending → List ℕ
 told_text paths (OfPlant ending) = plant.told_text (plant_alone paths.plant) ending
@@ -50,6 +60,8 @@ told_text paths (Script line) = codes "script line " ++ decimal line ++ codes "\
 told_text paths ScriptUnread = plant.file_line paths.script.now
 told_text paths (ImageUnopened fault) = unopened_text paths.image.now fault
 told_text paths (Image ending) = image_text ending
+told_text paths (NewUnopened fault) = unopened_text paths.made.now fault
+told_text paths (Migrate ending) = migrate_text ending
 told_text paths NotRight = []
 
 -- a sentence behind the line of an ending
@@ -62,10 +74,17 @@ more_of_image (image.Refused refusal) = behind_line (advice_for refusal)
 more_of_image image.Failed = []
 more_of_image image.Unwritten = []
 
+-- the same where an image is not brought over
+abbrev pub more_of_migrating : MigrateEnding → List ℕ
+more_of_migrating (migrating.Refused refusal) = behind_line (migrate_advice refusal)
+more_of_migrating migrating.Unwritten = []
+
 -- what is told behind the line of an ending, where more is to be told
 abbrev pub more_text : Ending → List ℕ
 more_text (Script line) = behind_line (line_message line)
 more_text (ImageUnopened fault) = behind_line (message_of fault)
 more_text (Image ending) = more_of_image ending
+more_text (NewUnopened fault) = behind_line (message_of fault)
+more_text (Migrate ending) = more_of_migrating ending
 more_text NotRight = behind_line (codes "a power cut left what it must not leave: '--list' tells which; keep the plant and the script, and run this plant on no image")
 more_text ending = []

@@ -4,7 +4,7 @@ ghost use Rattle.bip_image.specs.Ending.{status_of};
 
 use command_line::{ImageTask, Request, Work};
 use file_disk::FileFault;
-use image_commands::{ExploreEnding, ImageEnding};
+use image_commands::{ExploreEnding, ImageEnding, MigrateEnding};
 use plant_tasks::{PlantEnding, PlantTold, TaskPaths, shown_path};
 use script_lines::ScriptFault;
 use std::alloc::{AllocError, Global};
@@ -23,6 +23,10 @@ pub(crate) enum Ending {
     ImageUnopened(FileFault),
     /// The command on the image ended early.
     Image(ImageEnding),
+    /// The file of the new image could not be opened or made.
+    NewUnopened(FileFault),
+    /// Bringing an image over ended early.
+    Migrate(MigrateEnding),
     /// A stop of a run that was explored left what is not right.
     NotRight,
 }
@@ -43,11 +47,13 @@ pub(crate) fn exit_status(ended: &Result<(), Ending>) -> u8
         Err(Ending::ScriptUnread) => 3,
         Err(Ending::ImageUnopened(_)) => 3,
         Err(Ending::Image(ending)) => ending.exit_status(),
+        Err(Ending::NewUnopened(_)) => 3,
+        Err(Ending::Migrate(ending)) => ending.exit_status(),
         Err(Ending::NotRight) => 1,
     }
 }
 
-/// Where the plant text, the script and the image are, as the words of the command line name them; empty where they name none.
+/// Where the plant text, the script, the image and a new image are, as the words of the command line name them; empty where they name none.
 #[derive(Clone, Copy)]
 pub(crate) struct Paths<'a> {
     /// The plant text.
@@ -56,22 +62,26 @@ pub(crate) struct Paths<'a> {
     pub(crate) script: &'a str,
     /// The image.
     pub(crate) image: &'a str,
+    /// The new image that one of the first layout is brought over to.
+    pub(crate) made: &'a str,
 }
 
 impl<'a> Paths<'a> {
     ghost use Rattle.std.specs.Prelude.{◌≡◌, []};
-    ghost use Rattle.bip_image.specs.Paths.{image_in, script_in};
+    ghost use Rattle.bip_image.specs.Paths.{image_in, made_in, script_in};
 
     /// No paths.
     pub(crate) fn none() -> Self
         ensures plant { result.plant.now ≡ [] }
         ensures script { result.script.now ≡ [] }
         ensures image { result.image.now ≡ [] }
+        ensures made { result.made.now ≡ [] }
     {
         Paths {
             plant: "",
             script: "",
             image: "",
+            made: "",
         }
     }
 
@@ -80,17 +90,20 @@ impl<'a> Paths<'a> {
         ensures plant { result.plant.now ≡ request.now.plant.now }
         ensures script { result.script.now ≡ script_in request.now.work }
         ensures image { result.image.now ≡ image_in request.now.work }
+        ensures made { result.made.now ≡ made_in request.now.work }
     {
-        let (script, image) = match &request.work {
-            Work::OfPlant(_) | Work::ByHand => ("", ""),
-            Work::OnImage(image, ImageTask::Run(script)) => (*script, *image),
-            Work::OnImage(image, _) => ("", *image),
-            Work::Explored(exploration) => (exploration.script, ""),
+        let (script, image, made) = match &request.work {
+            Work::OfPlant(_) | Work::ByHand => ("", "", ""),
+            Work::OnImage(image, ImageTask::Run(script)) => (*script, *image, ""),
+            Work::OnImage(image, ImageTask::Migrate(made, _)) => ("", *image, *made),
+            Work::OnImage(image, _) => ("", *image, ""),
+            Work::Explored(exploration) => (exploration.script, "", ""),
         };
         Paths {
             plant: request.plant,
             script,
             image,
+            made,
         }
     }
 }
@@ -101,6 +114,7 @@ pub(crate) struct ShownPaths {
     plant: String,
     script: String,
     image: String,
+    made: String,
 }
 
 impl ShownPaths {
@@ -112,11 +126,13 @@ impl ShownPaths {
         ensures plant { IfOk result (λ all. string_bytes all.plant ≡ shown paths.entry.plant.now) }
         ensures script { IfOk result (λ all. string_bytes all.script ≡ shown paths.entry.script.now) }
         ensures image { IfOk result (λ all. string_bytes all.image ≡ shown paths.entry.image.now) }
+        ensures made { IfOk result (λ all. string_bytes all.made ≡ shown paths.entry.made.now) }
     {
         Ok(ShownPaths {
             plant: shown_path(alloc, paths.plant)?,
             script: shown_path(alloc, paths.script)?,
             image: shown_path(alloc, paths.image)?,
+            made: shown_path(alloc, paths.made)?,
         })
     }
 
@@ -125,11 +141,13 @@ impl ShownPaths {
         ensures plant { result.plant.now ≡ string_bytes self.now.plant }
         ensures script { result.script.now ≡ string_bytes self.now.script }
         ensures image { result.image.now ≡ string_bytes self.now.image }
+        ensures made { result.made.now ≡ string_bytes self.now.made }
     {
         Paths {
             plant: &self.plant,
             script: &self.script,
             image: &self.image,
+            made: &self.made,
         }
     }
 }
@@ -165,7 +183,12 @@ impl<'a> fmt::Display for Told<'a> {
             }
             Ending::ImageUnopened(_) => writeln!(f, "file {}", self.paths.image),
             Ending::Image(ImageEnding::Refused(refusal)) => writeln!(f, "{refusal}"),
-            Ending::Image(_) | Ending::NotRight => Ok(()),
+            Ending::NewUnopened(FileFault::InUse) => {
+                writeln!(f, "file {} in use", self.paths.made)
+            }
+            Ending::NewUnopened(_) => writeln!(f, "file {}", self.paths.made),
+            Ending::Migrate(MigrateEnding::Refused(refusal)) => writeln!(f, "{refusal}"),
+            Ending::Image(_) | Ending::Migrate(_) | Ending::NotRight => Ok(()),
         }
     }
 }
@@ -187,8 +210,11 @@ impl fmt::Display for More {
     fn fmt<W: fmt::Write>(&self, f: &mut fmt::Formatter<W>) -> fmt::Result {
         match self.ending {
             Ending::Script(line) => writeln!(f, "  {}", ScriptFault::Line(line)),
-            Ending::ImageUnopened(fault) => writeln!(f, "  {fault}"),
+            Ending::ImageUnopened(fault) | Ending::NewUnopened(fault) => writeln!(f, "  {fault}"),
             Ending::Image(ImageEnding::Refused(refusal)) => writeln!(f, "  {}", refusal.advice()),
+            Ending::Migrate(MigrateEnding::Refused(refusal)) => {
+                writeln!(f, "  {}", refusal.advice())
+            }
             Ending::NotRight => writeln!(f, "  {NOT_RIGHT}"),
             _ => Ok(()),
         }
@@ -225,6 +251,16 @@ impl From<ImageEnding> for Ending {
 
     fn from(ending: ImageEnding) -> Self {
         Ending::Image(ending)
+    }
+}
+
+impl From<MigrateEnding> for Ending {
+    ghost use Rattle.bip_image.specs.declared.ending.Ending.TheVariants.{Migrate};
+
+    ghost from_gives = { λ told ending. ending ≡ Migrate told };
+
+    fn from(ending: MigrateEnding) -> Self {
+        Ending::Migrate(ending)
     }
 }
 

@@ -1,5 +1,5 @@
 //! The program for a plant on its image, a file that keeps the plant over any stop: it makes the image, runs the plant from where it
-//! stands, tells where that is, and what a stop at each moment of a run leaves.
+//! stands, tells where that is, brings an image of the first layout over to a new one, and tells what a stop at each moment of a run leaves.
 //!
 //! `main` only asks whether a terminal shows the standard error, and hands the rest to `process`. What is told where a task ends early,
 //! and which status the program then ends with are definitions in `specs/`, to which contracts tie the functions that do it:

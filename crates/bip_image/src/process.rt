@@ -8,7 +8,8 @@ use crate::script::read_events;
 use command_line::{Exploration, ImageTask, Request, Work, is_standard_input, read_request};
 use file_disk::{FileDisk, FileFault};
 use image_commands::{
-    ImageEnding, Progress, explore_plant, format_image, image_bytes, recover_image, run_image,
+    ImageEnding, MigrateEnding, Progress, explore_plant, format_image, image_bytes, migrate_image,
+    recover_image, run_image,
 };
 use plant_core::Event;
 use plant_tasks::{
@@ -157,7 +158,9 @@ fn work_on_image<R: Files<File = File> + Input + AllocGlobal, W: Write>(
     let alloc = rt.alloc();
     match task {
         ImageTask::Format(ring) => {
-            let disk = device_to_format(rt, image, image_bytes(system, ring.records))?;
+            let disk = device_to_format(rt, image, image_bytes(system, ring.records)).map_err(
+                Ending::ImageUnopened,
+            )?;
             format_image(alloc, system, ring.records, disk, output)?;
         }
         ImageTask::Run(script) => {
@@ -168,6 +171,14 @@ fn work_on_image<R: Files<File = File> + Input + AllocGlobal, W: Write>(
         ImageTask::Recover => {
             let disk = device_at(rt, image)?;
             recover_image(alloc, system, disk, output)?;
+        }
+        ImageTask::Migrate(made, ring) => {
+            // The old image is open, and locked, before anything is done to the new one.
+            let old = device_at(rt, image)?;
+            let new = device_to_format(rt, made, image_bytes(system, ring.records)).map_err(
+                Ending::NewUnopened,
+            )?;
+            migrate_image(alloc, system, ring.records, old, new, output)?;
         }
     }
     Ok(())
@@ -247,11 +258,10 @@ fn device_to_format<R: Files<File = File>>(
     rt: &R,
     path: &str,
     bytes: u64,
-) -> Result<FileDisk, Ending> {
+) -> Result<FileDisk, FileFault> {
     match FileDisk::create(rt, path, bytes) {
-        Ok(disk) => Ok(disk),
-        Err(FileFault::AlreadyThere) => device_at(rt, path),
-        Err(fault) => Err(Ending::ImageUnopened(fault)),
+        Err(FileFault::AlreadyThere) => FileDisk::open(rt, path),
+        made => made,
     }
 }
 
@@ -267,8 +277,15 @@ fn tell_all<R: Eprint + AllocGlobal>(
     match ending {
         Ending::OfPlant(ending) => tell_more(rt, ending, plant, text, failure),
         Ending::ScriptUnread => tell_file_failure(rt, failure),
-        Ending::Image(ImageEnding::Unwritten) => tell_output_failure(rt, failure),
-        Ending::Script(_) | Ending::ImageUnopened(_) | Ending::Image(_) | Ending::NotRight => {
+        Ending::Image(ImageEnding::Unwritten) | Ending::Migrate(MigrateEnding::Unwritten) => {
+            tell_output_failure(rt, failure);
+        }
+        Ending::Script(_)
+        | Ending::ImageUnopened(_)
+        | Ending::Image(_)
+        | Ending::NewUnopened(_)
+        | Ending::Migrate(_)
+        | Ending::NotRight => {
             let _ = rt.eprint(More { ending });
         }
     }

@@ -68,6 +68,7 @@ IsTask command.Draw asked said = (drawing : Drawing) × (asked ≡ task.Draw dra
 IsTask command.Format asked said = ⊥
 IsTask command.Run asked said = ⊥
 IsTask command.Recover asked said = ⊥
+IsTask command.Migrate asked said = ⊥
 IsTask command.Explore asked said = ⊥
 
 -- the words of a command on an image ask for this task
@@ -75,7 +76,14 @@ abbrev pub IsImageTask : CommandName → ImageTask → Said → Type 0
 IsImageTask command.Format (image.Format ring) said = ring_in (unwrap_or (word_of said.ring) (codes "64")) ≡ Some ring.records
 IsImageTask command.Run (image.Run script) said = word_of said.script ≡ Some script.now
 IsImageTask command.Recover image.Recover said = Unit {0}
+IsImageTask command.Migrate (image.Migrate made ring) said =
+    (word_of said.new_image ≡ Some made.now) × (ring_in (unwrap_or (word_of said.ring) (codes "64")) ≡ Some ring.records)
 IsImageTask command asked said = ⊥
+
+-- where the image is that a command works on; where an image is brought over, this is the old one
+abbrev pub image_word : CommandName → Said → Option (List ℕ)
+image_word command.Migrate said = word_of said.old_image
+image_word command said = word_of said.image
 
 -- the words ask for this run to be explored: the script that it has, the length of the ring, and whether each trial is told
 abbrev pub IsExploration : Exploration → Said → Type 0
@@ -87,7 +95,7 @@ IsExploration asked said =
 abbrev pub IsWork : Work → Said → Type 0
 IsWork (OfPlant asked) said = IsTask said.command asked said
 IsWork ByHand said = said.command ≡ command.Step
-IsWork (OnImage path asked) said = (word_of said.image ≡ Some path.now) × IsImageTask said.command asked said
+IsWork (OnImage path asked) said = (image_word said.command said ≡ Some path.now) × IsImageTask said.command asked said
 IsWork (Explored asked) said = (said.command ≡ command.Explore) × IsExploration asked said
 
 -- the words are this request: its plant and what is done with it, and the files of it that stand apart

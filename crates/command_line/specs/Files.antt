@@ -51,6 +51,7 @@ read_beside ByHand = Some (codes "-")
 read_beside (OnImage path (image.Format ring)) = None
 read_beside (OnImage path (image.Run script)) = Some script.now
 read_beside (OnImage path image.Recover) = None
+read_beside (OnImage path (image.Migrate made ring)) = None
 read_beside (Explored exploration) = Some exploration.script.now
 
 -- the file in which is saved what is fired

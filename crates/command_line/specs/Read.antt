@@ -13,6 +13,8 @@ use Rattle.command_line.specs.declared.said.Said.{Said}
 pub record AreFound (said : Said) (found : Found) : Type 0 where
   pub plant : word_of said.plant ≡ first_value found (codes "PLANT")
   pub image : word_of said.image ≡ first_value found (codes "IMAGE")
+  pub old_image : word_of said.old_image ≡ first_value found (codes "OLD")
+  pub new_image : word_of said.new_image ≡ first_value found (codes "NEW")
   pub script : word_of said.script ≡ first_value found (codes "SCRIPT")
   pub picks : words_of said.picks ≡ are_found found (codes "PICK")
   pub recorded : word_of said.recorded ≡ first_value found (codes "picks")

@@ -1,7 +1,7 @@
 //! The arguments and the options of the commands.
 use crate::names::{
-    AFTER, EXPLAIN, FORMATS, IMAGE, LINES, LIST, ONLY, OUTLINE, PICK, PICKS, PLANT, RANDOM, RING,
-    RUN_FORMAT, SAVE_PICKS, SCRIPT, SEED, STATES, STRICT, USUAL_RING, WARN,
+    AFTER, EXPLAIN, FORMATS, IMAGE, LINES, LIST, NEW, OLD, ONLY, OUTLINE, PICK, PICKS, PLANT,
+    RANDOM, RING, RUN_FORMAT, SAVE_PICKS, SCRIPT, SEED, STATES, STRICT, USUAL_RING, WARN,
 };
 use clap::builder::ValueParser;
 use clap::{Arg, ArgAction};
@@ -26,6 +26,20 @@ pub(crate) fn image_argument<'a>(alloc: Global) -> Arg<'a> {
     Arg::new(alloc, IMAGE)
         .required(true)
         .help("The file in which the plant is kept")
+}
+
+/// The argument that names the image of the first layout.
+pub(crate) fn old_argument<'a>(alloc: Global) -> Arg<'a> {
+    Arg::new(alloc, OLD)
+        .required(true)
+        .help("The image of an earlier version, which stays as it is")
+}
+
+/// The argument that names the image that is made of it.
+pub(crate) fn new_argument<'a>(alloc: Global) -> Arg<'a> {
+    Arg::new(alloc, NEW)
+        .required(true)
+        .help("The file in which the plant is kept from then on")
 }
 
 /// The argument that says where the script stands.

@@ -122,6 +122,12 @@ fn work_asked<'a>(alloc: Global, said: &Said<'_, 'a>) -> Result<Work<'a>, Asking
             Ok(Work::OnImage(path_in(said.image)?, ImageTask::Run(script)))
         }
         CommandName::Recover => Ok(Work::OnImage(path_in(said.image)?, ImageTask::Recover)),
+        CommandName::Migrate => {
+            let made = path_in(said.new_image)?;
+            let ring = ring_asked(said.ring)?;
+            let old = path_in(said.old_image)?;
+            Ok(Work::OnImage(old, ImageTask::Migrate(made, ring)))
+        }
         CommandName::Explore => Ok(Work::Explored(exploration_asked(said)?)),
     }
 }

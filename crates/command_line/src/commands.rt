@@ -1,19 +1,21 @@
 //! The commands of the program, with their arguments and options.
 use crate::arguments::{
-    after_argument, explain_argument, image_argument, list_argument, only_argument,
-    outline_argument, pick_argument, picks_argument, plant_argument, plant_file_argument,
-    random_argument, ring_argument, run_format_argument, save_picks_argument, script_argument,
-    seed_argument, states_argument, strict_argument, warn_argument,
+    after_argument, explain_argument, image_argument, list_argument, new_argument, old_argument,
+    only_argument, outline_argument, pick_argument, picks_argument, plant_argument,
+    plant_file_argument, random_argument, ring_argument, run_format_argument, save_picks_argument,
+    script_argument, seed_argument, states_argument, strict_argument, warn_argument,
 };
 use crate::help::{
     ABOUT, AFTER, BRIEF, CHECK_ABOUT, CHECK_AFTER, CHECK_BRIEF, CHOICES_ABOUT, CHOICES_AFTER,
     CHOICES_BRIEF, DRAW_ABOUT, DRAW_AFTER, DRAW_BRIEF, DRAW_USAGE, EXPLORE_ABOUT, EXPLORE_AFTER,
-    EXPLORE_BRIEF, FORMAT_ABOUT, FORMAT_AFTER, FORMAT_BRIEF, RECOVER_ABOUT, RECOVER_AFTER,
-    RECOVER_BRIEF, RUN_ABOUT, RUN_AFTER, RUN_BRIEF, STEP_ABOUT, STEP_AFTER, STEP_BRIEF,
-    TRACE_ABOUT, TRACE_AFTER, TRACE_BRIEF, VERSION, WHY_ABOUT, WHY_AFTER, WHY_BRIEF,
+    EXPLORE_BRIEF, FORMAT_ABOUT, FORMAT_AFTER, FORMAT_BRIEF, MIGRATE_ABOUT, MIGRATE_AFTER,
+    MIGRATE_BRIEF, RECOVER_ABOUT, RECOVER_AFTER, RECOVER_BRIEF, RUN_ABOUT, RUN_AFTER, RUN_BRIEF,
+    STEP_ABOUT, STEP_AFTER, STEP_BRIEF, TRACE_ABOUT, TRACE_AFTER, TRACE_BRIEF, VERSION, WHY_ABOUT,
+    WHY_AFTER, WHY_BRIEF,
 };
 use crate::names::{
-    CHECK, CHOICES, COMMANDS, CommandName, DRAW, EXPLORE, FORMAT, RECOVER, RUN, STEP, TRACE, WHY,
+    CHECK, CHOICES, COMMANDS, CommandName, DRAW, EXPLORE, FORMAT, MIGRATE, RECOVER, RUN, STEP,
+    TRACE, WHY,
 };
 use clap::{Arg, Command};
 use std::alloc::{AllocError, Global};
@@ -53,6 +55,7 @@ fn words_of(name: CommandName) -> &'static str {
         CommandName::Format => "bip_run format",
         CommandName::Run => "bip_run run",
         CommandName::Recover => "bip_run recover",
+        CommandName::Migrate => "bip_run migrate",
         CommandName::Explore => "bip_run explore",
     }
 }
@@ -69,6 +72,7 @@ fn command_called<'a>(alloc: Global, name: CommandName) -> Result<Command<'a>, A
         CommandName::Format => format_command(alloc),
         CommandName::Run => run_command(alloc),
         CommandName::Recover => recover_command(alloc),
+        CommandName::Migrate => migrate_command(alloc),
         CommandName::Explore => explore_command(alloc),
     }
 }
@@ -191,6 +195,16 @@ fn recover_command<'a>(alloc: Global) -> Result<Command<'a>, AllocError> {
     let command = with_argument(Ok(command), explain_argument(alloc));
     let command = with_argument(command, plant_argument(alloc));
     with_argument(command, image_argument(alloc))
+}
+
+/// The command that brings an image of the first layout over to a new one.
+fn migrate_command<'a>(alloc: Global) -> Result<Command<'a>, AllocError> {
+    let command = described(alloc, MIGRATE, MIGRATE_BRIEF, MIGRATE_ABOUT, MIGRATE_AFTER);
+    let command = with_argument(Ok(command), ring_argument(alloc));
+    let command = with_argument(command, explain_argument(alloc));
+    let command = with_argument(command, plant_argument(alloc));
+    let command = with_argument(command, old_argument(alloc));
+    with_argument(command, new_argument(alloc))
 }
 
 /// The command that tells what a power cut at each moment of a run leaves.

@@ -11,7 +11,8 @@ pub(crate) const ABOUT: &str =
 
 With an image, a file that holds what was fired, a plant goes on from there after any
 stop: 'format' makes an image, 'run' runs the plant on it, and 'recover' tells where the
-plant stands. 'explore' tries a run with a power cut at each of its moments.
+plant stands. 'migrate' brings an image of an earlier version over to a new one.
+'explore' tries a run with a power cut at each of its moments.
 
 A plant is atoms (machines with places, variables and ports), connectors (which ports
 move together, under which guards, and what data passes between them) and priorities
@@ -320,6 +321,39 @@ Exit status:
   3  a file ('file PATH'; 'file PATH in use' where another program has the image open),
      the device below the image ('image: refusal 8 Disk'), the memory ('memory', 'plant
      line 0: fault 15 Memory' or 'image: refusal 9 Memory') or the standard output failed";
+
+pub(crate) const MIGRATE_BRIEF: &str = "Brings an image of an earlier version over to a new one";
+
+pub(crate) const MIGRATE_ABOUT: &str = "Brings an image of an earlier version over to a new one.
+
+An image of that version has cells of 512 bytes; the other commands refuse it as 'image:
+refusal 2 OtherVersion'. The new image stands for the same state and the same number, and
+the run goes on in it. OLD is only read, and stays whole, whatever stops the program. NEW
+is made where nothing is there. A file that is there must have the size of the new image,
+and loses all that it held.
+
+The new image has room for the records of N interactions, from 8 to 4096, as 'format' has
+it; that may be other than in OLD. It is started once, so that it is known to be whole.
+Prints one line: the number of the last interaction that the image holds.
+
+After a stop give the command again. Where it is refused, a file NEW that was not there
+before may stand there, full of zeros.";
+
+pub(crate) const MIGRATE_AFTER: &str = "Example:
+  bip_run migrate examples/sample.plant old.image new.image --ring 8
+prints, where tick, send, tick and send were saved in old.image
+  migrated 4
+
+Exit status:
+  0  the new image is made
+  1  the text is no plant ('plant line L: fault K NAME' on the standard error), OLD is
+     refused ('image: refusal K NAME'), or NEW is a file of another size, which is left
+     as it was ('new: refusal 2 NewSize')
+  2  the words of the command line were not understood
+  3  a file ('file PATH'; 'file PATH in use' where another program has the image open),
+     the device below an image ('image: refusal 8 Disk' of OLD, 'new: refusal 3 NewDisk'
+     of NEW), the memory ('memory', 'plant line 0: fault 15 Memory' or 'image: refusal 9
+     Memory') or the standard output failed";
 
 pub(crate) const EXPLORE_BRIEF: &str = "Tells what a power cut at each moment of a run leaves";
 

@@ -20,6 +20,8 @@ pub(crate) const RUN: &str = "run";
 
 pub(crate) const RECOVER: &str = "recover";
 
+pub(crate) const MIGRATE: &str = "migrate";
+
 pub(crate) const EXPLORE: &str = "explore";
 
 pub(crate) const PLANT: &str = "PLANT";
@@ -27,6 +29,10 @@ pub(crate) const PLANT: &str = "PLANT";
 pub(crate) const PICK: &str = "PICK";
 
 pub(crate) const IMAGE: &str = "IMAGE";
+
+pub(crate) const OLD: &str = "OLD";
+
+pub(crate) const NEW: &str = "NEW";
 
 pub(crate) const SCRIPT: &str = "SCRIPT";
 
@@ -88,12 +94,14 @@ pub(crate) enum CommandName {
     Run,
     /// Tells where a plant stands by its image.
     Recover,
+    /// Brings an image of the first layout over to a new one.
+    Migrate,
     /// Tells what a power cut at each moment of a run leaves.
     Explore,
 }
 
 /// All commands, in the order of the help.
-pub(crate) const COMMANDS: [CommandName; 10] = [
+pub(crate) const COMMANDS: [CommandName; 11] = [
     CommandName::Check,
     CommandName::Choices,
     CommandName::Why,
@@ -103,6 +111,7 @@ pub(crate) const COMMANDS: [CommandName; 10] = [
     CommandName::Format,
     CommandName::Run,
     CommandName::Recover,
+    CommandName::Migrate,
     CommandName::Explore,
 ];
 
@@ -129,6 +138,8 @@ pub(crate) fn command_named(word: &str) -> Option<CommandName>
         Some(CommandName::Run)
     } else if word == RECOVER.as_bytes() {
         Some(CommandName::Recover)
+    } else if word == MIGRATE.as_bytes() {
+        Some(CommandName::Migrate)
     } else if word == EXPLORE.as_bytes() {
         Some(CommandName::Explore)
     } else {

@@ -144,6 +144,8 @@ pub enum ImageTask<'a> {
     Run(&'a str),
     /// It is told where the plant stands.
     Recover,
+    /// The image is of the first layout, and is brought over to a new one: the file at this path, with room for so many records.
+    Migrate(&'a str, RingLength),
 }
 
 /// A run of a plant on a device in memory, which is stopped at each of its writes and syncs.
@@ -184,7 +186,10 @@ impl<'a> Work<'a> {
             Work::ByHand => Some(STANDARD_INPUT),
             Work::OnImage(_, ImageTask::Run(script)) => Some(*script),
             Work::Explored(exploration) => Some(exploration.script),
-            Work::OnImage(_, ImageTask::Format(_) | ImageTask::Recover) => None,
+            Work::OnImage(
+                _,
+                ImageTask::Format(_) | ImageTask::Recover | ImageTask::Migrate(_, _),
+            ) => None,
         }
     }
 

@@ -4,8 +4,8 @@ ghost use Rattle.clap.specs.Matches.{found_of};
 ghost use Rattle.command_line.specs.Read.{AreFound};
 
 use crate::names::{
-    AFTER, CommandName, EXPLAIN, IMAGE, LIST, ONLY, OUTLINE, PICK, PICKS, PLANT, RANDOM, RING,
-    RUN_FORMAT, SAVE_PICKS, SCRIPT, SEED, STATES, STRICT, WARN,
+    AFTER, CommandName, EXPLAIN, IMAGE, LIST, NEW, OLD, ONLY, OUTLINE, PICK, PICKS, PLANT, RANDOM,
+    RING, RUN_FORMAT, SAVE_PICKS, SCRIPT, SEED, STATES, STRICT, WARN,
 };
 use clap::ArgMatches;
 
@@ -18,6 +18,10 @@ pub(crate) struct Said<'m, 'a> {
     pub(crate) plant: Option<&'a str>,
     /// Where the image is.
     pub(crate) image: Option<&'a str>,
+    /// Where the image of the first layout is that is brought over.
+    pub(crate) old_image: Option<&'a str>,
+    /// Where the image is made of it.
+    pub(crate) new_image: Option<&'a str>,
     /// Where the script is.
     pub(crate) script: Option<&'a str>,
     /// The picks of a run.
@@ -61,6 +65,8 @@ pub(crate) fn said_in<'m, 'a>(command: CommandName, found: &'m ArgMatches<'a>) -
         command,
         plant: found.get_str(PLANT),
         image: found.get_str(IMAGE),
+        old_image: found.get_str(OLD),
+        new_image: found.get_str(NEW),
         script: found.get_str(SCRIPT),
         picks: found.get_strs(PICK),
         recorded: found.get_str(PICKS),

@@ -3,3 +3,4 @@ pub mod Endings
 pub mod Printed
 pub mod Runs
 pub mod Trials
+pub mod Migrations

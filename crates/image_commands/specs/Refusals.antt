@@ -25,7 +25,7 @@ refusal_line Memory = codes "image: refusal 9 Memory"
 -- what a refusal means, and what an operator can do
 abbrev pub advice_for : ImageRefusal → List ℕ
 advice_for NotFormatted = codes "the file was never formatted, or formatting it was cut short: format it, or name the right file"
-advice_for OtherVersion = codes "another version of this program formatted the image: go on with that version"
+advice_for OtherVersion = codes "if an earlier version of this program formatted the image, bring it over to a new one by 'bip_run migrate'; if a later one did, go on with that version"
 advice_for OtherSystem = codes "the image was formatted for another plant text: use that very text, byte for byte, or another image"
 advice_for WrongSize = codes "the file has not the size of this image: it was cut short, or is for another plant or another --ring; use another file"
 advice_for (Damaged cell) = codes "a cell does not hold what was written to it: keep the file, bring the real plant to its first state, and format another image"

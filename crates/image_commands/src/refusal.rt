@@ -47,7 +47,7 @@ impl ImageRefusal {
                 "the file was never formatted, or formatting it was cut short: format it, or name the right file"
             }
             ImageRefusal::OtherVersion => {
-                "another version of this program formatted the image: go on with that version"
+                "if an earlier version of this program formatted the image, bring it over to a new one by 'bip_run migrate'; if a later one did, go on with that version"
             }
             ImageRefusal::OtherSystem => {
                 "the image was formatted for another plant text: use that very text, byte for byte, or another image"
