@@ -5,6 +5,7 @@ mod explorer;
 mod failures;
 mod journal;
 mod memory;
+mod migrating;
 mod runs;
 mod saves;
 mod threads;
