@@ -3,7 +3,7 @@
 use super::common::{TEARS, Untold, sample};
 use super::runs::{
     A_SAVED, FIRE_0, FLUSH, NEVER, Shown, booted_to, run, settled, shown, torn_flush, try_boot,
-    whole_run,
+    wanted_at, whole_run,
 };
 use disk_model::{MemDisk, Tear};
 use plant_core::Front;
@@ -31,17 +31,6 @@ fn booted_again(alloc: Global, system: &System, k: u64, tear: Tear) -> Result<Op
     booted_to(alloc, system, left)
 }
 
-/// What it has to boot to: up to the `last` stop the run, from the `first` on the first state, and nothing between them.
-fn wanted_at(k: u64, last: u64, first: u64) -> Option<Shown> {
-    if k <= last {
-        Some((4, 3, settled(4)))
-    } else if k < first {
-        None
-    } else {
-        Some((0, 0, settled(0)))
-    }
-}
-
 /// First the gate of the identity is closed, and a sync follows. Then the gates of a base, three slots and four records are closed, and a sync follows.
 /// Then four cells are set by four changes each, the identity last. So at the second change its gate is pending, and again at the last two.
 const CHANGES: u64 = 2 + 9 + 4 * 4;
@@ -55,7 +44,8 @@ fn first_wrong(
     first: u64,
 ) -> Result<Option<u64>, Fail> {
     for k in 1..=CHANGES + 1 {
-        if booted_again(alloc, system, k, tear)? != wanted_at(k, last, first) {
+        let wanted = wanted_at(k, last, first, (4, 3, settled(4)), (0, 0, settled(0)));
+        if booted_again(alloc, system, k, tear)? != wanted {
             return Ok(Some(k));
         }
     }

@@ -1,6 +1,6 @@
 // Stops while an image of the first layout is brought over. What is written and synced there, and what each stop leaves, is worked out by hand.
 use super::common::{TEARS, Untold, formatted, sample};
-use super::runs::{Shown, booted_to, settled};
+use super::runs::{Shown, booted_to, settled, wanted_at};
 use disk_model::{Disk, FIRST_CELL, MemDisk, Tear};
 use plant_core::Front;
 use recovery::{BootFault, MigrateFault, MigrateRefused, migrate};
@@ -123,17 +123,6 @@ fn left_at(
     Ok((is_same, shown))
 }
 
-/// What the new image has to boot to: up to the `last` stop the first state, from the `first` on that of the old image, and nothing between them.
-fn wanted_at(k: u64, last: u64, first: u64) -> Option<Shown> {
-    if k <= last {
-        Some((0, 0, settled(0)))
-    } else if k < first {
-        None
-    } else {
-        Some((4, 3, OLD_FRONT))
-    }
-}
-
 /// Four were fired, and the new image has none of their records.
 const OLD_FRONT: Front = Front {
     fired: 4,
@@ -154,7 +143,8 @@ fn first_wrong(
     first: u64,
 ) -> Result<Option<u64>, Fail> {
     for k in 1..=CHANGES + 1 {
-        if left_at(alloc, system, k, tear)? != (true, wanted_at(k, last, first)) {
+        let wanted = wanted_at(k, last, first, (0, 0, settled(0)), (4, 3, OLD_FRONT));
+        if left_at(alloc, system, k, tear)? != (true, wanted) {
             return Ok(Some(k));
         }
     }

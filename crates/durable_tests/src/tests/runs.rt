@@ -142,6 +142,24 @@ pub(super) fn booted_to(
     }
 }
 
+/// What a device has to boot to that is written afresh and stopped at a change: up to the `last` one what stood there before, from the `first`
+/// on what is written, and nothing between them.
+pub(super) fn wanted_at(
+    k: u64,
+    last: u64,
+    first: u64,
+    before: Shown,
+    behind: Shown,
+) -> Option<Shown> {
+    if k <= last {
+        Some(before)
+    } else if k < first {
+        None
+    } else {
+        Some(behind)
+    }
+}
+
 /// The first value of the atom; 0 where it has none.
 pub(super) fn value_of(plant: &Plant<'_, Untold>, atom: u16) -> i64 {
     match plant.look(atom) {
