@@ -1,11 +1,11 @@
 -- What is delivered, by the places of moves: what a value that is given to an atom leaves.
-use Rattle.std.proofs.Common.{◌≡◌, ◌≢◌, ℕ, zero, suc, ◌+◌, ◌<◌, ◌≤◌, ◌==◌, ◌&&◌, Bool, true, false, cond, refl, sym, ◌∙◌, ap, List, [], ◌∷◌, ◌++◌, length, map, take, get_or, set, replicate, arith, ⊎_elim, ℤ, lit<, get_or-set_same, get_or-set_other}
+use Rattle.std.proofs.Common.{◌≡◌, ◌≢◌, ℕ, zero, suc, ◌+◌, ◌<◌, ◌≤◌, ◌==◌, ◌&&◌, Bool, true, false, cond, refl, sym, ◌∙◌, ap, List, [], ◌∷◌, ◌++◌, length, map, take, get_or, set, arith, ⊎_elim, ℤ, lit<, get_or-set_same, get_or-set_other}
 use Rattle.std.specs.Prelude.{Option, Some, None, is_some, slice_get, slice_index_or, find, option_map, if◌then◌else◌}
 use Rattle.std.specs.List.{range_with_len}
 use Rattle.std.specs.Option.{option_or, option_map_or}
 use Rattle.std.proofs.Math.Bool.{and-true}
 use Rattle.std.proofs.lemmas.Bool.{cases_eq, cases_lt, eq-eqb, ne_eqb, false≢true}
-use Rattle.std.proofs.lemmas.List.{take_more, map-append, length-replicate, get_or-replicate, length-set, set_past}
+use Rattle.std.proofs.lemmas.List.{take_more, map-append, length-set, set_past}
 use Rattle.std.proofs.lemmas.List.Folds.{find-append}
 use Rattle.std.proofs.lemmas.Option.{same_Some, slice_get-get_or, get_or_from_slice_get, slice_get_within}
 use Rattle.petri_atom.specs.Local.{Local, Row, given}
@@ -133,10 +133,6 @@ module _ (states : List Local) (deliveries : List Delivery) (mask i : ℕ) (t : 
         as_was : (e : ℕ) → value_for states (front i) mask m.atom e ≡ value_for states (front (i + 1)) mask m.atom e
         as_was e =
             sym (one-more m.atom e ∙ ap (λ b. option_or (value_for states (front i) mask m.atom e) (some_if (b && is_for m.atom e (delivery_of t)) value)) told ∙ or_none (value_for states (front i) mask m.atom e))
-
--- each place of a row that is the same everywhere
-pub everywhere : {X : Type 0} (x : X) (n : ℕ) (place : ℕ) → place < n → slice_get (replicate n x) place ≡ Some x
-everywhere x n place within = slice_get-get_or (replicate n x) place x (omega (arith, length-replicate n x)) ∙ ap Some (get_or-replicate n place x x within)
 
 -- the first move of an atom gets a value for one of its variables
 module _ (moves : List Move) (atom export : ℕ) (value : ℤ) (row : List Row) where

@@ -3,7 +3,6 @@ ghost use Rattle.std.specs.Prelude.{◌≡◌, ◌<◌, [], false, None, Some, m
 ghost use Rattle.std.specs.Option.{option_map_or};
 ghost use Rattle.petri_atom.specs.Definition.{AtomDefinition, Fits};
 ghost use Rattle.petri_atom.specs.Local.{Local};
-ghost use Rattle.connector_tree.specs.declared.tree.TheConstants.{MAX_LEAVES};
 ghost use Rattle.step_core.specs.Chosen.{choice_of};
 ghost use Rattle.step_core.specs.Delivery.{IsTold};
 ghost use Rattle.step_core.specs.Dispatching.{AllPresentFit, ArePartsOf, state_at};
@@ -23,7 +22,6 @@ use crate::parts::PlantParts;
 use crate::state::PlantState;
 use crate::sure::SureJudgement;
 use crate::system::System;
-use crate::transfers::nothing_at_all;
 use connector_tree::MAX_LEAVES;
 use petri_atom::{AtomState, Delivered};
 
@@ -121,7 +119,6 @@ impl<'s> Dispatcher<'s> {
         ensures parts { parts_in self.new ≡ went_on (plant_of (system_of self.old)) (parts_in self.old) (choice_of choice.now) }
         ensures told { IsTold choice.now.moves (transfer (plant_of (system_of self.old)) (shown_in (parts_in self.old)) (choice_of choice.now)) told.new }
     {
-        *told = nothing_at_all();
         self.parts.fire(self.system, choice, told);
         let moves = choice.moves.as_slice();
         let atoms = atoms_of(moves);

@@ -1,13 +1,14 @@
 //! Firing a choice: the transition of each move, with what is delivered to its atom from the values before the firing.
-ghost use Rattle.std.specs.Prelude.{◌≡◌, replicate};
-ghost use Rattle.connector_tree.specs.declared.tree.TheConstants.{MAX_LEAVES};
+ghost use Rattle.std.specs.Prelude.{◌≡◌};
 ghost use Rattle.step_core.specs.Choice.{IsAllowed};
 ghost use Rattle.step_core.specs.Chosen.{choice_of};
 ghost use Rattle.step_core.specs.Delivery.{IsTold};
 ghost use Rattle.step_core.specs.Fitting.{IsOf, AllFit};
-ghost use Rattle.step_core.specs.Step.{next, nothing_delivered, transfer};
+ghost use Rattle.step_core.specs.Judgement.{IsJudgement};
+ghost use Rattle.step_core.specs.Step.{next, transfer};
 
-use crate::choice::Choice;
+use crate::choice::{Choice, atoms_of};
+use crate::judgement::Judgement;
 use crate::state::PlantState;
 use crate::system::System;
 use crate::transfers::nothing_at_all;
@@ -15,7 +16,7 @@ use connector_tree::MAX_LEAVES;
 use petri_atom::Delivered;
 
 impl System {
-    ghost use Rattle.step_core.specs.System.{plant_of};
+    ghost use Rattle.step_core.specs.System.{interactions_in, plant_of};
 
     /// Fires the choice: computes what it delivers on the values from before, and then fires each participant's transition
     /// with that. All other atoms stay, and are not looked at: no two moves of a choice are of one atom.
@@ -30,8 +31,7 @@ impl System {
         self.fire(states, choice, &mut told);
     }
 
-    /// The same, and tells what the choice delivered, in a row in which nothing is yet: at the place of each move, what its
-    /// atom got.
+    /// The same, and tells what the choice delivered: at the place of each move, what its atom got.
     pub(crate) fn fire(
         &self,
         states: &mut PlantState,
@@ -40,7 +40,6 @@ impl System {
     )
         requires of_plant { IsOf (plant_of self.now) states.old }
         requires allowed { IsAllowed (plant_of self.now) states.old (choice_of choice.now) }
-        requires nothing { delivered.old ≡ replicate MAX_LEAVES nothing_delivered }
         ensures of_plant { IsOf (plant_of self.now) states.new }
         ensures next { states.new ≡ next (plant_of self.now) states.old (choice_of choice.now) }
         ensures fits { AllFit (plant_of self.now) states.old → AllFit (plant_of self.now) states.new }
@@ -57,5 +56,28 @@ impl System {
                 &delivered[place],
             );
         }
+    }
+
+    /// Fires the choice as [`System::fire`] does, and judges again what that can change.
+    pub(crate) fn step(
+        &self,
+        states: &mut PlantState,
+        judgement: &mut Judgement,
+        choice: &Choice,
+        told: &mut [Delivered; MAX_LEAVES],
+    )
+        requires of_plant { IsOf (plant_of self.now) states.old }
+        requires judged { IsJudgement (plant_of self.now) (interactions_in self.now) states.old judgement.old }
+        requires allowed { IsAllowed (plant_of self.now) states.old (choice_of choice.now) }
+        ensures of_plant { IsOf (plant_of self.now) states.new }
+        ensures judged { IsJudgement (plant_of self.now) (interactions_in self.now) states.new judgement.new }
+        ensures next { states.new ≡ next (plant_of self.now) states.old (choice_of choice.now) }
+        ensures fits { AllFit (plant_of self.now) states.old → AllFit (plant_of self.now) states.new }
+        ensures told { IsTold choice.now.moves (transfer (plant_of self.now) states.old (choice_of choice.now)) told.new }
+    {
+        self.fire(states, choice, told);
+        let moves = choice.moves.as_slice();
+        let atoms = atoms_of(moves);
+        self.judge_again(states, &atoms[..moves.len()], judgement);
     }
 }

@@ -1,13 +1,12 @@
 //! What is known of a plant's state while some of its atoms are away.
-ghost use Rattle.std.specs.Prelude.{◌≡◌, ◌<◌, ◌≤◌, true, false, Some, None, map, length, option_map, replicate, slice_get, slice_set, is_none, is_some};
+ghost use Rattle.std.specs.Prelude.{◌≡◌, ◌<◌, ◌≤◌, true, false, Some, None, map, length, option_map, slice_get, slice_set, is_none, is_some};
 ghost use Rattle.std.specs.List.{list_all};
 ghost use Rattle.std.specs.Option.{option_map_or};
-ghost use Rattle.connector_tree.specs.declared.tree.TheConstants.{MAX_LEAVES};
 ghost use Rattle.step_core.specs.Chosen.{choice_of};
 ghost use Rattle.step_core.specs.Delivery.{IsTold};
 ghost use Rattle.step_core.specs.Dispatching.{AllPresentFit, ArePartsOf, state_at};
 ghost use Rattle.step_core.specs.Parts.{is_present, shown_in};
-ghost use Rattle.step_core.specs.Step.{nothing_delivered, transfer};
+ghost use Rattle.step_core.specs.Step.{transfer};
 ghost use Rattle.step_core.specs.Sure.{IsSure, went_on};
 ghost use Rattle.step_core.specs.declared.limits.TheConstants.{MAX_ATOMS};
 
@@ -108,8 +107,7 @@ impl PlantParts {
         self.away &= !(1 << atom);
     }
 
-    /// Fires a sure choice, and tells what it delivered, in a row in which nothing is yet: at the place of each move, what its atom
-    /// got.
+    /// Fires a sure choice, and tells what it delivered: at the place of each move, what its atom got.
     pub(crate) fn fire(
         &mut self,
         system: &System,
@@ -118,7 +116,6 @@ impl PlantParts {
     )
         requires of_plant { ArePartsOf (plant_of system.now) self.old }
         requires sure { IsSure (plant_of system.now) self.old (choice_of choice.now) }
-        requires nothing { told.old ≡ replicate MAX_LEAVES nothing_delivered }
         ensures parts { self.new ≡ went_on (plant_of system.now) self.old (choice_of choice.now) }
         ensures fits { AllPresentFit (plant_of system.now) self.old → AllPresentFit (plant_of system.now) self.new }
         ensures told { IsTold choice.now.moves (transfer (plant_of system.now) (shown_in self.old) (choice_of choice.now)) told.new }

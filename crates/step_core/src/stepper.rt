@@ -1,17 +1,16 @@
 //! A plant that runs: its present state, with what that state offers, judged once.
-ghost use Rattle.std.specs.Prelude.{◌≡◌, ◌↔◌, ◌<◌, Some, IfOk, map, length, replicate, slice_get, slice_set};
+ghost use Rattle.std.specs.Prelude.{◌≡◌, ◌↔◌, ◌<◌, Some, IfOk, map, length, slice_get, slice_set};
 ghost use Rattle.petri_atom.specs.Definition.{AtomDefinition, Fits};
-ghost use Rattle.connector_tree.specs.declared.tree.TheConstants.{MAX_LEAVES};
 ghost use Rattle.step_core.specs.Choice.{choices, IsAllowed, IsStuck};
 ghost use Rattle.step_core.specs.Chosen.{choice_of};
 ghost use Rattle.step_core.specs.Delivery.{IsTold};
 ghost use Rattle.step_core.specs.Fitting.{IsOf, AllFit};
 ghost use Rattle.step_core.specs.Interaction.{interaction_of};
 ghost use Rattle.step_core.specs.Judgement.{IsJudgement};
-ghost use Rattle.step_core.specs.Step.{initial_states, next, nothing_delivered, transfer};
+ghost use Rattle.step_core.specs.Step.{initial_states, next, transfer};
 ghost use Rattle.step_core.specs.System.{plant_of};
 
-use crate::choice::{Choice, atoms_of};
+use crate::choice::Choice;
 use crate::judgement::Judgement;
 use crate::state::PlantState;
 use crate::system::System;
@@ -32,6 +31,8 @@ pub struct Stepper<'s> {
     system: &'s System,
     states: PlantState,
     judgement: Judgement,
+    /// What a firing delivers that nobody asks for: room that is made once.
+    told: [Delivered; MAX_LEAVES],
     ghost of_plant: { IsOf (plant_of system.now) states },
     ghost fits: { AllFit (plant_of system.now) states },
     ghost judged: { IsJudgement (plant_of system.now) (map interaction_of system.now.interactions.items) states judgement },
@@ -64,6 +65,7 @@ impl<'s> Stepper<'s> {
             system,
             states,
             judgement,
+            told: nothing_at_all(),
         }
     }
 
@@ -133,8 +135,12 @@ impl<'s> Stepper<'s> {
         ensures next { states_in self.new ≡ next (plant_in self.old) (states_in self.old) (choice_of choice.now) }
         ensures fits { AllFit (plant_in self.new) (states_in self.new) }
     {
-        let mut told = nothing_at_all();
-        self.step(choice, &mut told);
+        self.system.step(
+            &mut self.states,
+            &mut self.judgement,
+            choice,
+            &mut self.told,
+        );
     }
 
     /// Fires the choice as [`Stepper::fire`] does, and tells what it delivered: at the place of each move, what its atom got.
@@ -146,25 +152,7 @@ impl<'s> Stepper<'s> {
         ensures fits { AllFit (plant_in self.new) (states_in self.new) }
         ensures told { IsTold choice.now.moves (transfer (plant_in self.old) (states_in self.old) (choice_of choice.now)) told.new }
     {
-        *told = nothing_at_all();
-        self.step(choice, told);
-    }
-
-    /// The same, with a row in which nothing is yet.
-    fn step(&mut self, choice: &Choice, told: &mut [Delivered; MAX_LEAVES])
-        requires allowed { IsAllowed (plant_in self.old) (states_in self.old) (choice_of choice.now) }
-        requires nothing { told.old ≡ replicate MAX_LEAVES nothing_delivered }
-        ensures system { system_in self.new ≡ system_in self.old }
-        ensures plant { plant_in self.new ≡ plant_in self.old }
-        ensures next { states_in self.new ≡ next (plant_in self.old) (states_in self.old) (choice_of choice.now) }
-        ensures fits { AllFit (plant_in self.new) (states_in self.new) }
-        ensures told { IsTold choice.now.moves (transfer (plant_in self.old) (states_in self.old) (choice_of choice.now)) told.new }
-    {
-        self.system.fire(&mut self.states, choice, told);
-        let moves = choice.moves.as_slice();
-        let atoms = atoms_of(moves);
-        let changed = &atoms[..moves.len()];
         self.system
-            .judge_again(&self.states, changed, &mut self.judgement);
+            .step(&mut self.states, &mut self.judgement, choice, told);
     }
 }

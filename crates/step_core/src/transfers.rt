@@ -4,7 +4,7 @@ ghost use Rattle.std.specs.Option.{option_map_or};
 ghost use Rattle.petri_atom.specs.Expression.{tree_of, value_of};
 ghost use Rattle.connector_tree.specs.declared.tree.TheConstants.{MAX_LEAVES};
 ghost use Rattle.step_core.specs.Chosen.{choice_of};
-ghost use Rattle.step_core.specs.Delivery.{AreApart, AreDelivered, IsGiven};
+ghost use Rattle.step_core.specs.Delivery.{AreApart, AreDelivered, IsGiven, IsTold};
 ghost use Rattle.step_core.specs.Fitting.{IsOf};
 ghost use Rattle.step_core.specs.BoundExpressions.{value_there, delivery_of, has_all, is_for, value_for, given_for};
 ghost use Rattle.step_core.specs.Step.{transfer, nothing_delivered};
@@ -31,7 +31,8 @@ impl System {
         }
     }
 
-    /// Puts what the choice delivers to the atom of each of its moves at the places of the moves, where nothing is delivered yet.
+    /// Puts what the choice delivers to the atom of each of its moves at the places of the moves, whatever stood there. The rest of
+    /// the row stays as it is: to clear all of it costs as much as a short firing.
     pub(crate) fn deliver(
         &self,
         states: &PlantState,
@@ -40,14 +41,24 @@ impl System {
     )
         requires of_plant { IsOf (plant_of self.now) states.now }
         requires apart { AreApart choice.now.moves }
-        requires nothing { delivered.old ≡ replicate MAX_LEAVES nothing_delivered }
         ensures { AreDelivered choice.now.moves (transfer (plant_of self.now) states.now (choice_of choice.now)) delivered.new }
     {
         let mask = choice.mask;
         let moves = choice.moves.as_slice();
+        deliver_nothing(moves, delivered);
         if let Some(bound) = self.bound.get(usize::from(choice.connector)) {
             deliver_all(&bound.deliveries, states, mask, moves, delivered);
         }
+    }
+}
+
+/// Puts that nothing is delivered at the places of the moves.
+fn deliver_nothing(moves: &[Move], delivered: &mut [Delivered; MAX_LEAVES])
+    requires { length moves.now ≤ MAX_LEAVES }
+    ensures { IsTold moves.now (λ _. nothing_delivered) delivered.new }
+{
+    for place in 0..moves.len() {
+        delivered[place] = Delivered::of([None, None, None, None]);
     }
 }
 
@@ -61,7 +72,7 @@ fn deliver_all(
 )
     requires few { length moves.now ≤ MAX_LEAVES }
     requires apart { AreApart moves.now }
-    requires nothing { delivered.old ≡ replicate MAX_LEAVES nothing_delivered }
+    requires nothing { IsTold moves.now (λ _. nothing_delivered) delivered.old }
     ensures { AreDelivered moves.now (given_for states.now (map delivery_of deliveries.now) mask) delivered.new }
 {
     for delivery in deliveries {

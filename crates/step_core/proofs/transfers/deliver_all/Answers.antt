@@ -1,17 +1,13 @@
-use Rattle.std.proofs.Common.{◌<◌, ◌∙◌, ap, sym, arith, map}
+use Rattle.std.proofs.Common.{◌∙◌, ap, sym, map}
 use Rattle.std.specs.Prelude.{Some, slice_get}
 use Rattle.std.proofs.lemmas.List.{take_all}
-use Rattle.std.proofs.lemmas.Option.{slice_get_within}
 use Rattle.step_core.specs.BoundExpressions.{delivery_of, given_for}
-use Rattle.step_core.specs.Step.{nothing_delivered}
-use Rattle.step_core.proofs.ValueRows.{delivered-more, delivered-same, everywhere}
+use Rattle.step_core.proofs.ValueRows.{delivered-more, delivered-same}
 use Rattle.step_core.proofs.transfers.deliver_all.Goals as goal
 use Rattle.step_core.proofs.transfers.deliver_all.Goals.{then-has_all, else-has_all}
 
 pub loop-delivery-init : goal.loop-delivery-init
-loop-delivery-init c place m there first =
-    let within : place < 16 = omega (arith, c.requires.few, slice_get_within c.args.moves.now place m there) in
-    ap (λ row. slice_get row place) c.requires.nothing ∙ everywhere nothing_delivered 16 place within
+loop-delivery-init c place m there first = c.requires.nothing place m there
 
 pub loop-delivery-preserved : goal.loop-delivery-preserved
 loop-delivery-preserved c =

@@ -1,4 +1,4 @@
-use Rattle.std.proofs.Common.{◌≡◌, ◌≤◌, ◌*◌, ℕ, map, length, get_or, ap, sym, ◌∙◌, arith, le_trans, pow_mono}
+use Rattle.std.proofs.Common.{◌≡◌, ◌≤◌, ◌*◌, map, length, get_or, ap, sym, ◌∙◌, arith, le_trans, pow_mono}
 use Rattle.std.specs.Prelude.{Some, slice_get, option_map}
 use Rattle.std.specs.Option.{option_map_or}
 use Rattle.std.proofs.lemmas.List.{length-map}

@@ -1,13 +1,12 @@
 use Rattle.std.proofs.Common.{◌≡◌, ◌==◌, ◌<◌, ◌≤◌, ◌^◌, ◌∙◌, ap, sym, refl, subst, arith, length, map, take, get_or}
 use Rattle.std.specs.Prelude.{Some, slice_get, find}
 use Rattle.std.specs.Option.{option_map_or}
-use Rattle.std.proofs.lemmas.Option.{slice_get_read, slice_get_past, slice_get_within}
+use Rattle.std.proofs.lemmas.Option.{slice_get_read, slice_get_past}
 use Rattle.petri_atom.specs.Atom.{definition_of}
 use Rattle.connector_tree.specs.Tree.{leaves}
 use Rattle.step_core.specs.BoundExpressions.{delivery_of, given_for}
 use Rattle.step_core.specs.Step.{delivered_by, nothing_delivered}
 use Rattle.step_core.specs.Wire.{wire_of}
-use Rattle.step_core.proofs.ValueRows.{everywhere}
 use Rattle.step_core.proofs.system.System.deliver.Goals as goal
 
 pub returns-in-Some : goal.returns-in-Some
@@ -38,8 +37,7 @@ returns-in_default c place m there first =
     let small : mask < 2 ^ 16 = omega arith in
     let n = c.from.result in
     let past : length all ≤ n = subst (λ rs. length rs ≤ n) c.deref.ensures.value c.in_default.ensures.lookup.3 in
-    let few : place < 16 = omega (arith, c.as_slice-moves.ensures.few, ap length c.as_slice-moves.ensures.moves, slice_get_within c.args.choice.now.moves place m there) in
-    ap (λ row. slice_get row place) c.requires.nothing ∙ everywhere nothing_delivered 16 place few ∙
+    c.deliver_nothing.ensures place m (ap (λ ms. slice_get ms place) c.as_slice-moves.ensures.moves ∙ there) ∙
     ap Some
     (sym (ap (λ o. option_map_or (λ r. given_for states (map delivery_of r.deliveries.items) mask m.atom) o nothing_delivered) (slice_get_past all n past)) ∙
     system.delivering states mask n m.atom small ∙
