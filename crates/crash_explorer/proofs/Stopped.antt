@@ -30,7 +30,7 @@ use Rattle.step_core.proofs.OnRuns.{run-folds, runs-join}
 use Rattle.crash_explorer.specs.Judging.{IsRight, IsRightStop, IsRunOf, state_behind}
 use Rattle.step_core.specs.Chosen.{choice_of}
 use Rattle.step_core.specs.declared.choice.Choice.{Choice}
-use Rattle.crash_explorer.specs.Running.{IsAt, IsEnded, IsLived, IsMadeUntil, device_in, fired_in, is_formatting}
+use Rattle.crash_explorer.specs.Running.{IsAt, IsEnded, IsFirstBoot, IsLived, IsMadeUntil, device_in, fired_in, is_formatting}
 use Rattle.crash_explorer.specs.declared.running.Ended.{Ended}
 use Rattle.crash_explorer.specs.declared.running.Stage.{Stage}
 use Rattle.crash_explorer.specs.declared.running.Stage.TheVariants.{Running}
@@ -179,15 +179,16 @@ module _ (plant : PlantDefinition) (digest : List ℕ) where
         )
 
 -- a run that ended before anything was fired made nothing
-pub made-none : (plant : PlantDefinition) (events : List Event) (e : Ended) (stage : Stage) → e.fired.items ≡ [] → e.stage ≡ stage → IsMadeUntil plant events stage [] 0 → e.acked ≡ 0
-    → IsMadeUntil plant events e.stage (fired_in e) e.acked
-made-none plant events e stage none at made zero =
-    subst (λ (n : ℕ). IsMadeUntil plant events e.stage (map choice_of e.fired.items) n) (sym zero)
-    (subst (λ (l : List Choice). IsMadeUntil plant events e.stage (map choice_of l) 0) (sym none)
-    (subst (λ (s : Stage). IsMadeUntil plant events s [] 0) (sym at) made))
+pub made-none : (plant : PlantDefinition) (digest : List ℕ) (bytes : ℕ) (events : List Event) (e : Ended) (stage : Stage) → e.fired.items ≡ [] → e.stage ≡ stage → IsMadeUntil plant digest bytes events stage [] 0 → e.acked ≡ 0
+    → IsMadeUntil plant digest bytes events e.stage (fired_in e) e.acked
+made-none plant digest bytes events e stage none at made zero =
+    subst (λ (n : ℕ). IsMadeUntil plant digest bytes events e.stage (map choice_of e.fired.items) n) (sym zero)
+    (subst (λ (l : List Choice). IsMadeUntil plant digest bytes events e.stage (map choice_of l) 0) (sym none)
+    (subst (λ (s : Stage). IsMadeUntil plant digest bytes events s [] 0) (sym at) made))
 
--- a run of a plant in its first state made what it was asked for
-pub made-running : {E : Type 0} (plant : PlantDefinition) (events : List Event) (opened : View) (r : Result Ended E) → IsAt plant [] opened
-    → IfOk r (λ (e : Ended). IsLived plant events opened [] (fired_in e) e.acked) → IfOk r (λ (e : Ended). e.stage ≡ Running) → IfOk r (λ (e : Ended). IsMadeUntil plant events e.stage (fired_in e) e.acked)
-made-running plant events opened (Ok e) at lived stage = subst (λ (s : Stage). IsMadeUntil plant events s (fired_in e) e.acked) (sym stage) (opened, at, lived)
-made-running plant events opened (Err fault) at lived stage = tt
+-- a run of a plant that was booted from a formatted device made what it was asked for
+pub made-running : {E : Type 0} (plant : PlantDefinition) (digest : List ℕ) (bytes : ℕ) (events : List Event) (opened : View) (r : Result Ended E) → IsFirstBoot plant digest bytes opened
+    → IfOk r (λ (e : Ended). IsLived plant events opened [] (fired_in e) e.acked) → IfOk r (λ (e : Ended). e.stage ≡ Running)
+    → IfOk r (λ (e : Ended). IsMadeUntil plant digest bytes events e.stage (fired_in e) e.acked)
+made-running plant digest bytes events opened (Ok e) first lived stage = subst (λ (s : Stage). IsMadeUntil plant digest bytes events s (fired_in e) e.acked) (sym stage) (opened, first, lived)
+made-running plant digest bytes events opened (Err fault) first lived stage = tt

@@ -14,7 +14,7 @@ use Rattle.step_core.specs.Plant.{PlantDefinition}
 use Rattle.step_core.specs.System.{digest_of, plant_of}
 use Rattle.step_core.specs.declared.system.System.{System}
 use Rattle.crash_explorer.specs.Judging.{IsRight, IsRightStop, IsRunOf}
-use Rattle.crash_explorer.specs.Running.{IsAt, IsLived, IsMadeUntil, is_formatting}
+use Rattle.crash_explorer.specs.Running.{IsFirstBoot, IsLived, IsMadeUntil, is_formatting}
 use Rattle.crash_explorer.specs.Outcomes.{IsNextOf, IsRightNext, IsTorn}
 use Rattle.crash_explorer.specs.Verdicts.{IsFound}
 use Rattle.crash_explorer.specs.declared.explorer.Explorer.{Explorer}
@@ -31,11 +31,11 @@ pub record IsExplorerOf (system : System) (ring : ℕ) (events : List Event) (e 
 abbrev pub stops_of : Explorer → ℕ
 stops_of e = e.stops
 
--- A run of these events on a device with a ring of so many records came to its end: the plant was there, was asked for all of the events, no call of the
--- device failed, and whatever a stop leaves then is right. So many moments lie behind that device; that they are the run's writes and syncs is not said.
+-- A run of these events on a device with a ring of so many records came to its end: the plant was booted from the formatted device and was asked for all of
+-- the events, no call of the device failed, and whatever a stop leaves then is right. So many moments lie behind that device; that they are the run's writes and syncs is not said.
 pub record IsWholeRun (plant : PlantDefinition) (digest : List ℕ) (ring : ℕ) (events : List Event) (stops : ℕ) : Type 0 where
   pub opened : View
-  pub at : IsAt plant [] opened
+  pub first : IsFirstBoot plant digest (formatted_size plant ring) opened
   pub fired : List ChoiceDefinition
   pub acked : ℕ
   pub lived : IsLived plant events opened [] fired acked
@@ -56,7 +56,7 @@ pub record IsTrial (plant : PlantDefinition) (digest : List ℕ) (ring : ℕ) (e
   pub stop_is : t.stop ≡ stop
   pub tear_is : t.tear ≡ tear
   pub fired : List ChoiceDefinition
-  pub made : IsMadeUntil plant events t.stage fired t.acked
+  pub made : IsMadeUntil plant digest (formatted_size plant ring) events t.stage fired t.acked
   pub run : IsRunOf plant fired
   pub fired_many : t.fired ≡ length fired
   pub acked_many : t.acked ≤ t.fired

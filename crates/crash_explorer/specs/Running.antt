@@ -7,10 +7,13 @@ use Rattle.disk_model.specs.declared.cells.TheConstants.{BODY}
 use Rattle.step_core.specs.Choice.{ChoiceDefinition}
 use Rattle.step_core.specs.Chosen.{choice_of}
 use Rattle.step_core.specs.Plant.{PlantDefinition}
+use Rattle.step_core.specs.Step.{initial_states}
+use Rattle.plant_image.specs.Standing.{StandsFor}
 use Rattle.plant_core.specs.Events.{IsEventRun, all_fired, asked_in}
 use Rattle.plant_core.specs.View.{View}
 use Rattle.plant_core.specs.declared.events.Event.{Event}
 use Rattle.plant_core.specs.declared.events.Happened.{Happened}
+use Rattle.recovery.specs.Booting.{IsBooted}
 use Rattle.crash_explorer.specs.Judging.{IsRightStop, IsRunOf, state_behind}
 use Rattle.crash_explorer.specs.declared.running.Ended.{Ended}
 use Rattle.crash_explorer.specs.declared.running.Stage.{Stage}
@@ -62,8 +65,15 @@ pub record IsLived (plant : PlantDefinition) (events : List Event) (opened : Vie
   pub fired_are : fired ≡ behind ++ all_fired happened
   pub acked_are : acked ≡ closed.number
 
--- What was fired of a run until it ended: nothing before the plant was there, and then what a plant in its first state fires that is asked for the events.
-abbrev pub IsMadeUntil : PlantDefinition → List Event → Stage → List ChoiceDefinition → ℕ → Type 0
-IsMadeUntil plant events Formatting fired acked = fired ≡ []
-IsMadeUntil plant events Booting fired acked = fired ≡ []
-IsMadeUntil plant events Running fired acked = (opened : View) × IsAt plant [] opened × IsLived plant events opened [] fired acked
+-- A plant shows this view when it is booted from a device of so many bytes that was formatted for it: its cells stood for the first state.
+pub record IsFirstBoot (plant : PlantDefinition) (digest : List ℕ) (bytes : ℕ) (opened : View) : Type 0 where
+  pub cells : List Cell
+  pub stood : StandsFor plant digest bytes cells (initial_states plant) 0
+  pub booted : IsBooted plant digest bytes cells opened
+
+-- What was fired of a run until it ended: nothing before the plant was there, and then what a plant fires that was booted from a formatted device and is asked
+-- for the events.
+abbrev pub IsMadeUntil : PlantDefinition → List ℕ → ℕ → List Event → Stage → List ChoiceDefinition → ℕ → Type 0
+IsMadeUntil plant digest bytes events Formatting fired acked = fired ≡ []
+IsMadeUntil plant digest bytes events Booting fired acked = fired ≡ []
+IsMadeUntil plant digest bytes events Running fired acked = (opened : View) × IsFirstBoot plant digest bytes opened × IsLived plant events opened [] fired acked

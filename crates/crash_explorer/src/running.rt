@@ -80,7 +80,7 @@ pub(crate) fn run(
     requires countable { IsCountable disk }
     requires zeros { state_of disk ≡ fresh (replicate (formatted_size (plant_of system.now) ring) 0) }
     ensures ended { IfOk result (IsEnded (plant_of system.now) (digest_of system.now) (formatted_size (plant_of system.now) ring)) }
-    ensures made { IfOk result (λ e. IsMadeUntil (plant_of system.now) events.now e.stage (fired_in e) e.acked) }
+    ensures made { IfOk result (λ e. IsMadeUntil (plant_of system.now) (digest_of system.now) (formatted_size (plant_of system.now) ring) events.now e.stage (fired_in e) e.acked) }
 {
     match format(alloc, Watched::over(disk), system, ring) {
         Ok(disk) => run_formatted(alloc, system, events, disk),
@@ -105,7 +105,7 @@ fn run_formatted(
     requires { (cells : List Cell) → MayBe (BODY + 1) (state_of disk.disk) cells
         → StandsFor (plant_of system.now) (digest_of system.now) (size_of (state_of disk.disk)) cells (initial_states (plant_of system.now)) 0 }
     ensures ended { IfOk result (IsEnded (plant_of system.now) (digest_of system.now) (size_of (state_of disk.disk))) }
-    ensures made { IfOk result (λ e. IsMadeUntil (plant_of system.now) events.now e.stage (fired_in e) e.acked) }
+    ensures made { IfOk result (λ e. IsMadeUntil (plant_of system.now) (digest_of system.now) (size_of (state_of disk.disk)) events.now e.stage (fired_in e) e.acked) }
 {
     match boot(alloc, disk, system) {
         Ok(plant) => run_booted(alloc, plant, events, Vec::new(alloc)),

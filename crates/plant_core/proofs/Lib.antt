@@ -12,3 +12,4 @@ pub mod Marking
 pub mod Trimmed
 pub mod Taken
 pub mod Crossing
+mod Rows

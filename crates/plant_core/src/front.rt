@@ -1,5 +1,6 @@
 //! How far a durable plant is, and what it shows.
 ghost use Rattle.std.specs.Prelude.{◌≡◌, ◌+◌, ◌≤◌, slice_get};
+ghost use Rattle.record_codec.specs.declared.layout.TheConstants.{LAST_NUMBER, MOST_RING};
 ghost use Rattle.step_core.specs.System.{digest_of, plant_of};
 ghost use Rattle.plant_core.specs.Plants.{definition_of, device_of, text_digest, view_of};
 ghost use Rattle.plant_core.specs.View.{fired_number};
@@ -30,6 +31,8 @@ impl<'s, D: Disk> Plant<'s, D> {
         ensures behind { result.acked ≤ result.fired }
         ensures tail { result.fired ≤ result.acked + MOST_TAIL }
         ensures ring { result.fired + 1 ≤ result.base + (view_of self.now).ring }
+        ensures near { result.fired + 1 ≤ result.base + MOST_RING }
+        ensures last { result.fired ≤ LAST_NUMBER }
         ensures base_from { 1 ≤ result.base }
         ensures base_to { result.base ≤ result.acked + 1 }
     {

@@ -1,6 +1,6 @@
 //! Storing the saved state of an atom.
-ghost use Rattle.std.specs.Prelude.{◌≡◌, ◌≢◌, ◌+◌, ◌<◌, true, false, is_err, IfErr, OnOk};
-ghost use Rattle.disk_model.specs.Cells.{Leaves, cell_count, seen_cells};
+ghost use Rattle.std.specs.Prelude.{◌≡◌, ◌≢◌, ◌+◌, ◌<◌, List, true, false, is_err, IfErr, OnOk};
+ghost use Rattle.disk_model.specs.Cells.{Cell, Leaves, MayBe, cell_count, seen_cells};
 ghost use Rattle.disk_model.specs.DiskState.{CountsUpTo, IsSettled, size_of};
 ghost use Rattle.disk_model.specs.declared.cells.TheConstants.{BODY};
 ghost use Rattle.record_codec.specs.Ring.{slot_cell};
@@ -20,7 +20,7 @@ use snapshot_writer::{Encoded, Parcel, slot_to_write, store};
 impl<'s, D: Disk> Plant<'s, D> {
     /// Stores a state that was asked for, in the slot of its atom that does not hold the newest one, and tells how often the atom had taken part. It
     /// has to be the one that was asked for last, and all firings that it is behind have to be acknowledged. Where it is refused it comes
-    /// back, and may be handed in again.
+    /// back, and may be handed in again. Also where the device fails in this call, a stop leaves what stands for the acknowledged state.
     pub fn put(&mut self, encoded: Encoded) -> Result<u64, PutRefused>
         ensures event { IsEvent (definition_of self.old) (view_of self.old) (Put encoded (refusal_in result)) (view_of self.new) }
         ensures returned { IfErr result (λ refused. refused.encoded ≡ encoded) }
@@ -29,6 +29,9 @@ impl<'s, D: Disk> Plant<'s, D> {
         ensures counts { CountsUpTo (is_disk (refusal_in result)) 3 (device_of self.old) (device_of self.new) }
         ensures stops { (device_of self.old).keeps ≡ true → (view_of self.old).broken ≡ false
             → Leaves (BODY + 1) (StandsForAcked (definition_of self.old) (text_digest self.old) (size_of (device_of self.old)) (view_of self.old)) (device_of self.old) (device_of self.new) }
+        ensures now { (device_of self.old).keeps ≡ true → (view_of self.old).broken ≡ false
+            → (cells : List Cell) → MayBe (BODY + 1) (device_of self.new) cells
+            → StandsForAcked (definition_of self.old) (text_digest self.old) (size_of (device_of self.old)) (view_of self.old) cells }
         ensures stored { (device_of self.old).keeps ≡ true → OnOk result
             (IsStored (other_slot encoded.atom (seen_cells (BODY + 1) (device_of self.old))) encoded (device_of self.old) (device_of self.new)) }
         ensures plant { definition_of self.new ≡ definition_of self.old }

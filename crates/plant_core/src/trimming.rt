@@ -1,6 +1,6 @@
 //! Dropping the records that no restart needs.
-ghost use Rattle.std.specs.Prelude.{◌≡◌, ◌≢◌, ◌+◌, ◌<◌, ◌≤◌, true, false, drop, length, vec_capacity, IfErr};
-ghost use Rattle.disk_model.specs.Cells.{Leaves};
+ghost use Rattle.std.specs.Prelude.{◌≡◌, ◌≢◌, ◌+◌, ◌<◌, ◌≤◌, List, true, false, drop, length, vec_capacity, IfErr};
+ghost use Rattle.disk_model.specs.Cells.{Cell, Leaves, MayBe};
 ghost use Rattle.disk_model.specs.DiskState.{CountsUpTo, size_of};
 ghost use Rattle.disk_model.specs.declared.cells.TheConstants.{BODY};
 ghost use Rattle.plant_core.specs.Events.{IsEvent, is_disk};
@@ -17,7 +17,8 @@ use trimmer::{Mark, cut};
 
 impl<'s, D: Disk> Plant<'s, D> {
     /// Drops the longest front of the acknowledged records that are covered, those that no restart needs any more, and tells the number of the first
-    /// that is kept, or of the next where none is. Their cells are used again.
+    /// that is kept, or of the next where none is. Their cells are used again. Also where the device fails in this call, a stop leaves what
+    /// stands for the acknowledged state.
     pub fn trim(&mut self) -> Result<u64, Refused>
         ensures event { IsEvent (definition_of self.old) (view_of self.old) (Trim result) (view_of self.new) }
         ensures refused { (view_of self.old).broken ≡ true → device_of self.new ≡ device_of self.old }
@@ -25,6 +26,9 @@ impl<'s, D: Disk> Plant<'s, D> {
         ensures counts { CountsUpTo (is_disk result) 4 (device_of self.old) (device_of self.new) }
         ensures stops { (device_of self.old).keeps ≡ true → (view_of self.old).broken ≡ false
             → Leaves (BODY + 1) (StandsForAcked (definition_of self.old) (text_digest self.old) (size_of (device_of self.old)) (view_of self.old)) (device_of self.old) (device_of self.new) }
+        ensures now { (device_of self.old).keeps ≡ true → (view_of self.old).broken ≡ false
+            → (cells : List Cell) → MayBe (BODY + 1) (device_of self.new) cells
+            → StandsForAcked (definition_of self.old) (text_digest self.old) (size_of (device_of self.old)) (view_of self.old) cells }
         ensures plant { definition_of self.new ≡ definition_of self.old }
         ensures digest { text_digest self.new ≡ text_digest self.old }
     {

@@ -33,5 +33,5 @@ returns-in-WrongSize c =
           (ap (λ (d : DiskState). size_of d) device ∙ size)
           (λ cells may. formatting-right plant digest c.args.ring old cells zeros
           (leaves_now (BODY + 1) (IsFormatting plant digest old) old left (c.in-Err.ensures.stops refl) cells (subst (λ (d : DiskState). MayBe (BODY + 1) d cells) device may)));
-      made = made-none plant c.args.events.now ended Formatting c.before_the_first.ensures.fired c.before_the_first.ensures.stage refl c.before_the_first.ensures.acked;
+      made = made-none plant digest bytes c.args.events.now ended Formatting c.before_the_first.ensures.fired c.before_the_first.ensures.stage refl c.before_the_first.ensures.acked;
     }

@@ -11,7 +11,7 @@ use Rattle.step_core.specs.Chosen.{choice_of}
 use Rattle.step_core.specs.Plant.{PlantDefinition}
 use Rattle.step_core.specs.System.{digest_of, plant_of}
 use Rattle.step_core.specs.declared.choice.Choice.{Choice}
-use Rattle.crash_explorer.specs.Running.{IsAt, IsLived, device_in, fired_in}
+use Rattle.crash_explorer.specs.Running.{IsAt, IsFirstBoot, IsLived, device_in, fired_in}
 use Rattle.crash_explorer.specs.declared.running.Ended.{Ended}
 use Rattle.crash_explorer.specs.declared.running.Stage.TheVariants.{Booting}
 use Rattle.crash_explorer.specs.declared.watched.Watched.{Watched}
@@ -33,8 +33,12 @@ returns-in-Ok-clause-made c =
     let digest : List ℕ = digest_of c.args.system.now in
     let s : DiskState = state_of c.args.disk.disk in
     let v : View = view_of c.in-Ok.plant in
-    let at : IsAt plant [] v = booted-at plant digest (size_of s) [] (seen_cells (BODY + 1) s) v refl (c.in-Ok.ensures.booted refl) (c.requires (seen_cells (BODY + 1) s) (seen_may (BODY + 1) s)) in
-    made-running plant c.args.events.now v c.run_booted.result at
+    let first : IsFirstBoot plant digest (size_of s) v = record {
+      cells = seen_cells (BODY + 1) s;
+      stood = c.requires (seen_cells (BODY + 1) s) (seen_may (BODY + 1) s);
+      booted = c.in-Ok.ensures.booted refl;
+    } in
+    made-running plant digest (size_of s) c.args.events.now v c.run_booted.result first
     (subst (λ (l : List Choice). IfOk c.run_booted.result (λ (e : Ended). IsLived plant c.args.events.now v (map choice_of l) (fired_in e) e.acked)) c.new.ensures.items
     (subst (λ (p : PlantDefinition). IfOk c.run_booted.result (λ (e : Ended). IsLived p c.args.events.now v (map choice_of c.new.result.items) (fired_in e) e.acked)) c.in-Ok.ensures.system.0
     c.run_booted.ensures.lived))
@@ -55,5 +59,5 @@ returns-in-Image c =
           (ap (λ (d : DiskState). size_of d) device ∙ size)
           (λ cells may. first-right plant digest (size_of s) false cells
           (booting-right plant digest s cells c.requires (leaves_now (BODY + 1) (IsBooting plant digest s) s left (c.in-Err.ensures.stops refl) cells (subst (λ (d : DiskState). MayBe (BODY + 1) d cells) device may))));
-      made = made-none plant c.args.events.now ended Booting c.before_the_first.ensures.fired c.before_the_first.ensures.stage refl c.before_the_first.ensures.acked;
+      made = made-none plant digest (size_of s) c.args.events.now ended Booting c.before_the_first.ensures.fired c.before_the_first.ensures.stage refl c.before_the_first.ensures.acked;
     }

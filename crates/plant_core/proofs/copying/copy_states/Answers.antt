@@ -1,4 +1,4 @@
-use Rattle.std.proofs.Common.{◌+◌, ◌<◌, sym, ◌∙◌, ap, length, set, take, arith, Some}
+use Rattle.std.proofs.Common.{◌+◌, ◌<◌, sym, ◌∙◌, ap, length, take, arith, Some}
 use Rattle.std.proofs.lemmas.List.{length-set}
 use Rattle.plant_core.proofs.Copies.{one_more_copied}
 use Rattle.plant_core.proofs.copying.copy_states.Goals as goal

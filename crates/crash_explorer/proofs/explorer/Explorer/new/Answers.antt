@@ -23,11 +23,11 @@ returns-clause-stops c =
     let none : whole.disk.cut ≡ None = search rules in
     let stage : whole.stage ≡ Running = search rules in
     let unfailed : IsWhole whole.disk.disk = whole.disk.whole none in
-    let made : IsMadeUntil plant c.args.events.now Running (fired_in whole) whole.acked =
-    subst (λ (s : Stage). IsMadeUntil plant c.args.events.now s (fired_in whole) whole.acked) stage c.in_ok-whole.ensures.made in
+    let made : IsMadeUntil plant digest bytes c.args.events.now Running (fired_in whole) whole.acked =
+    subst (λ (s : Stage). IsMadeUntil plant digest bytes c.args.events.now s (fired_in whole) whole.acked) stage c.in_ok-whole.ensures.made in
     record {
       opened = made.0;
-      at = made.1;
+      first = made.1;
       fired = fired_in whole;
       acked = whole.acked;
       lived = made.2;

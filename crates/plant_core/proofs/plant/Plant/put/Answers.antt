@@ -118,3 +118,22 @@ pub returns-clause-stored : goal.returns-clause-stored
 returns-clause-stored g c = λ keeps.
     let ok : is_ok c.save.result ≡ true = ok-where c.save.result (sym c.is_err.ensures.value ∙ c.if-is_err.false) in
     ok-has c.save.result ok (c.save.ensures.stored keeps)
+
+-- what a stop leaves behind the call is among what one since its start leaves
+pub returns-in-Some-clause-now : goal.returns-in-Some-clause-now
+returns-in-Some-clause-now g c = λ keeps whole cells may.
+    let self = c.args.self.now in
+    leaves_now (BODY + 1) (StandsForAcked (plant_in self.stepper) (digest_of (system_in self.stepper)) (size_of self.cells) (view_of self)) self.cells self.cells
+    (returns-in-Some-clause-stops g c keeps whole) cells may
+
+pub returns-then-is_err-clause-now : goal.returns-then-is_err-clause-now
+returns-then-is_err-clause-now g c = λ keeps whole cells may.
+    let self = c.args.self.now in
+    leaves_now (BODY + 1) (StandsForAcked (plant_in self.stepper) (digest_of (system_in self.stepper)) (size_of self.cells) (view_of self)) self.cells c.save.new.cells
+    (returns-then-is_err-clause-stops g c keeps whole) cells may
+
+pub returns-clause-now : goal.returns-clause-now
+returns-clause-now g c = λ keeps whole cells may.
+    let self = c.args.self.now in
+    leaves_now (BODY + 1) (StandsForAcked (plant_in self.stepper) (digest_of (system_in self.stepper)) (size_of self.cells) (view_of self)) self.cells c.save.new.cells
+    (returns-clause-stops g c keeps whole) cells may

@@ -141,3 +141,22 @@ invariant_of-self-2 g c =
       at_a_stop = λ keeps image may. rest-front plant digest j self.acked self.acked_counts self.number self.snapshots.saved new (rests keeps)
           (view_by self.acked self.acked_counts self.number self.tail.items (states_in self.stepper) self.counts j c.drop_first.new.marks.items self.snapshots false) refl refl image may;
     }
+
+-- what a stop leaves behind the call is among what one since its start leaves
+pub returns-then-count-eq0-clause-now : goal.returns-then-count-eq0-clause-now
+returns-then-count-eq0-clause-now g c = λ keeps whole cells may.
+    let self = c.args.self.now in
+    leaves_now (BODY + 1) (StandsForAcked (plant_in self.stepper) (digest_of (system_in self.stepper)) (size_of self.cells) (view_of self)) self.cells self.cells
+    (returns-then-count-eq0-clause-stops g c keeps whole) cells may
+
+pub returns-then-is_err-clause-now : goal.returns-then-is_err-clause-now
+returns-then-is_err-clause-now g c = λ keeps whole cells may.
+    let self = c.args.self.now in
+    leaves_now (BODY + 1) (StandsForAcked (plant_in self.stepper) (digest_of (system_in self.stepper)) (size_of self.cells) (view_of self)) self.cells c.move_base.new.cells
+    (returns-then-is_err-clause-stops g c keeps whole) cells may
+
+pub returns-clause-now : goal.returns-clause-now
+returns-clause-now g c = λ keeps whole cells may.
+    let self = c.args.self.now in
+    leaves_now (BODY + 1) (StandsForAcked (plant_in self.stepper) (digest_of (system_in self.stepper)) (size_of self.cells) (view_of self)) self.cells c.move_base.new.cells
+    (returns-clause-stops g c keeps whole) cells may
