@@ -7,7 +7,6 @@ use Rattle.command_line.specs.declared.request.Drawing.{Drawing}
 use Rattle.command_line.specs.declared.request.Drawing.TheVariants.{Whole, Outline, After, Only}
 use Rattle.command_line.specs.declared.request.Task.{Task}
 use Rattle.command_line.specs.declared.request.Task.TheVariants.{Check, Warn, Trace, Choices, Why, Draw}
-use Rattle.command_line.specs.declared.request.ImageTask.{ImageTask}
 use Rattle.command_line.specs.declared.request.ImageTask.TheVariants as image
 use Rattle.command_line.specs.declared.request.Work.{Work}
 use Rattle.command_line.specs.declared.request.Work.TheVariants.{OfPlant, ByHand, OnImage, Explored}

@@ -1,5 +1,5 @@
 -- Bringing an image of the first layout over to a new one: what is printed, why it ends early, and what the new image stands for.
-use Rattle.std.specs.Prelude.{◌≡◌, ℕ, ◌+◌, List, ◌++◌, codes, decimal, if◌then◌else◌, length, Option, None}
+use Rattle.std.specs.Prelude.{◌≡◌, ℕ, ◌+◌, List, ◌++◌, codes, decimal, if◌then◌else◌, Option, None}
 use Rattle.step_core.specs.Plant.{PlantDefinition}
 use Rattle.disk_model.specs.DiskState.{DiskState, size_of}
 use Rattle.disk_model.specs.Cells.{Cell, MayBe, seen_cells}
