@@ -16,6 +16,7 @@ WITH_EDITS = {
     "connector_tree": "lets ports act together that may not",
     "priority_filter": "lets a move go before one that goes first",
     "step_core": "makes another choice, or delivers other values",
+    "step_executor": "fires what is not sure while atoms are away, or never has one back",
     "plant_text": "makes another plant than the text means",
     "disk_model": "leaves a cell as no stop may leave it",
     "record_codec": "reads other fields than were written",

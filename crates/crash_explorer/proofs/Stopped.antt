@@ -179,16 +179,17 @@ module _ (plant : PlantDefinition) (digest : List ℕ) where
         )
 
 -- a run that ended before anything was fired made nothing
-pub made-none : (plant : PlantDefinition) (digest : List ℕ) (bytes : ℕ) (events : List Event) (e : Ended) (stage : Stage) → e.fired.items ≡ [] → e.stage ≡ stage → IsMadeUntil plant digest bytes events stage [] 0 → e.acked ≡ 0
-    → IsMadeUntil plant digest bytes events e.stage (fired_in e) e.acked
+pub made-none : (plant : PlantDefinition) (digest : List ℕ) (bytes : ℕ) (events : List Event) (e : Ended) (stage : Stage) → e.fired.items ≡ [] → e.stage ≡ stage → IsMadeUntil plant digest bytes events stage [] 0 (device_in e)
+    → e.acked ≡ 0 → IsMadeUntil plant digest bytes events e.stage (fired_in e) e.acked (device_in e)
 made-none plant digest bytes events e stage none at made zero =
-    subst (λ (n : ℕ). IsMadeUntil plant digest bytes events e.stage (map choice_of e.fired.items) n) (sym zero)
-    (subst (λ (l : List Choice). IsMadeUntil plant digest bytes events e.stage (map choice_of l) 0) (sym none)
-    (subst (λ (s : Stage). IsMadeUntil plant digest bytes events s [] 0) (sym at) made))
+    subst (λ (n : ℕ). IsMadeUntil plant digest bytes events e.stage (map choice_of e.fired.items) n (device_in e)) (sym zero)
+    (subst (λ (l : List Choice). IsMadeUntil plant digest bytes events e.stage (map choice_of l) 0 (device_in e)) (sym none)
+    (subst (λ (s : Stage). IsMadeUntil plant digest bytes events s [] 0 (device_in e)) (sym at) made))
 
 -- a run of a plant that was booted from a formatted device made what it was asked for
 pub made-running : {E : Type 0} (plant : PlantDefinition) (digest : List ℕ) (bytes : ℕ) (events : List Event) (opened : View) (r : Result Ended E) → IsFirstBoot plant digest bytes opened
-    → IfOk r (λ (e : Ended). IsLived plant events opened [] (fired_in e) e.acked) → IfOk r (λ (e : Ended). e.stage ≡ Running)
-    → IfOk r (λ (e : Ended). IsMadeUntil plant digest bytes events e.stage (fired_in e) e.acked)
-made-running plant digest bytes events opened (Ok e) first lived stage = subst (λ (s : Stage). IsMadeUntil plant digest bytes events s (fired_in e) e.acked) (sym stage) (opened, first, lived)
+    → IfOk r (λ (e : Ended). IsLived plant digest events opened [] (fired_in e) e.acked (device_in e)) → IfOk r (λ (e : Ended). e.stage ≡ Running)
+    → IfOk r (λ (e : Ended). IsMadeUntil plant digest bytes events e.stage (fired_in e) e.acked (device_in e))
+made-running plant digest bytes events opened (Ok e) first lived stage =
+    subst (λ (s : Stage). IsMadeUntil plant digest bytes events s (fired_in e) e.acked (device_in e)) (sym stage) (opened, first, lived)
 made-running plant digest bytes events opened (Err fault) first lived stage = tt

@@ -1,8 +1,8 @@
 -- What an explorer shows, and what it tells of a stop.
 use Rattle.std.specs.Prelude.{◌≡◌, ◌↔◌, ℕ, ◌+◌, ◌-◌, ◌*◌, ◌≤◌, IsTrue, List, [], Some, drop, length, slice_get, take}
 use Rattle.disk_model.specs.Cells.{Cell, MayBe, cells_of}
-use Rattle.disk_model.specs.DiskState.{DiskState, moment_of, size_of}
-use Rattle.disk_model.specs.MemDisk.{state_of}
+use Rattle.disk_model.specs.DiskState.{moment_of, size_of}
+use Rattle.disk_model.specs.MemDisk.{changes_of, state_of}
 use Rattle.disk_model.specs.declared.cells.TheConstants.{BODY}
 use Rattle.disk_model.specs.declared.change.Tear.{Tear}
 use Rattle.disk_model.specs.declared.memory.MemDisk.{MemDisk}
@@ -17,6 +17,7 @@ use Rattle.crash_explorer.specs.Judging.{IsRight, IsRightStop, IsRunOf}
 use Rattle.crash_explorer.specs.Running.{IsFirstBoot, IsLived, IsMadeUntil, is_formatting}
 use Rattle.crash_explorer.specs.Outcomes.{IsNextOf, IsRightNext, IsTorn}
 use Rattle.crash_explorer.specs.Verdicts.{IsFound}
+use Rattle.crash_explorer.specs.Watching.{IsStoppedAt}
 use Rattle.crash_explorer.specs.declared.explorer.Explorer.{Explorer}
 use Rattle.crash_explorer.specs.declared.explorer.TheConstants.{TEARS}
 use Rattle.crash_explorer.specs.declared.explorer.Trial.{Trial}
@@ -32,35 +33,37 @@ abbrev pub stops_of : Explorer → ℕ
 stops_of e = e.stops
 
 -- A run of these events on a device with a ring of so many records came to its end: the plant was booted from the formatted device and was asked for all of
--- the events, no call of the device failed, and whatever a stop leaves then is right. So many moments lie behind that device; that they are the run's writes and syncs is not said.
+-- the events, no call of the device failed, and whatever a stop leaves then is right. So many writes and syncs were asked of the device, and each was made.
 pub record IsWholeRun (plant : PlantDefinition) (digest : List ℕ) (ring : ℕ) (events : List Event) (stops : ℕ) : Type 0 where
   pub opened : View
   pub first : IsFirstBoot plant digest (formatted_size plant ring) opened
   pub fired : List ChoiceDefinition
   pub acked : ℕ
-  pub lived : IsLived plant events opened [] fired acked
-  pub device : DiskState
-  pub size : size_of device ≡ formatted_size plant ring
-  pub unfailed : device.failures ≡ 0
-  pub moments : stops ≡ moment_of device
-  pub all_right : (cells : List Cell) → MayBe (BODY + 1) device cells → IsRight plant digest (formatted_size plant ring) (take acked fired) (drop acked fired) cells
+  pub device : MemDisk
+  pub lived : IsLived plant digest events opened [] fired acked (state_of device)
+  pub size : size_of (state_of device) ≡ formatted_size plant ring
+  pub unfailed : (state_of device).failures ≡ 0
+  pub asked : stops ≡ changes_of device
+  pub made : stops ≡ moment_of (state_of device)
+  pub all_right : (cells : List Cell) → MayBe (BODY + 1) (state_of device) cells → IsRight plant digest (formatted_size plant ring) (take acked fired) (drop acked fired) cells
 
 -- how many trials are still to come: one for each stop from the next on and each tear, without those that were made of the next
 abbrev pub trials_left : Explorer → ℕ
 trials_left e = length TEARS * (e.stops - e.stop) - e.tear
 
--- A trial is that of a run of these events which was stopped, and torn so; at which call is not said. It tells how many choices were fired and how many of these were acknowledged,
--- what the device boots to by the bytes that the stop left, how the plant then goes on, and whether both are right; and they are, as is whatever else the
--- stop might have left of the device.
+-- A trial is that of a run of these events which was stopped at its write or sync with this number, and torn so. It tells what that call was, how many choices
+-- were fired and how many of these were acknowledged, what the device boots to by the bytes that the stop left, how the plant then goes on, and whether both
+-- are right; and they are, as is whatever else the stop might have left of the device.
 pub record IsTrial (plant : PlantDefinition) (digest : List ℕ) (ring : ℕ) (events : List Event) (stop : ℕ) (tear : Tear) (t : Trial) : Type 0 where
   pub stop_is : t.stop ≡ stop
   pub tear_is : t.tear ≡ tear
   pub fired : List ChoiceDefinition
-  pub made : IsMadeUntil plant digest (formatted_size plant ring) events t.stage fired t.acked
+  pub device : MemDisk
+  pub stopped : ∥ IsStoppedAt stop t.cut device ∥₁
+  pub made : IsMadeUntil plant digest (formatted_size plant ring) events t.stage fired t.acked (state_of device)
   pub run : IsRunOf plant fired
   pub fired_many : t.fired ≡ length fired
   pub acked_many : t.acked ≤ t.fired
-  pub device : MemDisk
   pub size : size_of (state_of device) ≡ formatted_size plant ring
   pub all_right : (cells : List Cell) → MayBe (BODY + 1) (state_of device) cells
       → IsRightStop plant digest (formatted_size plant ring) (take t.acked fired) (drop t.acked fired) (is_formatting t.stage) cells

@@ -31,9 +31,9 @@ pub record IsTorn (tear : Tear) (device : MemDisk) (left : List ℕ) : Type 0 wh
 -- right; and they are, as is whatever else a stop might have left of the device.
 pub record IsNext (plant : PlantDefinition) (digest : List ℕ) (bytes : ℕ) (tear : Tear) (opened : View) (behind : List ChoiceDefinition) (n : Next) : Type 0 where
   pub fired : List ChoiceDefinition
-  pub lived : IsLived plant NEXT opened behind fired (length fired)
-  pub fired_more : length fired ≡ length behind + n.fired
   pub device : MemDisk
+  pub lived : IsLived plant digest NEXT opened behind fired (length fired) (state_of device)
+  pub fired_more : length fired ≡ length behind + n.fired
   pub size : size_of (state_of device) ≡ bytes
   pub all_right : (cells : List Cell) → MayBe (BODY + 1) (state_of device) cells → IsRight plant digest bytes fired [] cells
   pub left : List ℕ

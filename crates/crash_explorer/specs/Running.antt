@@ -9,7 +9,9 @@ use Rattle.step_core.specs.Chosen.{choice_of}
 use Rattle.step_core.specs.Plant.{PlantDefinition}
 use Rattle.step_core.specs.Step.{initial_states}
 use Rattle.plant_image.specs.Standing.{StandsFor}
-use Rattle.plant_core.specs.Events.{IsEventRun, all_fired, asked_in}
+use Rattle.plant_core.specs.Driven.{IsDriven}
+use Rattle.plant_core.specs.Events.{all_fired}
+use Rattle.plant_core.specs.Hands.{HandFields, empty_hands}
 use Rattle.plant_core.specs.View.{View}
 use Rattle.plant_core.specs.declared.events.Event.{Event}
 use Rattle.plant_core.specs.declared.events.Happened.{Happened}
@@ -55,13 +57,14 @@ pub record IsAt (plant : PlantDefinition) (behind : List ChoiceDefinition) (v : 
   pub tail : v.tail ≡ []
   pub number : v.number ≡ length behind
 
--- A plant that was opened with this view, behind these choices, was asked for the events. So it has fired these choices in all, and so many of them are
--- acknowledged.
-pub record IsLived (plant : PlantDefinition) (events : List Event) (opened : View) (behind fired : List ChoiceDefinition) (acked : ℕ) : Type 0 where
+-- A plant that was opened with this view, behind these choices, was asked for the events, from empty hands on, and its device is this then. So it has fired
+-- these choices in all, and so many of them are acknowledged.
+pub record IsLived (plant : PlantDefinition) (digest : List ℕ) (events : List Event) (opened : View) (behind fired : List ChoiceDefinition) (acked : ℕ) (device : DiskState) : Type 0 where
   pub happened : List Happened
   pub closed : View
-  pub asked : map asked_in happened ≡ events
-  pub run : IsEventRun plant opened happened closed
+  pub began : DiskState
+  pub hands : HandFields
+  pub driven : IsDriven plant digest opened began (empty_hands (length plant.atoms)) events happened closed device hands
   pub fired_are : fired ≡ behind ++ all_fired happened
   pub acked_are : acked ≡ closed.number
 
@@ -73,7 +76,7 @@ pub record IsFirstBoot (plant : PlantDefinition) (digest : List ℕ) (bytes : �
 
 -- What was fired of a run until it ended: nothing before the plant was there, and then what a plant fires that was booted from a formatted device and is asked
 -- for the events.
-abbrev pub IsMadeUntil : PlantDefinition → List ℕ → ℕ → List Event → Stage → List ChoiceDefinition → ℕ → Type 0
-IsMadeUntil plant digest bytes events Formatting fired acked = fired ≡ []
-IsMadeUntil plant digest bytes events Booting fired acked = fired ≡ []
-IsMadeUntil plant digest bytes events Running fired acked = (opened : View) × IsFirstBoot plant digest bytes opened × IsLived plant events opened [] fired acked
+abbrev pub IsMadeUntil : PlantDefinition → List ℕ → ℕ → List Event → Stage → List ChoiceDefinition → ℕ → DiskState → Type 0
+IsMadeUntil plant digest bytes events Formatting fired acked device = fired ≡ []
+IsMadeUntil plant digest bytes events Booting fired acked device = fired ≡ []
+IsMadeUntil plant digest bytes events Running fired acked device = (opened : View) × IsFirstBoot plant digest bytes opened × IsLived plant digest events opened [] fired acked device

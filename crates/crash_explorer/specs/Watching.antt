@@ -1,10 +1,13 @@
--- A device in memory of which no call has failed.
-use Rattle.std.specs.Prelude.{◌≡◌, ◌+◌, ◌^◌, ◌<◌, Bool, true, false}
-use Rattle.disk_model.specs.DiskState.{moment_of}
+-- A device in memory, until one of its calls fails and at that call.
+use Rattle.std.specs.Prelude.{◌≡◌, ◌⊎◌, ℕ, ◌+◌, ◌/◌, ◌%◌, ◌^◌, ◌<◌, ◌==◌, ◌&&◌, Bool, true, false, if◌then◌else◌, List, length}
+use Rattle.disk_model.specs.DiskState.{DiskState, FailsToWrite, IsUnchanged, moment_of}
 use Rattle.disk_model.specs.MemDisk.{changes_of, fuse_of, room_of, state_of}
+use Rattle.disk_model.specs.declared.cells.TheConstants.{BODY}
 use Rattle.disk_model.specs.declared.fuse.Fuse.{Fuse}
 use Rattle.disk_model.specs.declared.fuse.Fuse.TheVariants.{Off, Once, Dead, Change}
 use Rattle.disk_model.specs.declared.memory.MemDisk.{MemDisk}
+use Rattle.crash_explorer.specs.declared.watched.Cut.{Cut}
+use Rattle.crash_explorer.specs.declared.watched.Cut.TheVariants.{Gate, Body, Sync}
 
 -- the fuse fails no call that only reads
 abbrev pub lets_read : Fuse → Bool
@@ -22,3 +25,22 @@ pub record IsWhole (d : MemDisk) : Type 0 where
 -- its moments, with those for which its record of changes has room, are counted by 64 bits
 abbrev pub IsCountable : MemDisk → Type 0
 IsCountable d = room_of d + moment_of (state_of d) < 2 ^ 64
+
+-- what a stop falls in at a write of so many bytes from this number on: one of one byte where a cell begins is of its gate
+abbrev pub cut_of : ℕ → ℕ → Cut
+cut_of at count = if at % (BODY + 1) == 0 && count == 1 then Gate (at / (BODY + 1)) else Body (at / (BODY + 1))
+
+-- this call failed: a sync, which changed nothing, or a write, of which any part may stand and all is pending
+abbrev pub Fails : Cut → DiskState → DiskState → Type 0
+Fails cut old new =
+    ((cut ≡ Sync) × IsUnchanged old new)
+    ⊎ ((at : ℕ) × (bytes : List ℕ) × (cut ≡ cut_of at (length bytes)) × FailsToWrite at bytes old new)
+
+-- The device was stopped at its write or sync with this number, from 1 on: those before it were made and no call failed, this one failed, and none was
+-- asked for after it.
+pub record IsStoppedAt (number : ℕ) (cut : Cut) (d : MemDisk) : Type 0 where
+  pub asked : changes_of d ≡ number
+  pub before : DiskState
+  pub unfailed : before.failures ≡ 0
+  pub made : moment_of before + 1 ≡ number
+  pub fails : Fails cut before (state_of d)

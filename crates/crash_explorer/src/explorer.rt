@@ -31,24 +31,13 @@ const MOST_STOPS: u64 = u64::MAX / 4;
 /// cell.
 const CHANGES: usize = 8;
 
-/// What was found of a run.
-#[derive(Clone, Copy, Debug, PartialEq, Eq)]
-pub struct Report {
-    /// How many writes and syncs the run makes: it is stopped at each.
-    pub stops: u64,
-    /// How many trials were made: four for each stop. Each boots what the stop left.
-    pub boots: u64,
-    /// How many of these were not right.
-    pub bad: u64,
-}
-
 /// One stop of a run, under one tear.
 #[derive(Clone, Copy)]
 pub struct Trial {
     /// At which write or sync of the run it fell, from 1 on.
     pub stop: u64,
-    /// What that was, where the run made as many.
-    pub cut: Option<Cut>,
+    /// What that was.
+    pub cut: Cut,
     /// How it tore what was pending.
     pub tear: Tear,
     /// How far the run had come.
@@ -154,12 +143,14 @@ impl<'a> Explorer<'a> {
 
     /// The run, stopped at its `stop`-th write or sync, and what that leaves.
     fn trial(&self, alloc: Global, stop: u64, tear: Tear) -> Result<Trial, ExploreFault>
+        requires { stop ≤ self.now.stops }
         ensures { IfOk result (IsTrial (plant_of self.now.system.now) (digest_of self.now.system.now) self.now.ring self.now.events.now stop tear) }
     {
         let mut disk = device(alloc, self.system, self.ring, self.events.len())?;
         disk.fuse_change(stop);
         let ended = run(alloc, self.system, self.ring, self.events, disk)?;
-        let cut = ended.disk.cut();
+        // A device that failed before had no room for its record of changes.
+        let cut = ended.disk.cut_at(stop).ok_or(ExploreFault::Memory)?;
         let stage = ended.stage;
         let fired = ended.fired.len() as u64;
         let acked = ended.acked;
@@ -200,34 +191,4 @@ fn cells_for(system: &System, ring: u32) -> u64
 {
     system.keeps_its_rules();
     device_cells(system.atoms().len() as u16, ring)
-}
-
-/// Stops the run that formats a device with a ring of so many records, boots the plant, and makes these events, at each of its writes and syncs under
-/// each of four tears; boots what each stop left, and judges it. A plant that boots goes on by one firing and a flush, and what a stop then leaves
-/// is judged again.
-pub fn explore(
-    alloc: Global,
-    system: &System,
-    ring: u32,
-    events: &[Event],
-) -> Result<Report, ExploreFault>
-    requires ring_from { LEAST_RING ≤ ring }
-    requires ring_to { ring ≤ MOST_RING }
-    ensures boots { IfOk result (λ report. report.boots ≡ 4 * report.stops) }
-    ensures bad { IfOk result (λ report. report.bad ≡ 0) }
-{
-    let mut explorer = Explorer::new(alloc, system, ring, events)?;
-    let mut boots = 0;
-    let mut bad = 0;
-    while let Some(trial) = explorer.next_trial(alloc)? {
-        boots += 1;
-        if !trial.right {
-            bad += 1;
-        }
-    }
-    Ok(Report {
-        stops: explorer.stops(),
-        boots,
-        bad,
-    })
 }

@@ -13,7 +13,7 @@
 //! - `judging`: when a device is right. `loading`: its cells. `states`: the state behind some choices.
 //! - `watched`: a device in memory that remembers what of it was stopped. `running`: one run, stopped or not. `booting`: what a device boots to.
 //!   `outcome`: what becomes of a device that a stop left, and how the plant goes on.
-//! - `explorer`: all trials of a run. `fault`: why there is no answer.
+//! - `explorer`: all trials of a run. `report`: how many of them are not right. `fault`: why there is no answer.
 #![tactic(auto)]
 
 mod booting;
@@ -22,14 +22,16 @@ mod fault;
 mod judging;
 mod loading;
 mod outcome;
+mod report;
 mod running;
 mod states;
 mod watched;
 
 pub use booting::Found;
-pub use explorer::{Explorer, Report, TEARS, Trial, explore};
+pub use explorer::{Explorer, TEARS, Trial};
 pub use fault::ExploreFault;
 pub use judging::judge;
 pub use outcome::{NEXT, Next};
+pub use report::{Report, explore};
 pub use running::Stage;
 pub use watched::Cut;

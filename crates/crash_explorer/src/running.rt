@@ -14,7 +14,7 @@ ghost use Rattle.step_core.specs.Step.{initial_states};
 ghost use Rattle.step_core.specs.System.{digest_of, plant_of};
 ghost use Rattle.crash_explorer.specs.declared.running.Stage.TheVariants.{Running};
 ghost use Rattle.crash_explorer.specs.Watching.{IsCountable, IsWhole};
-ghost use Rattle.crash_explorer.specs.Running.{IsAt, IsEnded, IsLived, IsMadeUntil, fired_in};
+ghost use Rattle.crash_explorer.specs.Running.{IsAt, IsEnded, IsLived, IsMadeUntil, device_in, fired_in};
 
 use crate::fault::ExploreFault;
 use crate::watched::Watched;
@@ -80,7 +80,7 @@ pub(crate) fn run(
     requires countable { IsCountable disk }
     requires zeros { state_of disk ≡ fresh (replicate (formatted_size (plant_of system.now) ring) 0) }
     ensures ended { IfOk result (IsEnded (plant_of system.now) (digest_of system.now) (formatted_size (plant_of system.now) ring)) }
-    ensures made { IfOk result (λ e. IsMadeUntil (plant_of system.now) (digest_of system.now) (formatted_size (plant_of system.now) ring) events.now e.stage (fired_in e) e.acked) }
+    ensures made { IfOk result (λ e. IsMadeUntil (plant_of system.now) (digest_of system.now) (formatted_size (plant_of system.now) ring) events.now e.stage (fired_in e) e.acked (device_in e)) }
 {
     match format(alloc, Watched::over(disk), system, ring) {
         Ok(disk) => run_formatted(alloc, system, events, disk),
@@ -105,7 +105,7 @@ fn run_formatted(
     requires { (cells : List Cell) → MayBe (BODY + 1) (state_of disk.disk) cells
         → StandsFor (plant_of system.now) (digest_of system.now) (size_of (state_of disk.disk)) cells (initial_states (plant_of system.now)) 0 }
     ensures ended { IfOk result (IsEnded (plant_of system.now) (digest_of system.now) (size_of (state_of disk.disk))) }
-    ensures made { IfOk result (λ e. IsMadeUntil (plant_of system.now) (digest_of system.now) (size_of (state_of disk.disk)) events.now e.stage (fired_in e) e.acked) }
+    ensures made { IfOk result (λ e. IsMadeUntil (plant_of system.now) (digest_of system.now) (size_of (state_of disk.disk)) events.now e.stage (fired_in e) e.acked (device_in e)) }
 {
     match boot(alloc, disk, system) {
         Ok(plant) => run_booted(alloc, plant, events, Vec::new(alloc)),
@@ -129,7 +129,7 @@ pub(crate) fn run_booted(
 ) -> Result<Ended, ExploreFault>
     requires { IsAt (definition_of plant) (map choice_of behind.items) (view_of plant) }
     ensures ended { IfOk result (IsEnded (definition_of plant.entry) (text_digest plant.entry) (size_of (device_of plant.entry))) }
-    ensures lived { IfOk result (λ e. IsLived (definition_of plant.entry) events.now (view_of plant.entry) (map choice_of behind.items) (fired_in e) e.acked) }
+    ensures lived { IfOk result (λ e. IsLived (definition_of plant.entry) (text_digest plant.entry) events.now (view_of plant.entry) (map choice_of behind.items) (fired_in e) e.acked (device_in e)) }
     ensures stage { IfOk result (λ e. e.stage ≡ Running) }
 {
     let mut plant = plant;
@@ -152,7 +152,7 @@ fn fired_behind(behind: Vec<Choice>, answers: &[Happened]) -> Result<Vec<Choice>
 {
     let mut fired = behind;
     for happened in answers {
-        if let Happened::Fire(_, Ok(step)) = happened {
+        if let Happened::Fire(_, Ok(step)) | Happened::Begin(_, Ok(step)) = happened {
             fired.push(step.choice.copy())?;
         }
     }

@@ -1,9 +1,10 @@
 // A device in memory, at the engine's cells, that remembers which of its writes and syncs was the first to fail.
-ghost use Rattle.std.specs.Prelude.{◌≡◌, ◌+◌, ◌^◌, ◌<◌, None};
+ghost use Rattle.std.specs.Prelude.{◌≡◌, ◌+◌, ◌-◌, ◌^◌, ◌<◌, ◌≤◌, MatchOption, None, Some};
 ghost use Rattle.disk_model.specs.DiskState.{size_of};
-ghost use Rattle.disk_model.specs.MemDisk.{cell_of, state_of};
+ghost use Rattle.disk_model.specs.MemDisk.{cell_of, changes_of, state_of};
 ghost use Rattle.disk_model.specs.declared.cells.TheConstants.{BODY};
-ghost use Rattle.crash_explorer.specs.Watching.{IsCountable, IsWhole};
+ghost use Rattle.crash_explorer.specs.Watching.{IsCountable, IsStoppedAt, IsWhole, cut_of};
+ghost use Rattle.crash_explorer.specs.declared.watched.Cut.{Cut};
 
 use disk_model::{CELL, Disk, DiskFault, MemDisk};
 
@@ -20,7 +21,9 @@ pub enum Cut {
 
 impl Cut {
     /// That of a write of so many bytes from number `at` on: one of one byte where a cell begins is of its gate.
-    fn of_write(at: u64, count: usize) -> Cut {
+    fn of_write(at: u64, count: usize) -> Cut
+        ensures { result ≡ cut_of at count }
+    {
         let cell = at / CELL;
         if at % CELL == 0 && count == 1 {
             Cut::Gate(cell)
@@ -35,9 +38,14 @@ impl Cut {
 pub(crate) struct Watched {
     disk: MemDisk,
     cut: Option<Cut>,
+    /// How many writes and syncs had been asked for when it failed, with that one; 0 before.
+    asked: u64,
     ghost small: { size_of (state_of disk) < 2 ^ 64 },
     ghost cells: { cell_of disk ≡ BODY + 1 },
     ghost whole: { cut ≡ None → IsWhole disk },
+    ghost counted: { asked < 2 ^ 64 },
+    ghost since: { asked ≤ changes_of disk },
+    ghost stopped: { (c : Cut) → cut ≡ Some c → asked < 2 ^ 64 - 1 → changes_of disk ≡ asked → ∥ IsStoppedAt asked c disk ∥₁ },
     ghost countable: { IsCountable disk },
 }
 
@@ -48,7 +56,11 @@ impl Watched {
         requires countable { IsCountable disk }
         ensures { result.disk ≡ disk }
     {
-        Watched { disk, cut: None }
+        Watched {
+            disk,
+            cut: None,
+            asked: 0,
+        }
     }
 
     /// What failed first, if anything did.
@@ -56,6 +68,18 @@ impl Watched {
         ensures { result ≡ self.now.cut }
     {
         self.cut
+    }
+
+    /// What failed first, where it was the write or sync with this number, from 1 on, and none was asked for after it.
+    pub(crate) fn cut_at(&self, number: u64) -> Option<Cut>
+        requires { number < 2 ^ 64 - 1 }
+        ensures { MatchOption result (Unit {0}) (λ cut. ∥ IsStoppedAt number cut self.now.disk ∥₁) }
+    {
+        if self.asked == number && self.disk.changes() == number {
+            self.cut
+        } else {
+            None
+        }
     }
 
     /// The device.
@@ -83,18 +107,20 @@ impl Disk for Watched {
     }
 
     fn write_at(&mut self, at: u64, from: &[u8]) -> Result<(), DiskFault> {
-        let before = self.cut;
-        self.cut = Some(before.unwrap_or(Cut::of_write(at, from.len())));
-        self.disk.write_at(at, from)?;
-        self.cut = before;
-        Ok(())
+        let written = self.disk.write_at(at, from);
+        if written.is_err() && self.cut.is_none() {
+            self.cut = Some(Cut::of_write(at, from.len()));
+            self.asked = self.disk.changes();
+        }
+        written
     }
 
     fn sync(&mut self) -> Result<(), DiskFault> {
-        let before = self.cut;
-        self.cut = Some(before.unwrap_or(Cut::Sync));
-        self.disk.sync()?;
-        self.cut = before;
-        Ok(())
+        let synced = self.disk.sync();
+        if synced.is_err() && self.cut.is_none() {
+            self.cut = Some(Cut::Sync);
+            self.asked = self.disk.changes();
+        }
+        synced
     }
 }

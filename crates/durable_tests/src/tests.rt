@@ -1,5 +1,6 @@
 //! What no clause says: that the clauses mean what they should, on devices and bodies worked out by hand.
 mod again;
+mod away;
 mod common;
 mod explorer;
 mod failures;

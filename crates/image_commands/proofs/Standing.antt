@@ -1,18 +1,18 @@
 -- Whatever a stop leaves of a plant's device stands for what is acknowledged.
-use Rattle.std.proofs.Common.{◌≡◌, ◌∙◌, sym, subst, ℕ, Bool, true, false, List, Option, None}
-use Rattle.std.specs.Prelude.{◌+◌, length, replicate}
+use Rattle.std.proofs.Common.{◌≡◌, ◌∙◌, sym, subst, ℕ, Bool, true, false, List, Option}
+use Rattle.std.specs.Prelude.{◌+◌, length}
 use Rattle.disk_model.specs.DiskState.{DiskState, size_of}
 use Rattle.disk_model.specs.Cells.{seen_cells}
 use Rattle.disk_model.specs.declared.cells.TheConstants.{BODY}
-use Rattle.record_codec.specs.Saved.{SavedFields}
 use Rattle.step_core.specs.Plant.{PlantDefinition}
 use Rattle.plant_image.specs.Contents.{contents_of, last_number}
 use Rattle.plant_image.specs.Standing.{StandsFor}
+use Rattle.plant_core.specs.Hands.{HandFields, empty_hands}
 use Rattle.plant_core.specs.View.{View}
 use Rattle.plant_core.specs.declared.events.Event.{Event}
 use Rattle.recovery.specs.Booting.{IsBooted}
 use Rattle.script_lines.specs.Runs.{IsRunOf}
-use Rattle.image_commands.specs.Runs.{HasRunOn, IsBootedFrom, StandsAsRead, StandsForAllAcked}
+use Rattle.image_commands.specs.Runs.{HasRunOn, IsBootedFrom, IsRunOn, StandsAsRead, StandsForAllAcked}
 use Rattle.plant_core.proofs.EventByEvent.{events-sound}
 
 -- A plant on a device, by names of its own: what it says of the device holds of the same device, plant and text by other names.
@@ -37,28 +37,32 @@ recovered_stands p q d e old mid new v same_plant same_digest same_device kept b
     stands_as_read q e old new v (booted keeps)
     (stands_by_name p q d e mid new v same_plant same_digest same_device (stands (kept ∙ keeps) (booted keeps).broken))
 
--- a run from empty hands, told of the same plant by another name
-pub run_by_name : (r q : PlantDefinition) (events : List Event) (failed : Bool) (before after : View) (hands hands_after : List (Option SavedFields))
-    (from to : Option (List ℕ)) → r ≡ q → hands ≡ replicate (length q.atoms) None → IsRunOf r before hands events failed after hands_after from to →
-    IsRunOf q before (replicate (length q.atoms) None) events failed after hands_after from to
-run_by_name r q events failed before after hands hands_after from to same_plant empty ran =
-    subst (λ held. IsRunOf q before held events failed after hands_after from to) empty
-    (subst (λ plant. IsRunOf plant before hands events failed after hands_after from to) same_plant ran)
+-- a run from empty hands, told of the same plant and text by other names
+pub ran_on : (r q : PlantDefinition) (d e : List ℕ) (old began image : DiskState) (events : List Event) (failed : Bool) (before after : View) (hands hands_after : HandFields)
+    (from to : Option (List ℕ)) → r ≡ q → d ≡ e → IsBootedFrom q e old before → began.keeps ≡ old.keeps → hands ≡ empty_hands (length q.atoms) →
+    IsRunOf r d before began hands events failed after image hands_after from to → IsRunOn q e old events failed after image from to
+ran_on r q d e old began image events failed before after hands hands_after from to same_plant same_digest booted kept empty ran = record {
+  before = before;
+  began = began;
+  hands = hands_after;
+  booted = booted;
+  kept = kept;
+  ran = subst (λ held. IsRunOf q e before began held events failed after image hands_after from to) empty
+      (subst (λ (text : List ℕ). IsRunOf q text before began hands events failed after image hands_after from to) same_digest
+      (subst (λ plant. IsRunOf plant d before began hands events failed after image hands_after from to) same_plant ran));
+}
 
 -- a run in which the device did not fail leaves an image that stands for all that it acknowledged
-pub run_stands : (p r q : PlantDefinition) (d e : List ℕ) (old mid new : DiskState) (events : List Event) (failed : Bool) (before after : View)
-    (hands hands_after : List (Option SavedFields)) (from to : Option (List ℕ)) → p ≡ r → r ≡ q → d ≡ e → new ≡ mid → IsBootedFrom q e old before →
-    hands ≡ replicate (length q.atoms) None → failed ≡ false → IsRunOf r before hands events failed after hands_after from to →
+pub run_stands : (p q : PlantDefinition) (d e : List ℕ) (old mid new : DiskState) (events : List Event) (failed : Bool) (after : View)
+    (from to : Option (List ℕ)) → p ≡ q → d ≡ e → new ≡ mid → failed ≡ false → IsRunOn q e old events failed after mid from to →
     (mid.keeps ≡ true → after.broken ≡ false → StandsForAllAcked p d mid after) → HasRunOn q e old events new from to
-run_stands p r q d e old mid new events failed before after hands hands_after from to first_name second_name same_digest same_device booted empty sound ran stands =
-    let run = run_by_name r q events failed before after hands hands_after from to second_name empty ran in
-    let silent : IsRunOf q before (replicate (length q.atoms) None) events false after hands_after from to =
-    subst (λ (f : Bool). IsRunOf q before (replicate (length q.atoms) None) events f after hands_after from to) sound run in
+run_stands p q d e old mid new events failed after from to same_plant same_digest same_device sound run stands =
+    let silent : IsRunOn q e old events false after mid from to = subst (λ (f : Bool). IsRunOn q e old events f after mid from to) sound run in
     record {
       after = after;
-      run = record { before = before; hands = hands_after; booted = booted; ran = silent };
-      stands = λ keeps kept.
-          stands_by_name p q d e mid new after (first_name ∙ second_name) same_digest same_device
-          (stands (subst (λ (s : DiskState). s.keeps ≡ true) same_device kept)
-          (events-sound q silent.happened before after silent.ran (sym silent.told) ∙ (booted keeps).broken));
+      run = subst (λ (s : DiskState). IsRunOn q e old events false after s from to) (sym same_device) silent;
+      stands = λ keeps.
+          stands_by_name p q d e mid new after same_plant same_digest same_device
+          (stands (silent.ran.driven.keeps ∙ silent.kept ∙ keeps)
+          (events-sound q silent.ran.happened silent.before after silent.ran.driven.run (sym silent.ran.told) ∙ (silent.booted keeps).broken));
     }

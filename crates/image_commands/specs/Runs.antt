@@ -1,12 +1,12 @@
 -- Plants on images, and their runs.
-use Rattle.std.specs.Prelude.{◌≡◌, ℕ, ◌+◌, Bool, true, false, List, Option, None, length, replicate}
+use Rattle.std.specs.Prelude.{◌≡◌, ℕ, ◌+◌, Bool, true, false, List, Option, length}
 use Rattle.step_core.specs.Plant.{PlantDefinition}
 use Rattle.disk_model.specs.DiskState.{DiskState, size_of}
 use Rattle.disk_model.specs.Cells.{Cell, MayBe, seen_cells}
 use Rattle.disk_model.specs.declared.cells.TheConstants.{BODY}
-use Rattle.record_codec.specs.Saved.{SavedFields}
 use Rattle.plant_image.specs.Contents.{contents_of, last_number, states_of}
 use Rattle.plant_image.specs.Standing.{StandsFor}
+use Rattle.plant_core.specs.Hands.{HandFields, empty_hands}
 use Rattle.plant_core.specs.Stops.{StandsForAcked}
 use Rattle.plant_core.specs.View.{View}
 use Rattle.plant_core.specs.declared.events.Event.{Event}
@@ -27,17 +27,20 @@ StandsAsRead plant digest old new = (cells : List Cell) → MayBe (BODY + 1) new
 abbrev pub StandsForAllAcked : PlantDefinition → List ℕ → DiskState → View → Type 0
 StandsForAllAcked plant digest s v = (cells : List Cell) → MayBe (BODY + 1) s cells → StandsForAcked plant digest (size_of s) v cells
 
--- A run of these events on a device, up to a view: the plant was booted from the device, nothing was in the hands of its atoms, each event
--- was answered, and this tells whether the device failed. What was printed are the answers, and where the plant stands at the end.
-pub record IsRunOn (plant : PlantDefinition) (digest : List ℕ) (s : DiskState) (events : List Event) (failed : Bool) (after : View) (old new : Option (List ℕ)) : Type 0 where
+-- A run of these events on a device, up to a view and an image: the plant was booted from the device, nothing was in the hands of its atoms, each event
+-- was answered, and this tells whether the device failed. What was printed are the answers, and where the plant stands at the end. What a stop inside the run
+-- leaves is said from the device on as the boot left it.
+pub record IsRunOn (plant : PlantDefinition) (digest : List ℕ) (s : DiskState) (events : List Event) (failed : Bool) (after : View) (image : DiskState) (old new : Option (List ℕ)) : Type 0 where
   pub before : View
-  pub hands : List (Option SavedFields)
+  pub began : DiskState
+  pub hands : HandFields
   pub booted : IsBootedFrom plant digest s before
-  pub ran : IsRunOf plant before (replicate (length plant.atoms) None) events failed after hands old new
+  pub kept : began.keeps ≡ s.keeps
+  pub ran : IsRunOf plant digest before began (empty_hands (length plant.atoms)) events failed after image hands old new
 
 -- A run that ended well: the device failed in no call, and where it keeps the disk model, whatever a stop now leaves of it stands for all that was
 -- acknowledged.
 pub record HasRunOn (plant : PlantDefinition) (digest : List ℕ) (s : DiskState) (events : List Event) (image : DiskState) (old new : Option (List ℕ)) : Type 0 where
   pub after : View
-  pub run : IsRunOn plant digest s events false after old new
-  pub stands : s.keeps ≡ true → image.keeps ≡ true → StandsForAllAcked plant digest image after
+  pub run : IsRunOn plant digest s events false after image old new
+  pub stands : s.keeps ≡ true → StandsForAllAcked plant digest image after

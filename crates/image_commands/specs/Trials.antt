@@ -1,6 +1,5 @@
 -- What is told of a run that is stopped at each of its writes and syncs.
 use Rattle.std.specs.Prelude.{◌≡◌, ℕ, ◌+◌, ◌*◌, ◌/◌, ◌%◌, Bool, true, false, List, [], ◌∷◌, ◌++◌, codes, decimal, if◌then◌else◌, flat_map, length, slice_get, sum_by, Option, None, Some}
-use Rattle.std.specs.Option.{option_map_or}
 use Rattle.std.specs.Io.KnownBytes.{Appends}
 use Rattle.disk_model.specs.declared.change.Tear.{Tear}
 use Rattle.disk_model.specs.declared.change.Tear.TheVariants.{Old, New, Gates, Mixed}
@@ -8,7 +7,7 @@ use Rattle.plant_core.specs.declared.events.Event.{Event}
 use Rattle.plant_image.specs.declared.fault.ImageFault.{ImageFault}
 use Rattle.plant_image.specs.declared.fault.ImageFault.TheVariants.{NotFormatted}
 use Rattle.step_core.specs.Plant.{PlantDefinition}
-use Rattle.crash_explorer.specs.Exploring.{IsTrial}
+use Rattle.crash_explorer.specs.Exploring.{IsTrial, IsWholeRun}
 use Rattle.crash_explorer.specs.declared.booting.Found.{Found}
 use Rattle.crash_explorer.specs.declared.booting.Found.TheVariants.{Booted, Refused}
 use Rattle.crash_explorer.specs.declared.explorer.TheConstants.{TEARS}
@@ -19,14 +18,10 @@ use Rattle.crash_explorer.specs.declared.watched.Cut.TheVariants.{Gate, Body, Sy
 use Rattle.image_commands.specs.Refusals.{of_image, refusal_line}
 
 -- the call of the device that a stop fell in
-abbrev pub call_text : Cut → List ℕ
-call_text (Gate cell) = codes "write gate of cell " ++ decimal cell
-call_text (Body cell) = codes "write body of cell " ++ decimal cell
-call_text Sync = codes "sync"
-
--- the same, where the run made as many
-abbrev pub cut_text : Option Cut → List ℕ
-cut_text cut = option_map_or call_text cut (codes "after the end")
+abbrev pub cut_text : Cut → List ℕ
+cut_text (Gate cell) = codes "write gate of cell " ++ decimal cell
+cut_text (Body cell) = codes "write body of cell " ++ decimal cell
+cut_text Sync = codes "sync"
 
 -- how what was not synced was torn
 abbrev pub tear_text : Tear → List ℕ
@@ -86,10 +81,11 @@ abbrev pub AreTrialsFrom : PlantDefinition → List ℕ → ℕ → List Event �
 AreTrialsFrom plant digest ring events number [] = Unit {0}
 AreTrialsFrom plant digest ring events number (t ∷ trials) = IsTrialAt plant digest ring events number t × AreTrialsFrom plant digest ring events (number + 1) trials
 
--- All trials of the run of these events were made, which has so many writes and syncs: each stop under each tear, in order. So many of them are not right. What was printed are
--- their lines, where they are listed, and how many there are.
+-- The run of these events came to its end, with so many writes and syncs, and all trials of it were made: each stop under each tear, in order. So many of them are
+-- not right. What was printed are their lines, where they are listed, and how many there are.
 pub record IsExplored (plant : PlantDefinition) (digest : List ℕ) (ring : ℕ) (events : List Event) (list : Bool) (wrong : ℕ) (old new : Option (List ℕ)) : Type 0 where
   pub stops : ℕ
+  pub whole : IsWholeRun plant digest ring events stops
   pub trials : List Trial
   pub each : AreTrialsFrom plant digest ring events 0 trials
   pub all : length trials ≡ length TEARS * stops

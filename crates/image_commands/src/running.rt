@@ -1,6 +1,6 @@
 //! Running a plant on its image.
 ghost use Rattle.std.specs.Prelude.{◌≡◌, ◌+◌, true, IfErr, IfOk, Err};
-ghost use Rattle.disk_model.specs.DiskState.{size_of};
+ghost use Rattle.disk_model.specs.DiskState.{DiskState, size_of};
 ghost use Rattle.disk_model.specs.Cells.{seen_cells};
 ghost use Rattle.disk_model.specs.declared.cells.TheConstants.{BODY};
 ghost use Rattle.step_core.specs.System.{digest_of, plant_of};
@@ -32,7 +32,7 @@ pub fn run_image<D: Disk + Drop, W: Write>(
     output: &mut W,
 ) -> Result<D, ImageEnding>
     ensures ran { IfOk result (λ image. HasRunOn (plant_of system.now) (digest_of system.now) (D.state disk) events.now (D.state image) (W.contents output.old) (W.contents output.new)) }
-    ensures failed { result ≡ Err Failed → (after : View) × IsRunOn (plant_of system.now) (digest_of system.now) (D.state disk) events.now true after (W.contents output.old) (W.contents output.new) }
+    ensures failed { result ≡ Err Failed → (after : View) × ((image : DiskState) × IsRunOn (plant_of system.now) (digest_of system.now) (D.state disk) events.now true after image (W.contents output.old) (W.contents output.new)) }
     ensures told { (D.state disk).keeps ≡ true → IfErr result (IsToldOf (fault_of (plant_of system.now) (digest_of system.now)
         (size_of (D.state disk)) (seen_cells (BODY + 1) (D.state disk)))) }
     ensures nothing_printed { (refusal : ImageRefusal) → result ≡ Err (Refused refusal) → output.new ≡ output.old }

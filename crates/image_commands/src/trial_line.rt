@@ -1,7 +1,7 @@
 //! The line of a trial.
 ghost use Rattle.std.specs.Prelude.{◌≡◌, OnOk};
 ghost use Rattle.std.specs.Io.KnownBytes.{Appends};
-ghost use Rattle.image_commands.specs.Trials.{call_text, cut_text, explored_line, found_text, is_unformatted, mark_text, next_text, tear_text, trial_line};
+ghost use Rattle.image_commands.specs.Trials.{cut_text, explored_line, found_text, is_unformatted, mark_text, next_text, tear_text, trial_line};
 
 use crate::refusal::ImageRefusal;
 use crash_explorer::{Cut, Found, Next, Trial};
@@ -36,21 +36,11 @@ fn print_mark<W: Write>(right: bool, output: &mut W) -> Result<(), WriteFault>
     print_text(output, if right { b"" } else { b"NOT RIGHT: " })
 }
 
-/// Prints what of the device a stop fell in.
-fn print_cut<W: Write>(cut: Option<Cut>, output: &mut W) -> Result<(), WriteFault>
+/// Prints the call of the device that a stop fell in.
+fn print_cut<W: Write>(cut: Cut, output: &mut W) -> Result<(), WriteFault>
     ensures { OnOk result (Appends (W.contents output.old) (W.contents output.new) (cut_text cut)) }
 {
     match cut {
-        Some(call) => print_call(call, output),
-        None => print_text(output, b"after the end"),
-    }
-}
-
-/// Prints the call of the device that a stop fell in.
-fn print_call<W: Write>(call: Cut, output: &mut W) -> Result<(), WriteFault>
-    ensures { OnOk result (Appends (W.contents output.old) (W.contents output.new) (call_text call)) }
-{
-    match call {
         Cut::Gate(cell) => write!(output, "write gate of cell {cell}")?,
         Cut::Body(cell) => write!(output, "write body of cell {cell}")?,
         Cut::Sync => write!(output, "sync")?,

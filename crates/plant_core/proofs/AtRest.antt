@@ -7,7 +7,7 @@ use Rattle.petri_atom.specs.Local.{Local}
 use Rattle.disk_model.specs.Cells.{Cell, Leaves, MayBe, cells_of, seen_cells}
 use Rattle.disk_model.specs.DiskState.{DiskState, size_of}
 use Rattle.disk_model.specs.declared.cells.TheConstants.{BODY}
-use Rattle.disk_model.specs.Moments.{leaves_start, leaves_weaker, same_count}
+use Rattle.disk_model.specs.Moments.{leaves_now, leaves_start, leaves_weaker, same_count}
 use Rattle.gated_journal.specs.Live.{live}
 use Rattle.gated_journal.specs.Rings.{appended}
 use Rattle.gated_journal.specs.Stops.{HasAppended, HasAppendedAll}
@@ -83,6 +83,11 @@ of-front plant digest bytes v cells front =
 -- what stands for the acknowledged state stands for the front of length 0
 pub acked-front : (plant : PlantDefinition) (digest : List ℕ) (bytes : ℕ) (v : View) (cells : List Cell) → StandsForAcked plant digest bytes v cells → StandsForFront plant digest bytes v cells
 acked-front plant digest bytes v cells stands = (0, omega arith, subst (λ (n : ℕ). StandsFor plant digest bytes cells v.acked n) (omega arith) stands)
+
+-- what a stop leaves behind a call is among what one since its start leaves
+pub acked-now : (plant : PlantDefinition) (digest : List ℕ) (v : View) (old new : DiskState) → (old.keeps ≡ true → v.broken ≡ false → Leaves (BODY + 1) (StandsForAcked plant digest (size_of old) v) old new)
+    → old.keeps ≡ true → v.broken ≡ false → (cells : List Cell) → MayBe (BODY + 1) new cells → StandsForAcked plant digest (size_of old) v cells
+acked-now plant digest v old new stops keeps whole = leaves_now (BODY + 1) (StandsForAcked plant digest (size_of old) v) old new (stops keeps whole)
 
 -- so before the first call whatever a stop leaves stands for a front
 pub front-now : (plant : PlantDefinition) (digest : List ℕ) (v : View) (s : DiskState) → ((cells : List Cell) → MayBe (BODY + 1) s cells → IsFrontOf plant digest (size_of s) v cells) → Leaves (BODY + 1) (StandsForFront plant digest (size_of s) v) s s

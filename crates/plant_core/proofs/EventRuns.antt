@@ -1,54 +1,73 @@
 -- Runs of events: what they fire, and what they acknowledge.
-use Rattle.std.proofs.Common.{◌≡◌, ◌+◌, ◌-◌, ◌≤◌, ℕ, refl, sym, ◌∙◌, ap, subst, List, [], ◌∷◌, ◌++◌, length, take, drop, arith, true, Option, Ok, Err}
+use Rattle.std.proofs.Common.{◌≡◌, ◌+◌, ◌-◌, ◌≤◌, ◌%◌, ℕ, refl, sym, ◌∙◌, ap, subst, List, [], ◌∷◌, ◌++◌, length, take, drop, arith, true, Option, None, Some, Ok, Err}
+use Rattle.std.specs.Prelude.{slice_get, slice_set}
 use Rattle.std.proofs.Math.Seq.{drop-append-add, take-append-add}
-use Rattle.std.proofs.lemmas.List.{append-nil, append_assoc, flat_map_more, length-append}
+use Rattle.std.proofs.lemmas.List.{append-nil, append_assoc, length-append}
 use Rattle.petri_atom.specs.Local.{Local}
-use Rattle.step_core.specs.Choice.{ChoiceDefinition, IsAllowed, choices}
+use Rattle.step_core.specs.Choice.{ChoiceDefinition, IsAllowed}
 use Rattle.step_core.specs.Chosen.{choice_of}
+use Rattle.step_core.specs.Job.{JobDefinition}
 use Rattle.step_core.specs.Plant.{PlantDefinition}
 use Rattle.step_core.specs.Runs.{IsRun, fold}
 use Rattle.step_core.specs.Step.{next}
 use Rattle.step_core.proofs.Membership.{entry-in}
+use Rattle.step_core.proofs.Surely.{sure-allowed}
+use Rattle.step_executor.specs.Outstanding.{is_out, jobs_behind}
 use Rattle.plant_core.specs.Events.{IsAckedOf, IsEvent, IsEventRun, all_fired, fired_by}
 use Rattle.record_codec.specs.Saved.{SavedFields}
 use Rattle.trimmer.specs.Covered.{MarkFields}
 use Rattle.trimmer.specs.declared.saved.SavedAt.{SavedAt}
 use Rattle.plant_core.specs.Snapshots.{with_held, with_known, without}
-use Rattle.plant_core.specs.View.{View, may_go, with_all_acked, with_fired}
+use Rattle.plant_core.specs.View.{View, may_go, sure_in, with_all_acked, with_away, with_fired}
 use Rattle.plant_core.specs.declared.events.Happened.{Happened}
-use Rattle.plant_core.specs.declared.events.Happened.TheVariants.{Fire, Flush, Ask, Put, Empty, Trim}
-use Rattle.plant_core.specs.declared.refused.Refused.TheVariants.{Ahead, Stranger, NothingNew, Broken, Disk}
+use Rattle.plant_core.specs.declared.events.Happened.TheVariants.{Fire, Flush, Ask, Put, Empty, Trim, Begin, Back, Idle}
+use Rattle.plant_core.specs.declared.refused.Refused.TheVariants.{Away, Ahead, Stranger, NothingNew, Broken, Disk}
 use Rattle.plant_core.proofs.Chosen.{fold-more}
 
 module _ (plant : PlantDefinition) where
+  -- a choice that is listed as sure is allowed
+  entry-allowed : (v : View) (n : ℕ) (c : ChoiceDefinition) → slice_get (sure_in plant v) n ≡ Some c → IsAllowed plant v.present c
+  entry-allowed v n c there = sure-allowed plant v.present (is_out v.away) c (entry-in (sure_in plant v) n c there)
+
   -- An event leaves the view, fires an allowed choice, acknowledges all, changes what is known of records and saved states, or breaks the plant: what holds at
   -- each of these holds at it.
-  pub event-cases : (v w : View) (h : Happened) (P : List ChoiceDefinition → View → Type 0) → P [] v → ((c : ChoiceDefinition) → IsAllowed plant v.present c → P (c ∷ []) (with_fired plant c v)) → P [] (with_all_acked v) → ((base : ℕ) (marks : List MarkFields) (saved : List SavedAt) (kept : List (Option SavedFields)) → P [] (record v { base = base; marks = marks; saved = saved; kept = kept })) → P [] (record v { broken = true })
+  pub event-cases : (v w : View) (h : Happened) (P : List ChoiceDefinition → View → Type 0) → P [] v → ((c : ChoiceDefinition) (away : List (Option JobDefinition)) → IsAllowed plant v.present c → P (c ∷ []) (with_away away (with_fired plant c v))) → P [] (with_all_acked v) → ((base : ℕ) (marks : List MarkFields) (saved : List SavedAt) (kept : List (Option SavedFields)) (away : List (Option JobDefinition)) → P [] (record v { base = base; marks = marks; saved = saved; kept = kept; away = away })) → P [] (record v { broken = true })
       → IsEvent plant v h w → P (fired_by h) w
   event-cases v w (Fire pick (Err refused)) P stays fires acks notes breaks did = subst (P []) (sym did.1) stays
   event-cases v w (Fire pick (Ok fired)) P stays fires acks notes breaks did =
-      subst (P (choice_of fired.choice ∷ [])) (sym did.3) (fires (choice_of fired.choice) (entry-in (choices plant v.present) _ (choice_of fired.choice) did.2))
+      subst (P (choice_of fired.choice ∷ [])) (sym did.3) (fires (choice_of fired.choice) v.away (entry-allowed v (pick % length (sure_in plant v)) (choice_of fired.choice) did.2))
   event-cases v w (Flush (Ok number)) P stays fires acks notes breaks did = subst (P []) (sym did.2) acks
   event-cases v w (Flush (Err Broken)) P stays fires acks notes breaks did = subst (P []) (sym did.1) stays
   event-cases v w (Flush (Err Disk)) P stays fires acks notes breaks did = subst (P []) (sym did.2) breaks
   event-cases v w (Flush (Err other)) P stays fires acks notes breaks did = absurd did
-  event-cases v w (Ask atom (Ok saved)) P stays fires acks notes breaks did = subst (P []) (sym did.3) (notes v.base v.marks v.saved (with_held saved v.kept))
+  event-cases v w (Ask atom (Ok saved)) P stays fires acks notes breaks did = subst (P []) (sym did.4) (notes v.base v.marks v.saved (with_held saved v.kept) v.away)
   event-cases v w (Ask atom (Err Broken)) P stays fires acks notes breaks did = subst (P []) (sym did.1) stays
   event-cases v w (Ask atom (Err Stranger)) P stays fires acks notes breaks did = subst (P []) (sym did.2) stays
-  event-cases v w (Ask atom (Err NothingNew)) P stays fires acks notes breaks did = subst (P []) (sym did.3) stays
+  event-cases v w (Ask atom (Err (Away n))) P stays fires acks notes breaks did = subst (P []) (sym did.3) stays
+  event-cases v w (Ask atom (Err NothingNew)) P stays fires acks notes breaks did = subst (P []) (sym did.4) stays
   event-cases v w (Ask atom (Err other)) P stays fires acks notes breaks did = absurd did
-  event-cases v w (Put saved (Ok count)) P stays fires acks notes breaks did = subst (P []) (sym did.2) (notes v.base v.marks (with_known saved v.saved) (without saved v.kept))
+  event-cases v w (Put saved (Ok count)) P stays fires acks notes breaks did = subst (P []) (sym did.2) (notes v.base v.marks (with_known saved v.saved) (without saved v.kept) v.away)
   event-cases v w (Put saved (Err Broken)) P stays fires acks notes breaks did = subst (P []) (sym did.1) stays
   event-cases v w (Put saved (Err Stranger)) P stays fires acks notes breaks did = subst (P []) (sym did.2) stays
   event-cases v w (Put saved (Err (Ahead atom))) P stays fires acks notes breaks did = subst (P []) (sym did.4) stays
   event-cases v w (Put saved (Err Disk)) P stays fires acks notes breaks did = subst (P []) (sym did.1) breaks
   event-cases v w (Put saved (Err other)) P stays fires acks notes breaks did = absurd did
   event-cases v w (Empty atom) P stays fires acks notes breaks did = subst (P []) (sym did) stays
-  event-cases v w (Trim (Ok base)) P stays fires acks notes breaks did = subst (P []) (sym did.3) (notes (v.base + may_go v) (drop (may_go v) v.marks) v.saved v.kept)
+  event-cases v w (Trim (Ok base)) P stays fires acks notes breaks did = subst (P []) (sym did.3) (notes (v.base + may_go v) (drop (may_go v) v.marks) v.saved v.kept v.away)
   event-cases v w (Trim (Err Broken)) P stays fires acks notes breaks did = subst (P []) (sym did.1) stays
   event-cases v w (Trim (Err NothingNew)) P stays fires acks notes breaks did = subst (P []) (sym did.2) stays
   event-cases v w (Trim (Err Disk)) P stays fires acks notes breaks did = subst (P []) (sym did.2) breaks
   event-cases v w (Trim (Err other)) P stays fires acks notes breaks did = absurd did
+  event-cases v w (Begin pick (Err refused)) P stays fires acks notes breaks did = subst (P []) (sym did.1) stays
+  event-cases v w (Begin pick (Ok fired)) P stays fires acks notes breaks did =
+      subst (P (choice_of fired.choice ∷ [])) (sym did.3) (fires (choice_of fired.choice) (jobs_behind plant v.present v.counts (choice_of fired.choice) fired.choice.moves v.away) (entry-allowed v (pick % length (sure_in plant v)) (choice_of fired.choice) did.2))
+  event-cases v w (Back returned (Ok done)) P stays fires acks notes breaks did =
+      let job : JobDefinition = did.0 in
+      subst (P []) (sym did.2.2) (notes v.base v.marks v.saved v.kept (slice_set v.away job.atom None))
+  event-cases v w (Back returned (Err Broken)) P stays fires acks notes breaks did = subst (P []) (sym did.2.1) stays
+  event-cases v w (Back returned (Err Stranger)) P stays fires acks notes breaks did = subst (P []) (sym did.2.2) stays
+  event-cases v w (Back returned (Err other)) P stays fires acks notes breaks did = absurd did.2
+  event-cases v w (Idle atom) P stays fires acks notes breaks did = subst (P []) (sym did) stays
 
   -- two runs of events one after the other
   pub events-join : (before behind : List Happened) (v u w : View) → IsEventRun plant v before u → IsEventRun plant u behind w → IsEventRun plant v (before ++ behind) w
@@ -61,9 +80,9 @@ module _ (plant : PlantDefinition) where
   events-run (h ∷ hs) v w run = event-cases v run.0 h
       (λ cs x. IsRun plant x.present (all_fired hs) w.present → IsRun plant v.present (cs ++ all_fired hs) w.present)
       (λ rest. rest)
-      (λ c allowed rest. (allowed, rest))
+      (λ c away allowed rest. (allowed, rest))
       (λ rest. rest)
-      (λ base marks saved kept rest. rest)
+      (λ base marks saved kept away rest. rest)
       (λ rest. rest)
       run.1 (events-run hs run.0 w run.2)
 
@@ -72,9 +91,9 @@ module _ (plant : PlantDefinition) where
   event-leads h v w leads event = event-cases v w h
       (λ cs x. x.present ≡ fold plant x.acked x.tail)
       leads
-      (λ c allowed. ap (λ states. next plant states c) leads ∙ fold-more plant v.tail v.acked c)
+      (λ c away allowed. ap (λ states. next plant states c) leads ∙ fold-more plant v.tail v.acked c)
       refl
-      (λ base marks saved kept. leads)
+      (λ base marks saved kept away. leads)
       leads
       event
 
@@ -114,10 +133,10 @@ module _ (plant : PlantDefinition) where
   acked-by (h ∷ hs) v w leads run = event-cases v run.0 h
       (λ cs x. (x.present ≡ fold plant x.acked x.tail → Acked x.acked x.number (x.tail ++ all_fired hs) w) → Acked v.acked v.number (v.tail ++ (cs ++ all_fired hs)) w)
       (λ rest. rest leads)
-      (λ c allowed rest. subst (λ cs. Acked v.acked v.number cs w) (append_assoc v.tail (c ∷ []) (all_fired hs))
+      (λ c away allowed rest. subst (λ cs. Acked v.acked v.number cs w) (append_assoc v.tail (c ∷ []) (all_fired hs))
       (rest (ap (λ states. next plant states c) leads ∙ fold-more plant v.tail v.acked c)))
       (λ rest. acked-more v.acked v.number v.tail (all_fired hs) w (subst (λ states. Acked states (v.number + length v.tail) (all_fired hs) w) leads (rest refl)))
-      (λ base marks saved kept rest. rest leads)
+      (λ base marks saved kept away rest. rest leads)
       (λ rest. rest leads)
       run.1 (λ leads_on. acked-by hs run.0 w leads_on run.2)
 
@@ -133,7 +152,3 @@ module _ (plant : PlantDefinition) where
         acked = subst (λ (n : ℕ). w.acked ≡ fold plant v.acked (take n (v.tail ++ all_fired hs))) long found.3;
         tail = subst (λ (n : ℕ). w.tail ≡ drop n (v.tail ++ all_fired hs)) long found.4;
       }
-
--- what one event more fired comes last
-pub fired-more : (hs : List Happened) (h : Happened) → all_fired (hs ++ h ∷ []) ≡ all_fired hs ++ fired_by h
-fired-more hs h = sym (flat_map_more fired_by [] hs h)

@@ -13,6 +13,7 @@ use Rattle.record_codec.specs.declared.layout.TheConstants.{LAST_NUMBER}
 use Rattle.step_core.specs.Choice.{ChoiceDefinition, IsAllowed}
 use Rattle.step_core.specs.Chosen.{choice_of}
 use Rattle.step_core.specs.Delivery.{IsTold}
+use Rattle.step_core.specs.Job.{JobDefinition}
 use Rattle.step_core.specs.Plant.{PlantDefinition}
 use Rattle.step_core.specs.Rules.{fault_of}
 use Rattle.step_core.specs.Step.{next}
@@ -25,10 +26,11 @@ use Rattle.record_replay.proofs.OnRuns.{length-records, records-append}
 use Rattle.record_codec.specs.Saved.{SavedFields}
 use Rattle.trimmer.specs.Covered.{MarkFields}
 use Rattle.trimmer.specs.declared.saved.SavedAt.{SavedAt}
-use Rattle.plant_core.specs.Kept.{FitsTogether, IsCopy, SnapshotsFit}
+use Rattle.disk_model.specs.Cells.{Cell}
+use Rattle.plant_core.specs.Kept.{FitsTogether, IsCopy, IsFrontOf, SnapshotsFit}
 use Rattle.plant_core.specs.Marks.{mark_of}
 use Rattle.plant_core.specs.Snapshots.{SnapshotFields}
-use Rattle.plant_core.specs.View.{View, fired_number, view_by, with_fired}
+use Rattle.plant_core.specs.View.{View, fired_number, view_by, with_away, with_fired}
 use Rattle.plant_core.specs.declared.limits.TheConstants.{MOST_TAIL}
 use Rattle.plant_core.proofs.Chosen.{fold-more, run-more}
 use Rattle.plant_core.proofs.Marking.{tail-marked}
@@ -133,14 +135,40 @@ module _ (plant : PlantDefinition) (v : View) (bodies : List (List ℕ)) (kept :
             sym (map-append (λ (r : FiredFields). Some r) records (record_by plant v.present v.counts (fired_number v + 1) c ∷ [])) ∙
             ap told (sym all-records)
 
--- the view behind a fired choice, as it is kept
-pub view-of-fired : (plant : PlantDefinition) (acked present after : List Local) (acked_counts counts counts_then : List ℕ) (number : ℕ) (tail longer : List Choice) (choice : Choice) (j : Ring) (marks marked : List MarkFields) (s : SnapshotFields) (broken : Bool)
-    → longer ≡ tail ++ choice ∷ [] → after ≡ next plant present (choice_of choice) → counts_then ≡ counts_after (choice_of choice) counts
-    → marked ≡ marks ++ mark_of (record_by plant present counts (number + length (map choice_of tail) + 1) (choice_of choice)) ∷ []
-    → view_by acked acked_counts number longer after counts_then j marked s broken ≡ with_fired plant (choice_of choice) (view_by acked acked_counts number tail present counts j marks s broken)
-view-of-fired plant acked present after acked_counts counts counts_then number tail longer choice j marks marked s broken grown stepped counted more =
-    ap (λ cs. view_by acked acked_counts number cs after counts_then j marked s broken) grown ∙
-    ap (λ states. view_by acked acked_counts number (tail ++ choice ∷ []) states counts_then j marked s broken) stepped ∙
-    ap (λ ks. view_by acked acked_counts number (tail ++ choice ∷ []) (next plant present (choice_of choice)) ks j marked s broken) counted ∙
-    ap (λ ms. view_by acked acked_counts number (tail ++ choice ∷ []) (next plant present (choice_of choice)) (counts_after (choice_of choice) counts) j ms s broken) more ∙
-    ap (λ (cs : List ChoiceDefinition). record (with_fired plant (choice_of choice) (view_by acked acked_counts number tail present counts j marks s broken)) { tail = cs }) (map-append choice_of tail (choice ∷ []))
+-- the view behind a fired choice, as it is kept, where these jobs are given out then
+pub view-of-fired : (plant : PlantDefinition) (acked still present after : List Local) (acked_counts counts counts_then : List ℕ) (number : ℕ) (tail longer : List Choice) (choice : Choice) (j : Ring) (marks marked : List MarkFields) (s : SnapshotFields) (away out jobs : List (Option JobDefinition)) (broken : Bool)
+    → still ≡ acked → longer ≡ tail ++ choice ∷ [] → after ≡ next plant present (choice_of choice) → counts_then ≡ counts_after (choice_of choice) counts
+    → marked ≡ marks ++ mark_of (record_by plant present counts (number + length (map choice_of tail) + 1) (choice_of choice)) ∷ [] → out ≡ jobs
+    → view_by still acked_counts number longer after counts_then j marked s out broken ≡ with_away jobs (with_fired plant (choice_of choice) (view_by acked acked_counts number tail present counts j marks s away broken))
+view-of-fired plant acked still present after acked_counts counts counts_then number tail longer choice j marks marked s away out jobs broken same grown stepped counted more given =
+    ap (λ states. view_by states acked_counts number longer after counts_then j marked s out broken) same ∙
+    ap (λ cs. view_by acked acked_counts number cs after counts_then j marked s out broken) grown ∙
+    ap (λ states. view_by acked acked_counts number (tail ++ choice ∷ []) states counts_then j marked s out broken) stepped ∙
+    ap (λ ks. view_by acked acked_counts number (tail ++ choice ∷ []) (next plant present (choice_of choice)) ks j marked s out broken) counted ∙
+    ap (λ ms. view_by acked acked_counts number (tail ++ choice ∷ []) (next plant present (choice_of choice)) (counts_after (choice_of choice) counts) j ms s out broken) more ∙
+    ap (λ js. view_by acked acked_counts number (tail ++ choice ∷ []) (next plant present (choice_of choice)) (counts_after (choice_of choice) counts) j (marks ++ mark_of (record_by plant present counts (number + length (map choice_of tail) + 1) (choice_of choice)) ∷ []) s js broken) given ∙
+    ap (λ (cs : List ChoiceDefinition). record (with_fired plant (choice_of choice) (view_by acked acked_counts number tail present counts j marks s away broken)) { tail = cs; away = jobs }) (map-append choice_of tail (choice ∷ []))
+
+-- which atoms are away says nothing of the rest
+pub away-fits : (plant : PlantDefinition) (v : View) (bodies : List (List ℕ)) (jobs : List (Option JobDefinition)) → FitsTogether plant v bodies → FitsTogether plant (with_away jobs v) bodies
+away-fits plant v bodies jobs kept = record {
+  of_plant = kept.of_plant;
+  fits = kept.fits;
+  run = kept.run;
+  leads = kept.leads;
+  counted = kept.counted;
+  counts_length = kept.counts_length;
+  counts_within = kept.counts_within;
+  held = kept.held;
+  short = kept.short;
+  base_from = kept.base_from;
+  base_to = kept.base_to;
+  room = kept.room;
+  last_to = kept.last_to;
+  marks_many = kept.marks_many;
+  marks_of_tail = kept.marks_of_tail;
+  snapshots = kept.snapshots;
+}
+
+pub away-front : (plant : PlantDefinition) (digest : List ℕ) (bytes : ℕ) (v : View) (jobs : List (Option JobDefinition)) (image : List Cell) → IsFrontOf plant digest bytes v image → IsFrontOf plant digest bytes (with_away jobs v) image
+away-front plant digest bytes v jobs image front = record { from = front.from; to = front.to; stands = front.stands }

@@ -13,6 +13,7 @@ use Rattle.gated_journal.specs.Rings.{IsRing, appended, cells_of_ring}
 use Rattle.gated_journal.specs.declared.ring.Ring.{Ring}
 use Rattle.step_core.specs.Choice.{ChoiceDefinition}
 use Rattle.step_core.specs.Fitting.{IsOf, AllFit}
+use Rattle.step_core.specs.Job.{JobDefinition}
 use Rattle.step_core.specs.Plant.{PlantDefinition}
 use Rattle.step_core.specs.Runs.{IsRun, fold}
 use Rattle.step_core.specs.Step.{next}
@@ -97,15 +98,17 @@ module _ (plant : PlantDefinition) (v : View) (bodies : List (List ℕ)) (kept :
   }
 
 -- the view behind a flush, as it is kept
-pub view-of-flushed : (acked present : List Local) (counts : List ℕ) (number sum : ℕ) (tail : List Choice) (j after : Ring) (count : ℕ) (marks : List MarkFields) (s : SnapshotFields) (whole broken : Bool)
-    → acked ≡ present → number ≡ sum → tail ≡ [] → after ≡ appended count j → whole ≡ broken
-    → view_by acked counts number tail present counts after marks s whole ≡ view_by present counts sum [] present counts j marks s broken
-view-of-flushed acked present counts number sum tail j after count marks s whole broken same summed empty more is =
-    ap (λ states. view_by states counts number tail present counts after marks s whole) same ∙
-    ap (λ (n : ℕ). view_by present counts n tail present counts after marks s whole) summed ∙
-    ap (λ cs. view_by present counts sum cs present counts after marks s whole) empty ∙
-    ap (λ (r : Ring). view_by present counts sum [] present counts r marks s whole) more ∙
-    ap (λ (b : Bool). view_by present counts sum [] present counts j marks s b) is
+pub view-of-flushed : (acked present then : List Local) (counts : List ℕ) (number sum : ℕ) (tail : List Choice) (j after : Ring) (count : ℕ) (marks : List MarkFields) (s : SnapshotFields) (away jobs : List (Option JobDefinition)) (whole broken : Bool)
+    → acked ≡ present → then ≡ present → jobs ≡ away → number ≡ sum → tail ≡ [] → after ≡ appended count j → whole ≡ broken
+    → view_by acked counts number tail then counts after marks s jobs whole ≡ view_by present counts sum [] present counts j marks s away broken
+view-of-flushed acked present then counts number sum tail j after count marks s away jobs whole broken same still kept summed empty more is =
+    ap (λ states. view_by states counts number tail then counts after marks s jobs whole) same ∙
+    ap (λ states. view_by present counts number tail states counts after marks s jobs whole) still ∙
+    ap (λ js. view_by present counts number tail present counts after marks s js whole) kept ∙
+    ap (λ (n : ℕ). view_by present counts n tail present counts after marks s away whole) summed ∙
+    ap (λ cs. view_by present counts sum cs present counts after marks s away whole) empty ∙
+    ap (λ (r : Ring). view_by present counts sum [] present counts r marks s away whole) more ∙
+    ap (λ (b : Bool). view_by present counts sum [] present counts j marks s away b) is
 
 -- the journal behind a flush is that of the plant
 pub journal-of-flushed : (plant : PlantDefinition) (number count : ℕ) (j after : Ring) (old new : DiskState) → after ≡ appended count j → size_of new ≡ size_of old → IsJournalOf plant number j old → IsJournalOf plant (number + count) after new
@@ -147,9 +150,9 @@ journal-of-failed plant number j after old new kept same is = subst (λ r. IsJou
 
 -- where nothing was fired since the last flush, what is kept fits together
 pub nothing-fired : (plant : PlantDefinition) (states : List Local) (counts : List ℕ) (number : ℕ) (j : Ring) → IsOf plant states → AllFit plant states → length counts ≡ MAX_ATOMS
-    → ((atom : ℕ) → count_of counts atom ≤ number) → IsRing j → j.last ≡ number → (marks : List MarkFields) → j.base + length marks ≡ number + 1 → (s : SnapshotFields) → length s.saved ≡ length plant.atoms
-    → ((atom : ℕ) → saved_count s.saved atom ≤ count_of counts atom) → s.kept ≡ replicate (length s.saved) None → FitsTogether plant (view_by states counts number [] states counts j marks s false) []
-nothing-fired plant states counts number j of_plant fits long within ring last marks many s known known_within none = record {
+    → ((atom : ℕ) → count_of counts atom ≤ number) → IsRing j → j.last ≡ number → (marks : List MarkFields) → j.base + length marks ≡ number + 1 → (s : SnapshotFields) → (away : List (Option JobDefinition)) → length s.saved ≡ length plant.atoms
+    → ((atom : ℕ) → saved_count s.saved atom ≤ count_of counts atom) → s.kept ≡ replicate (length s.saved) None → FitsTogether plant (view_by states counts number [] states counts j marks s away false) []
+nothing-fired plant states counts number j of_plant fits long within ring last marks many s away known known_within none = record {
   of_plant = of_plant;
   fits = fits;
   run = refl;

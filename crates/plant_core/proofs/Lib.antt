@@ -12,4 +12,6 @@ pub mod Marking
 pub mod Trimmed
 pub mod Taken
 pub mod Crossing
+mod Handed
+mod JobsHeld
 mod Rows

@@ -1,14 +1,18 @@
 -- Events worked out by hand, as computed facts of the definitions.
-use Rattle.std.proofs.Common.{◌≡◌, ◌-◌, ◌^◌, false, true, refl, sym, ◌∙◌, arith, [], ◌∷◌, replicate, None, Some, Ok, Err}
+use Rattle.std.proofs.Common.{◌≡◌, ℕ, ◌-◌, ◌^◌, false, true, refl, sym, ap, ◌∙◌, arith, [], ◌∷◌, replicate, None, Some, Ok, Err}
 use Rattle.std.proofs.lemmas.Bool.{false≢true}
+use Rattle.std.proofs.lemmas.Option.{none-some, same_Some}
+use Rattle.petri_atom.specs.Definition.{AtomDefinition}
+use Rattle.petri_atom.specs.Local.{Local, Row}
 use Rattle.record_codec.specs.Saved.{SavedFields}
 use Rattle.record_codec.specs.declared.layout.TheConstants.{LAST_NUMBER}
 use Rattle.step_core.specs.Choice.{ChoiceDefinition}
+use Rattle.step_core.specs.Job.{JobDefinition, worked}
 use Rattle.step_core.specs.Plant.{PlantDefinition}
-use Rattle.plant_core.specs.Events.{IsPut, IsTrim, fire_refusal}
+use Rattle.plant_core.specs.Events.{IsAsk, IsBack, IsPut, IsTrim, fire_refusal}
 use Rattle.plant_core.specs.View.{View, may_go, with_asked, with_cut}
 use Rattle.plant_core.specs.declared.limits.TheConstants.{MOST_TAIL}
-use Rattle.plant_core.specs.declared.refused.Refused.TheVariants.{TailFull, RingFull, Spent, Ahead, NothingNew, Broken}
+use Rattle.plant_core.specs.declared.refused.Refused.TheVariants.{TailFull, RingFull, Spent, Away, Ahead, Stranger, NothingNew, Broken}
 
 -- ---- limits
 
@@ -33,6 +37,7 @@ fired_eight = record {
   marks = [];
   saved = record { count = 0; at = 0 } ∷ record { count = 0; at = 0 } ∷ [];
   kept = None ∷ None ∷ [];
+  away = None ∷ None ∷ [];
   broken = false;
 }
 
@@ -81,6 +86,35 @@ a_put_ahead_of_its_records = (λ broken. false≢true broken, refl, omega arith,
 a_copy_asked_for_twice : with_asked copied_again (with_asked copied fired_eight) ≡ with_asked copied_again fired_eight
 unfolding copied copied_again
 a_copy_asked_for_twice = refl
+
+-- ---- an atom that is away
+
+not-both : (n : ℕ) → n ≡ 8 → n ≡ 9 → ⊥
+not-both n is other = absurd (omega (arith, is, other))
+
+module _ (a : AtomDefinition) (values : Row) (s t : Local) where
+  -- the ninth firing of atom 0, from the state s
+  abbrev ninth : JobDefinition
+  ninth = record { definition = a; atom = 0; count = 8; transition = 0; delivered = values; state = s }
+
+  abbrev away_with : JobDefinition → View
+  away_with job = record fired_eight { present = worked job ∷ t ∷ []; away = Some job ∷ None ∷ [] }
+
+  -- no copy of its state is given
+  an_atom_that_is_away_is_not_copied : IsAsk (away_with ninth) 0 (Err (Away 0)) (away_with ninth)
+  an_atom_that_is_away_is_not_copied = (λ broken. false≢true broken, refl, λ is. none-some ninth (sym is), refl)
+
+  -- its job comes back: then it is present, in the state that it was counted as being in
+  the_very_job_comes_back : IsBack (away_with ninth) ninth (Ok tt) (record (away_with ninth) { away = None ∷ None ∷ [] })
+  the_very_job_comes_back = (λ broken. false≢true broken, refl, refl)
+
+  -- the same job with another count is a stranger
+  a_job_with_another_count_is_a_stranger : IsBack (away_with ninth) (record ninth { count = 9 }) (Err Stranger) (away_with ninth)
+  a_job_with_another_count_is_a_stranger = (λ broken. false≢true broken, λ is. not-both 8 refl (ap (λ (job : JobDefinition). job.count) (same_Some ninth (record ninth { count = 9 }) is)), refl)
+
+  -- so is the very job once it has come back
+  a_job_comes_back_once : IsBack (record (away_with ninth) { away = None ∷ None ∷ [] }) ninth (Err Stranger) (record (away_with ninth) { away = None ∷ None ∷ [] })
+  a_job_comes_back_once = (λ broken. false≢true broken, λ is. none-some ninth is, refl)
 
 -- ---- a trim past an uncovered record: atom 0 fired alone, then with atom 1, then alone; atom 0 is saved behind all three, atom 1 behind none
 

@@ -1,25 +1,30 @@
 -- What a durable plant does at each event: which answer it gives, and what it shows then.
-use Rattle.std.specs.Prelude.{◌≡◌, ◌≢◌, ℕ, ◌+◌, ◌-◌, ◌%◌, ◌≤◌, ◌<◌, ◌==◌, Bool, true, false, if◌then◌else◌, List, [], ◌∷◌, ◌++◌, Option, None, Some, Result, Ok, Err, length, take, drop, flat_map, slice_get}
+use Rattle.std.specs.Prelude.{◌≡◌, ◌≢◌, ℕ, ◌+◌, ◌-◌, ◌%◌, ◌≤◌, ◌<◌, ◌==◌, Bool, true, false, if◌then◌else◌, List, [], ◌∷◌, ◌++◌, Option, None, Some, Result, Ok, Err, ◌↔◌, is_some, length, take, drop, flat_map, slice_get, slice_index_or, slice_set}
+use Rattle.std.specs.List.{list_any}
 use Rattle.std.specs.Option.{option_map}
 use Rattle.record_codec.specs.Saved.{SavedFields}
 use Rattle.record_codec.specs.declared.layout.TheConstants.{LAST_NUMBER}
 use Rattle.record_replay.specs.Records.{count_of}
 use Rattle.snapshot_writer.specs.Parcels.{saved_by}
-use Rattle.step_core.specs.Choice.{ChoiceDefinition, choices}
+use Rattle.step_core.specs.Choice.{ChoiceDefinition}
 use Rattle.step_core.specs.Chosen.{choice_of}
+use Rattle.step_core.specs.Job.{JobDefinition}
+use Rattle.step_core.specs.Jobs.{AreJobsOf}
 use Rattle.step_core.specs.Plant.{PlantDefinition}
 use Rattle.step_core.specs.Runs.{fold}
 use Rattle.trimmer.specs.Covered.{saved_count}
+use Rattle.plant_core.specs.Hands.{HandFields, job_at, with_jobs}
 use Rattle.plant_core.specs.Snapshots.{held_at, with_held, without}
-use Rattle.plant_core.specs.View.{View, fired_number, may_go, with_all_acked, with_asked, with_cut, with_fired, with_stored}
+use Rattle.plant_core.specs.View.{View, fired_number, may_go, parts_in, sure_in, with_all_acked, with_asked, with_back, with_begun, with_cut, with_fired, with_stored}
 use Rattle.plant_core.specs.declared.events.Event.{Event}
 use Rattle.plant_core.specs.declared.events.Event.TheVariants as asked
 use Rattle.plant_core.specs.declared.events.FiredAs.{FiredAs}
 use Rattle.plant_core.specs.declared.events.Happened.{Happened}
-use Rattle.plant_core.specs.declared.events.Happened.TheVariants.{Fire, Flush, Ask, Put, Empty, Trim}
+use Rattle.plant_core.specs.declared.events.Happened.TheVariants.{Fire, Flush, Ask, Put, Empty, Trim, Begin, Back, Idle}
+use Rattle.plant_core.specs.declared.events.Returned.{Returned}
 use Rattle.plant_core.specs.declared.limits.TheConstants.{MOST_TAIL}
 use Rattle.plant_core.specs.declared.refused.Refused.{Refused}
-use Rattle.plant_core.specs.declared.refused.Refused.TheVariants.{Stuck, TailFull, RingFull, Spent, Ahead, Stranger, NothingNew, Disk, Broken}
+use Rattle.plant_core.specs.declared.refused.Refused.TheVariants.{Stuck, Busy, TailFull, RingFull, Spent, Away, Ahead, Stranger, NothingNew, Disk, Broken}
 
 -- the refusal, where its cause is there
 abbrev pub refused_where : Bool → Refused → Option Refused
@@ -31,9 +36,13 @@ first_refusal [] = None
 first_refusal (None ∷ rest) = first_refusal rest
 first_refusal (Some refused ∷ rest) = Some refused
 
--- no interaction is possible in the present state
-abbrev pub is_stuck : PlantDefinition → View → Bool
-is_stuck plant v = length (choices plant v.present) == 0
+-- some atom is away
+abbrev pub is_any_away : View → Bool
+is_any_away v = list_any is_some v.away
+
+-- no choice is sure; where no atom is away no interaction is possible then
+abbrev pub has_none : PlantDefinition → View → Bool
+has_none plant v = length (sure_in plant v) == 0
 
 -- why a fire is refused, in the order in which this is asked
 abbrev pub fire_refusal : PlantDefinition → View → Option Refused
@@ -42,17 +51,42 @@ fire_refusal plant v = first_refusal (
     refused_where (fired_number v == LAST_NUMBER) Spent ∷
     refused_where (length v.tail == MOST_TAIL) TailFull ∷
     refused_where (fired_number v + 1 - v.base == v.ring) RingFull ∷
-    refused_where (is_stuck plant v) Stuck ∷
+    refused_where (has_none plant v) (if is_any_away v then Busy else Stuck) ∷
     [])
 
 -- A fire by a pick: where it is refused nothing changes. Else it fires the choice at the place of the pick, modulo the number of choices,
--- and answers it with its number.
+-- and answers it with its number. The choices are the sure ones: all of the present state where no atom is away.
 abbrev pub IsFire : PlantDefinition → View → ℕ → Result FiredAs Refused → View → Type 0
 IsFire plant v pick (Err refused) w = (fire_refusal plant v ≡ Some refused) × (w ≡ v)
 IsFire plant v pick (Ok fired) w =
     (fire_refusal plant v ≡ None) × (fired.number ≡ fired_number v + 1)
-    × (slice_get (choices plant v.present) (pick % length (choices plant v.present)) ≡ Some (choice_of fired.choice))
+    × (slice_get (sure_in plant v) (pick % length (sure_in plant v)) ≡ Some (choice_of fired.choice))
     × (w ≡ with_fired plant (choice_of fired.choice) v)
+
+-- The same where the participants go away, each with its job.
+abbrev pub IsBegin : PlantDefinition → View → ℕ → Result FiredAs Refused → View → Type 0
+IsBegin plant v pick (Err refused) w = (fire_refusal plant v ≡ Some refused) × (w ≡ v)
+IsBegin plant v pick (Ok fired) w =
+    (fire_refusal plant v ≡ None) × (fired.number ≡ fired_number v + 1)
+    × (slice_get (sure_in plant v) (pick % length (sure_in plant v)) ≡ Some (choice_of fired.choice))
+    × (w ≡ with_begun plant (choice_of fired.choice) v)
+
+-- A job that was done is handed in: a plant whose device has failed refuses it, and so does one that has not kept this very job. Else its atom is
+-- present again.
+abbrev pub IsBack : View → JobDefinition → Result (Unit {0}) Refused → View → Type 0
+IsBack v job (Ok done) w = (v.broken ≢ true) × (slice_index_or v.away job.atom None ≡ Some job) × (w ≡ with_back job v)
+IsBack v job (Err Broken) w = (v.broken ≡ true) × (w ≡ v)
+IsBack v job (Err Stranger) w = (v.broken ≢ true) × (slice_index_or v.away job.atom None ≢ Some job) × (w ≡ v)
+IsBack v job (Err other) w = ⊥
+
+-- what was handed in is this job
+pub record IsReturned (plant : PlantDefinition) (r : Returned) (job : JobDefinition) : Type 0 where
+  pub own : (r.own ≡ true) ↔ (slice_get plant.atoms r.atom ≡ Some job.definition)
+  pub atom : job.atom ≡ r.atom
+  pub count : job.count ≡ r.count
+  pub transition : job.transition ≡ r.transition
+  pub delivered : job.delivered ≡ r.delivered
+  pub before : job.state ≡ r.before
 
 -- A flush: a plant whose device has failed refuses it. Else it acknowledges all that was fired, and answers the number of the last; where there is
 -- something to acknowledge the device may fail, and then nothing is acknowledged, and the plant is broken.
@@ -67,14 +101,15 @@ abbrev pub copy_in : View → ℕ → Option SavedFields
 copy_in v atom = option_map (saved_by atom (count_of v.counts atom) (fired_number v)) (slice_get v.present atom)
 
 -- A state is asked for: a plant whose device has failed refuses it, and so does one that has not the atom, and one whose atom has not taken part since
--- its newest state was saved. Else it answers the present state of the atom, and keeps a copy, in place of one that it kept before.
+-- its newest state was saved, and one of which the atom is away. Else it answers the present state of the atom, and keeps a copy, in place of one that it kept before.
 abbrev pub IsAsk : View → ℕ → Result SavedFields Refused → View → Type 0
 IsAsk v atom (Ok saved) w =
-    (v.broken ≢ true) × (count_of v.counts atom ≢ saved_count v.saved atom) × (copy_in v atom ≡ Some saved) × (w ≡ with_asked saved v)
+    (v.broken ≢ true) × (slice_index_or v.away atom None ≡ None) × (count_of v.counts atom ≢ saved_count v.saved atom) × (copy_in v atom ≡ Some saved) × (w ≡ with_asked saved v)
 IsAsk v atom (Err Broken) w = (v.broken ≡ true) × (w ≡ v)
 IsAsk v atom (Err Stranger) w = (v.broken ≢ true) × (length v.present ≤ atom) × (w ≡ v)
+IsAsk v atom (Err (Away n)) w = (v.broken ≢ true) × (n ≡ atom) × (slice_index_or v.away atom None ≢ None) × (w ≡ v)
 IsAsk v atom (Err NothingNew) w =
-    (v.broken ≢ true) × (atom < length v.present) × (count_of v.counts atom ≡ saved_count v.saved atom) × (w ≡ v)
+    (v.broken ≢ true) × (atom < length v.present) × (slice_index_or v.away atom None ≡ None) × (count_of v.counts atom ≡ saved_count v.saved atom) × (w ≡ v)
 IsAsk v atom (Err other) w = ⊥
 
 -- The plant takes this state to be stored: it keeps a copy of it, and all firings that the state is behind are acknowledged.
@@ -123,10 +158,14 @@ IsEvent plant v (Ask atom answer) w = IsAsk v atom answer w
 IsEvent plant v (Put saved answer) w = IsPut v saved answer w
 IsEvent plant v (Empty atom) w = w ≡ v
 IsEvent plant v (Trim answer) w = IsTrim v answer w
+IsEvent plant v (Begin pick answer) w = IsBegin plant v pick answer w
+IsEvent plant v (Back returned answer) w = (job : JobDefinition) × IsReturned plant returned job × IsBack v job answer w
+IsEvent plant v (Idle atom) w = w ≡ v
 
 -- the choices that it fired: the one that a fire answers
 abbrev pub fired_by : Happened → List ChoiceDefinition
 fired_by (Fire pick (Ok fired)) = choice_of fired.choice ∷ []
+fired_by (Begin pick (Ok fired)) = choice_of fired.choice ∷ []
 fired_by other = []
 
 -- the choices that some events fired, in order
@@ -141,6 +180,9 @@ asked_in (Ask atom answer) = asked.Ask atom
 asked_in (Put saved answer) = asked.Put saved.atom
 asked_in (Empty atom) = asked.Put atom
 asked_in (Trim answer) = asked.Trim
+asked_in (Begin pick answer) = asked.Begin pick
+asked_in (Back returned answer) = asked.Back returned.atom
+asked_in (Idle atom) = asked.Back atom
 
 -- it makes no call of the device
 abbrev pub is_in_memory : Event → Bool
@@ -149,6 +191,8 @@ is_in_memory asked.Flush = false
 is_in_memory (asked.Ask atom) = true
 is_in_memory (asked.Put atom) = false
 is_in_memory asked.Trim = false
+is_in_memory (asked.Begin pick) = true
+is_in_memory (asked.Back atom) = true
 
 -- the device failed in it
 abbrev pub has_failed : Happened → Bool
@@ -158,6 +202,9 @@ has_failed (Ask atom answer) = is_disk answer
 has_failed (Put saved answer) = is_disk answer
 has_failed (Empty atom) = false
 has_failed (Trim answer) = is_disk answer
+has_failed (Begin pick answer) = is_disk answer
+has_failed (Back returned answer) = is_disk answer
+has_failed (Idle atom) = false
 
 -- calls of the device may have been made in it: it is one that makes such calls, and it was not refused before the first
 abbrev pub may_call : Happened → Bool
@@ -171,22 +218,29 @@ abbrev pub IsEventRun : PlantDefinition → View → List Happened → View → 
 IsEventRun plant v [] w = w ≡ v
 IsEventRun plant v (h ∷ hs) w = (u : View) × IsEvent plant v h u × IsEventRun plant u hs w
 
--- What is in the hands of the atoms behind an event: a state that was asked for is in its atom's hand, and one that was stored is no more.
-abbrev pub hands_behind : Happened → List (Option SavedFields) → List (Option SavedFields)
-hands_behind (Ask atom (Ok saved)) hands = with_held saved hands
-hands_behind (Put saved (Ok count)) hands = without saved hands
-hands_behind other hands = hands
+-- What is in the hands of the atoms behind an event: a state that was asked for is in its atom's hand, and one that was stored is no more; each job of a
+-- choice that begins is in its atom's hand, and one that was handed in is no more, whatever is answered.
+abbrev pub AreHandsBehind : PlantDefinition → View → HandFields → Happened → HandFields → Type 0
+AreHandsBehind plant v hands (Ask atom (Ok saved)) after = after ≡ record hands { saved = with_held saved hands.saved }
+AreHandsBehind plant v hands (Put saved (Ok count)) after = after ≡ record hands { saved = without saved hands.saved }
+AreHandsBehind plant v hands (Begin pick (Ok fired)) after =
+    (jobs : List JobDefinition) × AreJobsOf plant (parts_in v) (choice_of fired.choice) v.counts fired.choice.moves jobs × (after ≡ record hands { jobs = with_jobs jobs hands.jobs })
+AreHandsBehind plant v hands (Back returned answer) after = after ≡ record hands { jobs = slice_set hands.jobs returned.atom None }
+AreHandsBehind plant v hands other after = after ≡ hands
 
--- What is handed in is what is in its atom's hand; where none is handed in to be stored, there is none in that hand, or no such hand.
-abbrev pub IsHandedIn : List (Option SavedFields) → Happened → Type 0
-IsHandedIn hands (Put saved answer) = held_at hands saved.atom ≡ Some saved
-IsHandedIn hands (Empty atom) = held_at hands atom ≡ None
-IsHandedIn hands other = Unit {0}
+-- What is handed in is what is in its atom's hand; where none is handed in, there is none in that hand, or no such hand.
+abbrev pub IsHandedIn : PlantDefinition → HandFields → Happened → Type 0
+IsHandedIn plant hands (Put saved answer) = held_at hands.saved saved.atom ≡ Some saved
+IsHandedIn plant hands (Empty atom) = held_at hands.saved atom ≡ None
+IsHandedIn plant hands (Back returned answer) = (job : JobDefinition) × (job_at hands.jobs returned.atom ≡ Some job) × IsReturned plant returned job
+IsHandedIn plant hands (Idle atom) = job_at hands.jobs atom ≡ None
+IsHandedIn plant hands other = Unit {0}
 
--- The same of events one after another.
-abbrev pub AreHandedIn : List (Option SavedFields) → List Happened → List (Option SavedFields) → Type 0
-AreHandedIn hands [] after = after ≡ hands
-AreHandedIn hands (h ∷ hs) after = IsHandedIn hands h × AreHandedIn (hands_behind h hands) hs after
+-- Events one after another, each with what is handed in and with what is in hands behind it.
+abbrev pub IsHandedRun : PlantDefinition → View → HandFields → List Happened → View → HandFields → Type 0
+IsHandedRun plant v hands [] w after = (w ≡ v) × (after ≡ hands)
+IsHandedRun plant v hands (h ∷ hs) w after =
+    IsHandedIn plant hands h × ((u : View) × IsEvent plant v h u × ((next : HandFields) × AreHandsBehind plant v hands h next × IsHandedRun plant u next hs w after))
 
 -- What was acknowledged between two views, where these choices were fired: a front of the tail and of these choices, as long as the
 -- acknowledged number has grown. The rest is the tail.

@@ -1,9 +1,13 @@
 pub mod Snapshots
 pub mod Marks
 pub mod View
+pub mod Hands
+pub mod Handed
 pub mod Events
 pub mod Kept
 pub mod Plants
 pub mod Stops
+pub mod Driven
 pub mod Refusals
 pub mod Puts
+pub mod Backs

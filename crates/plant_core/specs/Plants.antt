@@ -3,17 +3,17 @@ use Rattle.std.specs.Prelude.{ℕ, List}
 use Rattle.disk_model.specs.DiskState.{DiskState}
 use Rattle.disk_model.specs.declared.disk.Disk.{Ghosts}
 use Rattle.step_core.specs.Plant.{PlantDefinition}
-use Rattle.step_core.specs.Running.{plant_in, system_in, states_in}
 use Rattle.step_core.specs.System.{digest_of}
+use Rattle.step_executor.specs.Executing.{committed_in, jobs_in, plant_in, states_in, system_in}
 use Rattle.plant_core.specs.View.{View, view_by}
 use Rattle.plant_core.specs.declared.plant.Plant.{Plant}
 
 -- the plant that it runs, and the digest of its text
 abbrev pub definition_of : {D : Type 0} {disk : Ghosts D} → Plant D disk → PlantDefinition
-definition_of p = plant_in p.stepper
+definition_of p = plant_in p.executor
 
 abbrev pub text_digest : {D : Type 0} {disk : Ghosts D} → Plant D disk → List ℕ
-text_digest p = digest_of (system_in p.stepper)
+text_digest p = digest_of (system_in p.executor)
 
 -- its device
 abbrev pub device_of : {D : Type 0} {disk : Ghosts D} → Plant D disk → DiskState
@@ -21,4 +21,4 @@ device_of p = p.cells
 
 -- its view
 abbrev pub view_of : {D : Type 0} {disk : Ghosts D} → Plant D disk → View
-view_of p = view_by p.acked p.acked_counts p.number p.tail.items (states_in p.stepper) p.counts p.journal p.marks.items p.snapshots p.broken
+view_of p = view_by (committed_in p.executor) p.acked_counts p.number p.tail.items (states_in p.executor) p.counts p.journal p.marks.items p.snapshots (jobs_in p.executor) p.broken

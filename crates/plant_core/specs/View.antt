@@ -1,13 +1,16 @@
 -- What a durable plant shows of itself.
-use Rattle.std.specs.Prelude.{ℕ, ◌+◌, ◌-◌, Bool, List, [], ◌∷◌, ◌++◌, Option, length, map, take, drop}
+use Rattle.std.specs.Prelude.{ℕ, ◌+◌, ◌-◌, Bool, List, [], ◌∷◌, ◌++◌, Option, None, length, map, take, drop, slice_set}
 use Rattle.std.specs.List.{prefix_len}
 use Rattle.petri_atom.specs.Local.{Local}
 use Rattle.gated_journal.specs.declared.ring.Ring.{Ring}
 use Rattle.step_core.specs.Choice.{ChoiceDefinition}
 use Rattle.step_core.specs.Chosen.{choice_of}
+use Rattle.step_core.specs.Job.{JobDefinition}
 use Rattle.step_core.specs.Plant.{PlantDefinition}
 use Rattle.step_core.specs.Step.{next}
+use Rattle.step_core.specs.Sure.{sure_choices}
 use Rattle.step_core.specs.declared.choice.Choice.{Choice}
+use Rattle.step_executor.specs.Outstanding.{jobs_behind, parts_without}
 use Rattle.record_codec.specs.Saved.{SavedFields}
 use Rattle.record_replay.specs.Records.{counts_after, record_by}
 use Rattle.trimmer.specs.Covered.{MarkFields, is_covered}
@@ -18,7 +21,8 @@ use Rattle.plant_core.specs.Snapshots.{SnapshotFields, with_held, with_known, wi
 -- The acknowledged state, how often each atom has taken part in it, and the number of its last record; the choices that were fired since,
 -- the state and the counts that they lead to; the number of the first record that is kept, for how many records there is room, and the marks of
 -- those that are kept, up to that of the last choice that was fired; what is known of the newest state in the slots of each atom, and the copies of
--- states that were asked for; and whether the device has failed.
+-- states that were asked for; the job of each atom that is away (in the present state such an atom is where its job leaves it); and whether the device
+-- has failed.
 pub record View : Type 0 where
   pub acked : List Local
   pub acked_counts : List ℕ
@@ -31,11 +35,12 @@ pub record View : Type 0 where
   pub marks : List MarkFields
   pub saved : List SavedAt
   pub kept : List (Option SavedFields)
+  pub away : List (Option JobDefinition)
   pub broken : Bool
 
 -- the view that these make, with the choices as they are kept, where the records stand so
-abbrev pub view_by : List Local → List ℕ → ℕ → List Choice → List Local → List ℕ → Ring → List MarkFields → SnapshotFields → Bool → View
-view_by acked acked_counts number tail present counts j marks snapshots broken = record {
+abbrev pub view_by : List Local → List ℕ → ℕ → List Choice → List Local → List ℕ → Ring → List MarkFields → SnapshotFields → List (Option JobDefinition) → Bool → View
+view_by acked acked_counts number tail present counts j marks snapshots away broken = record {
   acked = acked;
   acked_counts = acked_counts;
   number = number;
@@ -47,6 +52,7 @@ view_by acked acked_counts number tail present counts j marks snapshots broken =
   marks = marks;
   saved = snapshots.saved;
   kept = snapshots.kept;
+  away = away;
   broken = broken;
 }
 
@@ -62,6 +68,26 @@ with_fired plant c v = record v {
   counts = counts_after c v.counts;
   marks = v.marks ++ mark_of (record_by plant v.present v.counts (fired_number v + 1) c) ∷ [];
 }
+
+-- what is known of the present state without the atoms that are away
+abbrev pub parts_in : View → List (Option Local)
+parts_in v = parts_without v.away v.present
+
+-- the choices that are sure: all of the present state where no atom is away
+abbrev pub sure_in : PlantDefinition → View → List ChoiceDefinition
+sure_in plant v = sure_choices plant (parts_in v)
+
+-- the view where jobs are given out
+abbrev pub with_away : List (Option JobDefinition) → View → View
+with_away away v = record v { away = away }
+
+-- the view behind one more fired choice whose participants go away, each with a job that carries how often it had taken part before
+abbrev pub with_begun : PlantDefinition → ChoiceDefinition → View → View
+with_begun plant c v = with_away (jobs_behind plant v.present v.counts c c.moves v.away) (with_fired plant c v)
+
+-- the view where the atom of this job is back
+abbrev pub with_back : JobDefinition → View → View
+with_back job v = with_away (slice_set v.away job.atom None) v
 
 -- the view where all that was fired is acknowledged
 abbrev pub with_all_acked : View → View

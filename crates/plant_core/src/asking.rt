@@ -26,8 +26,13 @@ impl<'s, D: Disk> Plant<'s, D> {
         if self.broken {
             return Err(Refused::Broken);
         }
-        if usize::from(atom) >= self.stepper.states().len() {
+        self.executor.system().keeps_its_rules();
+        self.executor.fits();
+        if usize::from(atom) >= self.executor.len() {
             return Err(Refused::Stranger);
+        }
+        if self.executor.is_away(atom) {
+            return Err(Refused::Away(atom));
         }
         if self.counts[usize::from(atom)] == self.snapshots.saved_count(atom) {
             return Err(Refused::NothingNew);
@@ -45,6 +50,7 @@ impl<'s, D: Disk> Plant<'s, D> {
         ensures plant { definition_of self.new ≡ definition_of self.old }
         ensures digest { text_digest self.new ≡ text_digest self.old }
     {
+        self.executor.fits();
         let copy = self.copy_of(atom);
         self.snapshots.keep(copy);
     }
@@ -54,12 +60,13 @@ impl<'s, D: Disk> Plant<'s, D> {
         requires { atom < length (view_of self.now).present }
         ensures { copy_in (view_of self.now) atom ≡ Some result }
     {
-        self.stepper.system().keeps_its_rules();
+        self.executor.system().keeps_its_rules();
+        self.executor.fits();
         Parcel::new(
             atom,
             self.counts[usize::from(atom)],
             self.fired(),
-            self.stepper.state(atom),
+            self.executor.state(atom),
         )
     }
 }

@@ -1,46 +1,38 @@
 //! Driving a plant through a list of events.
-ghost use Rattle.std.specs.Prelude.{◌≡◌, ◌+◌, true, false, length, map, IfOk, OnErr};
-ghost use Rattle.std.specs.List.{list_all, list_any};
+ghost use Rattle.std.specs.Prelude.{◌≡◌, ◌+◌, true, false, length, IfOk, OnErr};
 ghost use Rattle.disk_model.specs.Cells.{Leaves};
 ghost use Rattle.disk_model.specs.DiskState.{CountsUpTo, counted, size_of};
 ghost use Rattle.disk_model.specs.declared.cells.TheConstants.{BODY};
-ghost use Rattle.plant_core.specs.Events.{AreHandedIn, IsEvent, IsEventRun, IsHandedIn, all_fired, asked_in, hands_behind, has_failed, is_in_memory, may_call};
+ghost use Rattle.plant_core.specs.Driven.{IsDriven};
+ghost use Rattle.plant_core.specs.Events.{AreHandsBehind, IsEvent, IsHandedIn, asked_in, has_failed, is_in_memory, may_call};
+ghost use Rattle.plant_core.specs.Handed.{hands_of};
+ghost use Rattle.plant_core.specs.Hands.{AreHandsFor};
 ghost use Rattle.plant_core.specs.Plants.{definition_of, device_of, text_digest, view_of};
-ghost use Rattle.plant_core.specs.Stops.{StandsForFront, StandsForFrontSince};
+ghost use Rattle.plant_core.specs.Stops.{StandsForFront};
 
 use crate::events::{Event, Happened};
 use crate::hands::Hands;
 use crate::plant::Plant;
-use crate::refused::PutRefused;
+use crate::refused::{BackRefused, PutRefused};
 use disk_model::Disk;
 use snapshot_writer::encode;
 use std::alloc::{AllocError, Global};
+use step_core::{Jobs, work};
 
 /// Asks a plant for these events, one after another, and tells what happened at each. A state that is asked for goes into the hand of its atom,
 /// and what is in the hand is stored where that is asked. It takes the room for its answers first: where there is none, nothing happens.
-pub fn drive<D: Disk>(
+pub fn drive<'s, D: Disk>(
     alloc: Global,
-    plant: &mut Plant<'_, D>,
+    plant: &mut Plant<'s, D>,
     events: &[Event],
-    hands: &mut Hands,
+    hands: &mut Hands<'s>,
 ) -> Result<Vec<Happened>, AllocError>
-    requires { length hands.old ≡ length (definition_of plant.old).atoms }
-    ensures asked { IfOk result (λ answers. map asked_in answers.items ≡ events.now) }
-    ensures run { IfOk result
-        (λ answers. IsEventRun (definition_of plant.old) (view_of plant.old) answers.items (view_of plant.new)) }
-    ensures hands { IfOk result (λ answers. AreHandedIn hands.old answers.items hands.new) }
-    ensures untouched_hands { OnErr result (hands.new ≡ hands.old) }
+    requires { AreHandsFor (length (definition_of plant.old).atoms) (hands_of hands.old) }
+    ensures driven { IfOk result (λ answers. IsDriven (definition_of plant.old) (text_digest plant.old) (view_of plant.old) (device_of plant.old) (hands_of hands.old) events.now
+        answers.items (view_of plant.new) (device_of plant.new) (hands_of hands.new)) }
+    ensures untouched_hands { OnErr result (hands_of hands.new ≡ hands_of hands.old) }
     ensures untouched_view { OnErr result (view_of plant.new ≡ view_of plant.old) }
     ensures untouched_device { OnErr result (device_of plant.new ≡ device_of plant.old) }
-
-    // What a stop at any moment leaves, and how the device is used.
-    ensures stops { (device_of plant.old).keeps ≡ true → IfOk result
-        (λ answers. Leaves (BODY + 1) (StandsForFrontSince (definition_of plant.old) (text_digest plant.old) (size_of (device_of plant.old)) (view_of plant.old) (all_fired answers.items)) (device_of plant.old) (device_of plant.new)) }
-    ensures cause { IfOk result
-        (λ answers. (device_of plant.new).failures ≡ counted (list_any has_failed answers.items) (device_of plant.old).failures) }
-    ensures idle { list_all is_in_memory events.now ≡ true → device_of plant.new ≡ device_of plant.old }
-    ensures untouched { IfOk result
-        (λ answers. list_any may_call answers.items ≡ false → device_of plant.new ≡ device_of plant.old) }
 
     // What stays.
     ensures plant { definition_of plant.new ≡ definition_of plant.old }
@@ -56,13 +48,13 @@ pub fn drive<D: Disk>(
 }
 
 /// Asks a plant for one event, and tells what happened.
-pub fn meet<D: Disk>(plant: &mut Plant<'_, D>, hands: &mut Hands, event: Event) -> Happened
-    requires { length hands.old ≡ length (definition_of plant.old).atoms }
+pub fn meet<'s, D: Disk>(plant: &mut Plant<'s, D>, hands: &mut Hands<'s>, event: Event) -> Happened
+    requires { AreHandsFor (length (definition_of plant.old).atoms) (hands_of hands.old) }
     ensures asked { asked_in result ≡ event }
     ensures event { IsEvent (definition_of plant.old) (view_of plant.old) result (view_of plant.new) }
-    ensures handed_in { IsHandedIn hands.old result }
-    ensures hands { hands.new ≡ hands_behind result hands.old }
-    ensures as_many { length hands.new ≡ length hands.old }
+    ensures handed_in { IsHandedIn (definition_of plant.old) (hands_of hands.old) result }
+    ensures hands { AreHandsBehind (definition_of plant.old) (view_of plant.old) (hands_of hands.old) result (hands_of hands.new) }
+    ensures as_many { AreHandsFor (length (definition_of plant.old).atoms) (hands_of hands.new) }
     ensures stops { (device_of plant.old).keeps ≡ true
         → Leaves (BODY + 1) (StandsForFront (definition_of plant.old) (text_digest plant.old) (size_of (device_of plant.old)) (view_of plant.old)) (device_of plant.old) (device_of plant.new) }
     ensures cause { (device_of plant.new).failures ≡ counted (has_failed result) (device_of plant.old).failures }
@@ -79,16 +71,18 @@ pub fn meet<D: Disk>(plant: &mut Plant<'_, D>, hands: &mut Hands, event: Event) 
         Event::Ask(atom) => ask(plant, hands, atom),
         Event::Put(atom) => put(plant, hands, atom),
         Event::Trim => Happened::Trim(plant.trim()),
+        Event::Begin(pick) => begin(plant, hands, pick),
+        Event::Back(atom) => back(plant, hands, atom),
     }
 }
 
 /// Asks a plant for the present state of an atom, which goes into its hand.
-fn ask<D: Disk>(plant: &mut Plant<'_, D>, hands: &mut Hands, atom: u16) -> Happened
-    requires { length hands.old ≡ length (definition_of plant.old).atoms }
+fn ask<'s, D: Disk>(plant: &mut Plant<'s, D>, hands: &mut Hands<'s>, atom: u16) -> Happened
+    requires { AreHandsFor (length (definition_of plant.old).atoms) (hands_of hands.old) }
     ensures asked { asked_in result ≡ Event.Ask atom }
     ensures event { IsEvent (definition_of plant.old) (view_of plant.old) result (view_of plant.new) }
-    ensures handed_in { IsHandedIn hands.old result }
-    ensures hands { hands.new ≡ hands_behind result hands.old }
+    ensures handed_in { IsHandedIn (definition_of plant.old) (hands_of hands.old) result }
+    ensures hands { AreHandsBehind (definition_of plant.old) (view_of plant.old) (hands_of hands.old) result (hands_of hands.new) }
     ensures silent { has_failed result ≡ false }
     ensures device { device_of plant.new ≡ device_of plant.old }
     ensures plant { definition_of plant.new ≡ definition_of plant.old }
@@ -105,11 +99,11 @@ fn ask<D: Disk>(plant: &mut Plant<'_, D>, hands: &mut Hands, atom: u16) -> Happe
 }
 
 /// Asks a plant to store what the hand of an atom holds. Where it is refused it is in the hand again.
-fn put<D: Disk>(plant: &mut Plant<'_, D>, hands: &mut Hands, atom: u16) -> Happened
+fn put<'s, D: Disk>(plant: &mut Plant<'s, D>, hands: &mut Hands<'s>, atom: u16) -> Happened
     ensures asked { asked_in result ≡ Event.Put atom }
     ensures event { IsEvent (definition_of plant.old) (view_of plant.old) result (view_of plant.new) }
-    ensures handed_in { IsHandedIn hands.old result }
-    ensures hands { hands.new ≡ hands_behind result hands.old }
+    ensures handed_in { IsHandedIn (definition_of plant.old) (hands_of hands.old) result }
+    ensures hands { AreHandsBehind (definition_of plant.old) (view_of plant.old) (hands_of hands.old) result (hands_of hands.new) }
     ensures stops { (device_of plant.old).keeps ≡ true
         → Leaves (BODY + 1) (StandsForFront (definition_of plant.old) (text_digest plant.old) (size_of (device_of plant.old)) (view_of plant.old)) (device_of plant.old) (device_of plant.new) }
     ensures counts { CountsUpTo (has_failed result) 3 (device_of plant.old) (device_of plant.new) }
@@ -127,5 +121,50 @@ fn put<D: Disk>(plant: &mut Plant<'_, D>, hands: &mut Hands, atom: u16) -> Happe
             hands.hold(encoded);
             Happened::Put(handed, Err(refused))
         }
+    }
+}
+
+/// Asks a plant to begin a choice, whose jobs go into the hands of their atoms.
+fn begin<'s, D: Disk>(plant: &mut Plant<'s, D>, hands: &mut Hands<'s>, pick: u64) -> Happened
+    requires { AreHandsFor (length (definition_of plant.old).atoms) (hands_of hands.old) }
+    ensures asked { asked_in result ≡ Event.Begin pick }
+    ensures event { IsEvent (definition_of plant.old) (view_of plant.old) result (view_of plant.new) }
+    ensures handed_in { IsHandedIn (definition_of plant.old) (hands_of hands.old) result }
+    ensures hands { AreHandsBehind (definition_of plant.old) (view_of plant.old) (hands_of hands.old) result (hands_of hands.new) }
+    ensures silent { has_failed result ≡ false }
+    ensures device { device_of plant.new ≡ device_of plant.old }
+    ensures plant { definition_of plant.new ≡ definition_of plant.old }
+    ensures digest { text_digest plant.new ≡ text_digest plant.old }
+{
+    let mut jobs = Jobs::new();
+    match plant.begin(pick, &mut jobs) {
+        Ok(fired) => {
+            hands.hold_jobs(fired.choice.moves.as_slice(), &mut jobs);
+            Happened::Begin(pick, Ok(fired))
+        }
+        Err(refused) => Happened::Begin(pick, Err(refused)),
+    }
+}
+
+/// Does the job that the hand of an atom holds, and hands it in to the plant.
+fn back<'s, D: Disk>(plant: &mut Plant<'s, D>, hands: &mut Hands<'s>, atom: u16) -> Happened
+    requires { AreHandsFor (length (definition_of plant.old).atoms) (hands_of hands.old) }
+    ensures asked { asked_in result ≡ Event.Back atom }
+    ensures event { IsEvent (definition_of plant.old) (view_of plant.old) result (view_of plant.new) }
+    ensures handed_in { IsHandedIn (definition_of plant.old) (hands_of hands.old) result }
+    ensures hands { AreHandsBehind (definition_of plant.old) (view_of plant.old) (hands_of hands.old) result (hands_of hands.new) }
+    ensures silent { has_failed result ≡ false }
+    ensures device { device_of plant.new ≡ device_of plant.old }
+    ensures plant { definition_of plant.new ≡ definition_of plant.old }
+    ensures digest { text_digest plant.new ≡ text_digest plant.old }
+{
+    let Some(job) = hands.take_job(atom) else {
+        return Happened::Idle(atom);
+    };
+    let done = work(job);
+    let returned = plant.returned(&done);
+    match plant.back(done) {
+        Ok(()) => Happened::Back(returned, Ok(())),
+        Err(BackRefused { refused, .. }) => Happened::Back(returned, Err(refused)),
     }
 }

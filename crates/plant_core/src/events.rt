@@ -1,5 +1,6 @@
 //! What is asked of a durable plant, and what it answers.
 use crate::refused::Refused;
+use petri_atom::{AtomState, Delivered};
 use record_codec::Saved;
 use step_core::Choice;
 
@@ -16,6 +17,10 @@ pub enum Event {
     Put(u16),
     /// To drop the records that no restart needs.
     Trim,
+    /// To begin the choice at the place of the pick, modulo the number of choices: the jobs of its participants go into their hands.
+    Begin(u64),
+    /// To do the job that the hand of the atom with the number holds, and to hand it in.
+    Back(u16),
 }
 
 /// A choice that was fired, with its number.
@@ -42,4 +47,27 @@ pub enum Happened {
     Empty(u16),
     /// The records that no restart needs were to be dropped: this is the number of the first that is kept, or of the next, or the plant refused it.
     Trim(Result<u64, Refused>),
+    /// A choice was to begin by this pick: it did, or the plant refused it.
+    Begin(u64, Result<FiredAs, Refused>),
+    /// This job, which was done, was to be taken back: the atom is present again, or the plant refused it.
+    Back(Returned, Result<(), Refused>),
+    /// The job that the hand of the atom with the number holds was to be done, and it holds none, or there is no such hand.
+    Idle(u16),
+}
+
+/// A job that was done and handed in, as it was: a value to look at, which can't be handed in.
+#[derive(Drop)]
+pub struct Returned {
+    /// Whether the atom has the definition that the plant's atom with its number has.
+    pub own: bool,
+    /// The number of the atom.
+    pub atom: u16,
+    /// The count that went along.
+    pub count: u64,
+    /// The transition that the atom fired.
+    pub transition: u16,
+    /// What was delivered to it.
+    pub delivered: Delivered,
+    /// Its state when it left.
+    pub before: AtomState,
 }

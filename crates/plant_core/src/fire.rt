@@ -3,12 +3,12 @@ ghost use Rattle.std.specs.Prelude.{◌≡◌, ◌+◌, ◌<◌, None, Some, len
 ghost use Rattle.record_codec.specs.Fired.{IsFired, fired_in};
 ghost use Rattle.record_codec.specs.declared.layout.TheConstants.{LAST_NUMBER};
 ghost use Rattle.record_replay.specs.Records.{record_told};
-ghost use Rattle.step_core.specs.Choice.{IsAllowed};
+ghost use Rattle.step_core.specs.Sure.{IsSure};
 ghost use Rattle.step_core.specs.Chosen.{choice_of};
 ghost use Rattle.plant_core.specs.Events.{IsEvent, fire_refusal};
 ghost use Rattle.plant_core.specs.declared.events.Happened.TheVariants.{Fire};
 ghost use Rattle.plant_core.specs.Plants.{definition_of, device_of, text_digest, view_of};
-ghost use Rattle.plant_core.specs.View.{fired_number, with_fired};
+ghost use Rattle.plant_core.specs.View.{fired_number, parts_in, with_fired};
 
 use crate::events::FiredAs;
 use crate::limits::MOST_TAIL;
@@ -23,7 +23,7 @@ use record_replay::laws::{
     a_told_record_is_the_record_of_its_choice, the_record_of_a_step_is_of_its_plant,
 };
 use record_replay::{count_participants, record_of};
-use step_core::laws::an_allowed_choice_is_in_range;
+use step_core::laws::{an_allowed_choice_is_in_range, sure_is_allowed};
 use step_core::{Choice, MAX_ATOMS};
 
 impl<'s, D: Disk> Plant<'s, D> {
@@ -38,15 +38,15 @@ impl<'s, D: Disk> Plant<'s, D> {
         if let Some(refused) = self.fire_refusal() {
             return Err(refused);
         }
-        let place = u128::from(pick) % self.stepper.count();
-        let choice = self.stepper.nth(place);
+        let place = u128::from(pick) % self.executor.count();
+        let choice = self.executor.nth(place);
         let number = self.fired() + 1;
         self.go_on(choice.copy());
         Ok(FiredAs { number, choice })
     }
 
     /// Why a fire would be refused now.
-    fn fire_refusal(&self) -> Option<Refused>
+    pub(crate) fn fire_refusal(&self) -> Option<Refused>
         ensures { result ≡ fire_refusal (definition_of self.now) (view_of self.now) }
     {
         let fired = self.fired();
@@ -62,15 +62,19 @@ impl<'s, D: Disk> Plant<'s, D> {
         if fired + 1 - self.journal.base() == u64::from(self.journal.ring()) {
             return Some(Refused::RingFull);
         }
-        if self.stepper.count() == 0 {
-            return Some(Refused::Stuck);
+        if self.executor.count() == 0 {
+            return Some(if self.executor.is_any_away() {
+                Refused::Busy
+            } else {
+                Refused::Stuck
+            });
         }
         None
     }
 
     /// Fires the choice, for which there is room.
     fn go_on(&mut self, choice: Choice)
-        requires allowed { IsAllowed (definition_of self.old) (view_of self.old).present (choice_of choice) }
+        requires sure { IsSure (definition_of self.old) (parts_in (view_of self.old)) (choice_of choice) }
         requires short { length (view_of self.old).tail < MOST_TAIL }
         requires room { fired_number (view_of self.old) + 1 < (view_of self.old).base + (view_of self.old).ring }
         requires last { fired_number (view_of self.old) < LAST_NUMBER }
@@ -79,13 +83,14 @@ impl<'s, D: Disk> Plant<'s, D> {
         ensures plant { definition_of self.new ≡ definition_of self.old }
         ensures digest { text_digest self.new ≡ text_digest self.old }
     {
-        self.stepper.system().keeps_its_rules();
+        self.executor.system().keeps_its_rules();
+        sure_is_allowed();
         an_allowed_choice_is_in_range();
         a_told_record_is_the_record_of_its_choice();
         the_record_of_a_step_is_of_its_plant();
         let number = self.fired() + 1;
         let mut told = [Delivered::of([None; petri_atom::MAX_EXPORTS]); MAX_LEAVES];
-        self.stepper.fire_telling(&choice, &mut told);
+        self.executor.fire_telling(&choice, &mut told);
         let record = record_of(number, &choice, &told, &self.counts);
         count_participants(&choice, &mut self.counts);
         self.tail.push_reserved(choice);

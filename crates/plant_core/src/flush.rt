@@ -8,7 +8,6 @@ ghost use Rattle.plant_core.specs.declared.events.Happened.TheVariants.{Flush};
 ghost use Rattle.plant_core.specs.Plants.{definition_of, device_of, text_digest, view_of};
 ghost use Rattle.plant_core.specs.Stops.{StandsForFront};
 
-use crate::copying::copy_states;
 use crate::plant::Plant;
 use crate::refused::Refused;
 use disk_model::Disk;
@@ -33,7 +32,7 @@ impl<'s, D: Disk> Plant<'s, D> {
         if self.tail.is_empty() {
             return Ok(self.number);
         }
-        self.stepper.system().keeps_its_rules();
+        self.executor.system().keeps_its_rules();
         self.broken = true;
         if self
             .journal
@@ -42,7 +41,7 @@ impl<'s, D: Disk> Plant<'s, D> {
         {
             return Err(Refused::Disk);
         }
-        copy_states(&mut self.acked, self.stepper.states());
+        self.executor.commit();
         self.acked_counts = self.counts;
         self.number += self.tail.len() as u64;
         self.tail.clear();

@@ -55,18 +55,14 @@ impl<'s, D: Disk> Plant<'s, D> {
         ensures plant { plant_of result.now ≡ definition_of self.now }
         ensures digest { digest_of result.now ≡ text_digest self.now }
     {
-        self.stepper.system()
+        self.executor.system()
     }
 
-    /// The present state of the atom with the number, where the plant has it.
+    /// The present state of the atom with the number, where the plant has it. One that is away is where its job will leave it.
     pub fn look(&self, atom: u16) -> Option<AtomState>
         ensures { result ≡ slice_get (view_of self.now).present atom }
     {
-        if usize::from(atom) < self.stepper.states().len() {
-            Some(self.stepper.state(atom))
-        } else {
-            None
-        }
+        self.executor.look(atom)
     }
 
     /// The device, which is left as it is.

@@ -21,7 +21,7 @@
 #![tactic(auto)]
 
 mod asking;
-mod copying;
+mod beginning;
 mod driving;
 mod events;
 mod fire;
@@ -40,12 +40,12 @@ mod snapshots;
 mod trimming;
 
 pub use driving::{drive, meet};
-pub use events::{Event, FiredAs, Happened};
+pub use events::{Event, FiredAs, Happened, Returned};
 pub use front::Front;
 pub use hands::Hands;
 pub use limits::MOST_TAIL;
 pub use making::Parts;
 pub use marks::marks_of;
 pub use plant::Plant;
-pub use refused::{PutRefused, Refused};
+pub use refused::{BackRefused, PutRefused, Refused};
 pub use snapshots::Snapshots;

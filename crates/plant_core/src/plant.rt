@@ -6,13 +6,14 @@ ghost use Rattle.disk_model.specs.declared.cells.TheConstants.{BODY};
 ghost use Rattle.plant_core.specs.Kept.{AreMarked, AreOnTheWay, FitsTogether, IsAtRest, IsFrontOf, IsJournalOf};
 ghost use Rattle.plant_core.specs.View.{view_by};
 ghost use Rattle.plant_core.specs.declared.limits.TheConstants.{MOST_TAIL};
-ghost use Rattle.step_core.specs.Running.{plant_in, states_in, system_in};
 ghost use Rattle.step_core.specs.System.{digest_of};
+ghost use Rattle.step_executor.specs.Executing.{committed_in, jobs_in, plant_in, states_in, system_in};
 
 use crate::snapshots::Snapshots;
 use disk_model::{BODY, Cells, Disk};
 use gated_journal::Journal;
-use step_core::{Choice, MAX_ATOMS, PlantState, Stepper};
+use step_core::{Choice, MAX_ATOMS};
+use step_executor::Executor;
 use trimmer::Mark;
 
 /// A plant on a device. It fires choices in memory, and writes their records when it is flushed: what was flushed is there after any
@@ -21,9 +22,8 @@ use trimmer::Mark;
 /// Only making it takes memory. When the device fails it is broken: then it can be looked at, and the device has to be booted again.
 #[derive(Drop)]
 pub struct Plant<'s, D: Disk> {
-    pub(crate) stepper: Stepper<'s>,
+    pub(crate) executor: Executor<'s>,
     pub(crate) counts: [u64; MAX_ATOMS],
-    pub(crate) acked: PlantState,
     pub(crate) acked_counts: [u64; MAX_ATOMS],
     pub(crate) number: u64,
     pub(crate) tail: Vec<Choice>,
@@ -33,14 +33,14 @@ pub struct Plant<'s, D: Disk> {
     pub(crate) snapshots: Snapshots,
     pub(crate) cells: Cells<D>,
     pub(crate) broken: bool,
-    ghost fits_together: { FitsTogether (plant_in stepper) (view_by acked acked_counts number tail.items (states_in stepper) counts journal marks.items snapshots broken) bodies.items },
+    ghost fits_together: { FitsTogether (plant_in executor) (view_by (committed_in executor) acked_counts number tail.items (states_in executor) counts journal marks.items snapshots (jobs_in executor) broken) bodies.items },
     ghost room_of_tail: { MOST_TAIL ≤ vec_capacity tail },
     ghost room_of_bodies: { MOST_TAIL ≤ vec_capacity bodies },
     ghost room_of_marks: { journal.ring ≤ vec_capacity marks },
-    ghost of_journal: { IsJournalOf (plant_in stepper) number journal cells },
-    ghost at_rest: { cells.keeps ≡ true → broken ≡ false → IsAtRest (plant_in stepper) (digest_of (system_in stepper)) journal acked acked_counts number snapshots.saved cells },
-    ghost marked: { cells.keeps ≡ true → broken ≡ false → AreMarked (plant_in stepper) (view_by acked acked_counts number tail.items (states_in stepper) counts journal marks.items snapshots broken) (seen_cells (BODY + 1) cells) },
-    ghost on_the_way: { cells.keeps ≡ true → broken ≡ false → AreOnTheWay (plant_in stepper) (view_by acked acked_counts number tail.items (states_in stepper) counts journal marks.items snapshots broken) (seen_cells (BODY + 1) cells) },
+    ghost of_journal: { IsJournalOf (plant_in executor) number journal cells },
+    ghost at_rest: { cells.keeps ≡ true → broken ≡ false → IsAtRest (plant_in executor) (digest_of (system_in executor)) journal (committed_in executor) acked_counts number snapshots.saved cells },
+    ghost marked: { cells.keeps ≡ true → broken ≡ false → AreMarked (plant_in executor) (view_by (committed_in executor) acked_counts number tail.items (states_in executor) counts journal marks.items snapshots (jobs_in executor) broken) (seen_cells (BODY + 1) cells) },
+    ghost on_the_way: { cells.keeps ≡ true → broken ≡ false → AreOnTheWay (plant_in executor) (view_by (committed_in executor) acked_counts number tail.items (states_in executor) counts journal marks.items snapshots (jobs_in executor) broken) (seen_cells (BODY + 1) cells) },
     ghost at_a_stop: { cells.keeps ≡ true → (image : List Cell) → MayBe (BODY + 1) cells image
-        → IsFrontOf (plant_in stepper) (digest_of (system_in stepper)) (size_of cells) (view_by acked acked_counts number tail.items (states_in stepper) counts journal marks.items snapshots broken) image },
+        → IsFrontOf (plant_in executor) (digest_of (system_in executor)) (size_of cells) (view_by (committed_in executor) acked_counts number tail.items (states_in executor) counts journal marks.items snapshots (jobs_in executor) broken) image },
 }

@@ -4,6 +4,7 @@ ghost use Rattle.plant_core.specs.Refusals.{number_of};
 
 use snapshot_writer::Encoded;
 use std::fmt;
+use step_core::Done;
 use thiserror::Error;
 
 /// Why a call of a durable plant is refused. Nothing changes then, but that a plant whose device failed is broken.
@@ -83,5 +84,14 @@ pub struct PutRefused {
     /// The state, as it was handed in.
     pub encoded: Encoded,
     /// Why it was not stored.
+    pub refused: Refused,
+}
+
+/// A job that was not taken back, and why not.
+#[derive(Drop)]
+pub struct BackRefused<'s> {
+    /// The job, as it was handed in.
+    pub done: Done<'s>,
+    /// Why it was not taken back.
     pub refused: Refused,
 }

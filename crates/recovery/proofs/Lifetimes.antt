@@ -152,6 +152,7 @@ module _ (plant : PlantDefinition) (digest : List ℕ) (bytes : ℕ) where
       marks = refl;
       saved = refl;
       kept = refl;
+      away = refl;
       broken = refl;
     };
     run = refl;

@@ -1,5 +1,5 @@
 -- The plant that what was read makes, and what a stop in the cleaning leaves.
-use Rattle.std.proofs.Common.{◌≡◌, inl, inr, ℕ, ◌+◌, ◌≤◌, nat_lt, Bool, true, false, List, [], length, map, replicate, None, Ok, refl, sym, ◌∙◌, ap, subst, arith}
+use Rattle.std.proofs.Common.{◌≡◌, inl, inr, ℕ, ◌+◌, ◌≤◌, nat_lt, Bool, true, false, List, [], length, map, replicate, Option, None, Result, Ok, Err, IfErr, refl, sym, ◌∙◌, ap, subst, arith}
 use Rattle.std.proofs.lemmas.Bool.{ltb-true, ltb-false}
 use Rattle.std.proofs.lemmas.List.{get_or_past, length-map}
 use Rattle.std.proofs.lemmas.List.FromFn.{length-map-range_with_len}
@@ -15,6 +15,7 @@ use Rattle.record_codec.specs.Fired.{FiredFields}
 use Rattle.record_codec.specs.Saved.{SavedFields}
 use Rattle.record_replay.specs.Records.{count_of}
 use Rattle.record_replay.proofs.OverRecords.{replay-grows}
+use Rattle.step_core.specs.Job.{JobDefinition}
 use Rattle.step_core.specs.Plant.{PlantDefinition}
 use Rattle.step_core.specs.declared.limits.TheConstants.{MAX_ATOMS}
 use Rattle.plant_image.specs.Contents.{Contents, contents_of, counts_of, last_number, newest_held, ring_in, saved_position, unsaved}
@@ -47,6 +48,11 @@ leads_counted plant c states counts others number same long leads = record {
   each = λ atom a s at its. leads.each atom a s at its ∙ ap (λ (n : ℕ). Ok (record { state = s; count = n })) (sym (same atom));
   within = λ atom below. omega (arith, leads.within atom below, same atom);
 }
+
+-- what holds whatever a result is holds of its error
+pub where-err : {V E P : Type 0} (result : Result V E) → P → IfErr result (λ _. P)
+where-err (Ok value) holds = tt
+where-err (Err fault) holds = holds
 
 module _ (plant : PlantDefinition) (digest : List ℕ) (bytes : ℕ) (cells : List Cell) (standing : Standing) (sound : fault_of plant digest bytes cells ≡ None) (is : IsStanding plant cells standing) where
   abbrev pub held : Contents
@@ -98,9 +104,9 @@ module _ (plant : PlantDefinition) (digest : List ℕ) (bytes : ℕ) (cells : Li
       omega arith
 
   -- what is made in memory shows what stands
-  pub shows : (acked : List Local) (counts : List ℕ) (j : Ring) (marks : List MarkFields) (known : SnapshotFields) → acked ≡ standing.states → counts ≡ standing.counts → j ≡ ring_in (length plant.atoms) held → marks ≡ marks_of held.records → known ≡ nothing_kept held.slots
-      → IsBooted plant digest bytes cells (view_by acked counts j.last [] acked counts j marks known false)
-  shows acked counts j marks known states same journal marked snapshots = record {
+  pub shows : (acked : List Local) (counts : List ℕ) (j : Ring) (marks : List MarkFields) (known : SnapshotFields) (away : List (Option JobDefinition)) → acked ≡ standing.states → counts ≡ standing.counts → j ≡ ring_in (length plant.atoms) held → marks ≡ marks_of held.records → known ≡ nothing_kept held.slots → away ≡ replicate (length plant.atoms) None
+      → IsBooted plant digest bytes cells (view_by acked counts j.last [] acked counts j marks known away false)
+  shows acked counts j marks known away states same journal marked snapshots none_away = record {
     sound = sound;
     acked = states ∙ is.led.states;
     number = ap (λ (r : Ring). r.last) journal;
@@ -113,6 +119,7 @@ module _ (plant : PlantDefinition) (digest : List ℕ) (bytes : ℕ) (cells : Li
     marks = marked;
     saved = ap (λ (k : SnapshotFields). k.saved) snapshots;
     kept = ap (λ (k : SnapshotFields). k.kept) snapshots ∙ ap (λ (n : ℕ). replicate n None) slots_many;
+    away = none_away;
     broken = refl;
   }
 
@@ -251,13 +258,13 @@ module _ (plant : PlantDefinition) (digest : List ℕ) (mid : DiskState) (standi
         ring = ring_in (length plant.atoms) read
 
   -- it shows what a read gave
-  pub shows_read : (old : DiskState) (acked : List Local) (counts : List ℕ) (marks : List MarkFields) (known : SnapshotFields) → mid.keeps ≡ true → size_of mid ≡ size_of old → seen_cells (BODY + 1) mid ≡ seen_cells (BODY + 1) old
-      → acked ≡ standing.states → counts ≡ standing.counts → marks ≡ marks_of (contents_in standing.held).records → known ≡ nothing_kept (contents_in standing.held).slots
-      → IsBooted plant digest (size_of old) (seen_cells (BODY + 1) old) (view_by acked counts j.last [] acked counts j marks known false)
-  shows_read old acked counts marks known keeps size seen states same marked made =
-      subst (λ (n : ℕ). IsBooted plant digest n (seen_cells (BODY + 1) old) (view_by acked counts j.last [] acked counts j marks known false)) size
-      (subst (λ (cells : List Cell). IsBooted plant digest (size_of mid) cells (view_by acked counts j.last [] acked counts j marks known false)) (was.seen keeps ∙ seen)
-      (shows plant digest (size_of mid) was.cells standing was.sound was.is acked counts j marks known states same ring_read (marked ∙ ap (λ (c : Contents). marks_of c.records) was.is.led.contents) (known_read known made)))
+  pub shows_read : (old : DiskState) (acked : List Local) (counts : List ℕ) (marks : List MarkFields) (known : SnapshotFields) (away : List (Option JobDefinition)) → mid.keeps ≡ true → size_of mid ≡ size_of old → seen_cells (BODY + 1) mid ≡ seen_cells (BODY + 1) old
+      → acked ≡ standing.states → counts ≡ standing.counts → marks ≡ marks_of (contents_in standing.held).records → known ≡ nothing_kept (contents_in standing.held).slots → away ≡ replicate (length plant.atoms) None
+      → IsBooted plant digest (size_of old) (seen_cells (BODY + 1) old) (view_by acked counts j.last [] acked counts j marks known away false)
+  shows_read old acked counts marks known away keeps size seen states same marked made none_away =
+      subst (λ (n : ℕ). IsBooted plant digest n (seen_cells (BODY + 1) old) (view_by acked counts j.last [] acked counts j marks known away false)) size
+      (subst (λ (cells : List Cell). IsBooted plant digest (size_of mid) cells (view_by acked counts j.last [] acked counts j marks known away false)) (was.seen keeps ∙ seen)
+      (shows plant digest (size_of mid) was.cells standing was.sound was.is acked counts j marks known away states same ring_read (marked ∙ ap (λ (c : Contents). marks_of c.records) was.is.led.contents) (known_read known made) none_away))
 
 -- two calls of one sync each
 pub counts_two : (old mid new : DiskState) → Counts false true old mid → Counts false true mid new → CountsTwo true old new

@@ -6,7 +6,8 @@ use Rattle.disk_model.specs.Cells.{Cell, MayBe, seen_cells}
 use Rattle.disk_model.specs.declared.cells.TheConstants.{BODY}
 use Rattle.record_replay.specs.Records.{count_of}
 use Rattle.step_core.specs.Plant.{PlantDefinition}
-use Rattle.plant_image.specs.Contents.{contents_of, counts_of, last_number, states_of}
+use Rattle.gated_journal.specs.Stops.{HasCleaned}
+use Rattle.plant_image.specs.Contents.{contents_of, counts_of, last_number, ring_in, states_of}
 use Rattle.plant_image.specs.Faults.{fault_of}
 use Rattle.plant_image.specs.Reading.{IsTold}
 use Rattle.plant_image.specs.Standing.{StandsFor}
@@ -45,8 +46,14 @@ pub record StandAlike (plant : PlantDefinition) (digest : List ℕ) (bytes : ℕ
 abbrev pub IsBooting : PlantDefinition → List ℕ → DiskState → List Cell → Type 0
 IsBooting plant digest old cells = MayBe (BODY + 1) old cells ⊎ StandAlike plant digest (size_of old) (seen_cells (BODY + 1) old) cells
 
+-- The cells of a device from which no plant was booted: as they were, or the record cells that are not live are as they were or empty, and all others as they
+-- were.
+abbrev pub AreLeft : PlantDefinition → List Cell → List Cell → Type 0
+AreLeft plant before cells = (cells ≡ before) ⊎ HasCleaned (ring_in (length plant.atoms) (contents_of (length plant.atoms) before)) before cells
+
 -- The view of a plant that is booted from a device of so many bytes with these cells: nothing is wrong with them, and the plant is where they lead, with
--- nothing to acknowledge. Its marks are those of the live records, what it knows of saved states is what stands in the slots, and no state was asked for.
+-- nothing to acknowledge. Its marks are those of the live records, what it knows of saved states is what stands in the slots, no state was asked for, and
+-- no atom is away.
 pub record IsBooted (plant : PlantDefinition) (digest : List ℕ) (bytes : ℕ) (cells : List Cell) (v : View) : Type 0 where
   pub sound : fault_of plant digest bytes cells ≡ None
   pub acked : v.acked ≡ states_of plant (contents_of (length plant.atoms) cells)
@@ -60,4 +67,5 @@ pub record IsBooted (plant : PlantDefinition) (digest : List ℕ) (bytes : ℕ) 
   pub marks : v.marks ≡ marks_of (contents_of (length plant.atoms) cells).records
   pub saved : v.saved ≡ map known_of (contents_of (length plant.atoms) cells).slots
   pub kept : v.kept ≡ replicate (length plant.atoms) None
+  pub away : v.away ≡ replicate (length plant.atoms) None
   pub broken : v.broken ≡ false

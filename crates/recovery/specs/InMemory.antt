@@ -6,7 +6,6 @@ use Rattle.disk_model.specs.declared.cells.TheConstants.{BODY}
 use Rattle.gated_journal.specs.Rings.{cells_of_ring}
 use Rattle.record_replay.specs.Records.{count_of}
 use Rattle.step_core.specs.Plant.{PlantDefinition}
-use Rattle.step_core.specs.Running.{states_in, system_in}
 use Rattle.step_core.specs.System.{plant_of, digest_of}
 use Rattle.step_core.specs.declared.system.System.{System}
 use Rattle.plant_image.specs.Contents.{contents_of, ring_in}
@@ -17,6 +16,7 @@ use Rattle.plant_core.specs.Marks.{marks_of}
 use Rattle.plant_core.specs.Snapshots.{nothing_kept}
 use Rattle.plant_core.specs.View.{View, view_by}
 use Rattle.plant_core.specs.declared.limits.TheConstants.{MOST_TAIL}
+use Rattle.step_executor.specs.Executing.{committed_in, jobs_in, states_in, system_in}
 use Rattle.trimmer.specs.Covered.{saved_count}
 use Rattle.recovery.specs.Booting.{IsBooted}
 use Rattle.recovery.specs.Judged.{WasReadOf}
@@ -33,12 +33,13 @@ pub record IsEmptyTail (memory : InMemory) : Type 0 where
   pub room_of_tail : MOST_TAIL ≤ vec_capacity memory.tail
   pub room_of_bodies : MOST_TAIL ≤ vec_capacity memory.bodies
 
--- What is in memory is what stands: the state twice, the counts, the journal of the live records with their marks, and what is known of the states in
+-- What is in memory is what stands: the state, which is committed, with no atom away, the counts, the journal of the live records with their marks, and what is known of the states in
 -- the slots, of which none was asked for; and room for a tail and for the marks of a full ring.
 pub record IsMadeOf (system : System) (standing : Standing) (memory : InMemory) : Type 0 where
-  pub of_system : system_in memory.stepper ≡ system
-  pub states : states_in memory.stepper ≡ standing.states
-  pub acked : memory.acked ≡ standing.states
+  pub of_system : system_in memory.executor ≡ system
+  pub states : states_in memory.executor ≡ standing.states
+  pub acked : committed_in memory.executor ≡ standing.states
+  pub none_away : jobs_in memory.executor ≡ replicate (length (plant_of system).atoms) None
   pub counts : memory.counts ≡ standing.counts
   pub journal : memory.journal ≡ ring_in (length (plant_of system).atoms) (contents_in standing.held)
   pub marks : memory.marks.items ≡ marks_of (contents_in standing.held).records
@@ -48,12 +49,13 @@ pub record IsMadeOf (system : System) (standing : Standing) (memory : InMemory) 
 
 -- the view of the plant that is made of it
 abbrev pub view_in : InMemory → View
-view_in memory = view_by memory.acked memory.counts memory.journal.last [] memory.acked memory.counts memory.journal memory.marks.items memory.snapshots false
+view_in memory = view_by (committed_in memory.executor) memory.counts memory.journal.last [] (committed_in memory.executor) memory.counts memory.journal memory.marks.items memory.snapshots (jobs_in memory.executor) false
 
 -- What is in memory and what is on the device make a plant, as booting has to give it.
 pub record IsPrepared (system : System) (old new : DiskState) (memory : InMemory) : Type 0 where
-  pub of_system : system_in memory.stepper ≡ system
-  pub same : states_in memory.stepper ≡ memory.acked
+  pub of_system : system_in memory.executor ≡ system
+  pub same : states_in memory.executor ≡ committed_in memory.executor
+  pub none_away : jobs_in memory.executor ≡ replicate (length (plant_of system).atoms) None
   pub counts : (atom : ℕ) → count_of memory.counts atom ≤ memory.journal.last
   pub room : IsEmptyTail memory
   pub atoms : memory.journal.atoms ≡ length (plant_of system).atoms
@@ -64,6 +66,6 @@ pub record IsPrepared (system : System) (old new : DiskState) (memory : InMemory
   pub known_within : (atom : ℕ) → saved_count memory.snapshots.saved atom ≤ count_of memory.counts atom
   pub none_asked : memory.snapshots.kept ≡ replicate (length memory.snapshots.saved) None
   pub rests : new.keeps ≡ true
-      → IsAtRest (plant_of system) (digest_of system) memory.journal memory.acked memory.counts memory.journal.last memory.snapshots.saved new
+      → IsAtRest (plant_of system) (digest_of system) memory.journal (committed_in memory.executor) memory.counts memory.journal.last memory.snapshots.saved new
   pub marked : new.keeps ≡ true → memory.marks.items ≡ marks_of (contents_of (length (plant_of system).atoms) (seen_cells (BODY + 1) new)).records
   pub booted : old.keeps ≡ true → IsBooted (plant_of system) (digest_of system) (size_of old) (seen_cells (BODY + 1) old) (view_in memory)

@@ -63,6 +63,7 @@ opening plant cells = record {
   marks = marks_of (contents_of (length plant.atoms) cells).records;
   saved = map known_of (contents_of (length plant.atoms) cells).slots;
   kept = replicate (length plant.atoms) None;
+  away = replicate (length plant.atoms) None;
   broken = false;
 }
 

@@ -4,9 +4,8 @@ ghost use Rattle.disk_model.specs.DiskState.{CountsTwo, CountsUpTo, size_of};
 ghost use Rattle.disk_model.specs.Cells.{Leaves, seen_cells};
 ghost use Rattle.plant_core.specs.Plants.{definition_of, device_of, text_digest, view_of};
 ghost use Rattle.plant_image.specs.Faults.{fault_of};
-ghost use Rattle.step_core.specs.Fitting.{IsOf};
 ghost use Rattle.step_core.specs.System.{plant_of, digest_of};
-ghost use Rattle.recovery.specs.Booting.{IsBooted, IsBooting, IsToldBy, is_disk};
+ghost use Rattle.recovery.specs.Booting.{AreLeft, IsBooted, IsBooting, IsToldBy, is_disk};
 ghost use Rattle.recovery.specs.InMemory.{IsMadeOf, IsPrepared, WasRead};
 ghost use Rattle.recovery.specs.declared.fault.BootFault.TheVariants.{Disk as DiskFailed};
 
@@ -17,14 +16,14 @@ use gated_journal::Journal;
 use plant_core::{MOST_TAIL, Parts, Plant, Snapshots, marks_of};
 use plant_image::Standing;
 use std::alloc::{AllocError, Global};
-use step_core::{Choice, MAX_ATOMS, PlantState, Stepper, System};
+use step_core::{Choice, MAX_ATOMS, System};
+use step_executor::Executor;
 use trimmer::Mark;
 
 /// What a plant is made of, but for its device.
 #[derive(Drop)]
 pub(crate) struct InMemory<'s> {
-    pub(crate) stepper: Stepper<'s>,
-    pub(crate) acked: PlantState,
+    pub(crate) executor: Executor<'s>,
     pub(crate) counts: [u64; MAX_ATOMS],
     pub(crate) tail: Vec<Choice>,
     pub(crate) bodies: Vec<[u8; BODY]>,
@@ -35,7 +34,8 @@ pub(crate) struct InMemory<'s> {
 
 /// The plant of the system that the device stands for, after any stop. It syncs the device, judges all that a read gives, and takes all
 /// memory that the plant needs; only then the record cells that are not live are emptied, by a second sync. Where it is refused the device
-/// is handed back, and stands for what it stood for.
+/// is handed back, and stands for what it stood for: no cell has changed, but that record cells which are not live may be empty where the device
+/// failed.
 pub fn boot<'s, D: Disk>(
     alloc: Global,
     disk: D,
@@ -51,6 +51,8 @@ pub fn boot<'s, D: Disk>(
         (λ r. Leaves (BODY + 1) (IsBooting (plant_of system.now) (digest_of system.now) (D.state disk)) (D.state disk) (D.state r.disk)) }
     ensures untouched { (D.state disk).keeps ≡ true → IfErr result (λ r. r.fault ≢ DiskFailed
         → seen_cells (BODY + 1) (D.state r.disk) ≡ seen_cells (BODY + 1) (D.state disk)) }
+    ensures left { (D.state disk).keeps ≡ true → IfErr result (λ r. AreLeft (plant_of system.now)
+        (seen_cells (BODY + 1) (D.state disk)) (seen_cells (BODY + 1) (D.state r.disk))) }
     ensures cause { MatchResult result
         (λ p. CountsTwo true (D.state disk) (device_of p))
         (λ r. CountsUpTo (is_disk r.fault) 1 (D.state disk) (D.state r.disk)) }
@@ -66,8 +68,7 @@ pub fn boot<'s, D: Disk>(
         }
     };
     let InMemory {
-        stepper,
-        acked,
+        executor,
         counts,
         tail,
         bodies,
@@ -76,8 +77,7 @@ pub fn boot<'s, D: Disk>(
         snapshots,
     } = memory;
     Ok(Plant::of(Parts {
-        stepper,
-        acked,
+        executor,
         counts,
         tail,
         bodies,
@@ -101,6 +101,8 @@ fn prepare<'s, D: Disk>(
         → Leaves (BODY + 1) (IsBooting (plant_of system.now) (digest_of system.now) cells.old) cells.old cells.new }
     ensures untouched { cells.old.keeps ≡ true
         → IfErr result (λ fault. fault ≢ DiskFailed → seen_cells (BODY + 1) cells.new ≡ seen_cells (BODY + 1) cells.old) }
+    ensures left { cells.old.keeps ≡ true
+        → IfErr result (λ _. AreLeft (plant_of system.now) (seen_cells (BODY + 1) cells.old) (seen_cells (BODY + 1) cells.new)) }
     ensures cause { MatchResult result (λ _. CountsTwo true cells.old cells.new) (λ fault. CountsUpTo (is_disk fault) 1 cells.old cells.new) }
 {
     let standing = judge(alloc, cells, system)?;
@@ -139,12 +141,11 @@ fn take_memory<'s, D: Disk>(
     )?;
     let marks = marks_of(alloc, &held.records, held.ring)?;
     let snapshots = Snapshots::of(alloc, &held.slots)?;
-    let acked = copied(alloc, system, &states)?;
+    let executor = Executor::at(alloc, system, states)?;
     let tail = Vec::with_capacity(alloc, MOST_TAIL)?;
     let bodies = Vec::with_capacity(alloc, MOST_TAIL)?;
     Ok(InMemory {
-        stepper: Stepper::at(system, states),
-        acked,
+        executor,
         counts,
         tail,
         bodies,
@@ -152,17 +153,4 @@ fn take_memory<'s, D: Disk>(
         marks,
         snapshots,
     })
-}
-
-/// A second copy of a state of the system's plant.
-fn copied(alloc: Global, system: &System, from: &PlantState) -> Result<PlantState, AllocError>
-    requires { IsOf (plant_of system.now) from.now }
-    ensures { IfOk result (λ states. states ≡ from.now) }
-{
-    system.keeps_its_rules();
-    let mut states = PlantState::init(alloc, system)?;
-    for atom in 0..from.len() {
-        states.set(atom as u16, from.state(atom as u16).copy());
-    }
-    Ok(states)
 }

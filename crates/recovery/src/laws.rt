@@ -18,11 +18,21 @@ ghost use Rattle.step_core.specs.Plant.{PlantDefinition};
 ghost use Rattle.step_core.specs.Runs.{IsRun, fold};
 ghost use Rattle.step_core.specs.Step.{initial_states};
 ghost use Rattle.plant_core.specs.Stops.{StandsForFront};
-ghost use Rattle.plant_core.specs.View.{View};
-ghost use Rattle.recovery.specs.Booting.{IsBooting, StandAlike};
+ghost use Rattle.plant_core.specs.View.{View, fired_number};
+ghost use Rattle.recovery.specs.Booting.{IsBooted, IsBooting, StandAlike};
 ghost use Rattle.recovery.specs.Lifetimes.{HoldAcknowledged, IsLifetime, IsPeriod, Period, all_kept, cut_short};
 ghost use Rattle.recovery.specs.Migrating.{IsMigrated};
 ghost use Rattle.recovery.specs.OldImage.{AreOldCells, OldStandsFor, old_contents, todays_cells};
+
+/// A plant that is booted from what stands for a state and a number has acknowledged that state, with that number, and is in it.
+pub fn an_image_boots_to_what_it_stands_for()
+    ensures acked { (plant : PlantDefinition) (digest : List ℕ) (bytes number : ℕ) (cells : List Cell) (states : List Local) (v : View)
+        → StandsFor plant digest bytes cells states number → IsBooted plant digest bytes cells v → v.acked ≡ states }
+    ensures present { (plant : PlantDefinition) (digest : List ℕ) (bytes number : ℕ) (cells : List Cell) (states : List Local) (v : View)
+        → StandsFor plant digest bytes cells states number → IsBooted plant digest bytes cells v → v.present ≡ states }
+    ensures number { (plant : PlantDefinition) (digest : List ℕ) (bytes number : ℕ) (cells : List Cell) (states : List Local) (v : View)
+        → StandsFor plant digest bytes cells states number → IsBooted plant digest bytes cells v → fired_number v ≡ number }
+{}
 
 /// However many periods a plant has, each booted from what the one before left at any moment: what the last one leaves stands for the state that
 /// some run leads to from the state at the beginning. The run joins what each period fired and its stop left, and of each period that holds

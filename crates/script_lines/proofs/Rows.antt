@@ -1,8 +1,9 @@
 -- Worked examples of the definitions, as computed facts.
-use Rattle.std.proofs.Common.{◌≡◌, refl, ℕ, List, true, false, [], ◌∷◌, ◌++◌, codes, Ok, Err}
+use Rattle.std.proofs.Common.{◌≡◌, refl, ℕ, List, true, false, [], ◌∷◌, ◌++◌, codes, None, Ok, Err}
 use Rattle.std.specs.Fmt.{digits}
-use Rattle.plant_core.specs.declared.events.Event.TheVariants.{Fire, Flush, Ask, Put, Trim}
+use Rattle.plant_core.specs.declared.events.Event.TheVariants.{Fire, Flush, Ask, Put, Trim, Begin, Back}
 use Rattle.plant_core.specs.declared.events.Happened.TheVariants as happened
+use Rattle.plant_core.specs.declared.events.Returned.{Returned}
 use Rattle.plant_core.specs.declared.refused.Refused.TheVariants.{Stuck, Busy, TailFull, RingFull, Spent, Away, Ahead, Stranger, NothingNew, Disk, Broken}
 use Rattle.petri_atom.specs.Definition.{AtomDefinition}
 use Rattle.record_codec.specs.Saved.{SavedFields}
@@ -24,6 +25,10 @@ two = record { atoms = atom (codes "A") ∷ atom (codes "B") ∷ []; wires = [];
 -- a state of the atom with the number, which had taken part so often when the record with number 9 was the last
 abbrev copied : ℕ → ℕ → SavedFields
 copied number count = record { atom = number; count = count; at = 9; marking = 0; values = [] }
+
+-- what is told of a job of the atom with the number
+abbrev returned_of : ℕ → Returned
+returned_of number = record { own = true; atom = number; count = 4; transition = 0; delivered = None ∷ None ∷ None ∷ None ∷ []; before = record { marking = 1; values = [] } }
 
 -- ---- scripts
 
@@ -51,6 +56,24 @@ records_are_trimmed_by_a_word_alone = refl
 
 a_trim_is_asked_for : script_meaning two (codes "trim\nflush\n\ttrim") ≡ Ok (Trim ∷ Flush ∷ Trim ∷ [])
 a_trim_is_asked_for = refl
+
+atoms_go_away_by_a_pick_and_come_back_by_their_names : script_meaning two (codes "begin 7\nback B\n begin\t0\nback A") ≡ Ok (Begin 7 ∷ Back 1 ∷ Begin 0 ∷ Back 0 ∷ [])
+atoms_go_away_by_a_pick_and_come_back_by_their_names = refl
+
+one_pick_begins_alone : is_refused two (codes "begin 1 2") ≡ true
+one_pick_begins_alone = refl
+
+a_pick_begins : is_refused two (codes "begin") ≡ true
+a_pick_begins = refl
+
+an_atom_does_not_begin : is_refused two (codes "begin A") ≡ true
+an_atom_does_not_begin = refl
+
+an_unknown_atom_does_not_come_back : is_refused two (codes "back C") ≡ true
+an_unknown_atom_does_not_come_back = refl
+
+one_atom_comes_back_alone : is_refused two (codes "back A B") ≡ true
+one_atom_comes_back_alone = refl
 
 an_unknown_atom_is_refused : script_meaning two (codes "ask A\n\nask C\nput C\n") ≡ Err 3
 an_unknown_atom_is_refused = refl
@@ -192,6 +215,20 @@ a_refused_copy_is_told = refl
 a_refused_state_is_told : happened_line two (happened.Put (copied 1 4) (Err (Ahead 1))) ≡ codes "refused 7 Ahead(1)"
 unfolding digits
 a_refused_state_is_told = refl
+
+a_refused_beginning_is_told_whatever_its_pick : (plant : PlantDefinition) → happened_line plant (happened.Begin 5 (Err Busy)) ≡ codes "refused 2 Busy"
+unfolding digits
+a_refused_beginning_is_told_whatever_its_pick plant = refl
+
+a_return_is_told : happened_line two (happened.Back (returned_of 1) (Ok tt)) ≡ codes "back B"
+a_return_is_told = refl
+
+a_refused_return_is_told : happened_line two (happened.Back (returned_of 1) (Err Stranger)) ≡ codes "refused 8 Stranger"
+unfolding digits
+a_refused_return_is_told = refl
+
+a_hand_without_a_job_is_told : happened_line two (happened.Idle 0) ≡ codes "nothing A"
+a_hand_without_a_job_is_told = refl
 
 a_front_is_told : front_line (record { fired = 12; acked = 9; base = 1 }) ≡ codes "front 12 9 1"
 unfolding digits

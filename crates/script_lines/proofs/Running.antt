@@ -7,12 +7,16 @@ use Rattle.std.proofs.Math.Bool.{or-false}
 use Rattle.std.proofs.lemmas.Grind.{flat_map-append}
 use Rattle.std.proofs.lemmas.List.{drop_more, map-append, take-append-drop, take_all}
 use Rattle.std.proofs.lemmas.List.Folds.{list_any-append}
-use Rattle.record_codec.specs.Saved.{SavedFields}
 use Rattle.step_core.specs.Plant.{PlantDefinition}
-use Rattle.plant_core.specs.Events.{AreHandedIn, IsEvent, IsEventRun, IsHandedIn, asked_in, hands_behind, has_failed}
+use Rattle.disk_model.specs.DiskState.{DiskState}
+use Rattle.step_core.specs.Runs.{fold}
+use Rattle.plant_core.specs.Driven.{IsDriven}
+use Rattle.plant_core.specs.Events.{has_failed}
+use Rattle.plant_core.specs.Hands.{HandFields}
 use Rattle.plant_core.specs.View.{View}
 use Rattle.plant_core.specs.declared.events.Event.{Event}
 use Rattle.plant_core.specs.declared.events.Happened.{Happened}
+use Rattle.plant_core.proofs.EventByEvent.{driven-join}
 use Rattle.script_lines.specs.Answers.{happened_line, standing_text}
 use Rattle.script_lines.specs.Runs.{IsAnswered, IsCutRun, IsRunOf, happened_text}
 
@@ -21,102 +25,71 @@ pub on-err : {T E P : Type 0} (result : Result T E) → P → OnErr result P
 on-err (Ok x) holds = tt
 on-err (Err e) holds = holds
 
--- two runs, one after the other
-pub run-append : (plant : PlantDefinition) (hs gs : List Happened) (v u w : View) → IsEventRun plant v hs u → IsEventRun plant u gs w → IsEventRun plant v (hs ++ gs) w
-run-append plant [] gs v u w none more = subst (λ x. IsEventRun plant x gs w) none more
-run-append plant (h ∷ hs) gs v u w run more = (run.0, run.1, run-append plant hs gs run.0 u w run.2 more)
-
--- what was handed in of two runs, one after the other
-pub handed-append : (hs gs : List Happened) (a b c : List (Option SavedFields)) → AreHandedIn a hs b → AreHandedIn b gs c → AreHandedIn a (hs ++ gs) c
-handed-append [] gs a b c none more = subst (λ hands. AreHandedIn hands gs c) none more
-handed-append (h ∷ hs) gs a b c first more = (first.0, handed-append hs gs (hands_behind h a) b c first.1 more)
-
 -- events were asked and answered, and the lines of their answers are printed
-pub record IsSoFar (plant : PlantDefinition) (before : View) (hands : List (Option SavedFields)) (events : List Event) (failed : Bool) (now : View) (held : List (Option SavedFields)) (old new : Option (List ℕ)) : Type 0 where
+pub record IsSoFar (plant : PlantDefinition) (digest : List ℕ) (before : View) (s : DiskState) (hands : HandFields) (events : List Event) (failed : Bool) (now : View) (m : DiskState) (held : HandFields) (old new : Option (List ℕ)) : Type 0 where
   pub happened : List Happened
-  pub asked_in_order : map asked_in happened ≡ events
-  pub ran : IsEventRun plant before happened now
-  pub handed_in : AreHandedIn hands happened held
+  pub driven : IsDriven plant digest before s hands events happened now m held
   pub printed : Appends old new (happened_text plant happened)
   pub told : failed ≡ list_any has_failed happened
 
-module _ (plant : PlantDefinition) where
-  -- an event was asked, whose line was not printed
-  pub cut-of-event : (v w : View) (a b : List (Option SavedFields)) (h : Happened) (event : Event) → IsEvent plant v h w → IsHandedIn a h → b ≡ hands_behind h a → asked_in h ≡ event
-      → IsCutRun plant v a (event ∷ []) w b
-  cut-of-event v w a b h event ran handed held is = record {
-    happened = h ∷ [];
-    left = [];
-    asked_in_order = ap (λ e. e ∷ []) is;
-    ran = (w, ran, refl);
-    handed_in = (handed, held);
-  }
+module _ (plant : PlantDefinition) (digest : List ℕ) where
+  -- some events were asked, and no more
+  pub cut-of-driven : (v w : View) (s m : DiskState) (a b : HandFields) (events left : List Event) (hs : List Happened) → IsDriven plant digest v s a events hs w m b → IsCutRun plant digest v s a (events ++ left) w m b
+  cut-of-driven v w s m a b events left hs driven = record { happened = hs; asked = events; left = left; in_order = refl; driven = driven }
 
   -- the same of one that was answered
-  pub cut-of-answered : (v w : View) (a b : List (Option SavedFields)) (event : Event) (failed : Bool) (old new : Option (List ℕ)) → IsAnswered plant v a event failed w b old new
-      → IsCutRun plant v a (event ∷ []) w b
-  cut-of-answered v w a b event failed old new answered =
-      cut-of-event v w a b answered.happened event answered.changed answered.handed_in answered.held answered.is_asked
+  pub cut-of-answered : (v w : View) (s m : DiskState) (a b : HandFields) (event : Event) (failed : Bool) (old new : Option (List ℕ)) → IsAnswered plant digest v s a event failed w m b old new
+      → IsCutRun plant digest v s a (event ∷ []) w m b
+  cut-of-answered v w s m a b event failed old new answered = cut-of-driven v w s m a b (event ∷ []) [] (answered.happened ∷ []) answered.driven
 
-  -- one more event is answered
-  pub so-far-more : (v u w : View) (a b c : List (Option SavedFields)) (events : List Event) (event : Event) (failed more : Bool) (start old new : Option (List ℕ))
-      → IsSoFar plant v a events failed u b start old → IsAnswered plant u b event more w c old new → IsSoFar plant v a (events ++ event ∷ []) (failed || more) w c start new
-  so-far-more v u w a b c events event failed more start old new s answered =
-      let one : List Happened = answered.happened ∷ [] in
-      record {
-        happened = s.happened ++ one;
-        asked_in_order = map-append asked_in s.happened one ∙ ap (λ es. es ++ asked_in answered.happened ∷ []) s.asked_in_order ∙ ap (λ e. events ++ e ∷ []) answered.is_asked;
-        ran = run-append plant s.happened one v u w s.ran (w, answered.changed, refl);
-        handed_in = handed-append s.happened one a b c s.handed_in (answered.handed_in, answered.held);
-        printed = subst (Appends start new) (sym (flat_map-append (λ h. happened_line plant h ++ codes "\n") s.happened one))
-            (Appends-trans start old new (happened_text plant s.happened) (happened_text plant one) s.printed
-            (subst (Appends old new) (sym (append-nil (happened_line plant answered.happened ++ codes "\n"))) answered.printed));
-        told = ap (λ b. b || more) s.told ∙ ap (λ b. list_any has_failed s.happened || b) (answered.told ∙ sym (or-false (has_failed answered.happened))) ∙ sym (list_any-append has_failed s.happened one);
-      }
+  module _ (v : View) (s : DiskState) (a : HandFields) (leads : v.present ≡ fold plant v.acked v.tail) where
+    -- one more event is answered
+    pub so-far-more : (u w : View) (m t : DiskState) (b c : HandFields) (events : List Event) (event : Event) (failed more : Bool) (start old new : Option (List ℕ))
+        → IsSoFar plant digest v s a events failed u m b start old → IsAnswered plant digest u m b event more w t c old new → IsSoFar plant digest v s a (events ++ event ∷ []) (failed || more) w t c start new
+    so-far-more u w m t b c events event failed more start old new so_far answered =
+        let one : List Happened = answered.happened ∷ [] in
+        record {
+          happened = so_far.happened ++ one;
+          driven = driven-join plant digest v u w s m t a b c events (event ∷ []) so_far.happened one leads so_far.driven answered.driven;
+          printed = subst (Appends start new) (sym (flat_map-append (λ h. happened_line plant h ++ codes "\n") so_far.happened one))
+              (Appends-trans start old new (happened_text plant so_far.happened) (happened_text plant one) so_far.printed
+              (subst (Appends old new) (sym (append-nil (happened_line plant answered.happened ++ codes "\n"))) answered.printed));
+          told = ap (λ x. x || more) so_far.told ∙ ap (λ x. list_any has_failed so_far.happened || x) (answered.told ∙ sym (or-false (has_failed answered.happened))) ∙ sym (list_any-append has_failed so_far.happened one);
+        }
 
-  module _ (v w : View) (a b : List (Option SavedFields)) (events : List Event) (i : ℕ) (all : length events ≤ i) (failed : Bool) (start old : Option (List ℕ)) (s : IsSoFar plant v a (take i events) failed w b start old) where
+    -- the run ends in the event at this place
+    pub cut-of-some : (u w : View) (m t : DiskState) (b c : HandFields) (events : List Event) (i : ℕ) (none : Event) (failed : Bool) (old new : Option (List ℕ))
+        → i < length events → IsSoFar plant digest v s a (take i events) failed u m b old new → IsCutRun plant digest u m b (get_or events i none ∷ []) w t c → IsCutRun plant digest v s a events w t c
+    cut-of-some u w m t b c events i none failed old new within so_far cut =
+        let rest = drop (i + 1) events in
+        let all : (take i events ++ cut.asked) ++ (cut.left ++ rest) ≡ events =
+        append_assoc (take i events) cut.asked (cut.left ++ rest) ∙
+        ap (λ es. take i events ++ es) (sym (append_assoc cut.asked cut.left rest)) ∙
+        ap (λ es. take i events ++ (es ++ rest)) cut.in_order ∙
+        ap (λ es. take i events ++ es) (sym (drop_more events i none within)) ∙
+        take-append-drop i events in
+        record {
+          happened = so_far.happened ++ cut.happened;
+          asked = take i events ++ cut.asked;
+          left = cut.left ++ rest;
+          in_order = all;
+          driven = driven-join plant digest v u w s m t a b c (take i events) cut.asked so_far.happened cut.happened leads so_far.driven cut.driven;
+        }
+
+  module _ (v w : View) (s m : DiskState) (a b : HandFields) (events : List Event) (i : ℕ) (all : length events ≤ i) (failed : Bool) (start old : Option (List ℕ)) (so_far : IsSoFar plant digest v s a (take i events) failed w m b start old) where
     -- all events were answered
-    all-asked : map asked_in s.happened ≡ events
-    all-asked = s.asked_in_order ∙ take_all i events all
+    all-driven : IsDriven plant digest v s a events so_far.happened w m b
+    all-driven = subst (λ es. IsDriven plant digest v s a es so_far.happened w m b) (take_all i events all) so_far.driven
 
     -- and where the plant stands is printed
-    pub run-of-all : (new end : Option (List ℕ)) → Appends old new (standing_text plant w) → Keeps new end → IsRunOf plant v a events failed w b start end
+    pub run-of-all : (new end : Option (List ℕ)) → Appends old new (standing_text plant w) → Keeps new end → IsRunOf plant digest v s a events failed w m b start end
     run-of-all new end standing kept = record {
-      happened = s.happened;
-      asked_in_order = all-asked;
-      ran = s.ran;
-      handed_in = s.handed_in;
-      printed = Appends-kept start new end _ (Appends-trans start old new _ _ s.printed standing) kept;
-      told = s.told;
+      happened = so_far.happened;
+      driven = all-driven;
+      printed = Appends-kept start new end _ (Appends-trans start old new _ _ so_far.printed standing) kept;
+      told = so_far.told;
     }
 
     -- or it is not
-    pub cut-of-all : IsCutRun plant v a events w b
-    cut-of-all = record {
-      happened = s.happened;
-      left = [];
-      asked_in_order = append-nil (map asked_in s.happened) ∙ all-asked;
-      ran = s.ran;
-      handed_in = s.handed_in;
-    }
-
-  -- the run ends in the event at this place
-  pub cut-of-some : (v u w : View) (a b c : List (Option SavedFields)) (events : List Event) (i : ℕ) (none : Event) (failed : Bool) (old new : Option (List ℕ))
-      → i < length events → IsSoFar plant v a (take i events) failed u b old new → IsCutRun plant u b (get_or events i none ∷ []) w c → IsCutRun plant v a events w c
-  cut-of-some v u w a b c events i none failed old new within s cut =
-      let rest = drop (i + 1) events in
-      let all : map asked_in (s.happened ++ cut.happened) ++ (cut.left ++ rest) ≡ events =
-      ap (λ es. es ++ (cut.left ++ rest)) (map-append asked_in s.happened cut.happened) ∙
-      append_assoc (map asked_in s.happened) (map asked_in cut.happened) (cut.left ++ rest) ∙
-      ap (λ es. map asked_in s.happened ++ es) (sym (append_assoc (map asked_in cut.happened) cut.left rest)) ∙
-      ap (λ es. map asked_in s.happened ++ (es ++ rest)) cut.asked_in_order ∙
-      ap (λ es. es ++ (get_or events i none ∷ rest)) s.asked_in_order ∙
-      ap (λ es. take i events ++ es) (sym (drop_more events i none within)) ∙
-      take-append-drop i events in
-      record {
-        happened = s.happened ++ cut.happened;
-        left = cut.left ++ rest;
-        asked_in_order = all;
-        ran = run-append plant s.happened cut.happened v u w s.ran cut.ran;
-        handed_in = handed-append s.happened cut.happened a b c s.handed_in cut.handed_in;
-      }
+    pub cut-of-all : IsCutRun plant digest v s a events w m b
+    cut-of-all = subst (λ es. IsCutRun plant digest v s a es w m b) (append-nil events) (cut-of-driven v w s m a b events [] so_far.happened all-driven)

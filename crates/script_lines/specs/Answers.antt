@@ -1,12 +1,13 @@
 -- The lines of what happened to a durable plant, and of where it stands.
 use Rattle.std.specs.Prelude.{ℕ, List, [], ◌++◌, Option, None, Some, Ok, Err, codes, decimal}
+use Rattle.step_core.specs.Choice.{ChoiceDefinition}
 use Rattle.step_core.specs.Chosen.{choice_of}
 use Rattle.step_core.specs.Plant.{PlantDefinition}
 use Rattle.run_text.specs.Line.{fired_line, states_text}
 use Rattle.plant_core.specs.Refusals.{number_of}
 use Rattle.plant_core.specs.View.{View, fired_number}
 use Rattle.plant_core.specs.declared.events.Happened.{Happened}
-use Rattle.plant_core.specs.declared.events.Happened.TheVariants.{Fire, Flush, Ask, Put, Empty, Trim}
+use Rattle.plant_core.specs.declared.events.Happened.TheVariants.{Fire, Flush, Ask, Put, Empty, Trim, Begin, Back, Idle}
 use Rattle.plant_core.specs.declared.front.Front.{Front}
 use Rattle.plant_core.specs.declared.refused.Refused.{Refused}
 use Rattle.plant_core.specs.declared.refused.Refused.TheVariants.{Stuck, Busy, TailFull, RingFull, Spent, Away, Ahead, Stranger, NothingNew, Disk, Broken}
@@ -53,7 +54,15 @@ asked_line name count = codes "asked " ++ name ++ codes " " ++ decimal count
 abbrev pub stored_line : List ℕ → ℕ → List ℕ
 stored_line name count = codes "stored " ++ name ++ codes " " ++ decimal count
 
--- no state of the atom with the name was at hand to be stored
+-- a choice whose participants went away, with its number
+abbrev pub begun_line : PlantDefinition → ℕ → ChoiceDefinition → List ℕ
+begun_line plant number choice = fired_line plant number choice ++ codes " begun"
+
+-- the atom with the name is present again
+abbrev pub back_line : List ℕ → List ℕ
+back_line name = codes "back " ++ name
+
+-- no state or no job of the atom with the name was at hand
 abbrev pub nothing_line : List ℕ → List ℕ
 nothing_line name = codes "nothing " ++ name
 
@@ -61,8 +70,8 @@ nothing_line name = codes "nothing " ++ name
 abbrev pub base_line : ℕ → List ℕ
 base_line number = codes "base " ++ decimal number
 
--- What happened: a choice that was fired as a trace prints it, up to where all was acknowledged, which state was copied or stored, from where on
--- records are kept, or why the plant refused.
+-- What happened: a choice that was fired as a trace prints it, and told where its participants went away, up to where all was acknowledged, which state
+-- was copied or stored, which atom is present again, from where on records are kept, or why the plant refused.
 abbrev pub happened_line : PlantDefinition → Happened → List ℕ
 happened_line plant (Fire pick (Ok fired)) = fired_line plant fired.number (choice_of fired.choice)
 happened_line plant (Fire pick (Err refused)) = refused_line refused
@@ -75,6 +84,11 @@ happened_line plant (Put handed (Err refused)) = refused_line refused
 happened_line plant (Empty atom) = nothing_line (atom_name plant atom)
 happened_line plant (Trim (Ok base)) = base_line base
 happened_line plant (Trim (Err refused)) = refused_line refused
+happened_line plant (Begin pick (Ok fired)) = begun_line plant fired.number (choice_of fired.choice)
+happened_line plant (Begin pick (Err refused)) = refused_line refused
+happened_line plant (Back returned (Ok done)) = back_line (atom_name plant returned.atom)
+happened_line plant (Back returned (Err refused)) = refused_line refused
+happened_line plant (Idle atom) = nothing_line (atom_name plant atom)
 
 -- how far a plant is: the last that was fired, the last that is acknowledged, and the first record that is kept
 abbrev pub front_line : Front → List ℕ

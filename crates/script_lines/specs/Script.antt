@@ -9,18 +9,26 @@ use Rattle.plant_words.specs.Numbers.{pick_in}
 use Rattle.plant_words.specs.Words.{words_of}
 use Rattle.text_io.specs.declared.reading.TheConstants.{MAX_TEXT}
 use Rattle.plant_core.specs.declared.events.Event.{Event}
-use Rattle.plant_core.specs.declared.events.Event.TheVariants.{Fire, Flush, Ask, Put, Trim}
+use Rattle.plant_core.specs.declared.events.Event.TheVariants.{Fire, Flush, Ask, Put, Trim, Begin, Back}
 use Rattle.script_lines.specs.Atoms.{atom_named}
 use Rattle.script_lines.specs.declared.fault.ScriptFault.{ScriptFault}
 use Rattle.script_lines.specs.declared.fault.ScriptFault.TheVariants.{Line, Memory}
 use Rattle.script_lines.specs.declared.line.ScriptLine.{ScriptLine}
 use Rattle.script_lines.specs.declared.line.ScriptLine.TheVariants.{Nothing, Asks, Unreadable}
 
+-- the pick that is the only one of the words
+abbrev pub only_pick : List (List ℕ) → Option ℕ
+only_pick [] = None
+only_pick (word ∷ []) = pick_in word
+only_pick (word ∷ other ∷ more) = None
+
 -- behind `fire` stands one word, which is a pick
 abbrev pub fire_in : List (List ℕ) → Option Event
-fire_in [] = None
-fire_in (word ∷ []) = option_map Fire (pick_in word)
-fire_in (word ∷ other ∷ more) = None
+fire_in words = option_map Fire (only_pick words)
+
+-- and so it does behind `begin`
+abbrev pub begin_in : List (List ℕ) → Option Event
+begin_in words = option_map Begin (only_pick words)
 
 -- behind `flush` stands no word
 abbrev pub flush_in : List (List ℕ) → Option Event
@@ -41,6 +49,10 @@ ask_in plant words = option_map Ask (only_atom plant words)
 abbrev pub put_in : PlantDefinition → List (List ℕ) → Option Event
 put_in plant words = option_map Put (only_atom plant words)
 
+-- and behind `back`
+abbrev pub back_in : PlantDefinition → List (List ℕ) → Option Event
+back_in plant words = option_map Back (only_atom plant words)
+
 -- behind `trim` stands no word
 abbrev pub trim_in : List (List ℕ) → Option Event
 trim_in [] = Some Trim
@@ -54,6 +66,8 @@ event_in plant first words =
     else if is_same_text first (codes "ask") then ask_in plant words
     else if is_same_text first (codes "put") then put_in plant words
     else if is_same_text first (codes "trim") then trim_in words
+    else if is_same_text first (codes "begin") then begin_in words
+    else if is_same_text first (codes "back") then back_in plant words
     else None
 
 -- words that ask for no event make a line unreadable

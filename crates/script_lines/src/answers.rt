@@ -1,20 +1,21 @@
 //! The lines of answers, refusals and fronts.
 ghost use Rattle.std.specs.Prelude.{◌≡◌, OnOk};
 ghost use Rattle.std.specs.Io.KnownBytes.{Appends};
+ghost use Rattle.step_core.specs.Chosen.{choice_of};
 ghost use Rattle.step_core.specs.System.{plant_of};
-ghost use Rattle.script_lines.specs.Answers.{asked_line, atom_in, atom_said, base_line, flushed_line, front_line, happened_line, name_of, nothing_line, refused_line, stored_line};
+ghost use Rattle.script_lines.specs.Answers.{asked_line, atom_in, atom_said, back_line, base_line, begun_line, flushed_line, front_line, happened_line, name_of, nothing_line, refused_line, stored_line};
 
 use crate::atoms::atom_name;
-use plant_core::{Front, Happened, Refused};
+use plant_core::{FiredAs, Front, Happened, Refused};
 use run_text::print_choice;
 use std::io::Write;
 use step_core::System;
 use text_io::{WriteFault, print_number, print_text};
 
-/// Prints what happened to a durable plant of the system: a choice that was fired as a trace prints it, `flushed N` where all up to number N
-/// is acknowledged, `asked NAME COUNT` where the state of the atom was copied, `stored NAME COUNT` where it was stored, `nothing NAME` where none
-/// was at hand, `base N` where records were dropped and N is the first that is kept, and `refused NUMBER NAME` where the plant refused. The line
-/// is not ended.
+/// Prints what happened to a durable plant of the system: a choice that was fired as a trace prints it, with ` begun` behind it where its
+/// participants went away, `flushed N` where all up to number N is acknowledged, `asked NAME COUNT` where the state of the atom was copied,
+/// `stored NAME COUNT` where it was stored, `back NAME` where the atom is present again, `nothing NAME` where no state or no job of it was at hand,
+/// `base N` where records were dropped and N is the first that is kept, and `refused NUMBER NAME` where the plant refused. The line is not ended.
 pub fn print_happened<W: Write>(
     system: &System,
     happened: &Happened,
@@ -39,6 +40,11 @@ pub fn print_happened<W: Write>(
         Happened::Empty(atom) => print_nothing(atom_name(system, *atom), output),
         Happened::Trim(Ok(base)) => print_base(*base, output),
         Happened::Trim(Err(refused)) => print_refused(*refused, output),
+        Happened::Begin(_, Ok(fired)) => print_begun(system, fired, output),
+        Happened::Begin(_, Err(refused)) => print_refused(*refused, output),
+        Happened::Back(returned, Ok(())) => print_back(atom_name(system, returned.atom), output),
+        Happened::Back(_, Err(refused)) => print_refused(*refused, output),
+        Happened::Idle(atom) => print_nothing(atom_name(system, *atom), output),
     }
 }
 
@@ -70,7 +76,24 @@ fn print_stored<W: Write>(name: &[u8], count: u64, output: &mut W) -> Result<(),
     print_number(output, count)
 }
 
-/// Prints that no state of the atom with the name was at hand to be stored.
+/// Prints a choice whose participants went away.
+fn print_begun<W: Write>(system: &System, fired: &FiredAs, output: &mut W) -> Result<(), WriteFault>
+    ensures { OnOk result (Appends (W.contents output.old) (W.contents output.new)
+        (begun_line (plant_of system.now) fired.now.number (choice_of fired.now.choice))) }
+{
+    print_choice(fired.number, system, &fired.choice, output)?;
+    print_text(output, b" begun")
+}
+
+/// Prints that the atom with the name is present again.
+fn print_back<W: Write>(name: &[u8], output: &mut W) -> Result<(), WriteFault>
+    ensures { OnOk result (Appends (W.contents output.old) (W.contents output.new) (back_line name.now)) }
+{
+    print_text(output, b"back ")?;
+    print_text(output, name)
+}
+
+/// Prints that nothing of the atom with the name was at hand: no state to be stored, or no job to be handed in.
 fn print_nothing<W: Write>(name: &[u8], output: &mut W) -> Result<(), WriteFault>
     ensures { OnOk result (Appends (W.contents output.old) (W.contents output.new) (nothing_line name.now)) }
 {

@@ -1,7 +1,7 @@
 //! What one line of a script says.
 ghost use Rattle.std.specs.Prelude.{◌≡◌};
 ghost use Rattle.step_core.specs.System.{plant_of};
-ghost use Rattle.script_lines.specs.Script.{ask_in, asked_for, event_in, fire_in, flush_in, line_in, only_atom, put_in, trim_in};
+ghost use Rattle.script_lines.specs.Script.{ask_in, asked_for, back_in, begin_in, event_in, fire_in, flush_in, line_in, only_atom, only_pick, put_in, trim_in};
 
 use crate::atoms::atom_named;
 use plant_core::Event;
@@ -57,6 +57,10 @@ fn event_in(system: &System, first: &[u8], words: &mut Words<'_>) -> Option<Even
         put_in(system, words)
     } else if first == b"trim".as_slice() {
         trim_in(words)
+    } else if first == b"begin".as_slice() {
+        begin_in(words)
+    } else if first == b"back".as_slice() {
+        back_in(system, words)
     } else {
         None
     }
@@ -66,11 +70,14 @@ fn event_in(system: &System, first: &[u8], words: &mut Words<'_>) -> Option<Even
 fn fire_in(words: &mut Words<'_>) -> Option<Event>
     ensures { result ≡ fire_in words.old }
 {
-    let word = words.next_word()?;
-    match words.next_word() {
-        Some(_) => None,
-        None => Some(Event::Fire(read_decimal(word)?)),
-    }
+    Some(Event::Fire(only_pick(words)?))
+}
+
+/// The event that the words behind `begin` ask for.
+fn begin_in(words: &mut Words<'_>) -> Option<Event>
+    ensures { result ≡ begin_in words.old }
+{
+    Some(Event::Begin(only_pick(words)?))
 }
 
 /// The event that the words behind `flush` ask for.
@@ -104,6 +111,24 @@ fn trim_in(words: &mut Words<'_>) -> Option<Event>
     match words.next_word() {
         Some(_) => None,
         None => Some(Event::Trim),
+    }
+}
+
+/// The event that the words behind `back` ask for.
+fn back_in(system: &System, words: &mut Words<'_>) -> Option<Event>
+    ensures { result ≡ back_in (plant_of system.now) words.old }
+{
+    Some(Event::Back(only_atom(system, words)?))
+}
+
+/// The pick that is the only one of the words.
+fn only_pick(words: &mut Words<'_>) -> Option<u64>
+    ensures { result ≡ only_pick words.old }
+{
+    let word = words.next_word()?;
+    match words.next_word() {
+        Some(_) => None,
+        None => read_decimal(word),
     }
 }
 

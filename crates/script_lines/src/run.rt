@@ -2,7 +2,9 @@
 ghost use Rattle.std.specs.Prelude.{◌≡◌, ◌∷◌, [], length, IfOk, OnErr, OnOk};
 ghost use Rattle.std.specs.Io.KnownBytes.{Keeps};
 ghost use Rattle.plant_core.specs.Events.{has_failed};
-ghost use Rattle.plant_core.specs.Plants.{definition_of, text_digest, view_of};
+ghost use Rattle.plant_core.specs.Handed.{hands_of};
+ghost use Rattle.plant_core.specs.Hands.{AreHandsFor};
+ghost use Rattle.plant_core.specs.Plants.{definition_of, device_of, text_digest, view_of};
 ghost use Rattle.script_lines.specs.Runs.{IsAnswered, IsCutRun, IsRunOf};
 
 use crate::answers::print_happened;
@@ -13,24 +15,27 @@ use std::io::Write;
 use text_io::{WriteFault, end_line};
 
 /// Asks events of a plant, one after another, and prints a line for the answer of each; behind them, where the plant then
-/// stands. A state that is asked for goes into the hand of its atom, and what is in the hand is stored where that is asked. It tells whether
-/// the device failed in some call; then each later call is refused as broken.
+/// stands. A state that is asked for goes into the hand of its atom, and what is in the hand is stored where that is asked; a job of a choice that
+/// begins goes there too, and is done and handed in where that is asked. It tells whether the device failed in some call; then each later call is
+/// refused as broken.
 ///
 /// The output is flushed before each event that makes calls of the device, behind the line of its answer, and at the end: who reads it waits for
 /// nothing that is acknowledged. No memory is taken.
-pub fn run_script<D: Disk, W: Write>(
-    plant: &mut Plant<'_, D>,
-    hands: &mut Hands,
+pub fn run_script<'s, D: Disk, W: Write>(
+    plant: &mut Plant<'s, D>,
+    hands: &mut Hands<'s>,
     events: &[Event],
     output: &mut W,
 ) -> Result<bool, WriteFault>
-    requires { length hands.old ≡ length (definition_of plant.old).atoms }
-    ensures run { IfOk result (λ failed. IsRunOf (definition_of plant.old) (view_of plant.old) hands.old events.now failed (view_of plant.new) hands.new (W.contents output.old) (W.contents output.new)) }
-    ensures cut { OnErr result (IsCutRun (definition_of plant.old) (view_of plant.old) hands.old events.now (view_of plant.new) hands.new) }
-    ensures as_many { length hands.new ≡ length hands.old }
+    requires { AreHandsFor (length (definition_of plant.old).atoms) (hands_of hands.old) }
+    ensures run { IfOk result (λ failed. IsRunOf (definition_of plant.old) (text_digest plant.old) (view_of plant.old) (device_of plant.old) (hands_of hands.old) events.now failed (view_of plant.new) (device_of plant.new) (hands_of hands.new) (W.contents output.old) (W.contents output.new)) }
+    ensures cut { OnErr result (IsCutRun (definition_of plant.old) (text_digest plant.old) (view_of plant.old) (device_of plant.old) (hands_of hands.old) events.now (view_of plant.new) (device_of plant.new) (hands_of hands.new)) }
+    ensures as_many { AreHandsFor (length (definition_of plant.old).atoms) (hands_of hands.new) }
     ensures plant { definition_of plant.new ≡ definition_of plant.old }
     ensures digest { text_digest plant.new ≡ text_digest plant.old }
 {
+    plant.stands_for_a_front();
+    plant.tail_is_a_run();
     let mut failed = false;
     for event in events {
         failed |= answer(plant, hands, *event, output)?;
@@ -42,21 +47,24 @@ pub fn run_script<D: Disk, W: Write>(
 
 /// Asks an event of the plant, and prints the line of its answer; the output is flushed before and behind an event that makes calls of the
 /// device. It tells whether the device failed in the call.
-fn answer<D: Disk, W: Write>(
-    plant: &mut Plant<'_, D>,
-    hands: &mut Hands,
+fn answer<'s, D: Disk, W: Write>(
+    plant: &mut Plant<'s, D>,
+    hands: &mut Hands<'s>,
     event: Event,
     output: &mut W,
 ) -> Result<bool, WriteFault>
-    requires { length hands.old ≡ length (definition_of plant.old).atoms }
-    ensures answered { IfOk result (λ failed. IsAnswered (definition_of plant.old) (view_of plant.old) hands.old event failed (view_of plant.new) hands.new (W.contents output.old) (W.contents output.new)) }
-    ensures cut { OnErr result (IsCutRun (definition_of plant.old) (view_of plant.old) hands.old (event ∷ []) (view_of plant.new) hands.new) }
-    ensures as_many { length hands.new ≡ length hands.old }
+    requires { AreHandsFor (length (definition_of plant.old).atoms) (hands_of hands.old) }
+    ensures answered { IfOk result (λ failed. IsAnswered (definition_of plant.old) (text_digest plant.old) (view_of plant.old) (device_of plant.old) (hands_of hands.old) event failed (view_of plant.new) (device_of plant.new) (hands_of hands.new) (W.contents output.old) (W.contents output.new)) }
+    ensures cut { OnErr result (IsCutRun (definition_of plant.old) (text_digest plant.old) (view_of plant.old) (device_of plant.old) (hands_of hands.old) (event ∷ []) (view_of plant.new) (device_of plant.new) (hands_of hands.new)) }
+    ensures as_many { AreHandsFor (length (definition_of plant.old).atoms) (hands_of hands.new) }
     ensures plant { definition_of plant.new ≡ definition_of plant.old }
     ensures digest { text_digest plant.new ≡ text_digest plant.old }
 {
+    plant.stands_for_a_front();
     match event {
-        Event::Fire(_) | Event::Ask(_) => tell(plant, hands, event, output),
+        Event::Fire(_) | Event::Ask(_) | Event::Begin(_) | Event::Back(_) => {
+            tell(plant, hands, event, output)
+        }
         Event::Flush | Event::Put(_) | Event::Trim => {
             hand_on(output)?;
             let failed = tell(plant, hands, event, output)?;
@@ -67,16 +75,16 @@ fn answer<D: Disk, W: Write>(
 }
 
 /// Asks an event of the plant, and prints the line of its answer. It tells whether the device failed in the call.
-fn tell<D: Disk, W: Write>(
-    plant: &mut Plant<'_, D>,
-    hands: &mut Hands,
+fn tell<'s, D: Disk, W: Write>(
+    plant: &mut Plant<'s, D>,
+    hands: &mut Hands<'s>,
     event: Event,
     output: &mut W,
 ) -> Result<bool, WriteFault>
-    requires { length hands.old ≡ length (definition_of plant.old).atoms }
-    ensures answered { IfOk result (λ failed. IsAnswered (definition_of plant.old) (view_of plant.old) hands.old event failed (view_of plant.new) hands.new (W.contents output.old) (W.contents output.new)) }
-    ensures cut { OnErr result (IsCutRun (definition_of plant.old) (view_of plant.old) hands.old (event ∷ []) (view_of plant.new) hands.new) }
-    ensures as_many { length hands.new ≡ length hands.old }
+    requires { AreHandsFor (length (definition_of plant.old).atoms) (hands_of hands.old) }
+    ensures answered { IfOk result (λ failed. IsAnswered (definition_of plant.old) (text_digest plant.old) (view_of plant.old) (device_of plant.old) (hands_of hands.old) event failed (view_of plant.new) (device_of plant.new) (hands_of hands.new) (W.contents output.old) (W.contents output.new)) }
+    ensures cut { OnErr result (IsCutRun (definition_of plant.old) (text_digest plant.old) (view_of plant.old) (device_of plant.old) (hands_of hands.old) (event ∷ []) (view_of plant.new) (device_of plant.new) (hands_of hands.new)) }
+    ensures as_many { AreHandsFor (length (definition_of plant.old).atoms) (hands_of hands.new) }
     ensures plant { definition_of plant.new ≡ definition_of plant.old }
     ensures digest { text_digest plant.new ≡ text_digest plant.old }
 {
@@ -97,6 +105,8 @@ fn has_failed(happened: &Happened) -> bool
             | Happened::Ask(_, Err(Refused::Disk))
             | Happened::Put(_, Err(Refused::Disk))
             | Happened::Trim(Err(Refused::Disk))
+            | Happened::Begin(_, Err(Refused::Disk))
+            | Happened::Back(_, Err(Refused::Disk))
     )
 }
 

@@ -14,10 +14,14 @@ use Rattle.priority_filter.proofs.order.Order.TheSendSync as order
 use Rattle.connector_tree.specs.contracts.tree.Connector as connector
 use Rattle.connector_tree.proofs.tree.Node.TheLaws.TheKnot as trees
 use Rattle.step_core.specs.contracts.bound_expressions.BoundExpressions as bound
+use Rattle.step_core.specs.contracts.dispatcher.Dispatcher as dispatcher
+use Rattle.step_core.specs.contracts.job.Job as job
 use Rattle.step_core.specs.contracts.stepper.Stepper as stepper
 use Rattle.step_core.specs.contracts.system.System as system
 use Rattle.step_core.specs.contracts.wire.Wire as wire
 use Rattle.step_core.proofs.judgement.Judgement.TheSendSync as judgement
+use Rattle.step_core.proofs.parts.PlantParts.TheSendSync as parts
+use Rattle.step_core.proofs.sure.SureJudgement.TheSendSync as sure
 use Rattle.step_core.proofs.state.PlantState.TheSendSync as states
 
 -- ---- several threads may use each part of a system
@@ -78,3 +82,10 @@ Stepper-send κ = search (System-sync, judgement.the_field_send, states.the_send
 
 pub Stepper-sync : (κ : NamedLft) → IsSync (stepper.the_field κ).row
 Stepper-sync κ = search (System-sync, judgement.the_field_sync, states.the_sync, sendable, crosses) depth 30
+
+-- ---- so may a plant that runs while atoms are away, and what these have to do
+pub Dispatcher-send : (κ : NamedLft) → IsSend (dispatcher.the_field κ).row
+Dispatcher-send κ = search (System-sync, sure.the_field_send, parts.the_send, sendable, crosses) depth 30
+
+pub Job-send : (κ : NamedLft) → IsSend (job.the_field κ).row
+Job-send κ = search (Atom-sync, sendable, crosses) depth 30

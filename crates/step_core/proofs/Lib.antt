@@ -14,11 +14,11 @@ pub mod ValueRows
 pub mod Resolving
 pub mod Guarding
 pub mod Stepping
-mod PartsKept
+pub mod PartsKept
 mod Queued
 mod FiringOfParts
-mod PartsLeft
-mod Presence
+pub mod PartsLeft
+pub mod Presence
 pub mod OwnAtoms
 pub mod FiringOfAll
 pub mod Initial
@@ -41,7 +41,7 @@ pub mod OfInteractions
 pub mod OfChoices
 mod OfSure
 mod Alike
-mod Surely
+pub mod Surely
 mod NoneAway
 pub mod Present
 pub mod OfParts

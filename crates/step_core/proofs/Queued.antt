@@ -48,6 +48,18 @@ module _ {T : Type 0} where
   all-empty (None ∷ xs) none (suc n) = all-empty xs none n
   all-empty (Some x ∷ xs) none n = cc
 
+  -- from a place on there are the item that stands there and those behind it
+  pub item-here : (xs : List (Option T)) (k : ℕ) (x : T) → get_or xs k None ≡ Some x → items (drop k xs) ≡ x ∷ items (drop (suc k) xs)
+  item-here [] k x there = absurd (none-some x there)
+  item-here (y ∷ ys) zero x there = ap (λ o. items (o ∷ ys)) there
+  item-here (y ∷ ys) (suc k) x there = item-here ys k x there
+
+  pub none-here : (xs : List (Option T)) (k : ℕ) → get_or xs k None ≡ None → items (drop k xs) ≡ items (drop (suc k) xs)
+  none-here [] zero there = refl
+  none-here [] (suc k) there = refl
+  none-here (y ∷ ys) zero there = ap (λ o. items (o ∷ ys)) there
+  none-here (y ∷ ys) (suc k) there = none-here ys k there
+
 -- a list of which another is made entry by entry is empty where that is
 pub no-jobs : {X Y : Type 0} (f : X → Y) (xs : List X) → map f xs ≡ [] → xs ≡ []
 no-jobs f [] none = refl

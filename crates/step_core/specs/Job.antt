@@ -1,5 +1,5 @@
 -- What an atom that is away has to do, and what is done.
-use Rattle.std.specs.Prelude.{ℕ}
+use Rattle.std.specs.Prelude.{◌≡◌, ℕ}
 use Rattle.petri_atom.specs.Atom.{definition_of}
 use Rattle.petri_atom.specs.Definition.{AtomDefinition, fired}
 use Rattle.petri_atom.specs.Local.{Local, Row}
@@ -40,3 +40,11 @@ job_done d = record {
   delivered = d.delivered;
   state = d.before;
 }
+
+-- two jobs are the same but for the definition of the atom
+pub record HasFieldsOf (job done : JobDefinition) : Type 0 where
+  pub atom : job.atom ≡ done.atom
+  pub count : job.count ≡ done.count
+  pub transition : job.transition ≡ done.transition
+  pub delivered : job.delivered ≡ done.delivered
+  pub state : job.state ≡ done.state

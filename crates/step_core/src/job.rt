@@ -1,5 +1,5 @@
 //! What an atom that is away has to do, and what is done.
-ghost use Rattle.std.specs.Prelude.{◌≡◌, IsTrue};
+ghost use Rattle.std.specs.Prelude.{◌≡◌, ◌↔◌, IsTrue};
 ghost use Rattle.petri_atom.specs.Atom.{definition_of};
 ghost use Rattle.petri_atom.specs.Definition.{offers_number, fired, Fits};
 
@@ -34,7 +34,7 @@ pub struct Done<'s> {
 }
 
 impl<'s> Job<'s> {
-    ghost use Rattle.step_core.specs.Job.{job_done, job_of};
+    ghost use Rattle.step_core.specs.Job.{HasFieldsOf, job_done, job_of, worked};
 
     /// The job of the atom with this number and this definition.
     pub(crate) fn new(
@@ -106,6 +106,49 @@ impl<'s> Job<'s> {
         ensures fits { Fits (job_of self.now).definition result.now }
     {
         &self.state
+    }
+
+    /// A second job that is equal to this one.
+    pub fn copy(&self) -> Job<'s>
+        ensures { job_of result ≡ job_of self.now }
+    {
+        Job {
+            definition: self.definition,
+            atom: self.atom,
+            count: self.count,
+            transition: self.transition,
+            delivered: self.delivered,
+            state: self.state.copy(),
+        }
+    }
+
+    /// Whether this is the job that was done: of an atom with the same definition and number, with the same count, transition, delivered
+    /// values and state before.
+    pub fn is_done(&self, done: &Done<'_>) -> bool
+        ensures { IsTrue result ↔ (job_of self.now ≡ job_done done.now) }
+    {
+        self.has_fields_of(done) && self.definition.same(done.definition)
+    }
+
+    /// The same but for the definition.
+    fn has_fields_of(&self, done: &Done<'_>) -> bool
+        ensures { IsTrue result ↔ HasFieldsOf (job_of self.now) (job_done done.now) }
+    {
+        (self.atom == done.atom)
+            & (self.count == done.count)
+            & (self.transition == done.transition)
+            & (self.delivered.row() == done.delivered.row())
+            & self.state.same(&done.before)
+    }
+
+    /// The state that the job leaves, computed on a copy.
+    pub fn end(&self) -> AtomState
+        ensures { result ≡ worked (job_of self.now) }
+    {
+        let mut after = self.state.copy();
+        self.definition
+            .apply(&mut after, self.transition, &self.delivered);
+        after
     }
 
     /// Fires the transition on a copy of the state. It cannot fail, and takes no memory.

@@ -24,6 +24,13 @@ impl<'s> Jobs<'s> {
         }
     }
 
+    /// The job at this place among those that are there.
+    pub fn get(&self, place: usize) -> Option<&Job<'s>>
+        ensures { option_map (λ job. job_of job.now) result ≡ slice_get (jobs_of self.now) place }
+    {
+        self.queue.get(place)
+    }
+
     /// Takes the first job out, if there is one.
     pub fn take(&mut self) -> Option<Job<'s>>
         ensures first { option_map job_of result ≡ slice_get (jobs_of self.old) 0 }

@@ -1,5 +1,5 @@
 //! A row of places, in which items stand behind one another.
-ghost use Rattle.std.specs.Prelude.{◌≡◌, ◌<◌, ◌+◌, ◌++◌, ◌∷◌, [], None, slice_get, slice_index_or, slice_set, drop};
+ghost use Rattle.std.specs.Prelude.{◌≡◌, ◌<◌, ◌+◌, ◌++◌, ◌∷◌, [], None, option_map, slice_get, slice_index_or, slice_set, drop};
 ghost use Rattle.connector_tree.specs.declared.tree.TheConstants.{MAX_LEAVES};
 
 use connector_tree::MAX_LEAVES;
@@ -24,6 +24,23 @@ impl<T> Queue<T> {
                 None, None,
             ],
         }
+    }
+
+    /// The item at this place among those that are there.
+    pub(crate) fn get(&self, place: usize) -> Option<&T>
+        ensures { option_map (λ item. item.now) result ≡ slice_get (items_in self.now) place }
+    {
+        let places = &self.places[..];
+        let mut left = place;
+        for k in 0..places.len() {
+            if let Some(item) = &places[k] {
+                if left == 0 {
+                    return Some(item);
+                }
+                left -= 1;
+            }
+        }
+        None
     }
 
     /// Takes the first item out, if there is one.

@@ -97,7 +97,7 @@ fn a_run_is_stopped_at_each_of_its_writes_and_syncs(rt: HostRuntime) -> Result<(
 type Told = (Tear, Found, u64, u64, bool);
 
 fn told_of(trial: &Trial) -> Told {
-    let is_sync = trial.cut == Some(Cut::Sync) && trial.stage == Stage::Running;
+    let is_sync = trial.cut == Cut::Sync && trial.stage == Stage::Running;
     let is_right = is_sync && trial.right;
     (trial.tear, trial.found, trial.fired, trial.acked, is_right)
 }

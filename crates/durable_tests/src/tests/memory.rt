@@ -1,6 +1,8 @@
 // A plant that is read, formatted, booted, driven and explored while one growth of memory is refused. Here none is: the tests of the program run these tests
 // once more for each growth, refuse that one, and read which call was refused it. Made again, the call succeeds.
-ghost use Rattle.std.specs.Prelude.{◌≡◌, IfOk, length};
+ghost use Rattle.std.specs.Prelude.{IfOk, length};
+ghost use Rattle.plant_core.specs.Handed.{hands_of};
+ghost use Rattle.plant_core.specs.Hands.{AreHandsFor};
 ghost use Rattle.plant_core.specs.Plants.{definition_of};
 
 use super::common::{SAMPLE, Untold};
@@ -118,8 +120,8 @@ fn booted<'s>(
 }
 
 /// Empty hands for so many atoms.
-fn new_hands(rt: &impl Print, alloc: Global, atoms: usize) -> Result<Hands, Fail>
-    ensures { IfOk result (λ hands. length hands ≡ atoms) }
+fn new_hands<'s>(rt: &impl Print, alloc: Global, atoms: usize) -> Result<Hands<'s>, Fail>
+    ensures { IfOk result (λ hands. AreHandsFor atoms (hands_of hands)) }
 {
     if let Ok(hands) = Hands::new(alloc, atoms) {
         return Ok(hands);
@@ -129,13 +131,13 @@ fn new_hands(rt: &impl Print, alloc: Global, atoms: usize) -> Result<Hands, Fail
 }
 
 /// The answers of the plant.
-fn driven(
+fn driven<'s>(
     rt: &impl Print,
     alloc: Global,
-    plant: &mut Plant<'_, Untold>,
-    hands: &mut Hands,
+    plant: &mut Plant<'s, Untold>,
+    hands: &mut Hands<'s>,
 ) -> Result<Vec<Happened>, Fail>
-    requires { length hands.old ≡ length (definition_of plant.old).atoms }
+    requires { AreHandsFor (length (definition_of plant.old).atoms) (hands_of hands.old) }
 {
     if let Ok(answers) = drive(alloc, plant, &TWO, hands) {
         return Ok(answers);

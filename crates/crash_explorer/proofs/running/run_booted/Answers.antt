@@ -1,9 +1,14 @@
 use Rattle.std.proofs.Common.{◌+◌, ◌≡◌, ◌≤◌, ℕ, true, List, ◌++◌, length, drop, map, take, inl, refl, sym, ◌∙◌, ap, subst}
+use Rattle.std.proofs.lemmas.List.{length-map}
 use Rattle.disk_model.specs.declared.cells.TheConstants.{BODY}
 use Rattle.disk_model.specs.Cells.{Cell, MayBe}
 use Rattle.disk_model.specs.DiskState.{DiskState, size_of}
 use Rattle.disk_model.specs.MemDisk.{state_of}
+use Rattle.petri_atom.specs.Atom.{definition_of as definition_of_atom}
+use Rattle.plant_core.specs.Driven.{IsDriven}
 use Rattle.plant_core.specs.Events.{IsEventRun, all_fired}
+use Rattle.plant_core.specs.Handed.{hands_of}
+use Rattle.plant_core.specs.Hands.{HandFields, empty_hands}
 use Rattle.plant_core.specs.Plants.{definition_of, device_of, text_digest, view_of}
 use Rattle.plant_core.specs.Stops.{StandsForFront}
 use Rattle.plant_core.specs.View.{View}
@@ -26,7 +31,10 @@ returns c =
     let hs : List Happened = c.in_ok-answers.answers.items in
     let behind : List ChoiceDefinition = map choice_of c.args.behind.items in
     let at = c.requires in
-    let run : IsEventRun plant v hs w = c.in_ok-answers.ensures.run in
+    let run : IsEventRun plant v hs w = c.in_ok-answers.ensures.driven.run in
+    let as_many : length c.atoms.result.now ≡ length plant.atoms =
+    sym (length-map c.atoms.result.now definition_of_atom) ∙ ap length c.atoms.ensures ∙ ap (λ (p : PlantDefinition). length p.atoms) c.system.ensures.plant in
+    let empty : hands_of c.in_ok-hands.hands ≡ empty_hands (length plant.atoms) = c.in_ok-hands.ensures ∙ ap empty_hands as_many in
     let fired : List ChoiceDefinition = map choice_of c.in_ok-fired.fired.items in
     let all : List ChoiceDefinition = behind ++ all_fired hs in
     let same : fired ≡ all = c.in_ok-fired.ensures ∙ ap (λ (l : List Happened). behind ++ all_fired l) c.deref.ensures.value in
@@ -52,8 +60,10 @@ returns c =
       lived = record {
         happened = hs;
         closed = w;
-        asked = c.in_ok-answers.ensures.asked;
-        run = run;
+        began = device_of c.args.plant;
+        hands = hands_of c.drive.new.hands;
+        driven = subst (λ (s : DiskState). IsDriven plant digest v (device_of c.args.plant) (empty_hands (length plant.atoms)) c.args.events.now hs w s (hands_of c.drive.new.hands)) (sym left)
+            (subst (λ (held : HandFields). IsDriven plant digest v (device_of c.args.plant) held c.args.events.now hs w (device_of driven) (hands_of c.drive.new.hands)) empty c.in_ok-answers.ensures.driven);
         fired_are = same;
         acked_are = acked;
       };

@@ -4,7 +4,7 @@ use Rattle.disk_model.specs.Cells.{MayBe, seen_cells}
 use Rattle.disk_model.specs.DiskState.{DiskState, size_of}
 use Rattle.disk_model.specs.MemDisk.{state_of}
 use Rattle.disk_model.specs.Moments.{leaves_now, seen_may}
-use Rattle.plant_core.specs.Plants.{view_of}
+use Rattle.plant_core.specs.Plants.{text_digest, view_of}
 use Rattle.plant_core.specs.View.{View}
 use Rattle.recovery.specs.Booting.{IsBooting}
 use Rattle.step_core.specs.Chosen.{choice_of}
@@ -39,9 +39,10 @@ returns-in-Ok-clause-made c =
       booted = c.in-Ok.ensures.booted refl;
     } in
     made-running plant digest (size_of s) c.args.events.now v c.run_booted.result first
-    (subst (λ (l : List Choice). IfOk c.run_booted.result (λ (e : Ended). IsLived plant c.args.events.now v (map choice_of l) (fired_in e) e.acked)) c.new.ensures.items
-    (subst (λ (p : PlantDefinition). IfOk c.run_booted.result (λ (e : Ended). IsLived p c.args.events.now v (map choice_of c.new.result.items) (fired_in e) e.acked)) c.in-Ok.ensures.system.0
-    c.run_booted.ensures.lived))
+    (subst (λ (l : List Choice). IfOk c.run_booted.result (λ (e : Ended). IsLived plant digest c.args.events.now v (map choice_of l) (fired_in e) e.acked (device_in e))) c.new.ensures.items
+    (subst (λ (d : List ℕ). IfOk c.run_booted.result (λ (e : Ended). IsLived plant d c.args.events.now v (map choice_of c.new.result.items) (fired_in e) e.acked (device_in e))) c.in-Ok.ensures.system.1
+    (subst (λ (p : PlantDefinition). IfOk c.run_booted.result (λ (e : Ended). IsLived p (text_digest c.in-Ok.plant) c.args.events.now v (map choice_of c.new.result.items) (fired_in e) e.acked (device_in e))) c.in-Ok.ensures.system.0
+    c.run_booted.ensures.lived)))
     c.run_booted.ensures.stage
 
 pub returns-in-Image : goal.returns-in-Image

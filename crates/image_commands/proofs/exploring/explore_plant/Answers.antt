@@ -6,7 +6,7 @@ use Rattle.std.proofs.lemmas.List.{length-append}
 use Rattle.std.proofs.lemmas.List.Sums.{sum_by_push}
 use Rattle.step_core.specs.System.{digest_of, plant_of}
 use Rattle.std.specs.Prelude.{MatchOption, Option}
-use Rattle.crash_explorer.specs.Exploring.{IsNextTrial, trials_left}
+use Rattle.crash_explorer.specs.Exploring.{IsNextTrial, IsWholeRun, trials_left}
 use Rattle.crash_explorer.specs.declared.explorer.Explorer.{Explorer}
 use Rattle.crash_explorer.specs.declared.explorer.Trial.{Trial}
 use Rattle.image_commands.specs.Trials.{IsTrialAt, explored_line, wrong_of}
@@ -60,6 +60,7 @@ loop-trial-preserved g c =
 pub returns : goal.returns
 returns g c =
     let seen = c.loop-trial.invariant in
+    let system = c.args.system.now in
     let none : trials_left c.loop-trial.explorer ≡ 0 = search rules in
     let stops : ℕ = c.stops-2.result in
     let wrong : ℕ = c.loop-trial.wrong in
@@ -69,6 +70,7 @@ returns g c =
     subst (λ (boots : ℕ). Appends before after (explored_line stops boots wrong)) seen.many c.in_ok-print_explored.ensures in
     record {
       stops = stops;
+      whole = subst (λ (n : ℕ). IsWholeRun (plant_of system) (digest_of system) c.args.ring c.args.events.now n) (sym (c.stops-2.ensures ∙ c.next_trial.ensures.stops ∙ seen.stops)) c.in_ok-explorer.ensures.stops;
       trials = seen.trials;
       each = seen.each;
       all = omega (arith, seen.many, seen.left, none, c.stops-2.ensures);

@@ -1,7 +1,7 @@
-use Rattle.std.proofs.Common.{◌+◌, ◌≡◌, ◌≤◌, vec_capacity, List, ℕ, length, true, false, refl, sym, ◌∙◌, ap, subst, rules}
+use Rattle.std.proofs.Common.{◌+◌, ◌≡◌, ◌≤◌, vec_capacity, List, ℕ, length, true, false, inr, refl, sym, ◌∙◌, ap, subst, rules}
 use Rattle.std.proofs.lemmas.Result.{err_from_is_err_and}
 use Rattle.disk_model.specs.declared.cells.TheConstants.{BODY}
-use Rattle.disk_model.specs.Cells.{seen_cells}
+use Rattle.disk_model.specs.Cells.{Cell, seen_cells}
 use Rattle.disk_model.specs.Counting.{up_to_one}
 use Rattle.disk_model.specs.DiskState.{DiskState}
 use Rattle.disk_model.specs.Moments.{seen_after}
@@ -11,12 +11,12 @@ use Rattle.record_replay.specs.Records.{count_of}
 use Rattle.step_core.specs.Plant.{PlantDefinition}
 use Rattle.step_core.specs.System.{plant_of, digest_of}
 use Rattle.step_core.specs.declared.limits.TheConstants.{MAX_ATOMS}
-use Rattle.plant_image.specs.Contents.{ring_in}
+use Rattle.plant_image.specs.Contents.{contents_of, ring_in}
 use Rattle.plant_image.specs.Reading.{contents_in}
 use Rattle.plant_image.specs.declared.standing.Standing.{Standing}
 use Rattle.plant_core.specs.Snapshots.{SnapshotFields}
 use Rattle.trimmer.specs.Covered.{MarkFields, saved_count}
-use Rattle.recovery.proofs.Prepared.{counts_one, counts_two, inside_read, known_many, last_read, marked_read, marks_read, none_read, rests_read, shows_read, still_old, stops_read, within_read}
+use Rattle.recovery.proofs.Prepared.{where-err, counts_one, counts_two, inside_read, known_many, last_read, marked_read, marks_read, none_read, rests_read, shows_read, still_old, stops_read, within_read}
 use Rattle.recovery.proofs.booting.prepare.Goals as goal
 
 pub returns-in_err-memory-clause-stops : goal.returns-in_err-memory-clause-stops
@@ -75,6 +75,7 @@ returns-clause-prepared g c =
     record {
       of_system = made.of_system;
       same = made.states ∙ sym made.acked;
+      none_away = made.none_away;
       counts = λ atom. subst (λ (ns : List ℕ). count_of ns atom ≤ j.last) (sym made.counts) (last_read plant digest mid standing was j journal atom);
       room = record { tail = made.room.tail; bodies = made.room.bodies; room_of_tail = made.room.room_of_tail; room_of_bodies = made.room.room_of_bodies };
       atoms = ap (λ (r : Ring). r.atoms) journal;
@@ -94,5 +95,23 @@ returns-clause-prepared g c =
           let still : mid.keeps ≡ true = sym c.clean.ensures.counts.keeps ∙ holds in
           let cleaned : HasCleaned first (seen_cells (BODY + 1) mid) (seen_cells (BODY + 1) new) = seen_after (BODY + 1) (HasCleaned first (seen_cells (BODY + 1) mid)) mid new (c.clean.ensures.leaves still) in
           marked_read plant digest mid standing was j journal long new marks still made.marks (subst (λ r. HasCleaned r (seen_cells (BODY + 1) mid) (seen_cells (BODY + 1) new)) (sym kept) cleaned);
-      booted = λ keeps. shows_read plant digest mid standing was j journal old _ _ marks known (c.in_ok-standing.ensures.counts.keeps ∙ keeps) c.in_ok-standing.ensures.counts.size (c.judge.ensures.same keeps) made.acked made.counts made.marks made.snapshots;
+      booted = λ keeps. shows_read plant digest mid standing was j journal old _ _ marks known _ (c.in_ok-standing.ensures.counts.keeps ∙ keeps) c.in_ok-standing.ensures.counts.size (c.judge.ensures.same keeps) made.acked made.counts made.marks made.snapshots made.none_away;
     }
+
+-- the device failed while the cells were emptied
+pub returns-in_err-clean-clause-left : goal.returns-in_err-clean-clause-left
+returns-in_err-clean-clause-left g c = λ keeps.
+    let plant : PlantDefinition = plant_of c.args.system.now in
+    let old : DiskState = c.args.cells.now in
+    let mid : DiskState = c.judge.new.cells in
+    let new : DiskState = c.clean.new.cells in
+    let still : mid.keeps ≡ true = c.in_ok-standing.ensures.counts.keeps ∙ keeps in
+    let was = c.in_ok-standing.ensures.read in
+    let first : Ring = c.in_ok-memory.memory.journal in
+    let seen : seen_cells (BODY + 1) mid ≡ seen_cells (BODY + 1) old = c.judge.ensures.same keeps in
+    let ring : first ≡ ring_in (length plant.atoms) (contents_of (length plant.atoms) (seen_cells (BODY + 1) old)) =
+    c.in_ok-memory.ensures.journal ∙ ap (ring_in (length plant.atoms)) (was.is.led.contents ∙ ap (contents_of (length plant.atoms)) (was.seen still ∙ seen)) in
+    let cleaned : HasCleaned first (seen_cells (BODY + 1) mid) (seen_cells (BODY + 1) new) = seen_after (BODY + 1) (HasCleaned first (seen_cells (BODY + 1) mid)) mid new (c.clean.ensures.leaves still) in
+    where-err c.from_residual-in_err-clean.result
+    (inr (subst (λ (r : Ring). HasCleaned r (seen_cells (BODY + 1) old) (seen_cells (BODY + 1) new)) ring
+    (subst (λ (cells : List Cell). HasCleaned first cells (seen_cells (BODY + 1) new)) seen cleaned)))

@@ -1,6 +1,8 @@
 -- The events before this place were asked and answered.
 use Rattle.std.proofs.Common.{◌≡◌, length, take}
-use Rattle.plant_core.specs.Plants.{definition_of, text_digest, view_of}
+use Rattle.plant_core.specs.Handed.{hands_of}
+use Rattle.plant_core.specs.Hands.{AreHandsFor}
+use Rattle.plant_core.specs.Plants.{definition_of, device_of, text_digest, view_of}
 use Rattle.script_lines.proofs.Running.{IsSoFar}
 use Rattle.script_lines.proofs.run.run_script.Given as goal
 
@@ -8,6 +10,6 @@ abbrev pub invariant-loop-event : goal.invariant-loop-event
 invariant-loop-event g l = record {
   plant : definition_of l.plant ≡ definition_of l.initial.plant;
   digest : text_digest l.plant ≡ text_digest l.initial.plant;
-  as_many : length l.hands ≡ length l.initial.hands;
-  so_far : IsSoFar (definition_of l.initial.plant) (view_of l.initial.plant) l.initial.hands (take l.event-index l.events) l.failed (view_of l.plant) l.hands (g.W.Write.contents l.initial.output) (g.W.Write.contents l.output);
+  as_many : AreHandsFor (length (definition_of l.initial.plant).atoms) (hands_of l.hands);
+  so_far : IsSoFar (definition_of l.initial.plant) (text_digest l.initial.plant) (view_of l.initial.plant) (device_of l.initial.plant) (hands_of l.initial.hands) (take l.event-index l.events) l.failed (view_of l.plant) (device_of l.plant) (hands_of l.hands) (g.W.Write.contents l.initial.output) (g.W.Write.contents l.output);
 }

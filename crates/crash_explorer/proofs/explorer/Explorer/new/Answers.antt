@@ -23,18 +23,20 @@ returns-clause-stops c =
     let none : whole.disk.cut ≡ None = search rules in
     let stage : whole.stage ≡ Running = search rules in
     let unfailed : IsWhole whole.disk.disk = whole.disk.whole none in
-    let made : IsMadeUntil plant digest bytes c.args.events.now Running (fired_in whole) whole.acked =
-    subst (λ (s : Stage). IsMadeUntil plant digest bytes c.args.events.now s (fired_in whole) whole.acked) stage c.in_ok-whole.ensures.made in
+    let made : IsMadeUntil plant digest bytes c.args.events.now Running (fired_in whole) whole.acked (device_in whole) =
+    subst (λ (s : Stage). IsMadeUntil plant digest bytes c.args.events.now s (fired_in whole) whole.acked (device_in whole)) stage c.in_ok-whole.ensures.made in
+    let asked : c.changes-stops.result ≡ changes_of whole.disk.disk = c.changes-stops.ensures ∙ ap (λ (m : MemDisk). changes_of m) c.into_memory.ensures in
     record {
       opened = made.0;
       first = made.1;
       fired = fired_in whole;
       acked = whole.acked;
       lived = made.2;
-      device = device_in whole;
+      device = whole.disk.disk;
       size = is.size;
       unfailed = unfailed.unfailed;
-      moments = c.changes-stops.ensures ∙ ap (λ (m : MemDisk). changes_of m) c.into_memory.ensures ∙ unfailed.counted;
+      asked = asked;
+      made = asked ∙ unfailed.counted;
       all_right = λ cells may.
           right-running plant digest bytes (acked_in whole) (tail_in whole) cells
           (subst (λ (s : Stage). IsRightStop plant digest bytes (acked_in whole) (tail_in whole) (is_formatting s) cells) stage (is.stops cells may));

@@ -1,4 +1,4 @@
-use Rattle.std.proofs.Common.{◌+◌, ◌≡◌, ◌<◌, ◌≤◌, ℕ, List, length, slice_index, refl, sym, ◌∙◌, ap, subst, arith}
+use Rattle.std.proofs.Common.{◌+◌, ◌≡◌, ◌<◌, ◌≤◌, ℕ, List, MatchOption, Option, length, slice_index, refl, sym, ◌∙◌, ap, subst, arith}
 use Rattle.std.proofs.lemmas.List.{length-map}
 use Rattle.disk_model.specs.declared.cells.TheConstants.{BODY}
 use Rattle.disk_model.specs.Cells.{cells_of}
@@ -13,8 +13,10 @@ use Rattle.step_core.specs.Plant.{PlantDefinition}
 use Rattle.step_core.specs.System.{digest_of, plant_of}
 use Rattle.crash_explorer.specs.Outcomes.{IsNextOf, IsOutcome}
 use Rattle.crash_explorer.specs.Running.{device_in, fired_in, is_formatting}
+use Rattle.crash_explorer.specs.Watching.{IsStoppedAt}
 use Rattle.crash_explorer.specs.declared.outcome.Outcome.{Outcome}
 use Rattle.crash_explorer.specs.declared.running.Ended.{Ended}
+use Rattle.crash_explorer.specs.declared.watched.Cut.{Cut}
 use Rattle.crash_explorer.proofs.GoneOn.{next-right}
 use Rattle.crash_explorer.proofs.explorer.Explorer.trial.Goals as goal
 
@@ -42,6 +44,7 @@ returns c =
     record {
       stop_is = refl;
       tear_is = refl;
+      stopped = subst (λ (o : Option Cut). MatchOption o (Unit {0}) (λ cut. ∥ IsStoppedAt c.args.stop cut device ∥₁)) c.in_ok-cut.ensures.ok_part c.cut_at.ensures;
       fired = fired_in ended;
       made = c.in_ok-ended.ensures.made;
       run = is.run;

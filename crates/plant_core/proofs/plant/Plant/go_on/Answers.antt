@@ -8,11 +8,12 @@ use Rattle.step_core.specs.Chosen.{choice_of}
 use Rattle.step_core.specs.Laws.{IsInRange}
 use Rattle.step_core.specs.Plant.{PlantDefinition}
 use Rattle.step_core.specs.Step.{transfer}
+use Rattle.step_executor.specs.Outstanding.{is_out}
 use Rattle.step_core.specs.Rules.{fault_of}
 use Rattle.disk_model.specs.Cells.{seen_cells}
 use Rattle.disk_model.specs.DiskState.{size_of}
 use Rattle.disk_model.specs.declared.cells.TheConstants.{BODY}
-use Rattle.step_core.specs.Running.{plant_in, states_in, system_in}
+use Rattle.step_executor.specs.Executing.{committed_in, jobs_in, plant_in, states_in, system_in}
 use Rattle.step_core.specs.System.{digest_of, plant_of}
 use Rattle.step_core.specs.declared.limits.TheConstants.{MAX_ATOMS}
 use Rattle.step_core.specs.declared.system.System.{System}
@@ -28,28 +29,28 @@ use Rattle.plant_core.proofs.plant.Plant.go_on.Goals as goal
 pub record_of-record-requires : goal.record_of-record-requires
 record_of-record-requires g c =
     let self = c.args.self.now in
-    let plant = plant_in self.stepper in
+    let plant = plant_in self.executor in
     let v = view_of self in
     let choice = choice_of c.args.choice in
     let rows = c.fire_telling.new.told in
     let valid : fault_of plant ≡ None = subst (λ p. fault_of p ≡ None) c.system.ensures.plant c.keeps_its_rules.ensures.plant in
     let formed : list_all is_well_formed plant.atoms ≡ true = subst (λ (p : PlantDefinition). list_all is_well_formed p.atoms ≡ true) c.system.ensures.plant c.keeps_its_rules.ensures.atoms in
-    let range : IsInRange plant choice = c.an_allowed_choice_is_in_range.ensures plant v.present choice valid c.requires.allowed in
+    let range : IsInRange plant choice = c.an_allowed_choice_is_in_range.ensures plant v.present choice valid (c.sure_is_allowed.ensures plant v.present (is_out v.away) choice c.requires.sure) in
     let told = c.a_told_record_is_the_record_of_its_choice.ensures plant v.present v.counts (fired_number v + 1) choice rows (told-many (transfer plant v.present choice) choice.moves rows c.fire_telling.ensures.told) c.fire_telling.ensures.told in
     record {
       in_range = subst (λ (n : ℕ). IsFired (record_told (n + 1) choice rows self.counts)) (sym c.fired-number.ensures)
-          (subst IsFired (sym told) (next-in-range plant v self.bodies.items self.fits_together choice c.requires.allowed valid formed c.requires.last));
+          (subst IsFired (sym told) (next-in-range plant v self.bodies.items self.fits_together choice (c.sure_is_allowed.ensures plant v.present (is_out v.away) choice c.requires.sure) valid formed c.requires.last));
     }
 
 pub count_participants-requires : goal.count_participants-requires
 count_participants-requires g c =
     let self = c.args.self.now in
-    let plant = plant_in self.stepper in
+    let plant = plant_in self.executor in
     let v = view_of self in
     let choice = choice_of c.args.choice in
     let valid : fault_of plant ≡ None = subst (λ p. fault_of p ≡ None) c.system.ensures.plant c.keeps_its_rules.ensures.plant in
     let few : length plant.atoms ≤ MAX_ATOMS = subst (λ (p : PlantDefinition). length p.atoms ≤ MAX_ATOMS) c.system.ensures.plant c.keeps_its_rules.ensures.few in
-    let range : IsInRange plant choice = c.an_allowed_choice_is_in_range.ensures plant v.present choice valid c.requires.allowed in
+    let range : IsInRange plant choice = c.an_allowed_choice_is_in_range.ensures plant v.present choice valid (c.sure_is_allowed.ensures plant v.present (is_out v.away) choice c.requires.sure) in
     record {
       rising = range.rising;
       there = λ m at. omega (arith, range.of_plant m at, few);
@@ -59,7 +60,7 @@ count_participants-requires g c =
 pub push_reserved-requires-2 : goal.push_reserved-requires-2
 push_reserved-requires-2 g c =
     let self = c.args.self.now in
-    omega (arith, bodies-many (plant_in self.stepper) (view_of self) self.bodies.items self.fits_together, self.room_of_bodies, c.requires.short)
+    omega (arith, bodies-many (plant_in self.executor) (view_of self) self.bodies.items self.fits_together, self.room_of_bodies, c.requires.short)
 
 -- there is room for one mark more
 pub push_reserved-requires-3 : goal.push_reserved-requires-3
@@ -70,7 +71,7 @@ push_reserved-requires-3 g c =
 pub invariant_of-self : goal.invariant_of-self
 invariant_of-self g c =
     let self = c.args.self.now in
-    let plant = plant_in self.stepper in
+    let plant = plant_in self.executor in
     let v = view_of self in
     let choice = choice_of c.args.choice in
     let rows = c.fire_telling.new.told in
@@ -81,33 +82,36 @@ invariant_of-self g c =
     let held : fired_in c.to_body.result ≡ Some (record_by plant v.present v.counts (fired_number v + 1) choice) = c.to_body.ensures.reads_back ∙ ap (λ (r : FiredFields). Some r) made in
     let marked : c.push_reserved-3.new.self.items ≡ self.marks.items ++ mark_of (record_by plant v.present v.counts (fired_number v + 1) choice) ∷ [] =
     c.push_reserved-3.ensures.items ∙ ap (λ m. self.marks.items ++ m ∷ []) (c.mark_of.ensures ∙ ap mark_of made) in
-    let more = one-more plant v self.bodies.items self.fits_together choice c.requires.allowed c.to_body.result held c.requires.short c.requires.room c.requires.last in
-    let view = view-of-fired plant self.acked v.present (states_in c.fire_telling.new.self) self.acked_counts self.counts c.count_participants.new.counts self.number self.tail.items c.push_reserved.new.self.items c.args.choice self.journal self.marks.items c.push_reserved-3.new.self.items self.snapshots self.broken c.push_reserved.ensures.items c.fire_telling.ensures.next c.count_participants.ensures marked in
+    let more = one-more plant v self.bodies.items self.fits_together choice (c.sure_is_allowed.ensures plant v.present (is_out v.away) choice c.requires.sure) c.to_body.result held c.requires.short c.requires.room c.requires.last in
+    let view = view-of-fired plant (committed_in self.executor) (committed_in c.fire_telling.new.self) v.present (states_in c.fire_telling.new.self) self.acked_counts self.counts c.count_participants.new.counts self.number self.tail.items c.push_reserved.new.self.items c.args.choice self.journal self.marks.items c.push_reserved-3.new.self.items self.snapshots v.away (jobs_in c.fire_telling.new.self) v.away self.broken c.fire_telling.ensures.committed c.push_reserved.ensures.items c.fire_telling.ensures.next c.count_participants.ensures marked c.fire_telling.ensures.jobs in
+    let run = c.fire_telling.new.self in
+    let seen = view_by (committed_in run) self.acked_counts self.number c.push_reserved.new.self.items (states_in run) c.count_participants.new.counts self.journal c.push_reserved-3.new.self.items self.snapshots (jobs_in run) self.broken in
     record {
-      fits_together = subst (λ p. FitsTogether p (view_by self.acked self.acked_counts self.number c.push_reserved.new.self.items (states_in c.fire_telling.new.self) c.count_participants.new.counts self.journal c.push_reserved-3.new.self.items self.snapshots self.broken) c.push_reserved-2.new.self.items) (sym c.fire_telling.ensures.plant)
+      fits_together = subst (λ p. FitsTogether p seen c.push_reserved-2.new.self.items) (sym c.fire_telling.ensures.plant)
           (subst (λ w. FitsTogether plant w c.push_reserved-2.new.self.items) (sym view)
           (subst (λ bs. FitsTogether plant (with_fired plant choice v) bs) (sym c.push_reserved-2.ensures.items) more));
       room_of_tail = omega (arith, self.room_of_tail, c.push_reserved.ensures.capacity);
       room_of_bodies = omega (arith, self.room_of_bodies, c.push_reserved-2.ensures.capacity);
       room_of_marks = omega (arith, self.room_of_marks, c.push_reserved-3.ensures.capacity);
       of_journal = subst (λ p. IsJournalOf p self.number self.journal self.cells) (sym c.fire_telling.ensures.plant) self.of_journal;
-      at_rest = λ keeps whole. subst (λ (s : System). IsAtRest (plant_of s) (digest_of s) self.journal self.acked self.acked_counts self.number self.snapshots.saved self.cells) (sym c.fire_telling.ensures.system) (self.at_rest keeps whole);
-      marked = λ keeps whole. subst (λ p. AreMarked p (view_by self.acked self.acked_counts self.number c.push_reserved.new.self.items (states_in c.fire_telling.new.self) c.count_participants.new.counts self.journal c.push_reserved-3.new.self.items self.snapshots self.broken) (seen_cells (BODY + 1) self.cells)) (sym c.fire_telling.ensures.plant)
+      at_rest = λ keeps whole. subst (λ (s : System). IsAtRest (plant_of s) (digest_of s) self.journal (committed_in run) self.acked_counts self.number self.snapshots.saved self.cells) (sym c.fire_telling.ensures.system)
+          (subst (λ states. IsAtRest plant (digest_of (system_in self.executor)) self.journal states self.acked_counts self.number self.snapshots.saved self.cells) (sym c.fire_telling.ensures.committed) (self.at_rest keeps whole));
+      marked = λ keeps whole. subst (λ p. AreMarked p seen (seen_cells (BODY + 1) self.cells)) (sym c.fire_telling.ensures.plant)
           (ap (take (self.number + 1 - self.journal.base)) marked ∙
           take-append-le (self.number + 1 - self.journal.base) self.marks.items (mark_of (record_by plant v.present v.counts (fired_number v + 1) choice) ∷ []) (omega (arith, self.fits_together.marks_many)) ∙
           self.marked keeps whole);
-      on_the_way = λ keeps whole. subst (λ p. AreOnTheWay p (view_by self.acked self.acked_counts self.number c.push_reserved.new.self.items (states_in c.fire_telling.new.self) c.count_participants.new.counts self.journal c.push_reserved-3.new.self.items self.snapshots self.broken) (seen_cells (BODY + 1) self.cells)) (sym c.fire_telling.ensures.plant)
+      on_the_way = λ keeps whole. subst (λ p. AreOnTheWay p seen (seen_cells (BODY + 1) self.cells)) (sym c.fire_telling.ensures.plant)
           (subst (λ w. AreOnTheWay plant w (seen_cells (BODY + 1) self.cells)) (sym view)
           (ways-fired plant v self.bodies.items self.fits_together (seen_cells (BODY + 1) self.cells) (self.at_rest keeps whole).leads (self.on_the_way keeps whole) choice));
-      at_a_stop = λ keeps image may. subst (λ (s : System). IsFrontOf (plant_of s) (digest_of s) (size_of self.cells) (view_by self.acked self.acked_counts self.number c.push_reserved.new.self.items (states_in c.fire_telling.new.self) c.count_participants.new.counts self.journal c.push_reserved-3.new.self.items self.snapshots self.broken) image) (sym c.fire_telling.ensures.system)
-          (subst (λ w. IsFrontOf plant (digest_of (system_in self.stepper)) (size_of self.cells) w image) (sym view)
-          (front-longer plant (digest_of (system_in self.stepper)) (size_of self.cells) v choice image (self.at_a_stop keeps image may)));
+      at_a_stop = λ keeps image may. subst (λ (s : System). IsFrontOf (plant_of s) (digest_of s) (size_of self.cells) seen image) (sym c.fire_telling.ensures.system)
+          (subst (λ w. IsFrontOf plant (digest_of (system_in self.executor)) (size_of self.cells) w image) (sym view)
+          (front-longer plant (digest_of (system_in self.executor)) (size_of self.cells) v choice image (self.at_a_stop keeps image may)));
     }
 
 pub returns-clause-view : goal.returns-clause-view
 returns-clause-view g c =
     let self = c.args.self.now in
-    let plant = plant_in self.stepper in
+    let plant = plant_in self.executor in
     let v = view_of self in
     let choice = choice_of c.args.choice in
     let rows = c.fire_telling.new.told in
@@ -117,4 +121,4 @@ returns-clause-view g c =
     c.record_of-record.ensures ∙ ap (λ (n : ℕ). record_told (n + 1) choice rows self.counts) c.fired-number.ensures ∙ told in
     let marked : c.push_reserved-3.new.self.items ≡ self.marks.items ++ mark_of (record_by plant v.present v.counts (fired_number v + 1) choice) ∷ [] =
     c.push_reserved-3.ensures.items ∙ ap (λ m. self.marks.items ++ m ∷ []) (c.mark_of.ensures ∙ ap mark_of made) in
-    view-of-fired plant self.acked v.present (states_in c.fire_telling.new.self) self.acked_counts self.counts c.count_participants.new.counts self.number self.tail.items c.push_reserved.new.self.items c.args.choice self.journal self.marks.items c.push_reserved-3.new.self.items self.snapshots self.broken c.push_reserved.ensures.items c.fire_telling.ensures.next c.count_participants.ensures marked
+    view-of-fired plant (committed_in self.executor) (committed_in c.fire_telling.new.self) v.present (states_in c.fire_telling.new.self) self.acked_counts self.counts c.count_participants.new.counts self.number self.tail.items c.push_reserved.new.self.items c.args.choice self.journal self.marks.items c.push_reserved-3.new.self.items self.snapshots v.away (jobs_in c.fire_telling.new.self) v.away self.broken c.fire_telling.ensures.committed c.push_reserved.ensures.items c.fire_telling.ensures.next c.count_participants.ensures marked c.fire_telling.ensures.jobs

@@ -8,7 +8,7 @@ use Rattle.disk_model.specs.declared.cells.TheConstants.{BODY}
 use Rattle.record_codec.specs.Saved.{SavedFields}
 use Rattle.snapshot_writer.specs.Slots.{other_slot}
 use Rattle.snapshot_writer.specs.Storing.{IsStored}
-use Rattle.step_core.specs.Running.{plant_in, states_in, system_in}
+use Rattle.step_executor.specs.Executing.{committed_in, jobs_in, plant_in, states_in, system_in}
 use Rattle.step_core.specs.System.{digest_of}
 use Rattle.plant_core.specs.Events.{IsTaken}
 use Rattle.plant_core.specs.Kept.{AreMarked, AreOnTheWay, FitsTogether, IsAtRest}
@@ -17,7 +17,7 @@ use Rattle.plant_core.specs.Snapshots.{SnapshotFields, with_slot}
 use Rattle.plant_core.specs.Stops.{StandsForAcked}
 use Rattle.plant_core.specs.View.{view_by, with_stored}
 use Rattle.plant_core.proofs.Answered.{ok-has, ok-where}
-use Rattle.plant_core.proofs.AtRest.{acked-front, front-of, rest-front, stands-now}
+use Rattle.plant_core.proofs.AtRest.{acked-front, acked-now, front-of, rest-front, stands-now}
 use Rattle.plant_core.proofs.EventByEvent.{not-true}
 use Rattle.plant_core.proofs.Flushing.{journal-of-failed, noted-fits}
 use Rattle.plant_core.proofs.Taken.{taken-fits, taken-marked, taken-rest, taken-stops, taken-ways}
@@ -27,17 +27,17 @@ use Rattle.plant_core.proofs.plant.Plant.put.Goals as goal
 pub returns-in-Some-clause-stops : goal.returns-in-Some-clause-stops
 returns-in-Some-clause-stops g c = λ keeps whole.
     let self = c.args.self.now in
-    let plant = plant_in self.stepper in
-    let digest = digest_of (system_in self.stepper) in
+    let plant = plant_in self.executor in
+    let digest = digest_of (system_in self.executor) in
     leaves_start (BODY + 1) (StandsForAcked plant digest (size_of self.cells) (view_of self)) self.cells
-    (λ cells may. stands-now plant digest self.journal self.acked self.acked_counts self.number self.snapshots.saved self.cells (self.at_rest keeps whole) cells may)
+    (λ cells may. stands-now plant digest self.journal (committed_in self.executor) self.acked_counts self.number self.snapshots.saved self.cells (self.at_rest keeps whole) cells may)
 
 -- the device failed
 pub invariant_of-self : goal.invariant_of-self
 invariant_of-self g c =
     let self = c.args.self.now in
-    let plant = plant_in self.stepper in
-    let digest = digest_of (system_in self.stepper) in
+    let plant = plant_in self.executor in
+    let digest = digest_of (system_in self.executor) in
     let v = view_of self in
     let new = c.save.new.cells in
     let taken : IsTaken v c.args.encoded = subst (IsTaken v) c.parcel.ensures c.in_default.ensures in
@@ -54,7 +54,7 @@ invariant_of-self g c =
           let kept : self.cells.keeps ≡ true = sym c.save.ensures.counts.keeps ∙ keeps in
           let whole : self.broken ≡ false = not-true self.broken taken.whole in
           let stops = taken-stops plant v self.bodies.items self.fits_together c.args.encoded taken digest self.journal self.cells (self.at_rest kept whole) (self.on_the_way kept whole) new (c.save.ensures.leaves kept) in
-          front-of plant digest (size_of new) (view_by self.acked self.acked_counts self.number self.tail.items (states_in self.stepper) self.counts self.journal self.marks.items self.snapshots true) image
+          front-of plant digest (size_of new) (view_by (committed_in self.executor) self.acked_counts self.number self.tail.items (states_in self.executor) self.counts self.journal self.marks.items self.snapshots (jobs_in self.executor) true) image
           (acked-front plant digest (size_of new) v image
           (subst (λ (bytes : ℕ). StandsForAcked plant digest bytes v image) (sym c.save.ensures.counts.size)
           (leaves_now (BODY + 1) (StandsForAcked plant digest (size_of self.cells) v) self.cells new stops image may)));
@@ -65,35 +65,35 @@ returns-then-is_err-clause-stops g c = λ keeps whole.
     let self = c.args.self.now in
     let v = view_of self in
     let taken : IsTaken v c.args.encoded = subst (IsTaken v) c.parcel.ensures c.in_default.ensures in
-    taken-stops (plant_in self.stepper) v self.bodies.items self.fits_together c.args.encoded taken (digest_of (system_in self.stepper)) self.journal self.cells (self.at_rest keeps whole) (self.on_the_way keeps whole) c.save.new.cells (c.save.ensures.leaves keeps)
+    taken-stops (plant_in self.executor) v self.bodies.items self.fits_together c.args.encoded taken (digest_of (system_in self.executor)) self.journal self.cells (self.at_rest keeps whole) (self.on_the_way keeps whole) c.save.new.cells (c.save.ensures.leaves keeps)
 
 pub returns-clause-stops : goal.returns-clause-stops
 returns-clause-stops g c = λ keeps whole.
     let self = c.args.self.now in
     let v = view_of self in
     let taken : IsTaken v c.args.encoded = subst (IsTaken v) c.parcel.ensures c.in_default.ensures in
-    taken-stops (plant_in self.stepper) v self.bodies.items self.fits_together c.args.encoded taken (digest_of (system_in self.stepper)) self.journal self.cells (self.at_rest keeps whole) (self.on_the_way keeps whole) c.save.new.cells (c.save.ensures.leaves keeps)
+    taken-stops (plant_in self.executor) v self.bodies.items self.fits_together c.args.encoded taken (digest_of (system_in self.executor)) self.journal self.cells (self.at_rest keeps whole) (self.on_the_way keeps whole) c.save.new.cells (c.save.ensures.leaves keeps)
 
 -- the state is stored
 pub invariant_of-self-2 : goal.invariant_of-self-2
 invariant_of-self-2 g c =
     let self = c.args.self.now in
-    let plant = plant_in self.stepper in
-    let digest = digest_of (system_in self.stepper) in
+    let plant = plant_in self.executor in
+    let digest = digest_of (system_in self.executor) in
     let v = view_of self in
     let saved = c.args.encoded in
     let new = c.save.new.cells in
     let taken : IsTaken v saved = subst (IsTaken v) c.parcel.ensures c.in_default.ensures in
     let whole : self.broken ≡ false = not-true self.broken taken.whole in
     let noted : c.stored.new.self ≡ with_slot saved self.snapshots = c.stored.ensures ∙ ap (λ (s : SavedFields). with_slot s self.snapshots) c.into_parcel-parcel.ensures in
-    let view : view_by self.acked self.acked_counts self.number self.tail.items (states_in self.stepper) self.counts self.journal self.marks.items c.stored.new.self false ≡ with_stored saved v =
-    ap (λ (s : SnapshotFields). view_by self.acked self.acked_counts self.number self.tail.items (states_in self.stepper) self.counts self.journal self.marks.items s false) noted ∙
-    ap (λ (b : Bool). view_by self.acked self.acked_counts self.number self.tail.items (states_in self.stepper) self.counts self.journal self.marks.items (with_slot saved self.snapshots) b) (sym whole) in
+    let view : view_by (committed_in self.executor) self.acked_counts self.number self.tail.items (states_in self.executor) self.counts self.journal self.marks.items c.stored.new.self (jobs_in self.executor) false ≡ with_stored saved v =
+    ap (λ (s : SnapshotFields). view_by (committed_in self.executor) self.acked_counts self.number self.tail.items (states_in self.executor) self.counts self.journal self.marks.items s (jobs_in self.executor) false) noted ∙
+    ap (λ (b : Bool). view_by (committed_in self.executor) self.acked_counts self.number self.tail.items (states_in self.executor) self.counts self.journal self.marks.items (with_slot saved self.snapshots) (jobs_in self.executor) b) (sym whole) in
     let ok : is_ok c.save.result ≡ true = ok-where c.save.result (sym c.is_err.ensures.value ∙ c.if-is_err.false) in
     let done : self.cells.keeps ≡ true → IsStored (other_slot saved.atom (seen_cells (BODY + 1) self.cells)) saved self.cells new = λ kept. ok-has c.save.result ok (c.save.ensures.stored kept) in
-    let rests : new.keeps ≡ true → IsAtRest plant digest self.journal self.acked self.acked_counts self.number c.stored.new.self.saved new = λ keeps.
+    let rests : new.keeps ≡ true → IsAtRest plant digest self.journal (committed_in self.executor) self.acked_counts self.number c.stored.new.self.saved new = λ keeps.
     let kept : self.cells.keeps ≡ true = sym c.save.ensures.counts.keeps ∙ keeps in
-    subst (λ (s : SnapshotFields). IsAtRest plant digest self.journal self.acked self.acked_counts self.number s.saved new) (sym noted)
+    subst (λ (s : SnapshotFields). IsAtRest plant digest self.journal (committed_in self.executor) self.acked_counts self.number s.saved new) (sym noted)
     (taken-rest plant v self.bodies.items self.fits_together saved taken digest self.journal self.cells (self.at_rest kept whole) (self.on_the_way kept whole) new (done kept) c.save.ensures.counts.size) in
     record {
       fits_together = subst (λ w. FitsTogether plant w self.bodies.items) (sym view) (taken-fits plant v self.bodies.items self.fits_together saved taken);
@@ -110,8 +110,8 @@ invariant_of-self-2 g c =
           let kept : self.cells.keeps ≡ true = sym c.save.ensures.counts.keeps ∙ keeps in
           subst (λ w. AreOnTheWay plant w (seen_cells (BODY + 1) new)) (sym view)
           (taken-ways plant v self.bodies.items self.fits_together saved taken digest self.journal self.cells (self.at_rest kept whole) (self.on_the_way kept whole) new (done kept));
-      at_a_stop = λ keeps image may. rest-front plant digest self.journal self.acked self.acked_counts self.number c.stored.new.self.saved new (rests keeps)
-          (view_by self.acked self.acked_counts self.number self.tail.items (states_in self.stepper) self.counts self.journal self.marks.items c.stored.new.self false) refl refl image may;
+      at_a_stop = λ keeps image may. rest-front plant digest self.journal (committed_in self.executor) self.acked_counts self.number c.stored.new.self.saved new (rests keeps)
+          (view_by (committed_in self.executor) self.acked_counts self.number self.tail.items (states_in self.executor) self.counts self.journal self.marks.items c.stored.new.self (jobs_in self.executor) false) refl refl image may;
     }
 
 pub returns-clause-stored : goal.returns-clause-stored
@@ -119,21 +119,17 @@ returns-clause-stored g c = λ keeps.
     let ok : is_ok c.save.result ≡ true = ok-where c.save.result (sym c.is_err.ensures.value ∙ c.if-is_err.false) in
     ok-has c.save.result ok (c.save.ensures.stored keeps)
 
--- what a stop leaves behind the call is among what one since its start leaves
 pub returns-in-Some-clause-now : goal.returns-in-Some-clause-now
-returns-in-Some-clause-now g c = λ keeps whole cells may.
+returns-in-Some-clause-now g c =
     let self = c.args.self.now in
-    leaves_now (BODY + 1) (StandsForAcked (plant_in self.stepper) (digest_of (system_in self.stepper)) (size_of self.cells) (view_of self)) self.cells self.cells
-    (returns-in-Some-clause-stops g c keeps whole) cells may
+    acked-now (plant_in self.executor) (digest_of (system_in self.executor)) (view_of self) self.cells self.cells (returns-in-Some-clause-stops g c)
 
 pub returns-then-is_err-clause-now : goal.returns-then-is_err-clause-now
-returns-then-is_err-clause-now g c = λ keeps whole cells may.
+returns-then-is_err-clause-now g c =
     let self = c.args.self.now in
-    leaves_now (BODY + 1) (StandsForAcked (plant_in self.stepper) (digest_of (system_in self.stepper)) (size_of self.cells) (view_of self)) self.cells c.save.new.cells
-    (returns-then-is_err-clause-stops g c keeps whole) cells may
+    acked-now (plant_in self.executor) (digest_of (system_in self.executor)) (view_of self) self.cells c.save.new.cells (returns-then-is_err-clause-stops g c)
 
 pub returns-clause-now : goal.returns-clause-now
-returns-clause-now g c = λ keeps whole cells may.
+returns-clause-now g c =
     let self = c.args.self.now in
-    leaves_now (BODY + 1) (StandsForAcked (plant_in self.stepper) (digest_of (system_in self.stepper)) (size_of self.cells) (view_of self)) self.cells c.save.new.cells
-    (returns-clause-stops g c keeps whole) cells may
+    acked-now (plant_in self.executor) (digest_of (system_in self.executor)) (view_of self) self.cells c.save.new.cells (returns-clause-stops g c)

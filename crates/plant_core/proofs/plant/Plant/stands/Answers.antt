@@ -1,4 +1,4 @@
-use Rattle.step_core.specs.Running.{plant_in, system_in}
+use Rattle.step_executor.specs.Executing.{committed_in, plant_in, system_in}
 use Rattle.step_core.specs.System.{digest_of}
 use Rattle.plant_core.proofs.AtRest.{stands-now}
 use Rattle.plant_core.proofs.plant.Plant.stands.Goals as goal
@@ -6,4 +6,4 @@ use Rattle.plant_core.proofs.plant.Plant.stands.Goals as goal
 pub returns : goal.returns
 returns g c = λ keeps whole cells may.
     let self = c.args.self.now in
-    stands-now (plant_in self.stepper) (digest_of (system_in self.stepper)) self.journal self.acked self.acked_counts self.number self.snapshots.saved self.cells (self.at_rest keeps whole) cells may
+    stands-now (plant_in self.executor) (digest_of (system_in self.executor)) self.journal (committed_in self.executor) self.acked_counts self.number self.snapshots.saved self.cells (self.at_rest keeps whole) cells may

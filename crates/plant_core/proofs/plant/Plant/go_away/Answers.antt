@@ -1,0 +1,126 @@
+use Rattle.std.proofs.Common.{◌≡◌, ◌+◌, ◌-◌, ◌≤◌, ℕ, sym, ◌∙◌, ap, subst, [], ◌∷◌, ◌++◌, length, take, arith, true, None, Some}
+use Rattle.std.specs.List.{list_all}
+use Rattle.std.proofs.lemmas.List.{take-append-le}
+use Rattle.petri_atom.specs.Definition.{is_well_formed}
+use Rattle.record_codec.specs.Fired.{FiredFields, IsFired, fired_in}
+use Rattle.record_replay.specs.Records.{record_by, record_told}
+use Rattle.step_core.specs.Chosen.{choice_of}
+use Rattle.step_core.specs.Laws.{IsInRange}
+use Rattle.step_core.specs.Plant.{PlantDefinition}
+use Rattle.step_core.specs.Step.{transfer}
+use Rattle.step_executor.specs.Outstanding.{is_out, jobs_behind}
+use Rattle.step_core.specs.Rules.{fault_of}
+use Rattle.disk_model.specs.Cells.{seen_cells}
+use Rattle.disk_model.specs.DiskState.{size_of}
+use Rattle.disk_model.specs.declared.cells.TheConstants.{BODY}
+use Rattle.step_executor.specs.Executing.{committed_in, jobs_in, plant_in, states_in, system_in}
+use Rattle.step_core.specs.System.{digest_of, plant_of}
+use Rattle.step_core.specs.declared.limits.TheConstants.{MAX_ATOMS}
+use Rattle.step_core.specs.declared.system.System.{System}
+use Rattle.plant_core.specs.Kept.{AreMarked, AreOnTheWay, FitsTogether, IsAtRest, IsFrontOf, IsJournalOf}
+use Rattle.plant_core.specs.Marks.{mark_of}
+use Rattle.plant_core.specs.Plants.{view_of}
+use Rattle.plant_core.specs.View.{fired_number, view_by, with_fired}
+use Rattle.plant_core.proofs.AtRest.{front-longer}
+use Rattle.plant_core.proofs.Copies.{ways-fired}
+use Rattle.plant_core.proofs.Firing.{away-fits, away-front, bodies-many, count-so-far, next-in-range, one-more, told-many, view-of-fired}
+use Rattle.plant_core.proofs.plant.Plant.go_away.Goals as goal
+
+pub record_of-record-requires : goal.record_of-record-requires
+record_of-record-requires g c =
+    let self = c.args.self.now in
+    let plant = plant_in self.executor in
+    let v = view_of self in
+    let choice = choice_of c.args.choice in
+    let rows = c.begin.new.told in
+    let valid : fault_of plant ≡ None = subst (λ p. fault_of p ≡ None) c.system.ensures.plant c.keeps_its_rules.ensures.plant in
+    let formed : list_all is_well_formed plant.atoms ≡ true = subst (λ (p : PlantDefinition). list_all is_well_formed p.atoms ≡ true) c.system.ensures.plant c.keeps_its_rules.ensures.atoms in
+    let range : IsInRange plant choice = c.an_allowed_choice_is_in_range.ensures plant v.present choice valid (c.sure_is_allowed.ensures plant v.present (is_out v.away) choice c.requires.sure) in
+    let told = c.a_told_record_is_the_record_of_its_choice.ensures plant v.present v.counts (fired_number v + 1) choice rows (told-many (transfer plant v.present choice) choice.moves rows c.begin.ensures.told) c.begin.ensures.told in
+    record {
+      in_range = subst (λ (n : ℕ). IsFired (record_told (n + 1) choice rows self.counts)) (sym c.fired-number.ensures)
+          (subst IsFired (sym told) (next-in-range plant v self.bodies.items self.fits_together choice (c.sure_is_allowed.ensures plant v.present (is_out v.away) choice c.requires.sure) valid formed c.requires.last));
+    }
+
+pub count_participants-requires : goal.count_participants-requires
+count_participants-requires g c =
+    let self = c.args.self.now in
+    let plant = plant_in self.executor in
+    let v = view_of self in
+    let choice = choice_of c.args.choice in
+    let valid : fault_of plant ≡ None = subst (λ p. fault_of p ≡ None) c.system.ensures.plant c.keeps_its_rules.ensures.plant in
+    let few : length plant.atoms ≤ MAX_ATOMS = subst (λ (p : PlantDefinition). length p.atoms ≤ MAX_ATOMS) c.system.ensures.plant c.keeps_its_rules.ensures.few in
+    let range : IsInRange plant choice = c.an_allowed_choice_is_in_range.ensures plant v.present choice valid (c.sure_is_allowed.ensures plant v.present (is_out v.away) choice c.requires.sure) in
+    record {
+      rising = range.rising;
+      there = λ m at. omega (arith, range.of_plant m at, few);
+      room = λ m at. omega (arith, count-so-far plant v self.bodies.items self.fits_together m.atom, c.requires.last);
+    }
+
+pub push_reserved-requires-2 : goal.push_reserved-requires-2
+push_reserved-requires-2 g c =
+    let self = c.args.self.now in
+    omega (arith, bodies-many (plant_in self.executor) (view_of self) self.bodies.items self.fits_together, self.room_of_bodies, c.requires.short)
+
+-- there is room for one mark more
+pub push_reserved-requires-3 : goal.push_reserved-requires-3
+push_reserved-requires-3 g c =
+    let self = c.args.self.now in
+    omega (arith, self.fits_together.marks_many, self.room_of_marks, c.requires.room)
+
+pub invariant_of-self : goal.invariant_of-self
+invariant_of-self g c =
+    let self = c.args.self.now in
+    let plant = plant_in self.executor in
+    let v = view_of self in
+    let choice = choice_of c.args.choice in
+    let rows = c.begin.new.told in
+    let valid : fault_of plant ≡ None = subst (λ p. fault_of p ≡ None) c.system.ensures.plant c.keeps_its_rules.ensures.plant in
+    let told = c.a_told_record_is_the_record_of_its_choice.ensures plant v.present v.counts (fired_number v + 1) choice rows (told-many (transfer plant v.present choice) choice.moves rows c.begin.ensures.told) c.begin.ensures.told in
+    let made : c.record_of-record.result ≡ record_by plant v.present v.counts (fired_number v + 1) choice =
+    c.record_of-record.ensures ∙ ap (λ (n : ℕ). record_told (n + 1) choice rows self.counts) c.fired-number.ensures ∙ told in
+    let held : fired_in c.to_body.result ≡ Some (record_by plant v.present v.counts (fired_number v + 1) choice) = c.to_body.ensures.reads_back ∙ ap (λ (r : FiredFields). Some r) made in
+    let marked : c.push_reserved-3.new.self.items ≡ self.marks.items ++ mark_of (record_by plant v.present v.counts (fired_number v + 1) choice) ∷ [] =
+    c.push_reserved-3.ensures.items ∙ ap (λ m. self.marks.items ++ m ∷ []) (c.mark_of.ensures ∙ ap mark_of made) in
+    let more = one-more plant v self.bodies.items self.fits_together choice (c.sure_is_allowed.ensures plant v.present (is_out v.away) choice c.requires.sure) c.to_body.result held c.requires.short c.requires.room c.requires.last in
+    let out = jobs_behind plant v.present v.counts choice choice.moves v.away in
+    let view = view-of-fired plant (committed_in self.executor) (committed_in c.begin.new.self) v.present (states_in c.begin.new.self) self.acked_counts self.counts c.count_participants.new.counts self.number self.tail.items c.push_reserved.new.self.items c.args.choice self.journal self.marks.items c.push_reserved-3.new.self.items self.snapshots v.away (jobs_in c.begin.new.self) out self.broken c.begin.ensures.committed c.push_reserved.ensures.items c.begin.ensures.next c.count_participants.ensures marked c.begin.ensures.kept in
+    let run = c.begin.new.self in
+    let seen = view_by (committed_in run) self.acked_counts self.number c.push_reserved.new.self.items (states_in run) c.count_participants.new.counts self.journal c.push_reserved-3.new.self.items self.snapshots (jobs_in run) self.broken in
+    record {
+      fits_together = subst (λ p. FitsTogether p seen c.push_reserved-2.new.self.items) (sym c.begin.ensures.plant)
+          (subst (λ w. FitsTogether plant w c.push_reserved-2.new.self.items) (sym view)
+          (away-fits plant (with_fired plant choice v) c.push_reserved-2.new.self.items out (subst (λ bs. FitsTogether plant (with_fired plant choice v) bs) (sym c.push_reserved-2.ensures.items) more)));
+      room_of_tail = omega (arith, self.room_of_tail, c.push_reserved.ensures.capacity);
+      room_of_bodies = omega (arith, self.room_of_bodies, c.push_reserved-2.ensures.capacity);
+      room_of_marks = omega (arith, self.room_of_marks, c.push_reserved-3.ensures.capacity);
+      of_journal = subst (λ p. IsJournalOf p self.number self.journal self.cells) (sym c.begin.ensures.plant) self.of_journal;
+      at_rest = λ keeps whole. subst (λ (s : System). IsAtRest (plant_of s) (digest_of s) self.journal (committed_in run) self.acked_counts self.number self.snapshots.saved self.cells) (sym c.begin.ensures.system)
+          (subst (λ states. IsAtRest plant (digest_of (system_in self.executor)) self.journal states self.acked_counts self.number self.snapshots.saved self.cells) (sym c.begin.ensures.committed) (self.at_rest keeps whole));
+      marked = λ keeps whole. subst (λ p. AreMarked p seen (seen_cells (BODY + 1) self.cells)) (sym c.begin.ensures.plant)
+          (ap (take (self.number + 1 - self.journal.base)) marked ∙
+          take-append-le (self.number + 1 - self.journal.base) self.marks.items (mark_of (record_by plant v.present v.counts (fired_number v + 1) choice) ∷ []) (omega (arith, self.fits_together.marks_many)) ∙
+          self.marked keeps whole);
+      on_the_way = λ keeps whole. subst (λ p. AreOnTheWay p seen (seen_cells (BODY + 1) self.cells)) (sym c.begin.ensures.plant)
+          (subst (λ w. AreOnTheWay plant w (seen_cells (BODY + 1) self.cells)) (sym view)
+          (ways-fired plant v self.bodies.items self.fits_together (seen_cells (BODY + 1) self.cells) (self.at_rest keeps whole).leads (self.on_the_way keeps whole) choice));
+      at_a_stop = λ keeps image may. subst (λ (s : System). IsFrontOf (plant_of s) (digest_of s) (size_of self.cells) seen image) (sym c.begin.ensures.system)
+          (subst (λ w. IsFrontOf plant (digest_of (system_in self.executor)) (size_of self.cells) w image) (sym view)
+          (away-front plant (digest_of (system_in self.executor)) (size_of self.cells) (with_fired plant choice v) out image (front-longer plant (digest_of (system_in self.executor)) (size_of self.cells) v choice image (self.at_a_stop keeps image may))));
+    }
+
+pub returns-clause-view : goal.returns-clause-view
+returns-clause-view g c =
+    let self = c.args.self.now in
+    let plant = plant_in self.executor in
+    let v = view_of self in
+    let choice = choice_of c.args.choice in
+    let rows = c.begin.new.told in
+    let valid : fault_of plant ≡ None = subst (λ p. fault_of p ≡ None) c.system.ensures.plant c.keeps_its_rules.ensures.plant in
+    let told = c.a_told_record_is_the_record_of_its_choice.ensures plant v.present v.counts (fired_number v + 1) choice rows (told-many (transfer plant v.present choice) choice.moves rows c.begin.ensures.told) c.begin.ensures.told in
+    let made : c.record_of-record.result ≡ record_by plant v.present v.counts (fired_number v + 1) choice =
+    c.record_of-record.ensures ∙ ap (λ (n : ℕ). record_told (n + 1) choice rows self.counts) c.fired-number.ensures ∙ told in
+    let marked : c.push_reserved-3.new.self.items ≡ self.marks.items ++ mark_of (record_by plant v.present v.counts (fired_number v + 1) choice) ∷ [] =
+    c.push_reserved-3.ensures.items ∙ ap (λ m. self.marks.items ++ m ∷ []) (c.mark_of.ensures ∙ ap mark_of made) in
+    let out = jobs_behind plant v.present v.counts choice choice.moves v.away in
+    view-of-fired plant (committed_in self.executor) (committed_in c.begin.new.self) v.present (states_in c.begin.new.self) self.acked_counts self.counts c.count_participants.new.counts self.number self.tail.items c.push_reserved.new.self.items c.args.choice self.journal self.marks.items c.push_reserved-3.new.self.items self.snapshots v.away (jobs_in c.begin.new.self) out self.broken c.begin.ensures.committed c.push_reserved.ensures.items c.begin.ensures.next c.count_participants.ensures marked c.begin.ensures.kept

@@ -1,0 +1,250 @@
+//! A plant that runs while atoms are away.
+ghost use Rattle.std.specs.Prelude.{◌≡◌, ◌≢◌, ◌<◌, [], None, Some, IfOk, IfErr, OnOk, OnErr, IsTrue, ◌↔◌, length, map, option_map, replicate, slice_get, slice_index_or, slice_set, is_some};
+ghost use Rattle.std.specs.List.{list_any};
+ghost use Rattle.connector_tree.specs.declared.tree.TheConstants.{MAX_LEAVES};
+ghost use Rattle.petri_atom.specs.Definition.{AtomDefinition, Fits};
+ghost use Rattle.step_core.specs.Chosen.{choice_of};
+ghost use Rattle.step_core.specs.Delivery.{IsTold};
+ghost use Rattle.step_core.specs.Dispatcher.{parts_in, system_of};
+ghost use Rattle.step_core.specs.Fitting.{IsOf, AllFit};
+ghost use Rattle.step_core.specs.Job.{job_done, job_of};
+ghost use Rattle.step_core.specs.Jobs.{AreJobsOf, jobs_of};
+ghost use Rattle.step_core.specs.Step.{next, transfer};
+ghost use Rattle.step_core.specs.Sure.{IsSure, sure_choices};
+ghost use Rattle.step_core.specs.System.{plant_of};
+ghost use Rattle.step_executor.specs.Outstanding.{AreCommitted, AreKept, is_out, jobs_behind, kept_in, parts_without, whole_of};
+
+use crate::committing::{commit_back, copied, copy_parts};
+use crate::keeping::keep_jobs;
+use connector_tree::MAX_LEAVES;
+use petri_atom::{AtomState, Delivered};
+use std::alloc::{AllocError, Global};
+use step_core::{Choice, Dispatcher, Done, Job, Jobs, MAX_ATOMS, PlantParts, PlantState, System};
+
+/// A plant that runs while atoms are away: a [`Dispatcher`], and of each atom that is away a copy of the job that it was given. Beside its
+/// present state it has a committed one, which is the present state at the last commit. Only making it takes memory.
+///
+/// Of the committed state nothing is kept of an atom that was away at the last commit and still is: it is where the atom's job leaves it.
+#[derive(Drop)]
+pub struct Executor<'s> {
+    dispatcher: Dispatcher<'s>,
+    kept: Vec<Option<Job<'s>>>,
+    committed: PlantParts,
+    ghost outstanding: { AreKept (plant_of (system_of dispatcher)) (parts_in dispatcher) (kept_in kept.items) },
+    ghost fits: { AllFit (plant_of (system_of dispatcher)) (whole_of (kept_in kept.items) (parts_in dispatcher)) },
+    ghost behind: { AreCommitted (plant_of (system_of dispatcher)) committed (kept_in kept.items) },
+}
+
+impl<'s> Executor<'s> {
+    ghost use Rattle.step_executor.specs.Executing.{committed_in, jobs_in, plant_in, states_in, system_in};
+
+    /// The plant in this state of it, with no atom away.
+    pub fn at(alloc: Global, system: &'s System, states: PlantState) -> Result<Self, AllocError>
+        requires of_plant { IsOf (plant_of system.now) states }
+        requires fits { AllFit (plant_of system.now) states }
+        ensures system { IfOk result (λ run. system_in run ≡ system.now) }
+        ensures states { IfOk result (λ run. states_in run ≡ states) }
+        ensures committed { IfOk result (λ run. committed_in run ≡ states) }
+        ensures none_away { IfOk result (λ run. jobs_in run ≡ replicate (length states) None) }
+    {
+        let kept = no_jobs(alloc, states.len())?;
+        let committed = copied(alloc, system, &states)?;
+        Ok(Executor {
+            dispatcher: Dispatcher::at(system, states),
+            kept,
+            committed: PlantParts::all(committed),
+        })
+    }
+
+    /// The system that runs.
+    pub fn system(&self) -> &'s System
+        ensures system { result.now ≡ system_in self.now }
+        ensures plant { plant_of result.now ≡ plant_in self.now }
+    {
+        self.dispatcher.system()
+    }
+
+    /// What is known of the state without the atoms that are away.
+    pub fn parts(&self) -> &PlantParts
+        ensures { result.now ≡ parts_without (jobs_in self.now) (states_in self.now) }
+    {
+        self.dispatcher.parts()
+    }
+
+    /// Whether the atom is away.
+    pub fn is_away(&self, atom: u16) -> bool
+        ensures { result ≡ is_out (jobs_in self.now) atom }
+    {
+        self.dispatcher.is_away(atom)
+    }
+
+    /// Whether some atom is away.
+    pub fn is_any_away(&self) -> bool
+        ensures { result ≡ list_any is_some (jobs_in self.now) }
+    {
+        is_any_kept(self.kept.as_slice())
+    }
+
+    /// The state of the atom, if it is there: of one that is away the state that its job leaves.
+    pub fn look(&self, atom: u16) -> Option<AtomState>
+        ensures { result ≡ slice_get (states_in self.now) atom }
+    {
+        match self.kept_at(atom) {
+            Some(job) => Some(job.end()),
+            None => self.dispatcher.state(atom),
+        }
+    }
+
+    /// How many atoms there are.
+    pub fn len(&self) -> usize
+        ensures { result ≡ length (states_in self.now) }
+    {
+        self.dispatcher.parts().shown().len()
+    }
+
+    /// The state of the atom: of one that is away the state that its job leaves.
+    pub fn state(&self, atom: u16) -> AtomState
+        requires { atom < length (states_in self.now) }
+        ensures state { slice_get (states_in self.now) atom ≡ Some result }
+        ensures fits { (a : AtomDefinition) → slice_get (plant_in self.now).atoms atom ≡ Some a → Fits a result }
+    {
+        match self.look(atom) {
+            Some(state) => state,
+            None => unreachable!(),
+        }
+    }
+
+    /// How many sure choices there are.
+    pub fn count(&self) -> u128
+        ensures { result ≡ length (sure_choices (plant_in self.now) (parts_without (jobs_in self.now) (states_in self.now))) }
+    {
+        self.dispatcher.count_sure()
+    }
+
+    /// The sure choice with this place, from 0, in the order of the choices.
+    pub fn nth(&self, place: u128) -> Choice
+        requires { place < length (sure_choices (plant_in self.now) (parts_without (jobs_in self.now) (states_in self.now))) }
+        ensures entry { slice_get (sure_choices (plant_in self.now) (parts_without (jobs_in self.now) (states_in self.now))) place ≡ Some (choice_of result) }
+        ensures sure { IsSure (plant_in self.now) (parts_without (jobs_in self.now) (states_in self.now)) (choice_of result) }
+    {
+        self.dispatcher.nth_sure(place)
+    }
+
+    /// Fires the sure choice, and tells what it delivered, at the places of the moves.
+    pub fn fire_telling(&mut self, choice: &Choice, told: &mut [Delivered; MAX_LEAVES])
+        requires { IsSure (plant_in self.old) (parts_without (jobs_in self.old) (states_in self.old)) (choice_of choice.now) }
+        ensures system { system_in self.new ≡ system_in self.old }
+        ensures plant { plant_in self.new ≡ plant_in self.old }
+        ensures next { states_in self.new ≡ next (plant_in self.old) (states_in self.old) (choice_of choice.now) }
+        ensures committed { committed_in self.new ≡ committed_in self.old }
+        ensures jobs { jobs_in self.new ≡ jobs_in self.old }
+        ensures told { IsTold choice.now.moves (transfer (plant_in self.old) (states_in self.old) (choice_of choice.now)) told.new }
+    {
+        self.dispatcher.system().keeps_its_rules();
+        self.dispatcher.fire_telling(choice, told);
+    }
+
+    /// Begins the sure choice: its participants go away, each with a job that carries the atom's count of these, and what is delivered is
+    /// told at the places of the moves.
+    pub fn begin(
+        &mut self,
+        choice: &Choice,
+        counts: &[u64; MAX_ATOMS],
+        jobs: &mut Jobs<'s>,
+        told: &mut [Delivered; MAX_LEAVES],
+    )
+        requires sure { IsSure (plant_in self.old) (parts_without (jobs_in self.old) (states_in self.old)) (choice_of choice.now) }
+        requires empty { jobs_of jobs.old ≡ [] }
+        ensures system { system_in self.new ≡ system_in self.old }
+        ensures plant { plant_in self.new ≡ plant_in self.old }
+        ensures next { states_in self.new ≡ next (plant_in self.old) (states_in self.old) (choice_of choice.now) }
+        ensures committed { committed_in self.new ≡ committed_in self.old }
+        ensures kept { jobs_in self.new ≡ jobs_behind (plant_in self.old) (states_in self.old) counts.now (choice_of choice.now) choice.now.moves (jobs_in self.old) }
+        ensures jobs { AreJobsOf (plant_in self.old) (parts_without (jobs_in self.old) (states_in self.old)) (choice_of choice.now) counts.now choice.now.moves (jobs_of jobs.new) }
+        ensures told { IsTold choice.now.moves (transfer (plant_in self.old) (states_in self.old) (choice_of choice.now)) told.new }
+    {
+        self.dispatcher.system().keeps_its_rules();
+        self.dispatcher.begin(choice, counts, jobs);
+        keep_jobs(choice.moves.as_slice(), jobs, &mut self.kept, told);
+    }
+
+    /// Takes a job back that was done: its atom is present again, in the state that the job left. One that is not kept comes back.
+    pub fn back(&mut self, done: Done<'s>) -> Result<(), Done<'s>>
+        ensures system { system_in self.new ≡ system_in self.old }
+        ensures plant { plant_in self.new ≡ plant_in self.old }
+        ensures states { states_in self.new ≡ states_in self.old }
+        ensures committed { committed_in self.new ≡ committed_in self.old }
+        ensures taken { OnOk result ((slice_index_or (jobs_in self.old) (job_done done.entry).atom None ≡ Some (job_done done.entry))
+            × (jobs_in self.new ≡ slice_set (jobs_in self.old) (job_done done.entry).atom None)) }
+        ensures refused { OnErr result ((slice_index_or (jobs_in self.old) (job_done done.entry).atom None ≢ Some (job_done done.entry))
+            × (jobs_in self.new ≡ jobs_in self.old)) }
+        ensures returned { IfErr result (λ back. back ≡ done.entry) }
+    {
+        if !self.is_kept(&done) {
+            return Err(done);
+        }
+        let atom = done.atom();
+        commit_back(&mut self.committed, atom, done.after());
+        self.kept[usize::from(atom)] = None;
+        self.dispatcher.back(atom, done.into_state());
+        Ok(())
+    }
+
+    /// Commits the present state. Atoms that are away are not waited for.
+    pub fn commit(&mut self)
+        ensures system { system_in self.new ≡ system_in self.old }
+        ensures plant { plant_in self.new ≡ plant_in self.old }
+        ensures states { states_in self.new ≡ states_in self.old }
+        ensures committed { committed_in self.new ≡ states_in self.old }
+        ensures jobs { jobs_in self.new ≡ jobs_in self.old }
+    {
+        copy_parts(&mut self.committed, self.dispatcher.parts());
+    }
+
+    /// The present state fits, and has a state for each atom.
+    pub fn fits(&self)
+        ensures of_plant { IsOf (plant_in self.now) (states_in self.now) }
+        ensures fits { AllFit (plant_in self.now) (states_in self.now) }
+    {}
+
+    /// Whether this very job is kept of its atom.
+    fn is_kept(&self, done: &Done<'_>) -> bool
+        ensures { IsTrue result ↔ (slice_index_or (jobs_in self.now) (job_done done.now).atom None ≡ Some (job_done done.now)) }
+    {
+        match self.kept_at(done.atom()) {
+            Some(job) => job.is_done(done),
+            None => false,
+        }
+    }
+
+    /// The job that the atom has, if it is away.
+    fn kept_at(&self, atom: u16) -> Option<&Job<'s>>
+        ensures { option_map (λ job. job_of job.now) result ≡ slice_index_or (jobs_in self.now) atom None }
+    {
+        match self.kept.get(usize::from(atom)) {
+            Some(Some(job)) => Some(job),
+            _ => None,
+        }
+    }
+}
+
+/// Whether there is some job.
+fn is_any_kept(kept: &[Option<Job<'_>>]) -> bool
+    ensures { result ≡ list_any is_some (kept_in kept.now) }
+{
+    match kept {
+        [] => false,
+        [first, rest @ ..] => first.is_some() || is_any_kept(rest),
+    }
+}
+
+/// Places for the jobs of so many atoms, none of which is away.
+fn no_jobs<'s>(alloc: Global, atoms: usize) -> Result<Vec<Option<Job<'s>>>, AllocError>
+    ensures { IfOk result (λ kept. kept.items ≡ replicate atoms None) }
+{
+    let mut kept = Vec::with_capacity(alloc, atoms)?;
+    for _ in 0..atoms {
+        kept.push_reserved(None);
+    }
+    Ok(kept)
+}
