@@ -29,7 +29,9 @@ from sample import CELLS, FORMATTED, PLANT, ROOT, OnImage, answer, image_of, sta
 DROP_OF_THE_BOUND, OVERRIDE, READ_SEARCH = 24, 1, 2
 # Each block of memory is asked of the system by itself, where the C library knows this.
 BLOCK_BY_BLOCK = {"GLIBC_TUNABLES": "glibc.malloc.mmap_threshold=1"}
-LEAST_BLOCKS, LAST_BLOCKS = 100, 20
+LEAST_BLOCKS, LAST_BLOCKS = 100, 40
+# These boot a plant, whose records are replayed by threads: so many of the last blocks are asked for while threads come and go.
+WITH_THREADS, BLOCKS_WITH_THREADS = ("run", "recover"), 20
 # Of what asks for more blocks than so many, which makes the same calls over and over, one of so many is refused each.
 MANY_BLOCKS, BLOCKS_APART = 300, 37
 # Tests of the library that ask memory of each of these calls in turn. They print the name of one that is refused it, and make it again.
@@ -194,6 +196,9 @@ class Limits(OnImage):
         for number in sorted(set(numbers)):
             self.put_image(data)
             ran = self.with_memory(words, number)
+            # What the stacks of threads give back serves the command, and it does without a thread that it can't have.
+            if number >= count - BLOCKS_WITH_THREADS and words.split()[0] in WITH_THREADS and ran.answer == answer:
+                continue
             self.assertEqual((ran.status, ran.printed), (3, ""), number)
             found += [ran.told] if [ran.told] != found[-1:] else []
             self.expect_untouched(data)

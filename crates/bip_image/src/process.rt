@@ -20,15 +20,15 @@ use std::alloc::Global;
 use std::fs::File;
 use std::io::{BufWriter, Read, Write};
 use std::rt::{Clock, Env, Files};
+use std::thread::Threads;
 use std::{fs, io};
 use step_core::System;
 
 /// Does what the words of the command line ask for, and gives the exit status. Where a terminal shows the standard error, it is told there how far
 /// a long task is, and more of a fault; of a fault also where the words ask for it.
-pub(crate) fn run<R: Env + Files<File = File> + Input + Print + Eprint + Clock + AllocGlobal>(
-    rt: &R,
-    is_terminal: bool,
-) -> u8 {
+pub(crate) fn run<
+    R: Env + Files<File = File> + Input + Print + Eprint + Clock + Threads + AllocGlobal + Sync,
+>(rt: &R, is_terminal: bool) -> u8 {
     match words_of_process(rt) {
         Ok(words) => answer(rt, words.as_slice(), is_terminal),
         Err(ending) => end(rt, Paths::none(), Err(Ending::OfPlant(ending))),
@@ -36,7 +36,7 @@ pub(crate) fn run<R: Env + Files<File = File> + Input + Print + Eprint + Clock +
 }
 
 /// Answers the words of the command line.
-fn answer<R: Files<File = File> + Input + Print + Eprint + Clock + AllocGlobal>(
+fn answer<R: Files<File = File> + Input + Print + Eprint + Clock + Threads + AllocGlobal + Sync>(
     rt: &R,
     words: &[String],
     is_terminal: bool,
@@ -48,7 +48,7 @@ fn answer<R: Files<File = File> + Input + Print + Eprint + Clock + AllocGlobal>(
 }
 
 /// Does what was asked for, tells why not where it ends early, and gives the exit status.
-fn serve<R: Files<File = File> + Input + Print + Eprint + Clock + AllocGlobal>(
+fn serve<R: Files<File = File> + Input + Print + Eprint + Clock + Threads + AllocGlobal + Sync>(
     rt: &R,
     request: &Request<'_>,
     is_terminal: bool,
@@ -70,7 +70,7 @@ fn serve<R: Files<File = File> + Input + Print + Eprint + Clock + AllocGlobal>(
 
 /// Does what was asked for, where it is no task of the plant alone. The text of the plant is put into `text`, and a failure of the system into
 /// `failure`.
-fn work<R: Files<File = File> + Input + Print + Eprint + Clock + AllocGlobal>(
+fn work<R: Files<File = File> + Input + Print + Eprint + Clock + Threads + AllocGlobal + Sync>(
     rt: &R,
     request: &Request<'_>,
     is_terminal: bool,
@@ -93,7 +93,10 @@ fn work<R: Files<File = File> + Input + Print + Eprint + Clock + AllocGlobal>(
 }
 
 /// Does what was asked for with the plant that was read.
-fn work_with<R: Files<File = File> + Input + Eprint + Clock + AllocGlobal, W: Write>(
+fn work_with<
+    R: Files<File = File> + Input + Eprint + Clock + Threads + AllocGlobal + Sync,
+    W: Write,
+>(
     rt: &R,
     request: &Request<'_>,
     is_terminal: bool,
@@ -147,7 +150,7 @@ fn explore<W: Write, P: Progress>(
 }
 
 /// Does a task of the plant on its image, the file at the path.
-fn work_on_image<R: Files<File = File> + Input + AllocGlobal, W: Write>(
+fn work_on_image<R: Files<File = File> + Input + Threads + AllocGlobal + Sync, W: Write>(
     rt: &R,
     task: ImageTask<'_>,
     system: &System,
@@ -166,11 +169,11 @@ fn work_on_image<R: Files<File = File> + Input + AllocGlobal, W: Write>(
         ImageTask::Run(script) => {
             let events = script_at(rt, system, script, failure)?;
             let disk = device_at(rt, image)?;
-            run_image(alloc, system, &events, disk, output)?;
+            run_image(rt, alloc, system, &events, disk, output)?;
         }
         ImageTask::Recover => {
             let disk = device_at(rt, image)?;
-            recover_image(alloc, system, disk, output)?;
+            recover_image(rt, alloc, system, disk, output)?;
         }
         ImageTask::Migrate(made, ring) => {
             // The old image is open, and locked, before anything is done to the new one.
@@ -178,7 +181,7 @@ fn work_on_image<R: Files<File = File> + Input + AllocGlobal, W: Write>(
             let new = device_to_format(rt, made, image_bytes(system, ring.records)).map_err(
                 Ending::NewUnopened,
             )?;
-            migrate_image(alloc, system, ring.records, old, new, output)?;
+            migrate_image(rt, alloc, system, ring.records, old, new, output)?;
         }
     }
     Ok(())

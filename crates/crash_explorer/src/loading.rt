@@ -1,6 +1,6 @@
 // The cells of a device in memory, as a read gives them. Its calls are made at its own type: no contract of any device says that a call succeeds,
 // and this one's does while no fuse is set.
-ghost use Rattle.std.specs.Prelude.{◌≡◌, ◌+◌, ◌*◌, ◌<◌, ◌≤◌, ◌==◌, length, take, drop, slice_index, IfOk};
+ghost use Rattle.std.specs.Prelude.{◌≡◌, ◌+◌, ◌<◌, ◌≤◌, length, take, drop, IfOk};
 ghost use Rattle.disk_model.specs.Cells.{cell, cell_count, seen_cells};
 ghost use Rattle.disk_model.specs.DiskState.{size_of};
 ghost use Rattle.disk_model.specs.MemDisk.{fuse_of, state_of};
@@ -13,6 +13,9 @@ use std::alloc::{AllocError, Global};
 
 /// The gate of a full cell.
 const OPEN: u8 = 0xA5;
+
+/// The bytes of a cell: its gate and its body.
+const WHOLE: usize = BODY + 1;
 
 /// All cells.
 pub(crate) fn load(alloc: Global, disk: &mut MemDisk) -> Result<Vec<Option<[u8; BODY]>>, AllocError>
@@ -49,24 +52,14 @@ fn load_cell(disk: &mut MemDisk, k: u64) -> Option<[u8; BODY]>
     ensures cell { result ≡ cell (seen_cells (BODY + 1) (state_of disk.old)) k }
     ensures kept { IsKept disk.old disk.new }
 {
-    if !is_open(disk, k) {
+    let mut whole = [0; WHOLE];
+    read(disk, CELL * k, &mut whole);
+    if whole[0] != OPEN {
         return None;
     }
     let mut body = [0; BODY];
-    read(disk, CELL * k + 1, &mut body);
+    body.copy_from_slice(&whole[1..]);
     Some(body)
-}
-
-/// Whether the gate of cell `k` is open.
-fn is_open(disk: &mut MemDisk, k: u64) -> bool
-    requires fuse { fuse_of disk.old ≡ Off }
-    requires inside { k < cell_count (BODY + 1) (state_of disk.old) }
-    ensures gate { result ≡ (slice_index (state_of disk.old).now.seen ((BODY + 1) * k) == 165) }
-    ensures kept { IsKept disk.old disk.new }
-{
-    let mut gate = [0];
-    read(disk, CELL * k, &mut gate);
-    gate[0] == OPEN
 }
 
 /// How many bytes the device has.

@@ -2,7 +2,7 @@
 use Rattle.std.proofs.Common.{◌≡◌, ◌≢◌, ◌⊎◌, inl, inr, ⊎_elim, ℕ, ◌+◌, ◌-◌, ◌*◌, ◌<◌, ◌≤◌, Bool, true, false, ◌||◌, cond, eqb, List, [], ◌∷◌, ◌++◌, length, take, drop, get_or, Some, None, Result, Ok, Err, OnOk, OnErr, MatchResult, refl, sym, ◌∙◌, ap, subst, arith}
 use Rattle.disk_model.specs.declared.disk.DiskFault.{DiskFault}
 use Rattle.std.proofs.lemmas.Bool.Decides.{nat_tests}
-use Rattle.std.proofs.lemmas.List.{ext_get_or, length-take-le, append_assoc, drop_at, take_at}
+use Rattle.std.proofs.lemmas.List.{ext_get_or, get_or-take, get_or-drop, drop-take, drop-drop, length-drop, length-take-le, append_assoc, drop_at, take_all, take_at}
 use Rattle.disk_model.specs.DiskState.{Moment, DiskState, MayLeave, IsSettled, Writes, Syncs, IsUnchanged, FailsToWrite, overwritten, is_within, is_pending, size_of}
 use Rattle.disk_model.specs.Cells.{Cell, body_at, cell_at, cells_in, cells_of, cell, cell_count, seen_cells, MayBe, IsClosed, Leaves}
 use Rattle.disk_model.specs.Steps.{ChangesOne, IsAsBefore, IsAsBeforeOrEmpty, IsEmptied, IsEmptyOr, HasBody, Steps, IsFirm}
@@ -234,16 +234,45 @@ gate_from_test b g is test =
     let same : eqb g 165 ≡ true = sym test ∙ is in
     grind (arith, nat_tests)
 
--- what a read of a whole cell found
+-- a cell whose gate is not open
 pub cell_empty : (size k : ℕ) (old : DiskState) → k < cell_count size old → eqb (get_or old.now.seen (size * k) 0) 165 ≡ false → cell (seen_cells size old) k ≡ None
 cell_empty size k old inside gate = cell-cells_of size old.now.seen k inside ∙ ap (λ (b : Bool). cond b (Some (body_at size old.now.seen k)) None) gate
 
-pub cell_full : (body_length k : ℕ) (old mid : DiskState) (n : ℕ) (body : List ℕ) → k < cell_count (body_length + 1) old → eqb (get_or old.now.seen ((body_length + 1) * k) 0) 165 ≡ true → IsUnchanged old mid → n ≡ body_length
-    → body ≡ take n (drop ((body_length + 1) * k + 1) mid.now.seen) → cell (seen_cells (body_length + 1) old) k ≡ Some body
-cell_full body_length k old mid n body inside gate same whole read =
-    let count : body_length + 1 - 1 ≡ n = omega (arith, whole) in
-    cell-cells_of (body_length + 1) old.now.seen k inside ∙ ap (λ (b : Bool). cond b (Some (body_at (body_length + 1) old.now.seen k)) None) gate
-    ∙ ap (λ (l : List ℕ). Some l) (ap (λ (i : ℕ). take i (drop ((body_length + 1) * k + 1) old.now.seen)) count ∙ ap (λ (m : Moment). take n (drop ((body_length + 1) * k + 1) m.seen)) (sym same.now) ∙ sym read)
+-- a whole cell was read by one call
+module _ (size k n : ℕ) (old : DiskState) (whole : List ℕ) (sized : 0 < size) (inside : k < cell_count size old) (room : n ≡ size) (read : whole ≡ take n (drop (size * k) old.now.seen)) where
+  -- its gate is the first byte
+  gate_read : get_or whole 0 0 ≡ get_or old.now.seen (size * k) 0
+  gate_read =
+      let at : size * k + 0 ≡ size * k = omega arith in
+      ap (λ (l : List ℕ). get_or l 0 0) read ∙ get_or-take n (drop (size * k) old.now.seen) 0 0 (omega (arith, sized, room)) ∙ get_or-drop (size * k) old.now.seen 0 0
+      ∙ ap (λ (i : ℕ). get_or old.now.seen i 0) at
+
+  -- and its body the rest
+  body_read : take (length whole - 1) (drop 1 whole) ≡ body_at size old.now.seen k
+  body_read =
+      let parts : n ≡ 1 + (size - 1) = omega (arith, sized, room) in
+      take_all (length whole - 1) (drop 1 whole) (omega (arith, length-drop 1 whole))
+      ∙ ap (λ (l : List ℕ). drop 1 l) (read ∙ ap (λ (i : ℕ). take i (drop (size * k) old.now.seen)) parts)
+      ∙ drop-take 1 (size - 1) (drop (size * k) old.now.seen)
+      ∙ ap (λ (l : List ℕ). take (size - 1) l) (drop-drop 1 (size * k) old.now.seen)
+
+  -- so it tells whether the cell is full, and its body then
+  pub read_empty : get_or whole 0 0 ≢ 165 → cell (seen_cells size old) k ≡ None
+  read_empty shut = cell_empty size k old inside (not_equal (get_or old.now.seen (size * k) 0) (λ is. shut (gate_read ∙ is)))
+    where
+      not_equal : (g : ℕ) → g ≢ 165 → eqb g 165 ≡ false
+      not_equal g ne = grind (arith, nat_tests)
+
+  pub read_full : get_or whole 0 0 ≡ 165 → cell (seen_cells size old) k ≡ Some (take (length whole - 1) (drop 1 whole))
+  read_full gate = cell-cells_of size old.now.seen k inside ∙ open_cell size k old.now.seen (sym gate_read ∙ gate) ∙ ap (λ (l : List ℕ). Some l) (sym body_read)
+
+-- a cell that reads full has its gate open
+pub open_of_full : (size k : ℕ) (old : DiskState) → k < cell_count size old → cell (seen_cells size old) k ≢ None → true ≡ eqb (get_or old.now.seen (size * k) 0) 165
+open_of_full size k old inside full = by_test (eqb (get_or old.now.seen (size * k) 0) 165) refl
+  where
+    by_test : (is_open : Bool) → eqb (get_or old.now.seen (size * k) 0) 165 ≡ is_open → true ≡ is_open
+    by_test true is = refl
+    by_test false is = absurd (full (cell_empty size k old inside is))
 
 -- a cell whose gate reads open does not read empty
 pub not_empty : (size k : ℕ) (old : DiskState) → k < cell_count size old → get_or old.now.seen (size * k) 0 ≡ 165 → cell (seen_cells size old) k ≡ None → ⊥

@@ -3,7 +3,7 @@ use Rattle.std.proofs.Common.{◌≡◌, ◌⊎◌, inl, inr, ℕ, zero, suc, �
 use Rattle.disk_model.specs.declared.cells.TheConstants.{BODY}
 use Rattle.disk_model.specs.declared.calls.TheConstants.{OPEN, CLOSED}
 use Rattle.disk_model.specs.declared.change.TheConstants.{LONGEST}
-use Rattle.disk_model.specs.declared.cells.TheConstants.{FIRST_BODY, FIRST_CELL}
+use Rattle.disk_model.specs.declared.cells.TheConstants.{FIRST_CELL}
 use Rattle.disk_model.specs.declared.change.Tear.TheVariants.{Old, New, Gates, Mixed}
 use Rattle.disk_model.specs.declared.fuse.Fuse.TheVariants.{Once, Dead, Change}
 use Rattle.disk_model.specs.DiskState.{Moment, DiskState, MayLeave, LeftSince, counted, counted_times, overwritten, is_within, moment_of}

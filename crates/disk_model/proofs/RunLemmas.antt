@@ -82,6 +82,15 @@ module _ (size : ℕ) where
       last : (h i : ℕ) → h < i + 1 → i ≤ h → h ≡ i
       last h i lt le = omega arith
 
+  -- the cells behind those that are emptied still read full
+  pub full_behind : (mid new : DiskState) (ks : List ℕ) (i k : ℕ) → AllDiffer ks → i < length ks → k ≡ get_or ks i 0 → ((h : ℕ) → i ≤ h → h < length ks → cell (seen_cells size mid) (get_or ks h 0) ≢ None)
+      → ChangesOne k IsEmptied (seen_cells size mid) (seen_cells size new) → (h : ℕ) → i + 1 ≤ h → h < length ks → cell (seen_cells size new) (get_or ks h 0) ≢ None
+  full_behind mid new ks i k differ lt is full ch h behind h_lt none =
+      full h (omega (arith, behind)) h_lt (sym (ch.others (get_or ks h 0) (λ same. later h behind (differ i h lt h_lt (sym is ∙ sym same)))) ∙ none)
+    where
+      later : (h : ℕ) → i + 1 ≤ h → i ≡ h → ⊥
+      later h behind same = omega arith
+
   -- after the sync
   pub erased : (old mid new : DiskState) (ks : List ℕ) → SeenEmptied size (length ks) ks old mid → Syncs mid new → Erased size ks old new
   erased old mid new ks seen s = record {

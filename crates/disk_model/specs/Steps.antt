@@ -46,6 +46,10 @@ AreInside size s ks = (i : ℕ) → i < length ks → slice_index ks i < cell_co
 abbrev pub ReadEmpty : ℕ → DiskState → List ℕ → Type 0
 ReadEmpty size s ks = (i : ℕ) → i < length ks → cell (seen_cells size s) (slice_index ks i) ≡ None
 
+-- a read gives each of these cells full
+abbrev pub ReadFull : ℕ → DiskState → List ℕ → Type 0
+ReadFull size s ks = (i : ℕ) → i < length ks → cell (seen_cells size s) (slice_index ks i) ≢ None
+
 -- each of these cells is closed and its gate is not pending
 abbrev pub AreClosed : ℕ → DiskState → List ℕ → Type 0
 AreClosed size s ks = (i : ℕ) → i < length ks → IsClosed size s (slice_index ks i)

@@ -1,9 +1,9 @@
 ghost use Rattle.std.specs.Prelude.{◌≡◌, ℕ, ◌+◌, ◌<◌, ◌∷◌, [], true, false, if◌then◌else◌, length, is_ok, is_err, IfOk, OnOk, MatchResult, Some, None};
 ghost use Rattle.disk_model.specs.DiskState.{DiskState, Counts, CountsTwo, CountsUpTo, IsSettled, IsUnchanged, Reads, Syncs, size_of};
 ghost use Rattle.disk_model.specs.Cells.{cell_count, cell, seen_cells, IsClosed, MayBe, Leaves, Settles, OldOrEmpty, EmptyOrNew, Erased, Filled, OldOrEmptyAt, OldEmptyOrNewAt, Replaced};
-ghost use Rattle.disk_model.specs.Steps.{AreInside, ReadEmpty, AreClosed, AllDiffer};
+ghost use Rattle.disk_model.specs.Steps.{AreInside, ReadEmpty, ReadFull, AreClosed, AllDiffer};
 
-use crate::calls::read_full;
+use crate::calls::{Known, read_full};
 use crate::run::{erase_all, set_all, sync_all};
 use crate::{Disk, DiskFault};
 use std::marker::Model;
@@ -14,6 +14,9 @@ pub const BODY: usize = 1023;
 
 /// The bytes of a cell: its gate and its body.
 pub const CELL: u64 = BODY as u64 + 1;
+
+/// The same, as the length of an array.
+const WHOLE: usize = BODY + 1;
 
 /// The bytes of a body of the first layout.
 pub const FIRST_BODY: usize = 511;
@@ -83,7 +86,8 @@ impl<D: Disk> Cells<D> {
             (λ full. cell (seen_cells (BODY + 1) self.old) k ≡ (if full then Some body.new else None)) }
         ensures reads { Reads (is_err result) self.old self.new }
     {
-        read_full(&mut self.disk, k, body)
+        let mut whole = [0; WHOLE];
+        read_full(&mut self.disk, k, body, &mut whole)
     }
 
     /// Empties cell `k`. Where it reads empty nothing is written, and the call only syncs.
@@ -151,7 +155,20 @@ impl<D: Disk> Cells<D> {
         ensures only_syncs { self.old.keeps ≡ true → ReadEmpty (BODY + 1) self.old ks.now
             → MatchResult result (λ _. Syncs self.old self.new) (λ _. IsUnchanged self.old self.new) }
     {
-        erase_all::<D, BODY>(&mut self.disk, ks)
+        erase_all::<D, BODY>(&mut self.disk, ks, Known::Nothing)
+    }
+
+    /// Empties the cells `ks`, which all read full, by one sync. No cell is read.
+    pub fn erase_full_run(&mut self, ks: &[u64]) -> Result<(), DiskFault>
+        requires differ { AllDiffer ks.now }
+        requires inside { AreInside (BODY + 1) self.old ks.now }
+        requires full { self.old.keeps ≡ true → ReadFull (BODY + 1) self.old ks.now }
+        ensures counts { Counts (is_err result) (is_ok result) self.old self.new }
+        ensures leaves { self.old.keeps ≡ true
+            → Leaves (BODY + 1) (OldOrEmpty (BODY + 1) self.old ks.now) self.old self.new }
+        ensures erased { self.old.keeps ≡ true → OnOk result (Erased (BODY + 1) ks.now self.old self.new) }
+    {
+        erase_all::<D, BODY>(&mut self.disk, ks, Known::Full)
     }
 
     /// Fills the cells `ks`, which are empty whatever a stop leaves, by two syncs.

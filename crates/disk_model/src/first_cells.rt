@@ -9,6 +9,9 @@ use crate::run::sync_all;
 use crate::{Disk, DiskFault};
 use std::marker::Model;
 
+/// The bytes of a cell, as the length of an array.
+const WHOLE: usize = FIRST_BODY + 1;
+
 /// A device as cells of one gate and a body of [`FIRST_BODY`] bytes, as an image of the first layout has them.
 //
 // The methods say the same as those of `Cells`, of another length: a length as a parameter of one struct would ask of each drop
@@ -68,6 +71,7 @@ impl<D: Disk> FirstCells<D> {
             (λ full. cell (seen_cells (FIRST_BODY + 1) self.old) k ≡ (if full then Some body.new else None)) }
         ensures reads { Reads (is_err result) self.old self.new }
     {
-        read_full(&mut self.disk, k, body)
+        let mut whole = [0; WHOLE];
+        read_full(&mut self.disk, k, body, &mut whole)
     }
 }

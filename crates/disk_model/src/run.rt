@@ -2,9 +2,10 @@
 ghost use Rattle.std.specs.Prelude.{◌≡◌, ℕ, ◌+◌, ◌<◌, ◌∷◌, [], List, true, false, length, is_ok, is_err, OnOk, MatchResult};
 ghost use Rattle.disk_model.specs.DiskState.{Counts, CountsTwo, IsUnchanged, Syncs};
 ghost use Rattle.disk_model.specs.Cells.{cell_count, MayBe, Leaves, Settles, OldOrEmpty, EmptyOrNew, Erased, Filled};
-ghost use Rattle.disk_model.specs.Steps.{AreInside, ReadEmpty, AreClosed, AllDiffer, AreFirm, SeenEmptied, SeenStaged, SeenOpened};
+ghost use Rattle.disk_model.specs.Steps.{AreInside, ReadEmpty, ReadFull, AreClosed, AllDiffer, AreFirm, SeenEmptied, SeenStaged, SeenOpened};
+ghost use Rattle.disk_model.specs.declared.calls.Known.TheVariants.{Full};
 
-use crate::calls::{close_gate, open_gate, write_body};
+use crate::calls::{Known, close_gate, open_gate, write_body};
 use crate::{Disk, DiskFault};
 
 /// Makes all that was written last.
@@ -20,8 +21,14 @@ pub(crate) fn sync_all<D: Disk, const B: usize>(disk: &mut D) -> Result<(), Disk
     disk.sync()
 }
 
-fn close_gates<D: Disk, const B: usize>(disk: &mut D, ks: &[u64]) -> Result<(), DiskFault>
+fn close_gates<D: Disk, const B: usize>(
+    disk: &mut D,
+    ks: &[u64],
+    known: Known,
+) -> Result<(), DiskFault>
+    requires differ { known ≡ Full → AllDiffer ks.now }
     requires inside { AreInside (B + 1) (D.state disk.old) ks.now }
+    requires full { (D.state disk.old).keeps ≡ true → known ≡ Full → ReadFull (B + 1) (D.state disk.old) ks.now }
     ensures counts { Counts (is_err result) false (D.state disk.old) (D.state disk.new) }
     ensures leaves { (D.state disk.old).keeps ≡ true
         → Leaves (B + 1) (OldOrEmpty (B + 1) (D.state disk.old) ks.now) (D.state disk.old) (D.state disk.new) }
@@ -31,14 +38,20 @@ fn close_gates<D: Disk, const B: usize>(disk: &mut D, ks: &[u64]) -> Result<(), 
         → IsUnchanged (D.state disk.old) (D.state disk.new) }
 {
     for k in ks {
-        close_gate::<D, B>(disk, *k)?;
+        close_gate::<D, B>(disk, *k, known)?;
     }
     Ok(())
 }
 
 /// Empties the cells `ks`, by one sync for all.
-pub(crate) fn erase_all<D: Disk, const B: usize>(disk: &mut D, ks: &[u64]) -> Result<(), DiskFault>
+pub(crate) fn erase_all<D: Disk, const B: usize>(
+    disk: &mut D,
+    ks: &[u64],
+    known: Known,
+) -> Result<(), DiskFault>
+    requires differ { known ≡ Full → AllDiffer ks.now }
     requires inside { AreInside (B + 1) (D.state disk.old) ks.now }
+    requires full { (D.state disk.old).keeps ≡ true → known ≡ Full → ReadFull (B + 1) (D.state disk.old) ks.now }
     ensures counts { Counts (is_err result) (is_ok result) (D.state disk.old) (D.state disk.new) }
     ensures leaves { (D.state disk.old).keeps ≡ true
         → Leaves (B + 1) (OldOrEmpty (B + 1) (D.state disk.old) ks.now) (D.state disk.old) (D.state disk.new) }
@@ -48,7 +61,7 @@ pub(crate) fn erase_all<D: Disk, const B: usize>(disk: &mut D, ks: &[u64]) -> Re
         → MatchResult result (λ _. Syncs (D.state disk.old) (D.state disk.new)) (λ _. IsUnchanged (D.state disk.old) (D.state disk.new)) }
 {
     // A stop before the sync leaves each of these cells as it was or empty.
-    close_gates::<D, B>(disk, ks)?;
+    close_gates::<D, B>(disk, ks, known)?;
     disk.sync()
 }
 

@@ -10,3 +10,4 @@ mod migrating;
 mod runs;
 mod saves;
 mod threads;
+mod workers;

@@ -59,9 +59,12 @@ places_all_differ j first count short i k i_within k_within same =
 place_inside : (j : Ring) (n : ℕ) → 1 ≤ j.ring → place j n < cells_of_ring j
 place_inside j n some = omega arith
 
+pub places_within : (j : Ring) (first count : ℕ) → 1 ≤ j.ring → (i : ℕ) → i < length (places j first count) → get_or (places j first count) i 0 < cells_of_ring j
+places_within j first count some i within = omega (arith, places_at j first count i (first + i) within refl, place_inside j (first + i) some)
+
 pub places_inside : (size : ℕ) (j : Ring) (first count : ℕ) (s : DiskState) → 1 ≤ j.ring → cells_of_ring j ≤ cell_count size s → AreInside size s (places j first count)
 places_inside size j first count s some inside i within =
-    omega (arith, places_at j first count i (first + i) within refl, place_inside j (first + i) some, inside)
+    omega (arith, places_within j first count some i within, inside)
 
 -- A place comes again after a round.
 pub place_round : (j : Ring) (n : ℕ) → place j (n + j.ring) ≡ place j n

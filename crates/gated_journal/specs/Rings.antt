@@ -1,6 +1,6 @@
 -- A journal as its contracts see it: where its records stand, and the numbers of the first and the last that is live.
-use Rattle.std.specs.Prelude.{◌≡◌, ℕ, ◌+◌, ◌<◌, ◌≤◌, List, length, vec_len}
-use Rattle.disk_model.specs.Cells.{Cell}
+use Rattle.std.specs.Prelude.{◌≡◌, ℕ, ◌+◌, ◌<◌, ◌≤◌, Bool, List, length, is_some, vec_len}
+use Rattle.disk_model.specs.Cells.{Cell, cell}
 use Rattle.record_codec.specs.declared.layout.TheConstants.{MOST_ATOMS, MOST_RING, LAST_NUMBER}
 use Rattle.record_codec.specs.Ring.{base_cell, device_cells}
 use Rattle.gated_journal.specs.declared.journal.Journal.TheInside.{Inside}
@@ -37,6 +37,14 @@ IsWhole j cells = j.base + length (live j cells) ≡ j.last + 1
 pub record IsReadFor (j : Ring) (cells : List Cell) : Type 0 where
   pub based : IsBased j cells
   pub whole : IsWhole j cells
+
+-- The list tells of each cell of the journal's device what it reads for.
+abbrev pub IsFoundFor : Ring → List Cell → List Cell → Type 0
+IsFoundFor j cells found = (k : ℕ) → k < cells_of_ring j → cell found k ≡ cell cells k
+
+-- the list tells that cell k is full
+abbrev pub is_full_in : List Cell → ℕ → Bool
+is_full_in found k = is_some (cell found k)
 
 -- the journal with so many records more
 abbrev pub appended : ℕ → Ring → Ring

@@ -5,7 +5,7 @@ ghost use Rattle.disk_model.specs.Cells.{cell, cell_count, seen_cells, Leaves};
 ghost use Rattle.record_codec.specs.declared.layout.TheConstants.{LAST_NUMBER};
 ghost use Rattle.record_codec.specs.Fired.{FiredFields};
 ghost use Rattle.gated_journal.specs.Live.{record_in, place, AreRecords};
-ghost use Rattle.gated_journal.specs.Rings.{IsRing, IsWhole, IsReadFor, cells_of_ring, appended};
+ghost use Rattle.gated_journal.specs.Rings.{IsRing, IsWhole, IsReadFor, IsFoundFor, cells_of_ring, appended};
 ghost use Rattle.gated_journal.specs.Stops.{IsReady, HasAppended, HasAppendedAll, HasCleaned, IsMovedOrNot, HasMoved, moved};
 
 use crate::appending::append;
@@ -136,11 +136,17 @@ impl Journal {
         Ok(())
     }
 
-    /// Empties each record cell that is not live, by one sync.
-    pub fn clean<D: Disk>(&mut self, cells: &mut Cells<D>) -> Result<(), DiskFault>
+    /// Empties each record cell that is not live, by one sync. Which of them are full `found` tells, the bodies of the cells as
+    /// they were loaded, so that none is read again.
+    pub fn clean<D: Disk>(
+        &mut self,
+        cells: &mut Cells<D>,
+        found: &[Option<[u8; BODY]>],
+    ) -> Result<(), DiskFault>
         requires inside { cells_of_ring self.old ≤ cell_count (BODY + 1) cells.old }
         requires settled { cells.old.keeps ≡ true → IsSettled cells.old.now }
         requires whole { cells.old.keeps ≡ true → IsWhole self.old (seen_cells (BODY + 1) cells.old) }
+        requires found { cells.old.keeps ≡ true → IsFoundFor self.old (seen_cells (BODY + 1) cells.old) found.now }
         ensures journal { self.new ≡ self.old }
         ensures counts { Counts (is_err result) (is_ok result) cells.old cells.new }
         ensures leaves { cells.old.keeps ≡ true
@@ -150,7 +156,7 @@ impl Journal {
         let ring = self.ring;
         let end = ring.base + u64::from(ring.ring);
         let count = (end - 1 - ring.last) as usize;
-        clean(cells, ring, &mut self.room[..count])
+        clean(cells, ring, &mut self.room[..count], found)
     }
 
     /// Drops the live records before `base`, by three syncs or four.

@@ -12,13 +12,18 @@ ghost use Rattle.image_commands.specs.Refusals.{IsRefusedBy};
 use crate::refusal::ImageRefusal;
 use disk_model::Disk;
 use plant_core::Plant;
-use recovery::boot;
+use recovery::{Quiet, boot_par};
 use std::alloc::Global;
+use std::thread::Threads;
 use step_core::System;
+
+/// How many workers replay the atoms.
+const WORKERS: usize = 4;
 
 /// The plant that the device stands for, or why there is none. Then the device is let go.
 #[tactic(auto, using(crate::proofs::Told::refused_as_told))]
-pub(crate) fn booted<'s, D: Disk + Drop>(
+pub(crate) fn booted<'s, D: Disk + Drop, R: Threads + Sync>(
+    rt: &R,
     alloc: Global,
     system: &'s System,
     disk: D,
@@ -30,7 +35,7 @@ pub(crate) fn booted<'s, D: Disk + Drop>(
     ensures refused { (D.state disk).keeps ≡ true → IfErr result (IsRefusedBy (fault_of (plant_of system.now) (digest_of system.now)
         (size_of (D.state disk)) (seen_cells (BODY + 1) (D.state disk)))) }
 {
-    match boot(alloc, disk, system) {
+    match boot_par(rt, alloc, disk, system, WORKERS, &Quiet) {
         Ok(plant) => Ok(plant),
         Err(refused) => Err(refused.fault.into()),
     }

@@ -20,12 +20,14 @@ use disk_model::Disk;
 use recovery::migrate;
 use std::alloc::Global;
 use std::io::Write;
+use std::thread::Threads;
 use step_core::System;
 use text_io::{WriteFault, end_line, print_number, print_text};
 
 /// Brings the image of the first layout that the old device holds over to the new one, with room for so many records, boots the plant from
 /// it, and prints the number of the last record. The old device is only read; whatever the new one held is gone then.
-pub fn migrate_image<D1: Disk + Drop, D2: Disk + Drop, W: Write>(
+pub fn migrate_image<R: Threads + Sync, D1: Disk + Drop, D2: Disk + Drop, W: Write>(
+    rt: &R,
     alloc: Global,
     system: &System,
     ring: u32,
@@ -51,7 +53,7 @@ pub fn migrate_image<D1: Disk + Drop, D2: Disk + Drop, W: Write>(
         Ok(devices) => devices,
         Err(refused) => return Err(MigrateEnding::Refused(refused.fault.into())),
     };
-    let plant = match booted(alloc, system, new) {
+    let plant = match booted(rt, alloc, system, new) {
         Ok(plant) => plant,
         Err(refusal) => return Err(MigrateEnding::Refused(MigrateRefusal::of_new(refusal))),
     };

@@ -21,10 +21,12 @@ use disk_model::Disk;
 use script_lines::print_standing;
 use std::alloc::Global;
 use std::io::Write;
+use std::thread::Threads;
 use step_core::System;
 
 /// Boots the plant of the system from the device, after any stop, and prints where it stands: the state of each atom, and how far it is.
-pub fn recover_image<D: Disk + Drop, W: Write>(
+pub fn recover_image<R: Threads + Sync, D: Disk + Drop, W: Write>(
+    rt: &R,
     alloc: Global,
     system: &System,
     disk: D,
@@ -39,7 +41,7 @@ pub fn recover_image<D: Disk + Drop, W: Write>(
     ensures no_run { IfErr result IsOfNoRun }
     ensures nothing_printed { (refusal : ImageRefusal) → result ≡ Err (Refused refusal) → output.new ≡ output.old }
 {
-    let plant = match booted(alloc, system, disk) {
+    let plant = match booted(rt, alloc, system, disk) {
         Ok(plant) => plant,
         Err(refusal) => return Err(ImageEnding::Refused(refusal)),
     };

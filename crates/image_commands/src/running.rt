@@ -19,12 +19,14 @@ use plant_core::{Event, Hands};
 use script_lines::run_script;
 use std::alloc::Global;
 use std::io::Write;
+use std::thread::Threads;
 use step_core::System;
 
 /// Boots the plant of the system from the device, after any stop, asks the events of it, one after another, and prints the answer of each; behind
 /// them, where the plant then stands. What was printed is handed on before each event that makes calls of the device, behind the answer,
 /// and at the end. The hands of the atoms are empty at first; they are made before the device is asked for anything.
-pub fn run_image<D: Disk + Drop, W: Write>(
+pub fn run_image<R: Threads + Sync, D: Disk + Drop, W: Write>(
+    rt: &R,
     alloc: Global,
     system: &System,
     events: &[Event],
@@ -41,7 +43,7 @@ pub fn run_image<D: Disk + Drop, W: Write>(
         Ok(hands) => hands,
         Err(_) => return Err(ImageEnding::Refused(ImageRefusal::Memory)),
     };
-    let mut plant = match booted(alloc, system, disk) {
+    let mut plant = match booted(rt, alloc, system, disk) {
         Ok(plant) => plant,
         Err(refusal) => return Err(ImageEnding::Refused(refusal)),
     };

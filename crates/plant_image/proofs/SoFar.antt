@@ -1,7 +1,7 @@
 -- The atoms are brought to where the records lead them, one after another.
-use Rattle.std.proofs.Common.{◌≡◌, ℕ, ◌+◌, ◌<◌, ◌≤◌, List, length, drop, set, slice_get, Some, None, Ok, sym, ◌∙◌, ap, subst, arith, length-set, get_or-set_same, get_or-set_other}
+use Rattle.std.proofs.Common.{◌≡◌, ◌⊎◌, ℕ, ◌+◌, ◌<◌, ◌≤◌, List, length, drop, replicate, set, slice_get, Some, None, Ok, refl, sym, ◌∙◌, ap, subst, arith, length-set, get_or-set_same, get_or-set_other}
 use Rattle.std.proofs.lemmas.Bool.{cases_lt, cases_eq}
-use Rattle.std.proofs.lemmas.List.{drop_all}
+use Rattle.std.proofs.lemmas.List.{drop_all, get_or-replicate, get_or_past, length-replicate}
 use Rattle.std.proofs.lemmas.Option.{slice_get_within}
 use Rattle.std.proofs.Common.{inl, inr}
 use Rattle.petri_atom.specs.Definition.{AtomDefinition, Fits}
@@ -14,6 +14,7 @@ use Rattle.step_core.specs.Rules.{first_of, first_told}
 use Rattle.step_core.specs.declared.limits.TheConstants.{MAX_ATOMS}
 use Rattle.plant_image.specs.Contents.{Contents, replayed, states_of, counts_of}
 use Rattle.plant_image.specs.Faults.{replay_fault, replay_told}
+use Rattle.plant_image.specs.Reading.{AreEnds}
 use Rattle.plant_image.proofs.ByAtoms.{same_lists, get_set_same, get_set_other, states_length, counts_past, state_at, count_at}
 use Rattle.plant_image.proofs.FirstTold.{told_at, none_first}
 
@@ -26,6 +27,22 @@ pub record SoFar (plant : PlantDefinition) (c : Contents) (n : ℕ) (states : Li
   pub long : length counts ≡ MAX_ATOMS
   pub counts_are : (k : ℕ) → k < n → count_of counts k ≡ count_of (counts_of plant c) k
   pub none : (k : ℕ) → n ≤ k → count_of counts k ≡ 0
+
+-- At first none are, whatever their states are.
+pub none_so_far : (plant : PlantDefinition) (c : Contents) (states : List Local) → IsOf plant states → AllFit plant states → SoFar plant c 0 states (replicate MAX_ATOMS 0)
+none_so_far plant c states of_plant fits = record {
+  rest = refl;
+  of_plant = of_plant;
+  fits = fits;
+  states_are = λ k below. absurd (omega arith);
+  long = refl;
+  counts_are = λ k below. absurd (omega arith);
+  none = λ k past. none_at k (cases_lt k MAX_ATOMS);
+}
+  where
+    none_at : (k : ℕ) → (k < MAX_ATOMS) ⊎ (MAX_ATOMS ≤ k) → count_of (replicate MAX_ATOMS 0) k ≡ 0
+    none_at k (inl below) = get_or-replicate MAX_ATOMS k 0 0 below
+    none_at k (inr past) = get_or_past (replicate MAX_ATOMS 0) k 0 (omega (arith, past, length-replicate {A = ℕ} MAX_ATOMS 0))
 
 module _ (plant : PlantDefinition) (c : Contents) (n : ℕ) (states : List Local) (counts : List ℕ) (far : SoFar plant c n states counts) where
   -- one atom more
@@ -81,14 +98,18 @@ module _ (plant : PlantDefinition) (c : Contents) (n : ℕ) (states : List Local
 
   -- all of them
   module _ (all : n ≡ length plant.atoms) where
-    pub none_told : first_told (replay_fault c) 0 plant.atoms ≡ None
-    none_told = far.rest ∙ ap (first_told (replay_fault c) n) (drop_all n plant.atoms (omega (arith, all)))
-
-    pub states_all : states ≡ states_of plant c
+    states_all : states ≡ states_of plant c
     states_all = same_lists states (states_of plant c) (omega (arith, far.of_plant, states_length c plant)) (λ i below. far.states_are i (omega (arith, below, far.of_plant, all)))
 
-    pub counts_all : (k : ℕ) → count_of counts k ≡ count_of (counts_of plant c) k
+    counts_all : (k : ℕ) → count_of counts k ≡ count_of (counts_of plant c) k
     counts_all k = elim (cases_lt k n) [
       | inl below ↦ far.counts_are k below
       | inr past ↦ far.none k past ∙ sym (counts_past c plant k (omega (arith, past, all)))
     ]
+
+    -- so nothing is told, and these are the ends
+    pub ends_told : (first_told (replay_fault c) 0 plant.atoms ≡ None) × AreEnds plant c (record { states = states; counts = counts })
+    ends_told = (
+      far.rest ∙ ap (first_told (replay_fault c) n) (drop_all n plant.atoms (omega (arith, all))),
+      record { states = states_all; of_plant = far.of_plant; fits = far.fits; counts = counts_all },
+    )

@@ -1,14 +1,17 @@
 -- What reading an image answers.
-use Rattle.std.specs.Prelude.{◌≡◌, ℕ, ◌≤◌, List, Option, None, Some, Result, Ok, Err, length}
+use Rattle.std.specs.Prelude.{◌≡◌, ℕ, ◌+◌, ◌≤◌, true, List, Option, None, Some, Result, Ok, Err, length, slice_get, slice_index_or}
+use Rattle.petri_atom.specs.Definition.{AtomDefinition}
 use Rattle.step_core.specs.Fitting.{IsOf, AllFit}
 use Rattle.step_core.specs.Plant.{PlantDefinition}
 use Rattle.disk_model.specs.Cells.{Cell}
-use Rattle.record_codec.specs.declared.layout.TheConstants.{LEAST_RING}
+use Rattle.record_codec.specs.declared.layout.TheConstants.{LAST_NUMBER, LEAST_RING}
 use Rattle.gated_journal.specs.Rings.{IsReadFor, IsRing}
 use Rattle.record_replay.specs.Records.{count_of}
-use Rattle.plant_image.specs.Contents.{Contents, contents_of, counts_of, ring_held, ring_in, states_of}
+use Rattle.plant_image.specs.Contents.{Contents, contents_of, counts_of, ring_held, ring_in, states_of, unsaved}
+use Rattle.plant_image.specs.Faults.{is_of_atom}
 use Rattle.plant_image.specs.declared.fault.ImageFault.{ImageFault}
 use Rattle.plant_image.specs.declared.fault.ImageFault.TheVariants.{Memory}
+use Rattle.plant_image.specs.declared.replaying.Ends.{Ends}
 use Rattle.plant_image.specs.declared.standing.Held.{Held}
 use Rattle.plant_image.specs.declared.standing.Standing.{Standing}
 
@@ -36,6 +39,20 @@ pub record IsInRange (atoms : ℕ) (cells : List Cell) : Type 0 where
 pub record IsHeld (atoms : ℕ) (cells : List Cell) (held : Held) : Type 0 where
   pub contents : contents_in held ≡ contents_of atoms cells
   pub in_range : IsInRange atoms cells
+
+-- Contents are sound where there is a saved state of each atom that is one of its atom, and the numbers are in their ranges.
+pub record IsSound (plant : PlantDefinition) (c : Contents) : Type 0 where
+  pub as_many : length c.slots ≡ length plant.atoms
+  pub of_atoms : (n : ℕ) (a : AtomDefinition) → slice_get plant.atoms n ≡ Some a → is_of_atom n a (slice_index_or c.slots n (unsaved n)) ≡ true
+  pub base : 1 ≤ c.base
+  pub last : c.base + length c.records ≤ LAST_NUMBER + 1
+
+-- The ends are where the records bring the atoms: a state of the plant, and how often each atom has taken part in it.
+pub record AreEnds (plant : PlantDefinition) (c : Contents) (ends : Ends) : Type 0 where
+  pub states : ends.states ≡ states_of plant c
+  pub of_plant : IsOf plant ends.states
+  pub fits : AllFit plant ends.states
+  pub counts : (atom : ℕ) → count_of ends.counts atom ≡ count_of (counts_of plant c) atom
 
 -- What stands is what was read, and where that leads: a state of the plant, and how often each atom has taken part in it.
 pub record IsLed (plant : PlantDefinition) (c : Contents) (standing : Standing) : Type 0 where

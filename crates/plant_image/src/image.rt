@@ -1,11 +1,9 @@
 //! The reading of a whole image.
-ghost use Rattle.std.specs.Prelude.{◌≡◌, ◌+◌, ◌≤◌, ℕ, true, Some, length, slice_get, slice_index_or};
-ghost use Rattle.petri_atom.specs.Definition.{AtomDefinition};
-ghost use Rattle.record_codec.specs.declared.layout.TheConstants.{LAST_NUMBER};
+ghost use Rattle.std.specs.Prelude.{◌≡◌, None, length, IfOk};
+ghost use Rattle.step_core.specs.Rules.{first_told};
 ghost use Rattle.step_core.specs.System.{plant_of, digest_of};
-ghost use Rattle.plant_image.specs.Contents.{unsaved};
-ghost use Rattle.plant_image.specs.Faults.{cells_fault, fault_of, is_of_atom, leading_fault};
-ghost use Rattle.plant_image.specs.Reading.{IsHeld, IsLed, IsStanding, Tells, contents_in};
+ghost use Rattle.plant_image.specs.Faults.{cells_fault, fault_of, leading_fault, replay_fault};
+ghost use Rattle.plant_image.specs.Reading.{AreEnds, IsHeld, IsLed, IsSound, IsStanding, Tells, contents_in};
 
 use crate::bases::read_base;
 use crate::fault::ImageFault;
@@ -33,15 +31,16 @@ pub fn read_image(
     lead(alloc, system, held)
 }
 
-/// What the cells hold.
-fn read_cells(
+/// What the cells of such an image hold, or the first thing that is wrong with them. Where the records lead is not asked.
+pub fn read_cells(
     alloc: Global,
     system: &System,
     bytes: u64,
     cells: &[Option<[u8; BODY]>],
 ) -> Result<Held, ImageFault>
-    ensures { Tells (cells_fault (plant_of system.now) (digest_of system.now) bytes cells.now)
+    ensures held { Tells (cells_fault (plant_of system.now) (digest_of system.now) bytes cells.now)
         (IsHeld (length (plant_of system.now).atoms) cells.now) result }
+    ensures sound { IfOk result (λ held. IsSound (plant_of system.now) (contents_in held)) }
 {
     let identity = read_identity(system, bytes, cells)?;
     let base = read_base(cells)?;
@@ -57,16 +56,24 @@ fn read_cells(
     })
 }
 
-/// Where that leads.
+/// Where that leads, with the atoms replayed one after another.
 fn lead(alloc: Global, system: &System, held: Held) -> Result<Standing, ImageFault>
-    requires as_many { length held.slots.items ≡ length (plant_of system.now).atoms }
-    requires of_atoms { (n : ℕ) (a : AtomDefinition) → slice_get (plant_of system.now).atoms n ≡ Some a
-        → is_of_atom n a (slice_index_or held.slots.items n (unsaved n)) ≡ true }
-    requires base { 1 ≤ held.base }
-    requires last { held.base + length held.records.items ≤ LAST_NUMBER + 1 }
+    requires { IsSound (plant_of system.now) (contents_in held) }
     ensures { Tells (leading_fault (plant_of system.now) (contents_in held)) (IsLed (plant_of system.now) (contents_in held)) result }
 {
-    let Ends { states, counts } = replay_all(alloc, system, &held)?;
+    let ends = replay_all(alloc, system, &held)?;
+    stand(system, held, ends)
+}
+
+/// What stands, of what was read and of where the records bring the atoms; or which atom has taken part more often than there were firings.
+/// It takes no memory.
+pub fn stand(system: &System, held: Held, ends: Ends) -> Result<Standing, ImageFault>
+    requires sound { IsSound (plant_of system.now) (contents_in held) }
+    requires none { first_told (replay_fault (contents_in held)) 0 (plant_of system.now).atoms ≡ None }
+    requires ends { AreEnds (plant_of system.now) (contents_in held) ends }
+    ensures { Tells (leading_fault (plant_of system.now) (contents_in held)) (IsLed (plant_of system.now) (contents_in held)) result }
+{
+    let Ends { states, counts } = ends;
     let last = held.base + held.records.len() as u64 - 1;
     system.keeps_its_rules();
     judge_counts(system.atoms(), &counts, last)?;

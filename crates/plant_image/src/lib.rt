@@ -26,7 +26,8 @@ mod slots;
 mod standing;
 
 pub use fault::ImageFault;
-pub use image::read_image;
+pub use image::{read_cells, read_image, stand};
+pub use replaying::{Ends, Reached, replay_saved};
 pub use standing::{Held, Standing};
 
 // The cells of the device and the bodies that are read from them have one length.

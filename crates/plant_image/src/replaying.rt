@@ -10,7 +10,7 @@ ghost use Rattle.step_core.specs.Rules.{first_told};
 ghost use Rattle.step_core.specs.System.{plant_of};
 ghost use Rattle.plant_image.specs.Contents.{counts_of, states_of, unsaved};
 ghost use Rattle.plant_image.specs.Faults.{fault_where, is_of_atom, replay_fault, replay_told};
-ghost use Rattle.plant_image.specs.Reading.{Tells, contents_in};
+ghost use Rattle.plant_image.specs.Reading.{AreEnds, IsSound, Tells, contents_in};
 ghost use Rattle.plant_image.specs.declared.fault.ImageFault.TheVariants.{Gap};
 
 use crate::fault::ImageFault;
@@ -23,31 +23,27 @@ use step_core::{MAX_ATOMS, PlantState, System};
 
 /// Where the records bring the atoms.
 #[derive(Drop)]
-pub(crate) struct Ends {
+pub struct Ends {
     /// The state of each atom.
-    pub(crate) states: PlantState,
+    pub states: PlantState,
     /// How often each atom has taken part, 0 past the last.
-    pub(crate) counts: [u64; MAX_ATOMS],
+    pub counts: [u64; MAX_ATOMS],
 }
 
 /// Where the records bring one atom.
 #[derive(Drop)]
-struct Reached {
-    state: AtomState,
-    count: u64,
+pub struct Reached {
+    /// Its state there.
+    pub state: AtomState,
+    /// How often it has taken part then.
+    pub count: u64,
 }
 
-/// Brings each atom from its newest saved state to where the records lead it.
+/// Brings each atom from its newest saved state to where the records lead it, one after another.
 pub(crate) fn replay_all(alloc: Global, system: &System, held: &Held) -> Result<Ends, ImageFault>
-    requires as_many { length held.now.slots.items ≡ length (plant_of system.now).atoms }
-    requires of_atoms { (n : ℕ) (a : AtomDefinition) → slice_get (plant_of system.now).atoms n ≡ Some a
-        → is_of_atom n a (slice_index_or held.now.slots.items n (unsaved n)) ≡ true }
-    ensures states { Tells (first_told (replay_fault (contents_in held.now)) 0 (plant_of system.now).atoms)
-        (λ ends. ends.states ≡ states_of (plant_of system.now) (contents_in held.now)) result }
-    ensures counts { IfOk result
-        (λ ends. (atom : ℕ) → count_of ends.counts atom ≡ count_of (counts_of (plant_of system.now) (contents_in held.now)) atom) }
-    ensures of_plant { IfOk result (λ ends. IsOf (plant_of system.now) ends.states) }
-    ensures fits { IfOk result (λ ends. AllFit (plant_of system.now) ends.states) }
+    requires { IsSound (plant_of system.now) (contents_in held.now) }
+    ensures { Tells (first_told (replay_fault (contents_in held.now)) 0 (plant_of system.now).atoms)
+        (AreEnds (plant_of system.now) (contents_in held.now)) result }
 {
     system.keeps_its_rules();
     let mut states = PlantState::init(alloc, system)?;
@@ -61,8 +57,8 @@ pub(crate) fn replay_all(alloc: Global, system: &System, held: &Held) -> Result<
     Ok(Ends { states, counts })
 }
 
-/// Brings the atom with the number from the saved state to where the records lead it.
-fn replay_saved(
+/// Brings the atom with the number from the saved state to where the records lead it. It looks at no other atom, and takes no memory.
+pub fn replay_saved(
     atom: &Atom,
     number: u16,
     saved: &Saved,

@@ -1,11 +1,13 @@
 -- What the cells of a device stand for that are loaded up to as many as any device for the plant has.
-use Rattle.std.proofs.Common.{◌≡◌, ◌≢◌, ℕ, ◌+◌, ◌-◌, ◌*◌, ◌^◌, ◌<◌, ◌≤◌, ◌==◌, min, nat_lt, Bool, true, false, not, List, [], ◌∷◌, ◌++◌, length, take, Option, Some, None, Result, Ok, Err, MatchResult, refl, sym, ◌∙◌, ap, subst, arith}
+use Rattle.std.proofs.Common.{◌≡◌, ◌≢◌, ℕ, ◌+◌, ◌-◌, ◌*◌, ◌^◌, ◌<◌, ◌≤◌, ◌==◌, min, nat_lt, Bool, true, false, not, List, [], ◌∷◌, ◌++◌, length, take, Option, Some, None, Result, Ok, Err, IfErr, MatchResult, OnOk, refl, sym, ◌∙◌, ap, subst, arith}
 use Rattle.std.specs.Option.{option_and_then, option_map_or}
 use Rattle.std.proofs.lemmas.Bool.{eqb-true, ltb-true, ltb-false}
 use Rattle.std.proofs.lemmas.List.{get_or-take, take_all, take_more}
-use Rattle.disk_model.specs.Cells.{Cell, cell, cells_in, seen_cells}
+use Rattle.disk_model.specs.Cells.{Cell, Leaves, MayBe, Settles, cell, cell_count, cells_in, seen_cells}
 use Rattle.disk_model.specs.DiskState.{Counts, CountsUpTo, DiskState, Reads, counted, size_of}
-use Rattle.disk_model.specs.Reading.{reads_seen}
+use Rattle.disk_model.specs.Moments.{seen_length}
+use Rattle.disk_model.specs.Reading.{leaves_reading, reads_seen, reads_settled}
+use Rattle.disk_model.specs.declared.cells.TheConstants.{BODY}
 use Rattle.record_codec.specs.Identity.{IdentityFields, identity_in}
 use Rattle.record_codec.specs.Ring.{device_cells, identity_cell}
 use Rattle.record_codec.specs.declared.layout.TheConstants.{MOST_RING, VERSION}
@@ -15,11 +17,15 @@ use Rattle.step_core.specs.declared.limits.TheConstants.{MAX_ATOMS}
 use Rattle.step_core.specs.Rules.{first_of, first_told}
 use Rattle.plant_image.specs.Contents.{contents_of, identity_held, ring_held}
 use Rattle.plant_image.specs.Faults.{atom_fault, base_fault, cell_bytes, cells_fault, fault_of, fault_where, first_cell_fault, first_fault, identity_fault, is_for, leading_fault, records_fault}
+use Rattle.plant_image.specs.Reading.{IsStanding, IsTold}
 use Rattle.plant_image.specs.declared.fault.ImageFault.{ImageFault}
 use Rattle.plant_image.specs.declared.fault.ImageFault.TheVariants.{WrongSize, OtherSystem}
 use Rattle.plant_image.specs.declared.standing.Standing.{Standing}
 use Rattle.recovery.specs.Booting.{has_failed, is_disk}
-use Rattle.recovery.specs.Judged.{WasReadOf}
+use Rattle.recovery.specs.InMemory.{WasRead}
+use Rattle.recovery.specs.Judged.{IsJudged, WasReadOf}
+use Rattle.recovery.specs.Loading.{IsSynced, IsSyncedInPart, WasLoaded, WasLoadedOf}
+use Rattle.recovery.specs.declared.loading.Loaded.{Loaded}
 use Rattle.recovery.specs.declared.fault.BootFault.{BootFault}
 use Rattle.plant_image.proofs.AtomSlots.{no_first, no_later, not_wrong}
 use Rattle.plant_image.proofs.KeptCells.{identity_same, sound_of}
@@ -154,6 +160,23 @@ module _ (plant : PlantDefinition) (digest : List ℕ) (bytes told count : ℕ) 
       loaded ∙ all_loaded plant digest told all many
       (ap (fault_of plant digest told) (sym loaded) ∙ ap (λ (n : ℕ). fault_of plant digest n list) (sym size) ∙ none)
 
+-- What was loaded of some cells was judged: so all of them were.
+module _ (plant : PlantDefinition) (digest : List ℕ) (told count : ℕ) (keeps : Bool) (all : List Cell) (loaded : Loaded) (few : length plant.atoms ≤ MAX_ATOMS) (long : length all ≡ count)
+    (exact : cells_in cell_bytes told < 2 ^ 54 - 1 → cells_in cell_bytes told ≡ count) (was : WasLoadedOf plant told keeps all loaded) where
+  -- what is told of it is wrong with all
+  pub fault_judged : keeps ≡ true → (fault : ImageFault) → IsTold (fault_of plant digest loaded.bytes loaded.cells.items) fault → IsTold (fault_of plant digest told all) fault
+  fault_judged kept fault judged =
+      subst (λ (o : Option ImageFault). IsTold o fault) (told_alike plant digest loaded.bytes told count all loaded.cells.items few was.bytes long exact (was.cells kept)) judged
+
+  -- and what stands was read of all
+  pub standing_judged : (standing : Standing) → (fault_of plant digest loaded.bytes loaded.cells.items ≡ None) × IsStanding plant loaded.cells.items standing → WasReadOf plant digest told keeps all standing
+  standing_judged standing judged = record {
+    cells = loaded.cells.items;
+    seen = λ kept. read_whole plant digest loaded.bytes told count all loaded.cells.items few was.bytes long exact (was.cells kept) judged.0;
+    sound = subst (λ (n : ℕ). fault_of plant digest n loaded.cells.items ≡ None) was.bytes judged.0;
+    is = judged.1;
+  }
+
 -- a sync and then reading alone
 pub sync_then_read : (old mid new : DiskState) → Counts false true old mid → Reads false mid new → Counts false true old new
 sync_then_read old mid new first second = record {
@@ -190,3 +213,59 @@ read_then plant digest size told todays standing old new reads was = record {
   sound = subst (λ (n : ℕ). fault_of plant digest (told n) was.cells ≡ None) (sym reads.counts.size) was.sound;
   is = was.is;
 }
+
+-- A device was synced, and then it was read alone.
+module _ (old mid new : DiskState) (synced : Counts false true old mid) (leaves : old.keeps ≡ true → Leaves (BODY + 1) (MayBe (BODY + 1) old) old mid) (settles : old.keeps ≡ true → Settles (BODY + 1) old mid) where
+  same_then : {failed : Bool} → Reads failed mid new → old.keeps ≡ true → seen_cells (BODY + 1) new ≡ seen_cells (BODY + 1) old
+  same_then reads keeps = reads_seen (BODY + 1) mid new reads (synced.keeps ∙ keeps) ∙ (settles keeps).same
+
+  leaves_so : {failed : Bool} → Reads failed mid new → old.keeps ≡ true → Leaves (BODY + 1) (MayBe (BODY + 1) old) old new
+  leaves_so reads keeps = leaves_reading (BODY + 1) (MayBe (BODY + 1) old) old mid new (leaves keeps) reads (synced.keeps ∙ keeps)
+
+  pub synced_ok : (r : Result Loaded BootFault) → Reads (has_failed r) mid new → OnOk r (IsSynced old new)
+  synced_ok (Ok loaded) reads = record {
+    counts = sync_then_read old mid new synced reads;
+    leaves = leaves_so reads;
+    same = same_then reads;
+    settled = λ keeps. reads_settled mid new reads (synced.keeps ∙ keeps) (settles keeps).settled;
+  }
+  synced_ok (Err fault) reads = tt
+
+  pub synced_err : (r : Result Loaded BootFault) → Reads (has_failed r) mid new → IfErr r (λ fault. IsSyncedInPart (is_disk fault) old new)
+  synced_err (Ok loaded) reads = tt
+  synced_err (Err fault) reads = record {
+    counts = sync_up_to_read (is_disk fault) old mid new synced reads;
+    leaves = leaves_so reads;
+    same = same_then reads;
+  }
+
+-- what was loaded before some reading is loaded behind it
+pub loaded_then : {failed : Bool} (plant : PlantDefinition) (loaded : Loaded) (old new : DiskState) → Reads failed old new → WasLoaded plant old loaded → WasLoaded plant new loaded
+loaded_then plant loaded old new reads was = record {
+  bytes = was.bytes ∙ sym reads.counts.size;
+  cells = λ still.
+      let keeps : old.keeps ≡ true = sym reads.counts.keeps ∙ still in
+      was.cells keeps ∙ ap (take (most plant)) (sym (reads_seen (BODY + 1) old new reads keeps));
+}
+
+-- What was loaded of a device was judged: so the device was.
+module _ (plant : PlantDefinition) (digest : List ℕ) (s : DiskState) (loaded : Loaded) (judged : Result Standing ImageFault) (few : length plant.atoms ≤ MAX_ATOMS) (was : WasLoaded plant s loaded) (is : IsJudged plant digest loaded judged) where
+  pub device_read : (standing : Standing) → judged ≡ Ok standing → WasRead plant digest s standing
+  device_read standing so =
+      standing_judged plant digest (size_of s) (cell_count (BODY + 1) s) s.keeps (seen_cells (BODY + 1) s) loaded few (seen_length (BODY + 1) s) (λ told. refl) was standing (subst (IsJudged plant digest loaded) so is)
+
+  -- where nothing is wrong, all that a read gives was loaded
+  pub device_loaded : (standing : Standing) → judged ≡ Ok standing → s.keeps ≡ true → loaded.cells.items ≡ seen_cells (BODY + 1) s
+  unfolding device_read standing_judged
+  device_loaded standing so keeps = (device_read standing so).seen keeps
+
+  pub device_refused : s.keeps ≡ true → (fault : ImageFault) → judged ≡ Err fault → IsTold (fault_of plant digest (size_of s) (seen_cells (BODY + 1) s)) fault
+  device_refused keeps fault so =
+      fault_judged plant digest (size_of s) (cell_count (BODY + 1) s) s.keeps (seen_cells (BODY + 1) s) loaded few (seen_length (BODY + 1) s) (λ told. refl) was keeps fault (subst (IsJudged plant digest loaded) so is)
+
+-- what is told of a device behind a sync was wrong with it before
+pub told_before : (plant : PlantDefinition) (digest : List ℕ) (old mid : DiskState) → IsSynced old mid → old.keeps ≡ true → (fault : ImageFault)
+    → IsTold (fault_of plant digest (size_of mid) (seen_cells (BODY + 1) mid)) fault → IsTold (fault_of plant digest (size_of old) (seen_cells (BODY + 1) old)) fault
+told_before plant digest old mid synced keeps fault told =
+    subst (λ (n : ℕ). IsTold (fault_of plant digest n (seen_cells (BODY + 1) old)) fault) synced.counts.size
+    (subst (λ (cells : List Cell). IsTold (fault_of plant digest (size_of mid) cells) fault) (synced.same keeps) told)

@@ -18,7 +18,6 @@ use Rattle.plant_core.specs.View.{View, view_by}
 use Rattle.plant_core.specs.declared.limits.TheConstants.{MOST_TAIL}
 use Rattle.step_executor.specs.Executing.{committed_in, jobs_in, states_in, system_in}
 use Rattle.trimmer.specs.Covered.{saved_count}
-use Rattle.recovery.specs.Booting.{IsBooted}
 use Rattle.recovery.specs.Judged.{WasReadOf}
 use Rattle.recovery.specs.declared.booting.InMemory.{InMemory}
 
@@ -51,8 +50,8 @@ pub record IsMadeOf (system : System) (standing : Standing) (memory : InMemory) 
 abbrev pub view_in : InMemory → View
 view_in memory = view_by (committed_in memory.executor) memory.counts memory.journal.last [] (committed_in memory.executor) memory.counts memory.journal memory.marks.items memory.snapshots (jobs_in memory.executor) false
 
--- What is in memory and what is on the device make a plant, as booting has to give it.
-pub record IsPrepared (system : System) (old new : DiskState) (memory : InMemory) : Type 0 where
+-- What is in memory and what is on the device make a plant.
+pub record IsPrepared (system : System) (new : DiskState) (memory : InMemory) : Type 0 where
   pub of_system : system_in memory.executor ≡ system
   pub same : states_in memory.executor ≡ committed_in memory.executor
   pub none_away : jobs_in memory.executor ≡ replicate (length (plant_of system).atoms) None
@@ -68,4 +67,3 @@ pub record IsPrepared (system : System) (old new : DiskState) (memory : InMemory
   pub rests : new.keeps ≡ true
       → IsAtRest (plant_of system) (digest_of system) memory.journal (committed_in memory.executor) memory.counts memory.journal.last memory.snapshots.saved new
   pub marked : new.keeps ≡ true → memory.marks.items ≡ marks_of (contents_of (length (plant_of system).atoms) (seen_cells (BODY + 1) new)).records
-  pub booted : old.keeps ≡ true → IsBooted (plant_of system) (digest_of system) (size_of old) (seen_cells (BODY + 1) old) (view_in memory)

@@ -1,4 +1,5 @@
 pub mod Judged
+pub mod Loading
 pub mod OldImage
 pub mod Writing
 pub mod Formatting

@@ -1,21 +1,27 @@
 //! Booting a plant from a device.
-ghost use Rattle.std.specs.Prelude.{◌≡◌, ◌≢◌, ◌+◌, true, false, IfErr, IfOk, MatchResult};
-ghost use Rattle.disk_model.specs.DiskState.{CountsTwo, CountsUpTo, size_of};
+ghost use Rattle.std.specs.Prelude.{◌≡◌, ◌≢◌, ◌+◌, ◌≤◌, true, false, IfErr, IfOk, MatchResult, Option};
+ghost use Rattle.disk_model.specs.DiskState.{CountsTwo, CountsUpTo, DiskState, IsSettled, size_of};
 ghost use Rattle.disk_model.specs.Cells.{Leaves, seen_cells};
 ghost use Rattle.plant_core.specs.Plants.{definition_of, device_of, text_digest, view_of};
 ghost use Rattle.plant_image.specs.Faults.{fault_of};
+ghost use Rattle.plant_image.specs.declared.fault.ImageFault.{ImageFault};
+ghost use Rattle.parallel_replay.specs.declared.workers.TheConstants.{MOST_WORKERS};
 ghost use Rattle.step_core.specs.System.{plant_of, digest_of};
 ghost use Rattle.recovery.specs.Booting.{AreLeft, IsBooted, IsBooting, IsToldBy, is_disk};
-ghost use Rattle.recovery.specs.InMemory.{IsMadeOf, IsPrepared, WasRead};
+ghost use Rattle.recovery.specs.InMemory.{IsMadeOf, IsPrepared, WasRead, view_in};
+ghost use Rattle.recovery.specs.Judged.{IsJudged};
+ghost use Rattle.recovery.specs.Loading.{IsSynced, IsSyncedInPart, WasLoaded};
 ghost use Rattle.recovery.specs.declared.fault.BootFault.TheVariants.{Disk as DiskFailed};
 
 use crate::fault::{BootFault, BootRefused};
-use crate::loading::judge;
+use crate::loading::{Loaded, load_synced};
 use disk_model::{BODY, Cells, Disk};
 use gated_journal::Journal;
+use parallel_replay::{MOST_WORKERS, Turn, read_image_by};
 use plant_core::{MOST_TAIL, Parts, Plant, Snapshots, marks_of};
-use plant_image::Standing;
+use plant_image::{ImageFault, Standing, read_image};
 use std::alloc::{AllocError, Global};
+use std::thread::Threads;
 use step_core::{Choice, MAX_ATOMS, System};
 use step_executor::Executor;
 use trimmer::Mark;
@@ -30,6 +36,12 @@ pub(crate) struct InMemory<'s> {
     pub(crate) journal: Journal,
     pub(crate) marks: Vec<Mark>,
     pub(crate) snapshots: Snapshots,
+}
+
+/// A device that was synced, and what was then loaded of it. The device is as it was then.
+pub(crate) struct LoadedDevice<D: Disk> {
+    pub(crate) cells: Cells<D>,
+    pub(crate) loaded: Loaded,
 }
 
 /// The plant of the system that the device stands for, after any stop. It syncs the device, judges all that a read gives, and takes all
@@ -57,8 +69,102 @@ pub fn boot<'s, D: Disk>(
         (λ p. CountsTwo true (D.state disk) (device_of p))
         (λ r. CountsUpTo (is_disk r.fault) 1 (D.state disk) (D.state r.disk)) }
 {
+    let device = load_device(alloc, disk, system)?;
+    let judged = read_image(alloc, system, device.loaded.bytes, &device.loaded.cells);
+    finish(alloc, device, system, judged)
+}
+
+/// The same plant by several workers, who replay the atoms at once: worker w those whose number leaves w when it is divided by the number of
+/// workers, in a thread of its own where one can be made. Each tells `turn` before it replays an atom. It waits for all of them, and calls the
+/// device from this thread alone.
+pub fn boot_par<'s, D: Disk, R: Threads + Sync, T: Turn>(
+    rt: &R,
+    alloc: Global,
+    disk: D,
+    system: &'s System,
+    workers: usize,
+    turn: &T,
+) -> Result<Plant<'s, D>, BootRefused<D>>
+    requires some { 1 ≤ workers }
+    requires few { workers ≤ MOST_WORKERS }
+    ensures system { IfOk result (λ p. (definition_of p ≡ plant_of system.now) × (text_digest p ≡ digest_of system.now)) }
+    ensures booted { (D.state disk).keeps ≡ true → IfOk result (λ p. IsBooted (plant_of system.now) (digest_of system.now)
+        (size_of (D.state disk)) (seen_cells (BODY + 1) (D.state disk)) (view_of p)) }
+    ensures refused { (D.state disk).keeps ≡ true → IfErr result (λ r. IsToldBy (fault_of (plant_of system.now) (digest_of system.now)
+        (size_of (D.state disk)) (seen_cells (BODY + 1) (D.state disk))) r.fault) }
+    ensures stops { (D.state disk).keeps ≡ true → MatchResult result
+        (λ p. Leaves (BODY + 1) (IsBooting (plant_of system.now) (digest_of system.now) (D.state disk)) (D.state disk) (device_of p))
+        (λ r. Leaves (BODY + 1) (IsBooting (plant_of system.now) (digest_of system.now) (D.state disk)) (D.state disk) (D.state r.disk)) }
+    ensures untouched { (D.state disk).keeps ≡ true → IfErr result (λ r. r.fault ≢ DiskFailed
+        → seen_cells (BODY + 1) (D.state r.disk) ≡ seen_cells (BODY + 1) (D.state disk)) }
+    ensures left { (D.state disk).keeps ≡ true → IfErr result (λ r. AreLeft (plant_of system.now)
+        (seen_cells (BODY + 1) (D.state disk)) (seen_cells (BODY + 1) (D.state r.disk))) }
+    ensures cause { MatchResult result
+        (λ p. CountsTwo true (D.state disk) (device_of p))
+        (λ r. CountsUpTo (is_disk r.fault) 1 (D.state disk) (D.state r.disk)) }
+{
+    let device = load_device(alloc, disk, system)?;
+    let judged = read_image_by(
+        rt,
+        alloc,
+        system,
+        device.loaded.bytes,
+        &device.loaded.cells,
+        workers,
+        turn,
+    );
+    finish(alloc, device, system, judged)
+}
+
+/// Syncs the device and loads what decides what it stands for; or hands it back.
+fn load_device<D: Disk>(
+    alloc: Global,
+    disk: D,
+    system: &System,
+) -> Result<LoadedDevice<D>, BootRefused<D>>
+    ensures synced { IfOk result (λ device. IsSynced (D.state disk) device.cells) }
+    ensures failed { IfErr result (λ r. IsSyncedInPart (is_disk r.fault) (D.state disk) (D.state r.disk)) }
+    ensures loaded { IfOk result (λ device. WasLoaded (plant_of system.now) device.cells device.loaded) }
+    ensures silent { (found : Option ImageFault) → IfErr result (λ r. IsToldBy found r.fault) }
+{
     let mut cells = Cells::new(disk);
-    let memory = match prepare(alloc, &mut cells, system) {
+    match load_synced(alloc, &mut cells, system) {
+        Ok(loaded) => Ok(LoadedDevice { cells, loaded }),
+        Err(fault) => Err(BootRefused {
+            disk: cells.into_disk(),
+            fault,
+        }),
+    }
+}
+
+/// Makes the plant, where something stands; or hands the device back. Its clauses speak of whatever state the device was in before it was synced.
+fn finish<'s, D: Disk>(
+    alloc: Global,
+    device: LoadedDevice<D>,
+    system: &'s System,
+    judged: Result<Standing, ImageFault>,
+) -> Result<Plant<'s, D>, BootRefused<D>>
+    requires settled { device.cells.keeps ≡ true → IsSettled device.cells.now }
+    requires loaded { WasLoaded (plant_of system.now) device.cells device.loaded }
+    requires judged { IsJudged (plant_of system.now) (digest_of system.now) device.loaded judged }
+    ensures system { IfOk result (λ p. (definition_of p ≡ plant_of system.now) × (text_digest p ≡ digest_of system.now)) }
+    ensures booted { (old : DiskState) → IsSynced old device.cells → old.keeps ≡ true → IfOk result (λ p. IsBooted (plant_of system.now)
+        (digest_of system.now) (size_of old) (seen_cells (BODY + 1) old) (view_of p)) }
+    ensures refused { (old : DiskState) → IsSynced old device.cells → old.keeps ≡ true → IfErr result (λ r. IsToldBy
+        (fault_of (plant_of system.now) (digest_of system.now) (size_of old) (seen_cells (BODY + 1) old)) r.fault) }
+    ensures stops { (old : DiskState) → IsSynced old device.cells → old.keeps ≡ true → MatchResult result
+        (λ p. Leaves (BODY + 1) (IsBooting (plant_of system.now) (digest_of system.now) old) old (device_of p))
+        (λ r. Leaves (BODY + 1) (IsBooting (plant_of system.now) (digest_of system.now) old) old (D.state r.disk)) }
+    ensures untouched { (old : DiskState) → IsSynced old device.cells → old.keeps ≡ true → IfErr result (λ r. r.fault ≢ DiskFailed
+        → seen_cells (BODY + 1) (D.state r.disk) ≡ seen_cells (BODY + 1) old) }
+    ensures left { (old : DiskState) → IsSynced old device.cells → old.keeps ≡ true → IfErr result (λ r. AreLeft (plant_of system.now)
+        (seen_cells (BODY + 1) old) (seen_cells (BODY + 1) (D.state r.disk))) }
+    ensures cause { (old : DiskState) → IsSynced old device.cells → MatchResult result
+        (λ p. CountsTwo true old (device_of p))
+        (λ r. CountsUpTo (is_disk r.fault) 1 old (D.state r.disk)) }
+{
+    let LoadedDevice { mut cells, loaded } = device;
+    let memory = match prepare(alloc, &mut cells, system, &loaded, judged) {
         Ok(memory) => memory,
         Err(fault) => {
             return Err(BootRefused {
@@ -88,27 +194,36 @@ pub fn boot<'s, D: Disk>(
     }))
 }
 
-/// Judges what the device holds, takes the memory, and empties the record cells that are not live.
+/// Takes the memory for what stands, and empties the record cells that are not live. What was loaded is lent up to the end: the device holds it still.
 fn prepare<'s, D: Disk>(
     alloc: Global,
     cells: &mut Cells<D>,
     system: &'s System,
+    loaded: &Loaded,
+    judged: Result<Standing, ImageFault>,
 ) -> Result<InMemory<'s>, BootFault>
-    ensures prepared { IfOk result (IsPrepared system.now cells.old cells.new) }
-    ensures refused { cells.old.keeps ≡ true
-        → IfErr result (IsToldBy (fault_of (plant_of system.now) (digest_of system.now) (size_of cells.old) (seen_cells (BODY + 1) cells.old))) }
-    ensures stops { cells.old.keeps ≡ true
-        → Leaves (BODY + 1) (IsBooting (plant_of system.now) (digest_of system.now) cells.old) cells.old cells.new }
-    ensures untouched { cells.old.keeps ≡ true
-        → IfErr result (λ fault. fault ≢ DiskFailed → seen_cells (BODY + 1) cells.new ≡ seen_cells (BODY + 1) cells.old) }
-    ensures left { cells.old.keeps ≡ true
-        → IfErr result (λ _. AreLeft (plant_of system.now) (seen_cells (BODY + 1) cells.old) (seen_cells (BODY + 1) cells.new)) }
-    ensures cause { MatchResult result (λ _. CountsTwo true cells.old cells.new) (λ fault. CountsUpTo (is_disk fault) 1 cells.old cells.new) }
+    requires settled { cells.old.keeps ≡ true → IsSettled cells.old.now }
+    requires loaded { WasLoaded (plant_of system.now) cells.old loaded.now }
+    requires judged { IsJudged (plant_of system.now) (digest_of system.now) loaded.now judged }
+    ensures prepared { IfOk result (IsPrepared system.now cells.new) }
+    ensures booted { (old : DiskState) → IsSynced old cells.old → old.keeps ≡ true → IfOk result (λ memory. IsBooted (plant_of system.now)
+        (digest_of system.now) (size_of old) (seen_cells (BODY + 1) old) (view_in memory)) }
+    ensures refused { (old : DiskState) → IsSynced old cells.old → old.keeps ≡ true
+        → IfErr result (IsToldBy (fault_of (plant_of system.now) (digest_of system.now) (size_of old) (seen_cells (BODY + 1) old))) }
+    ensures stops { (old : DiskState) → IsSynced old cells.old → old.keeps ≡ true
+        → Leaves (BODY + 1) (IsBooting (plant_of system.now) (digest_of system.now) old) old cells.new }
+    ensures untouched { (old : DiskState) → IsSynced old cells.old → old.keeps ≡ true
+        → IfErr result (λ fault. fault ≢ DiskFailed → seen_cells (BODY + 1) cells.new ≡ seen_cells (BODY + 1) old) }
+    ensures left { (old : DiskState) → IsSynced old cells.old → old.keeps ≡ true
+        → IfErr result (λ _. AreLeft (plant_of system.now) (seen_cells (BODY + 1) old) (seen_cells (BODY + 1) cells.new)) }
+    ensures cause { (old : DiskState) → IsSynced old cells.old
+        → MatchResult result (λ _. CountsTwo true old cells.new) (λ fault. CountsUpTo (is_disk fault) 1 old cells.new) }
 {
-    let standing = judge(alloc, cells, system)?;
+    system.keeps_its_rules();
+    let standing = judged?;
     let mut memory = take_memory(alloc, cells, system, standing)?;
     // A stop here leaves some of these cells full. None of them is live, so that the next boot reads the same.
-    memory.journal.clean(cells)?;
+    memory.journal.clean(cells, &loaded.cells)?;
     Ok(memory)
 }
 

@@ -1,7 +1,7 @@
 //! Loading the cells of a device, and judging what they stand for.
-ghost use Rattle.std.specs.Prelude.{◌≡◌, ◌+◌, ◌≤◌, true, false, length, take, IfErr, IfOk, MatchResult, OnOk, Option};
-ghost use Rattle.disk_model.specs.DiskState.{Counts, CountsUpTo, IsSettled, Reads, size_of};
-ghost use Rattle.disk_model.specs.Cells.{Leaves, MayBe, cell_count, seen_cells};
+ghost use Rattle.std.specs.Prelude.{◌≡◌, ◌≤◌, true, length, take, IfErr, IfOk, OnOk, Option};
+ghost use Rattle.disk_model.specs.DiskState.{Reads, size_of};
+ghost use Rattle.disk_model.specs.Cells.{cell_count, seen_cells};
 ghost use Rattle.plant_image.specs.Faults.{fault_of};
 ghost use Rattle.plant_image.specs.declared.fault.ImageFault.{ImageFault};
 ghost use Rattle.record_codec.specs.Ring.{device_cells};
@@ -9,8 +9,8 @@ ghost use Rattle.record_codec.specs.declared.layout.TheConstants.{MOST_RING};
 ghost use Rattle.step_core.specs.System.{plant_of, digest_of};
 ghost use Rattle.step_core.specs.declared.limits.TheConstants.{MAX_ATOMS};
 ghost use Rattle.recovery.specs.Booting.{IsToldBy, has_failed, is_disk};
-ghost use Rattle.recovery.specs.InMemory.{WasRead};
 ghost use Rattle.recovery.specs.Judged.{WasReadOf};
+ghost use Rattle.recovery.specs.Loading.{IsSynced, IsSyncedInPart, WasLoaded, WasLoadedOf};
 
 use crate::fault::BootFault;
 use crate::reading::ReadAsToday;
@@ -21,23 +21,28 @@ use record_codec::ring::device_cells;
 use std::alloc::Global;
 use step_core::System;
 
-/// What the device stands for, or the first thing that is wrong with it. Nothing is written, and behind it a stop leaves what a
-/// read gives.
-pub(crate) fn judge<D: Disk>(
+/// What was loaded of a device.
+#[derive(Drop)]
+pub(crate) struct Loaded {
+    /// How many bytes its cells take, as today's.
+    pub(crate) bytes: u64,
+    /// The cells that decide what it stands for, as today's.
+    pub(crate) cells: Vec<Option<[u8; BODY]>>,
+}
+
+/// Syncs a device and loads what decides what it stands for. Nothing is written, and behind it a stop leaves what a read gives.
+pub(crate) fn load_synced<D: Disk>(
     alloc: Global,
     cells: &mut Cells<D>,
     system: &System,
-) -> Result<Standing, BootFault>
-    ensures counts { MatchResult result (λ _. Counts false true cells.old cells.new) (λ fault. CountsUpTo (is_disk fault) 1 cells.old cells.new) }
-    ensures leaves { cells.old.keeps ≡ true → Leaves (BODY + 1) (MayBe (BODY + 1) cells.old) cells.old cells.new }
-    ensures same { cells.old.keeps ≡ true → seen_cells (BODY + 1) cells.new ≡ seen_cells (BODY + 1) cells.old }
-    ensures settled { cells.old.keeps ≡ true → OnOk result (IsSettled cells.new.now) }
-    ensures read { IfOk result (WasRead (plant_of system.now) (digest_of system.now) cells.new) }
-    ensures refused { cells.old.keeps ≡ true
-        → IfErr result (IsToldBy (fault_of (plant_of system.now) (digest_of system.now) (size_of cells.old) (seen_cells (BODY + 1) cells.old))) }
+) -> Result<Loaded, BootFault>
+    ensures synced { OnOk result (IsSynced cells.old cells.new) }
+    ensures failed { IfErr result (λ fault. IsSyncedInPart (is_disk fault) cells.old cells.new) }
+    ensures loaded { IfOk result (WasLoaded (plant_of system.now) cells.new) }
+    ensures silent { (found : Option ImageFault) → IfErr result (IsToldBy found) }
 {
     cells.sync()?;
-    read(alloc, cells, system)
+    load_all(alloc, cells, system)
 }
 
 /// What a device of either layout stands for, by what a read gives of it, or the first thing that is wrong with that. Only reading is done.
@@ -55,9 +60,25 @@ pub(crate) fn read<C: ReadAsToday>(
         (C.todays (length (plant_of system.now).atoms) (seen_cells C.bytes_of_cell (C.state cells.old))))) }
 {
     system.keeps_its_rules();
+    let loaded = load_all(alloc, cells, system)?;
+    Ok(read_image(alloc, system, loaded.bytes, &loaded.cells)?)
+}
+
+/// Loads what decides what a device of either layout stands for. Only reading is done.
+fn load_all<C: ReadAsToday>(
+    alloc: Global,
+    cells: &mut C,
+    system: &System,
+) -> Result<Loaded, BootFault>
+    ensures reads { Reads (has_failed result) (C.state cells.old) (C.state cells.new) }
+    ensures loaded { IfOk result (WasLoadedOf (plant_of system.now)
+        (C.todays_bytes (size_of (C.state cells.old))) (C.state cells.old).keeps
+        (C.todays (length (plant_of system.now).atoms) (seen_cells C.bytes_of_cell (C.state cells.old)))) }
+    ensures silent { (found : Option ImageFault) → IfErr result (IsToldBy found) }
+{
     let bytes = cells.bytes()?;
     let list = load(alloc, cells, system, bytes)?;
-    Ok(read_image(alloc, system, bytes, &list)?)
+    Ok(Loaded { bytes, cells: list })
 }
 
 /// The cells that decide what a device stands for whose cells take so many bytes as today's: all of them, or as many as any device for the

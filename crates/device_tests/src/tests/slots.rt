@@ -180,17 +180,17 @@ fn stops(rt: &impl Abort, alloc: Global, row: Row) -> Result<(u64, u64), Fail> {
     Ok((0, all))
 }
 
-/// An empty slot takes a read, and 4 calls to fill it; a full one 2 reads, 3 calls to empty it, and the same 4. In all 4 * 42 stops.
+/// An empty slot takes a read, and 4 calls to fill it; a full one a read, 3 calls to empty it, and the same 4. In all 4 * 39 stops.
 #[test]
 fn a_stop_inside_a_store_leaves_the_old_newest_or_the_new(rt: HostRuntime) -> Result<(), Fail> {
     for (before, slot, count, newest, calls) in [
         ([0, 0], 0, 1, (2, 0), 5),
         ([4, 0], 1, 7, (0, 4), 5),
         ([0, 4], 0, 9, (1, 4), 5),
-        ([4, 7], 0, 9, (1, 7), 9),
-        ([7, 4], 1, 9, (0, 7), 9),
+        ([4, 7], 0, 9, (1, 7), 8),
+        ([7, 4], 1, 9, (0, 7), 8),
         // of equal counts the first is the newest
-        ([4, 4], 1, 9, (0, 4), 9),
+        ([4, 4], 1, 9, (0, 4), 8),
     ] {
         let row = Row {
             before,
@@ -209,7 +209,7 @@ fn a_stop_inside_a_store_leaves_the_old_newest_or_the_new(rt: HostRuntime) -> Re
 #[test]
 fn a_store_over_the_newest_may_lose_it(rt: HostRuntime) -> Result<(), Fail> {
     let disk = prepared(rt.alloc(), [4, 7])?;
-    let (ok, disk) = stopped(disk, 1, parcel_of(0, 9), 6)?;
+    let (ok, disk) = stopped(disk, 1, parcel_of(0, 9), 5)?;
     let left = found_in(disk.stop(Tear::Old))?;
     assert_eq!(rt; (ok, left), (false, [([4, 0], (0, 4)), ATOM_1]));
     Ok(())

@@ -102,3 +102,13 @@ pub(super) fn formatted(
         Err(_) => Err(Fail::new("the device was not formatted")),
     }
 }
+
+/// Writes the bytes to the device at this place.
+pub(super) fn put(disk: &mut Untold, at: u64, bytes: &[u8]) -> Result<(), Fail> {
+    let size = disk.size()?;
+    if at > size || bytes.len() as u64 > size - at {
+        return Err(Fail::new("no such place"));
+    }
+    disk.write_at(at, bytes)?;
+    Ok(())
+}

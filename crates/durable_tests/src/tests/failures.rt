@@ -88,13 +88,13 @@ fn failing_once(
     Ok(failed)
 }
 
-/// The boot makes 30 calls, the flushes of four and of one 10 and 4, the put 8 and the trim 8. Each of them fails in turn, while those before and behind
+/// The boot makes 18 calls, the flushes of four and of one 10 and 4, the put 7 and the trim 8. Each of them fails in turn, while those before and behind
 /// it serve. The call behind the last is never made.
 #[test]
 fn each_call_that_fails_is_told_once(rt: HostRuntime) -> Result<(), Fail> {
     let alloc = rt.alloc();
     let system = sample(alloc)?;
-    let calls = 30 + 10 + 8 + 4 + 8;
+    let calls = 18 + 10 + 7 + 4 + 8;
     for k in 1..=calls + 1 {
         let told = failing_once(alloc, &system, &A_SAVED_AND_ON, 2, k)?;
         assert_eq!(rt; told, u64::from(k <= calls), "at {k}");
@@ -116,13 +116,13 @@ fn booted_at(alloc: Global, system: &System, k: u64) -> Result<(u64, i64, i64, F
     ))
 }
 
-/// The boot makes a sync, asks the size, reads 15 gates and the bodies of 7 full cells, then the gates of the 6 cells of the ring that are not live, closes
-/// that of record 4, and syncs. The call behind the last is never made.
+/// The boot makes a sync, asks the size, reads 15 cells, closes the gate of record 4, and syncs. It reads no cell again. The call behind the last is never
+/// made.
 #[test]
 fn a_boot_that_the_device_fails_is_made_again(rt: HostRuntime) -> Result<(), Fail> {
     let alloc = rt.alloc();
     let system = sample(alloc)?;
-    let calls = 2 + 15 + 7 + 6 + 1 + 1;
+    let calls = 2 + 15 + 1 + 1;
     for k in 1..=calls + 1 {
         let found = booted_at(alloc, &system, k)?;
         let failed = u64::from(k <= calls);

@@ -101,13 +101,38 @@ fn append(cells: &mut Engine, journal: &mut Journal, n: Ring, count: usize) -> R
     Ok(journal.append_run(cells, &bodies[..count]).is_ok())
 }
 
+/// The bodies of the cells as a boot loads them, where the call asks for them, and the device.
+fn loaded(
+    alloc: Global,
+    disk: MemDisk,
+    call: Call,
+) -> Result<(Vec<Option<[u8; BODY]>>, MemDisk), Fail> {
+    let mut found = Vec::new(alloc);
+    let Call::Clean = call else {
+        return Ok((found, disk));
+    };
+    let mut cells = cells_of(disk);
+    for k in 0..cells.size()? / CELL {
+        let mut body = [0; BODY];
+        let is_full = body_in(&mut cells, k, &mut body)?;
+        found.push(is_full.then_some(body))?;
+    }
+    Ok((found, disk_of(cells)))
+}
+
 /// Makes the call on the journal with these numbers, and says whether it succeeded.
-fn succeeds(cells: &mut Engine, journal: &mut Journal, n: Ring, call: Call) -> Result<bool, Fail>
+fn succeeds(
+    cells: &mut Engine,
+    journal: &mut Journal,
+    n: Ring,
+    call: Call,
+    found: &[Option<[u8; BODY]>],
+) -> Result<bool, Fail>
     requires { IsOpened n journal.old cells.old }
 {
     match call {
         Call::Append(count) => append(cells, journal, n, count),
-        Call::Clean => Ok(journal.clean(cells).is_ok()),
+        Call::Clean => Ok(journal.clean(cells, found).is_ok()),
         Call::Move(base) => {
             if base <= n.base || base > n.last + 1 {
                 return Err(Fail::new("no such base"));
@@ -125,8 +150,9 @@ fn stopped(
     call: Call,
     k: u64,
 ) -> Result<(bool, MemDisk), Fail> {
+    let (found, disk) = loaded(alloc, disk, call)?;
     let (mut cells, mut journal) = opened(alloc, disk, n, k)?;
-    let ok = succeeds(&mut cells, &mut journal, n, call)?;
+    let ok = succeeds(&mut cells, &mut journal, n, call, &found)?;
     Ok((ok, disk_of(cells)))
 }
 
@@ -335,12 +361,12 @@ fn a_stop_inside_an_append_leaves_a_front_of_the_new_records(rt: HostRuntime) ->
 }
 
 /// The other base cell is empty the first time: a read, 4 calls to fill it, and of each dropped cell a read and a write, and a sync.
-/// Later it is full: 2 reads, 3 calls to empty it, and the same. In all 4 * 38 stops.
+/// Later it is full: a read, 3 calls to empty it, and the same. In all 4 * 37 stops.
 #[test]
 fn a_stop_inside_a_move_leaves_the_old_base_or_the_new(rt: HostRuntime) -> Result<(), Fail> {
     for (base_cell, start, to, calls) in [
         (1, Start::OneBase, 7, 12),
-        (2, Start::TwoBases, 12, 26),
+        (2, Start::TwoBases, 12, 25),
     ] {
         let n = Ring {
             base_cell,
@@ -352,12 +378,12 @@ fn a_stop_inside_a_move_leaves_the_old_base_or_the_new(rt: HostRuntime) -> Resul
     Ok(())
 }
 
-/// Six cells are read, of which one is full, and a sync. In all 4 * 8 stops.
+/// The one cell that is full is closed, and a sync. No cell is read. In all 4 * 2 stops.
 #[test]
 fn a_stop_inside_cleaning_leaves_the_live_records(rt: HostRuntime) -> Result<(), Fail> {
     let n = journal_of(8, 1, 2);
     let found = stops(&rt, rt.alloc(), n, Start::OpenPastTheEnd, Call::Clean)?;
-    assert_eq!(rt; found, (8, 32));
+    assert_eq!(rt; found, (2, 8));
     Ok(())
 }
 

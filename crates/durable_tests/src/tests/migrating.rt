@@ -1,5 +1,5 @@
 // Stops while an image of the first layout is brought over. What is written and synced there, and what each stop leaves, is worked out by hand.
-use super::common::{TEARS, Untold, formatted, sample};
+use super::common::{TEARS, Untold, formatted, put, sample};
 use super::runs::{Shown, booted_to, settled, wanted_at};
 use disk_model::{Disk, FIRST_CELL, MemDisk, Tear};
 use plant_core::Front;
@@ -54,28 +54,22 @@ const RECORD_4: [u8; 48] = [
 const BYTES: usize = 15 * 512;
 
 /// Writes the bytes from the beginning of the cell on.
-fn put(disk: &mut Untold, cell: u64, front: &[u8]) -> Result<(), Fail> {
-    let at = cell.saturating_mul(FIRST_CELL);
-    let size = disk.size()?;
-    if at > size || front.len() as u64 > size - at {
-        return Err(Fail::new("no such cell"));
-    }
-    disk.write_at(at, front)?;
-    Ok(())
+fn put_cell(disk: &mut Untold, cell: u64, front: &[u8]) -> Result<(), Fail> {
+    put(disk, cell.saturating_mul(FIRST_CELL), front)
 }
 
 /// A device that holds that image, and nothing is pending.
 fn old_image(alloc: Global) -> Result<MemDisk, Fail> {
     let mut disk = Untold::over(MemDisk::new(alloc, BYTES as u64, 64)?);
-    put(&mut disk, 0, &IDENTITY)?;
-    put(&mut disk, 1, &BASE)?;
-    put(&mut disk, 3, &FIRST_OF_A)?;
-    put(&mut disk, 4, &SAVED_OF_A)?;
-    put(&mut disk, 5, &FIRST_OF_B)?;
-    put(&mut disk, 8, &RECORD_1)?;
-    put(&mut disk, 9, &RECORD_2)?;
-    put(&mut disk, 10, &RECORD_3)?;
-    put(&mut disk, 11, &RECORD_4)?;
+    put_cell(&mut disk, 0, &IDENTITY)?;
+    put_cell(&mut disk, 1, &BASE)?;
+    put_cell(&mut disk, 3, &FIRST_OF_A)?;
+    put_cell(&mut disk, 4, &SAVED_OF_A)?;
+    put_cell(&mut disk, 5, &FIRST_OF_B)?;
+    put_cell(&mut disk, 8, &RECORD_1)?;
+    put_cell(&mut disk, 9, &RECORD_2)?;
+    put_cell(&mut disk, 10, &RECORD_3)?;
+    put_cell(&mut disk, 11, &RECORD_4)?;
     disk.sync()?;
     Ok(disk.into_memory().stop(Tear::Old))
 }

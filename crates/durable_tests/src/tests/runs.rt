@@ -200,8 +200,8 @@ pub(super) const TWO_AND_TWO: [Event; 6] = [FIRE_0, FIRE_1, FLUSH, FIRE_0, FIRE_
 
 /// What is left where the last sync of the second flush is stopped. Record 3 stands in a cell of even number, and record 4 in one of odd number.
 pub(super) fn torn_flush(alloc: Global, system: &System, tear: Tear) -> Result<MemDisk, Fail> {
-    // The boot makes 30 calls, and each flush of two 6.
-    let stopped = stopped_run(alloc, system, 42, &TWO_AND_TWO)?;
+    // The boot makes 18 calls, and each flush of two 6.
+    let stopped = stopped_run(alloc, system, 30, &TWO_AND_TWO)?;
     Ok(stopped.disk.stop(tear))
 }
 

@@ -1,21 +1,27 @@
-use Rattle.std.proofs.Common.{◌≡◌, ◌+◌, ◌≤◌, List, length, sym, ◌∙◌, ap, arith}
+use Rattle.std.proofs.Common.{◌≡◌, ◌+◌, ◌≤◌, true, List, length, get_or, None, sym, ◌∙◌, ap, subst, arith}
+use Rattle.std.proofs.lemmas.List.FromFn.{length-map-range_with_len}
+use Rattle.std.proofs.lemmas.Option.{slice_get_within}
+use Rattle.record_codec.specs.Saved.{SavedFields}
+use Rattle.plant_image.proofs.AtomSlots.{held_passes, slot_held}
+use Rattle.plant_image.proofs.ByAtoms.{told_none_at}
 use Rattle.std.proofs.lemmas.Result.{err_from_is_err_and}
 use Rattle.std.specs.List.{range_with_len}
 use Rattle.disk_model.specs.Cells.{Cell}
 use Rattle.gated_journal.specs.Bases.{base_cell_of}
+use Rattle.petri_atom.specs.Definition.{AtomDefinition}
 use Rattle.record_codec.specs.Fired.{FiredFields}
 use Rattle.record_codec.specs.Ring.{base_cell}
 use Rattle.record_codec.specs.declared.layout.TheConstants.{LAST_NUMBER}
 use Rattle.step_core.specs.Plant.{PlantDefinition}
 use Rattle.step_core.specs.Rules.{first_told}
 use Rattle.step_core.specs.System.{plant_of, digest_of}
-use Rattle.plant_image.specs.Contents.{contents_of, ring_held, base_held}
-use Rattle.plant_image.specs.Faults.{identity_fault, base_fault, atom_fault, numbers_fault, records_fault}
+use Rattle.plant_image.specs.Contents.{contents_of, newest_held, ring_held, base_held, unsaved}
+use Rattle.plant_image.specs.Faults.{identity_fault, base_fault, atom_fault, is_of_atom, numbers_fault, records_fault}
 use Rattle.plant_image.proofs.WholeImage.{fourth_is, told_of_same, ring_is, records_judged, records_read, contents_read, in_range}
 use Rattle.plant_image.proofs.image.read_cells.Goals as goal
 
-pub returns-in_err-records : goal.returns-in_err-records
-returns-in_err-records c =
+pub returns-in_err-records-clause-held : goal.returns-in_err-records-clause-held
+returns-in_err-records-clause-held c =
     let p = err_from_is_err_and c.from_residual-in_err-records.result c.from_residual-in_err-records.ensures.1 in
     let plant : PlantDefinition = plant_of c.args.system.now in
     let cells : List Cell = c.args.cells.now in
@@ -26,8 +32,8 @@ returns-in_err-records c =
     ∙ sym (records_judged cells c.ring-ring.result c.in_ok-base.base.base ring base plant))
     c.in_err-records.ensures.records)
 
-pub returns : goal.returns
-returns c =
+pub returns-clause-held : goal.returns-clause-held
+returns-clause-held c =
     let plant : PlantDefinition = plant_of c.args.system.now in
     let cells : List Cell = c.args.cells.now in
     let ring : c.ring-ring.result ≡ ring_held cells = c.ring-ring.ensures.value ∙ sym (ring_is cells c.in_ok-identity.identity c.in_ok-identity.ensures.1.0) in
@@ -45,3 +51,18 @@ returns c =
         in_range = in_range (length plant.atoms) cells c.in_ok-identity.identity c.ring-ring.ensures.in_range c.in_ok-identity.ensures.1.0 c.in_ok-identity.ensures.1.1 from to some last c.in_ok-base.ensures.base.0;
       },
     )
+
+pub returns-clause-sound : goal.returns-clause-sound
+returns-clause-sound c =
+    let cells : List Cell = c.args.cells.now in
+    let atoms : List AtomDefinition = (plant_of c.args.system.now).atoms in
+    record {
+      as_many = ap (λ (l : List SavedFields). length l) c.in_ok-slots.ensures.1 ∙ length-map-range_with_len (newest_held cells) 0 (length atoms);
+      of_atoms = λ n a at.
+          let none : atom_fault cells n a ≡ None = told_none_at (atom_fault cells) atoms 0 n n a c.in_ok-slots.ensures.0 at (omega arith) in
+          let is : get_or c.in_ok-slots.slots.items n (unsaved n) ≡ newest_held cells n =
+          ap (λ (l : List SavedFields). get_or l n (unsaved n)) c.in_ok-slots.ensures.1 ∙ slot_held cells (length atoms) n (slice_get_within atoms n a at) in
+          subst (λ (s : SavedFields). is_of_atom n a s ≡ true) (sym is) (held_passes cells n a none);
+      base = c.in_ok-base.ensures.in_range.0;
+      last = c.in_ok-records.ensures.in_range;
+    }

@@ -19,24 +19,11 @@ use Rattle.plant_image.specs.Contents.{unsaved, replayed}
 use Rattle.plant_image.specs.Faults.{is_of_atom, replay_told}
 use Rattle.plant_image.specs.Reading.{IsTold, contents_in}
 use Rattle.plant_image.proofs.FirstTold.{told_first, mapped_at}
-use Rattle.plant_image.proofs.SoFar.{SoFar, told_of_atom, so_far_more, none_told, states_all, counts_all}
+use Rattle.plant_image.proofs.SoFar.{SoFar, ends_told, none_so_far, so_far_more, told_of_atom}
 use Rattle.plant_image.proofs.replaying.replay_all.Goals as goal
 
--- the first counts are all 0
-none_at : (k : ℕ) → (k < MAX_ATOMS) ⊎ (MAX_ATOMS ≤ k) → count_of (replicate MAX_ATOMS 0) k ≡ 0
-none_at k (inl below) = get_or-replicate MAX_ATOMS k 0 0 below
-none_at k (inr past) = get_or_past (replicate MAX_ATOMS 0) k 0 (omega (arith, past, length-replicate {A = ℕ} MAX_ATOMS 0))
-
 pub loop-number-init : goal.loop-number-init
-loop-number-init c = record {
-  rest = refl;
-  of_plant = c.in_ok-states.ensures.of_plant;
-  fits = c.in_ok-states.ensures.fits;
-  states_are = λ k below. absurd (omega arith);
-  long = refl;
-  counts_are = λ k below. absurd (omega arith);
-  none = λ k past. none_at k (cases_lt k MAX_ATOMS);
-}
+loop-number-init c = none_so_far (plant_of c.args.system.now) (contents_in c.args.held.now) c.in_ok-states.states c.in_ok-states.ensures.of_plant c.in_ok-states.ensures.fits
 
 -- replay from the slot is that of what was read
 replayed_is : (n : ℕ) (a : AtomDefinition) (slots : List SavedFields) (records : List FiredFields) (saved : SavedFields) (over : List FiredFields) → saved ≡ get_or slots n (unsaved n) → over ≡ records
@@ -52,8 +39,8 @@ replay_saved-requires c =
     let is : get_or slots n (unsaved n) ≡ c.index.result.now = get_or_default slots n (unsaved n) c.index.result.now within ∙ sym c.index.ensures in
     subst (λ (s : SavedFields). is_of_atom n (definition_of c.atom-item.result) s ≡ true) is (c.requires.of_atoms n (definition_of c.atom-item.result) at)
 
-pub returns-in_err-reached-clause-states : goal.returns-in_err-reached-clause-states
-returns-in_err-reached-clause-states c =
+pub returns-in_err-reached : goal.returns-in_err-reached
+returns-in_err-reached c =
     let p = err_from_is_err_and c.from_residual-in_err-reached.result c.from_residual-in_err-reached.ensures.1 in
     let n : ℕ = c.loop-number.number in
     let plant : PlantDefinition = plant_of c.args.system.now in
@@ -81,14 +68,8 @@ loop-number-preserved c =
     let far : SoFar plant (contents_in c.args.held.now) (n + 1) (set c.loop-number.states n c.in_ok-reached.reached.state) (set c.loop-number.counts n c.in_ok-reached.reached.count) = so_far_more plant (contents_in c.args.held.now) n c.loop-number.states c.loop-number.counts c.loop-number.invariant a at few end ends c.in_ok-reached.ensures.fits in
     subst (λ (s : List Local). SoFar plant (contents_in c.args.held.now) (n + 1) s (set c.loop-number.counts n c.in_ok-reached.reached.count)) (sym c.set.ensures) far
 
-pub returns-clause-states : goal.returns-clause-states
-returns-clause-states c =
-    let all : c.loop-number.number ≡ length (plant_of c.args.system.now).atoms = omega (arith, ap (λ (l : List AtomDefinition). length l) c.atoms-atom-items.ensures, length-map c.atoms-atom-items.result.now definition_of) in (
-      none_told (plant_of c.args.system.now) (contents_in c.args.held.now) c.loop-number.number c.loop-number.states c.loop-number.counts c.loop-number.invariant all,
-      states_all (plant_of c.args.system.now) (contents_in c.args.held.now) c.loop-number.number c.loop-number.states c.loop-number.counts c.loop-number.invariant all,
-    )
-
-pub returns-clause-counts : goal.returns-clause-counts
-returns-clause-counts c =
-    let all : c.loop-number.number ≡ length (plant_of c.args.system.now).atoms = omega (arith, ap (λ (l : List AtomDefinition). length l) c.atoms-atom-items.ensures, length-map c.atoms-atom-items.result.now definition_of) in
-    counts_all (plant_of c.args.system.now) (contents_in c.args.held.now) c.loop-number.number c.loop-number.states c.loop-number.counts c.loop-number.invariant all
+pub returns : goal.returns
+returns c =
+    let plant : PlantDefinition = plant_of c.args.system.now in
+    let all : c.loop-number.number ≡ length plant.atoms = omega (arith, ap (λ (l : List AtomDefinition). length l) c.atoms-atom-items.ensures, length-map c.atoms-atom-items.result.now definition_of) in
+    ends_told plant (contents_in c.args.held.now) c.loop-number.number c.loop-number.states c.loop-number.counts c.loop-number.invariant all

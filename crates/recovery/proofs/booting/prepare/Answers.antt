@@ -1,7 +1,7 @@
 use Rattle.std.proofs.Common.{◌+◌, ◌≡◌, ◌≤◌, vec_capacity, List, ℕ, length, true, false, inr, refl, sym, ◌∙◌, ap, subst, rules}
 use Rattle.std.proofs.lemmas.Result.{err_from_is_err_and}
 use Rattle.disk_model.specs.declared.cells.TheConstants.{BODY}
-use Rattle.disk_model.specs.Cells.{Cell, seen_cells}
+use Rattle.disk_model.specs.Cells.{Cell, cell, seen_cells}
 use Rattle.disk_model.specs.Counting.{up_to_one}
 use Rattle.disk_model.specs.DiskState.{DiskState}
 use Rattle.disk_model.specs.Moments.{seen_after}
@@ -16,54 +16,86 @@ use Rattle.plant_image.specs.Reading.{contents_in}
 use Rattle.plant_image.specs.declared.standing.Standing.{Standing}
 use Rattle.plant_core.specs.Snapshots.{SnapshotFields}
 use Rattle.trimmer.specs.Covered.{MarkFields, saved_count}
-use Rattle.recovery.proofs.Prepared.{where-err, counts_one, counts_two, inside_read, known_many, last_read, marked_read, marks_read, none_read, rests_read, shows_read, still_old, stops_read, within_read}
+use Rattle.recovery.proofs.PartlyLoaded.{device_loaded, device_read, device_refused, told_before}
+use Rattle.recovery.proofs.Prepared.{where-err, counts_one, counts_two, inside_read, known_many, last_read, marked_read, marks_read, none_read, rests_read, shows_read, still_old, stops_read, whole_read, within_read}
 use Rattle.recovery.proofs.booting.prepare.Goals as goal
 
+-- nothing stands
+pub returns-in_err-standing-clause-refused : goal.returns-in_err-standing-clause-refused
+returns-in_err-standing-clause-refused g c old synced keeps =
+    let plant : PlantDefinition = plant_of c.args.system.now in
+    let digest : List ℕ = digest_of c.args.system.now in
+    let mid : DiskState = c.args.cells.now in
+    let p = err_from_is_err_and c.from_residual.result c.from_residual.ensures.1 in
+    rw (p.1, p.2) (told_before plant digest old mid synced keeps c.in_err-standing.field-0.0
+    (device_refused plant digest mid c.args.loaded.now c.args.judged c.keeps_its_rules.ensures.few c.requires.loaded c.requires.judged (synced.counts.keeps ∙ keeps) c.in_err-standing.field-0.0 c.in_err-standing.was))
+
+pub returns-in_err-standing-clause-stops : goal.returns-in_err-standing-clause-stops
+returns-in_err-standing-clause-stops g c old synced keeps =
+    still_old (plant_of c.args.system.now) (digest_of c.args.system.now) old c.args.cells.now (synced.leaves keeps)
+
+pub returns-in_err-standing-clause-cause : goal.returns-in_err-standing-clause-cause
+returns-in_err-standing-clause-cause g c old synced =
+    let p = err_from_is_err_and c.from_residual.result c.from_residual.ensures.1 in
+    rw (p.1, p.2) (up_to_one false true old c.args.cells.now synced.counts)
+
+pub take_memory-requires : goal.take_memory-requires
+take_memory-requires g c =
+    device_read (plant_of c.args.system.now) (digest_of c.args.system.now) c.args.cells.now c.args.loaded.now c.args.judged c.keeps_its_rules.ensures.few c.requires.loaded c.requires.judged c.in_ok-standing.standing c.in_ok-standing.was
+
 pub returns-in_err-memory-clause-stops : goal.returns-in_err-memory-clause-stops
-returns-in_err-memory-clause-stops g c keeps =
-    still_old (plant_of c.args.system.now) (digest_of c.args.system.now) c.args.cells.now c.judge.new.cells (c.judge.ensures.leaves keeps)
+returns-in_err-memory-clause-stops g c old synced keeps =
+    still_old (plant_of c.args.system.now) (digest_of c.args.system.now) old c.args.cells.now (synced.leaves keeps)
 
 pub returns-in_err-memory-clause-cause : goal.returns-in_err-memory-clause-cause
-returns-in_err-memory-clause-cause g c =
+returns-in_err-memory-clause-cause g c old synced =
     let p = err_from_is_err_and c.from_residual-in_err-memory.result c.from_residual-in_err-memory.ensures.1 in
-    rw (p.1, p.2) (up_to_one false true c.args.cells.now c.judge.new.cells c.in_ok-standing.ensures.counts)
+    rw (p.1, p.2) (up_to_one false true old c.args.cells.now synced.counts)
 
 pub clean-requires-clause-inside : goal.clean-requires-clause-inside
 clean-requires-clause-inside g c =
-    inside_read (plant_of c.args.system.now) (digest_of c.args.system.now) c.judge.new.cells c.in_ok-standing.standing c.in_ok-standing.ensures.read c.in_ok-memory.memory.journal c.in_ok-memory.ensures.journal
-    c.judge.new.cells refl
+    inside_read (plant_of c.args.system.now) (digest_of c.args.system.now) c.args.cells.now c.in_ok-standing.standing (device_read (plant_of c.args.system.now) (digest_of c.args.system.now) c.args.cells.now c.args.loaded.now c.args.judged c.keeps_its_rules.ensures.few c.requires.loaded c.requires.judged c.in_ok-standing.standing c.in_ok-standing.was) c.in_ok-memory.memory.journal c.in_ok-memory.ensures.journal
+    c.args.cells.now refl
+
+pub clean-requires-clause-whole : goal.clean-requires-clause-whole
+clean-requires-clause-whole g c =
+    whole_read (plant_of c.args.system.now) (digest_of c.args.system.now) c.args.cells.now c.in_ok-standing.standing (device_read (plant_of c.args.system.now) (digest_of c.args.system.now) c.args.cells.now c.args.loaded.now c.args.judged c.keeps_its_rules.ensures.few c.requires.loaded c.requires.judged c.in_ok-standing.standing c.in_ok-standing.was) c.in_ok-memory.memory.journal c.in_ok-memory.ensures.journal
+
+pub returns-in_err-clean-clause-refused : goal.returns-in_err-clean-clause-refused
+returns-in_err-clean-clause-refused g c old synced keeps =
+    let p = err_from_is_err_and c.from_residual-in_err-clean.result c.from_residual-in_err-clean.ensures.1 in
+    rw (p.1, p.2) tt
 
 pub returns-in_err-clean-clause-stops : goal.returns-in_err-clean-clause-stops
-returns-in_err-clean-clause-stops g c keeps =
-    let still : c.judge.new.cells.keeps ≡ true = c.in_ok-standing.ensures.counts.keeps ∙ keeps in
+returns-in_err-clean-clause-stops g c old synced keeps =
+    let still : c.args.cells.now.keeps ≡ true = synced.counts.keeps ∙ keeps in
     let long : length c.in_ok-standing.standing.counts ≡ MAX_ATOMS = search rules in
-    stops_read (plant_of c.args.system.now) (digest_of c.args.system.now) c.judge.new.cells c.in_ok-standing.standing c.in_ok-standing.ensures.read c.in_ok-memory.memory.journal c.in_ok-memory.ensures.journal long
-    c.args.cells.now c.clean.new.cells still c.in_ok-standing.ensures.counts.size (c.judge.ensures.same keeps) (c.judge.ensures.leaves keeps) (c.clean.ensures.leaves still)
+    stops_read (plant_of c.args.system.now) (digest_of c.args.system.now) c.args.cells.now c.in_ok-standing.standing (device_read (plant_of c.args.system.now) (digest_of c.args.system.now) c.args.cells.now c.args.loaded.now c.args.judged c.keeps_its_rules.ensures.few c.requires.loaded c.requires.judged c.in_ok-standing.standing c.in_ok-standing.was) c.in_ok-memory.memory.journal c.in_ok-memory.ensures.journal long
+    old c.clean.new.cells still synced.counts.size (synced.same keeps) (synced.leaves keeps) (c.clean.ensures.leaves still)
 
 pub returns-clause-stops : goal.returns-clause-stops
-returns-clause-stops g c keeps =
-    let still : c.judge.new.cells.keeps ≡ true = c.in_ok-standing.ensures.counts.keeps ∙ keeps in
+returns-clause-stops g c old synced keeps =
+    let still : c.args.cells.now.keeps ≡ true = synced.counts.keeps ∙ keeps in
     let long : length c.in_ok-standing.standing.counts ≡ MAX_ATOMS = search rules in
-    stops_read (plant_of c.args.system.now) (digest_of c.args.system.now) c.judge.new.cells c.in_ok-standing.standing c.in_ok-standing.ensures.read c.in_ok-memory.memory.journal c.in_ok-memory.ensures.journal long
-    c.args.cells.now c.clean.new.cells still c.in_ok-standing.ensures.counts.size (c.judge.ensures.same keeps) (c.judge.ensures.leaves keeps) (c.clean.ensures.leaves still)
+    stops_read (plant_of c.args.system.now) (digest_of c.args.system.now) c.args.cells.now c.in_ok-standing.standing (device_read (plant_of c.args.system.now) (digest_of c.args.system.now) c.args.cells.now c.args.loaded.now c.args.judged c.keeps_its_rules.ensures.few c.requires.loaded c.requires.judged c.in_ok-standing.standing c.in_ok-standing.was) c.in_ok-memory.memory.journal c.in_ok-memory.ensures.journal long
+    old c.clean.new.cells still synced.counts.size (synced.same keeps) (synced.leaves keeps) (c.clean.ensures.leaves still)
 
 pub returns-in_err-clean-clause-cause : goal.returns-in_err-clean-clause-cause
-returns-in_err-clean-clause-cause g c =
+returns-in_err-clean-clause-cause g c old synced =
     let p = err_from_is_err_and c.from_residual-in_err-clean.result c.from_residual-in_err-clean.ensures.1 in
-    rw (p.1, p.2) (counts_one c.args.cells.now c.judge.new.cells c.clean.new.cells c.in_ok-standing.ensures.counts c.in_err-clean.ensures.counts)
+    rw (p.1, p.2) (counts_one old c.args.cells.now c.clean.new.cells synced.counts c.in_err-clean.ensures.counts)
 
 pub returns-clause-cause : goal.returns-clause-cause
-returns-clause-cause g c = counts_two c.args.cells.now c.judge.new.cells c.clean.new.cells c.in_ok-standing.ensures.counts c.in_ok-clean.ensures.counts
+returns-clause-cause g c old synced = counts_two old c.args.cells.now c.clean.new.cells synced.counts c.in_ok-clean.ensures.counts
 
 pub returns-clause-prepared : goal.returns-clause-prepared
 returns-clause-prepared g c =
     let plant : PlantDefinition = plant_of c.args.system.now in
     let digest : List ℕ = digest_of c.args.system.now in
-    let old : DiskState = c.args.cells.now in
-    let mid : DiskState = c.judge.new.cells in
+    let mid : DiskState = c.args.cells.now in
     let new : DiskState = c.clean.new.cells in
     let standing : Standing = c.in_ok-standing.standing in
-    let was = c.in_ok-standing.ensures.read in
+    let was = device_read (plant_of c.args.system.now) (digest_of c.args.system.now) c.args.cells.now c.args.loaded.now c.args.judged c.keeps_its_rules.ensures.few c.requires.loaded c.requires.judged c.in_ok-standing.standing c.in_ok-standing.was in
     let made = c.in_ok-memory.ensures in
     let first : Ring = c.in_ok-memory.memory.journal in
     let j : Ring = c.clean.new.self in
@@ -95,23 +127,34 @@ returns-clause-prepared g c =
           let still : mid.keeps ≡ true = sym c.clean.ensures.counts.keeps ∙ holds in
           let cleaned : HasCleaned first (seen_cells (BODY + 1) mid) (seen_cells (BODY + 1) new) = seen_after (BODY + 1) (HasCleaned first (seen_cells (BODY + 1) mid)) mid new (c.clean.ensures.leaves still) in
           marked_read plant digest mid standing was j journal long new marks still made.marks (subst (λ r. HasCleaned r (seen_cells (BODY + 1) mid) (seen_cells (BODY + 1) new)) (sym kept) cleaned);
-      booted = λ keeps. shows_read plant digest mid standing was j journal old _ _ marks known _ (c.in_ok-standing.ensures.counts.keeps ∙ keeps) c.in_ok-standing.ensures.counts.size (c.judge.ensures.same keeps) made.acked made.counts made.marks made.snapshots made.none_away;
     }
+
+pub returns-clause-booted : goal.returns-clause-booted
+returns-clause-booted g c old synced keeps =
+    let made = c.in_ok-memory.ensures in
+    let journal : c.clean.new.self ≡ ring_in (length (plant_of c.args.system.now).atoms) (contents_in c.in_ok-standing.standing.held) = c.clean.ensures.journal ∙ made.journal in
+    shows_read (plant_of c.args.system.now) (digest_of c.args.system.now) c.args.cells.now c.in_ok-standing.standing (device_read (plant_of c.args.system.now) (digest_of c.args.system.now) c.args.cells.now c.args.loaded.now c.args.judged c.keeps_its_rules.ensures.few c.requires.loaded c.requires.judged c.in_ok-standing.standing c.in_ok-standing.was) c.clean.new.self journal
+    old _ _ c.in_ok-memory.memory.marks.items c.in_ok-memory.memory.snapshots _ (synced.counts.keeps ∙ keeps) synced.counts.size (synced.same keeps) made.acked made.counts made.marks made.snapshots made.none_away
 
 -- the device failed while the cells were emptied
 pub returns-in_err-clean-clause-left : goal.returns-in_err-clean-clause-left
-returns-in_err-clean-clause-left g c = λ keeps.
+returns-in_err-clean-clause-left g c old synced keeps =
     let plant : PlantDefinition = plant_of c.args.system.now in
-    let old : DiskState = c.args.cells.now in
-    let mid : DiskState = c.judge.new.cells in
+    let mid : DiskState = c.args.cells.now in
     let new : DiskState = c.clean.new.cells in
-    let still : mid.keeps ≡ true = c.in_ok-standing.ensures.counts.keeps ∙ keeps in
-    let was = c.in_ok-standing.ensures.read in
+    let still : mid.keeps ≡ true = synced.counts.keeps ∙ keeps in
+    let was = device_read (plant_of c.args.system.now) (digest_of c.args.system.now) c.args.cells.now c.args.loaded.now c.args.judged c.keeps_its_rules.ensures.few c.requires.loaded c.requires.judged c.in_ok-standing.standing c.in_ok-standing.was in
     let first : Ring = c.in_ok-memory.memory.journal in
-    let seen : seen_cells (BODY + 1) mid ≡ seen_cells (BODY + 1) old = c.judge.ensures.same keeps in
+    let seen : seen_cells (BODY + 1) mid ≡ seen_cells (BODY + 1) old = synced.same keeps in
     let ring : first ≡ ring_in (length plant.atoms) (contents_of (length plant.atoms) (seen_cells (BODY + 1) old)) =
     c.in_ok-memory.ensures.journal ∙ ap (ring_in (length plant.atoms)) (was.is.led.contents ∙ ap (contents_of (length plant.atoms)) (was.seen still ∙ seen)) in
     let cleaned : HasCleaned first (seen_cells (BODY + 1) mid) (seen_cells (BODY + 1) new) = seen_after (BODY + 1) (HasCleaned first (seen_cells (BODY + 1) mid)) mid new (c.clean.ensures.leaves still) in
     where-err c.from_residual-in_err-clean.result
     (inr (subst (λ (r : Ring). HasCleaned r (seen_cells (BODY + 1) old) (seen_cells (BODY + 1) new)) ring
     (subst (λ (cells : List Cell). HasCleaned first cells (seen_cells (BODY + 1) new)) seen cleaned)))
+
+-- what was loaded is what a read gives
+pub clean-requires-clause-found : goal.clean-requires-clause-found
+clean-requires-clause-found g c keeps k inside =
+    let loaded = device_loaded (plant_of c.args.system.now) (digest_of c.args.system.now) c.args.cells.now c.args.loaded.now c.args.judged c.keeps_its_rules.ensures.few c.requires.loaded c.requires.judged c.in_ok-standing.standing c.in_ok-standing.was keeps in
+    ap (λ (l : List Cell). cell l k) (c.deref.ensures.value ∙ loaded)

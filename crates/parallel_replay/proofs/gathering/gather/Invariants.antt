@@ -1,0 +1,7 @@
+use Rattle.step_core.specs.System.{plant_of}
+use Rattle.plant_image.specs.Reading.{contents_in}
+use Rattle.plant_image.proofs.SoFar.{SoFar}
+use Rattle.parallel_replay.proofs.gathering.gather.Given as goal
+
+abbrev pub invariant-loop-number : goal.invariant-loop-number
+invariant-loop-number l = SoFar (plant_of l.system) (contents_in l.held) l.number l.states l.counts
