@@ -27,6 +27,8 @@ WITH_EDITS = {
     "plant_image": "takes an image for another state",
     "parallel_replay": "tells what a thread met first, and not what comes first",
     "plant_core": "acknowledges what a stop loses, or moves what was not asked for",
+    "front_word": "tells a front that is none, or forgets what was told",
+    "engine_host": "answers what the history does not say, or counts other firings than there were",
     "recovery": "goes on from another state",
     "file_disk": "works past the end of the image, or counts what it did otherwise",
 }

@@ -10,3 +10,4 @@ pub mod SameTransition
 pub mod Groups
 pub mod Atom
 pub mod Fault
+pub mod Codes

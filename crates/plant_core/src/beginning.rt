@@ -103,8 +103,8 @@ impl<'s, D: Disk> Plant<'s, D> {
         }
     }
 
-    /// The job that was done, as a value to look at.
-    pub(crate) fn returned(&self, done: &Done<'_>) -> Returned
+    /// The job that was done, as plain data: what a history keeps of it. `own` says whether its definition is that of the plant's own atom.
+    pub fn returned(&self, done: &Done<'_>) -> Returned
         ensures { IsReturned (definition_of self.now) result (job_done done.now) }
     {
         let own = match self.executor.system().atoms().get(usize::from(done.atom())) {

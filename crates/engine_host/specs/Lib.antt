@@ -1,0 +1,5 @@
+pub mod Views
+pub mod History
+pub mod Held
+pub mod Names
+pub mod Told

@@ -1,0 +1,4 @@
+pub mod Fronts
+pub mod Which
+pub mod Rules
+pub mod Passes

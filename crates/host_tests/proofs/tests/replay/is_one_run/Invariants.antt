@@ -1,0 +1,8 @@
+use Rattle.std.proofs.Common.{◌≡◌}
+use Rattle.step_core.specs.Fitting.{IsOf}
+use Rattle.step_core.specs.System.{plant_of}
+use Rattle.host_tests.proofs.tests.replay.is_one_run.Given as goal
+
+-- there is a state for each atom
+abbrev pub invariant-loop-fire : goal.invariant-loop-fire
+invariant-loop-fire g l = IsOf (plant_of l.system) l.states

@@ -1,0 +1,12 @@
+use Rattle.plant_core.specs.Plants.{definition_of, view_of}
+use Rattle.host_tests.proofs.tests.rows.a_host_counts_from_where_it_opened.Given as goal
+
+-- the host that was just named
+abbrev pub ghosts-one_seat-N-Naming : goal.ghosts-one_seat-N-Naming
+ghosts-one_seat-N-Naming g a = record { plant = definition_of a.plant; view = view_of a.plant; seats = a.named.seats }
+
+abbrev pub ghosts-one_seat-N-WordNaming : goal.ghosts-one_seat-N-WordNaming
+ghosts-one_seat-N-WordNaming g a = record { table = a.named.table; opening = a.named.opening }
+
+abbrev pub ghosts-one_seat-N-Ledger : goal.ghosts-one_seat-N-Ledger
+ghosts-one_seat-N-Ledger g a = record { name = a.named.ledger; parts = a.named.parts }

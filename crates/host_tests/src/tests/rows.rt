@@ -1,0 +1,218 @@
+// What a host answers, worked out by hand.
+ghost use Rattle.std.specs.Prelude.{◌≡◌};
+ghost use Rattle.plant_core.specs.Plants.{definition_of, view_of};
+ghost use Rattle.engine_host.specs.Views.{front_in};
+
+use super::common::{Open, SAMPLE, first_plant, value_of};
+use bare_disk::BareDisk;
+use disk_model::Disk;
+use engine_host::{CloseRefused, Entry, Host, Named, Naming, Seat, name, open};
+use front_word::Watch;
+use plant_core::{Front, Plant};
+use plant_text::plant_of_text;
+use std::alloc::Global;
+use std::marker::Brand;
+use std::process::Abort;
+use std::sync::Wait;
+use std::test::*;
+
+pub(super) fn is_front(front: Front, fired: u64, acked: u64, base: u64) -> bool {
+    front.fired == fired && front.acked == acked && front.base == base
+}
+
+pub(super) fn fires<D: Disk, N: Naming>(
+    rt: &impl Wait,
+    host: &Host<'_, D, N>,
+    seat: &mut Seat<N>,
+    picks: &[u64],
+) -> bool {
+    let mut all = true;
+    for pick in picks {
+        all &= host.fire(rt, seat, *pick).is_ok();
+    }
+    all
+}
+
+/// A watch that was told, and another seat that fires.
+fn told<D: Disk, N: Naming, R: Wait + Abort>(
+    rt: &R,
+    host: &Host<'_, D, N>,
+    seat: &mut Seat<N>,
+    watch: &mut Watch<Entry, N>,
+) {
+    assert!(rt; is_front(host.front(watch), 0, 0, 1));
+    assert!(rt; fires(rt, host, seat, &[0, 1]));
+    assert!(rt; host.flush(rt, seat).is_ok());
+    assert!(rt; fires(rt, host, seat, &[0, 1]));
+    assert!(rt; is_front(host.tell(rt, watch), 4, 2, 1));
+    assert!(rt; is_front(host.front(watch), 4, 2, 1));
+    assert!(rt; fires(rt, host, seat, &[0]));
+    assert!(rt; is_front(host.front(watch), 5, 2, 1));
+}
+
+fn run_row<D: Disk + Drop, N: Naming, R: Wait + Abort>(
+    rt: &R,
+    alloc: Global,
+    named: Named,
+    plant: Plant<'_, D>,
+) -> Result<(), Fail>
+    requires names { named ≡ record { table = N.table; opening = N.opening; ledger = N.name; parts = N.parts; seats = N.seats } }
+    requires opens { N.opening ≡ front_in N.view }
+    requires plant { definition_of plant ≡ N.plant }
+    requires view { view_of plant ≡ N.view }
+{
+    let Ok((host, mut seats)) = open::<D, N>(alloc, named, plant) else {
+        return Err(Fail::new("no memory"));
+    };
+    let Some(mut seat) = seats.pop() else {
+        return Err(Fail::new("a seat"));
+    };
+    let mut watch = host.split(&mut seat.watch);
+    told(rt, &host, &mut seat, &mut watch);
+    Ok(())
+}
+
+#[test]
+fn a_watch_reads_no_less_than_it_was_told(rt: HostRuntime) -> Result<(), Fail> {
+    let system = plant_of_text(rt.alloc(), SAMPLE)?;
+    let plant = first_plant(rt.alloc(), &system, 8)?;
+    let named = name(rt.alloc(), &plant, 1)?;
+    run_row::<BareDisk, Brand, _>(&rt, rt.alloc(), named, plant)
+}
+
+/// Three seats of a host fire five times, never and twice. With one of them missing it does not close; with all three it tells seven.
+fn three_seats<D: Disk + Drop, N: Naming, R: Wait + Abort>(
+    rt: &R,
+    alloc: Global,
+    named: Named,
+    plant: Plant<'_, D>,
+) -> Result<(), Fail>
+    requires names { named ≡ record { table = N.table; opening = N.opening; ledger = N.name; parts = N.parts; seats = N.seats } }
+    requires opens { N.opening ≡ front_in N.view }
+    requires plant { definition_of plant ≡ N.plant }
+    requires view { view_of plant ≡ N.view }
+    requires seats { N.seats ≡ 3 }
+    requires parts { N.parts ≡ 3 }
+{
+    let Ok((host, mut seats)) = open::<D, N>(alloc, named, plant) else {
+        return Err(Fail::new("no memory"));
+    };
+    let (Some(mut first), Some(mut third)) = (seats.pop(), seats.pop()) else {
+        return Err(Fail::new("three seats"));
+    };
+    assert!(rt; fires(rt, &host, &mut first, &[0, 0, 0, 0, 0]));
+    assert!(rt; fires(rt, &host, &mut third, &[0, 0]));
+    seats.push(first)?;
+    let Err(
+        CloseRefused {
+            missing,
+            host,
+            mut seats,
+        },
+    ) = host.close(seats)
+    else {
+        return Err(Fail::new("a seat is missing"));
+    };
+    assert_eq!(rt; (missing, seats.len()), (1, 2));
+    seats.push(third)?;
+    let Ok((plant, fired)) = host.close(seats) else {
+        return Err(Fail::new("all seats are there"));
+    };
+    assert_eq!(rt; (fired, plant.front().fired), (7, 7));
+    Ok(())
+}
+
+#[test]
+fn three_seats_fire_seven_in_all(rt: HostRuntime) -> Result<(), Fail> {
+    let system = plant_of_text(rt.alloc(), SAMPLE)?;
+    let plant = first_plant(rt.alloc(), &system, 8)?;
+    let named = name(rt.alloc(), &plant, 3)?;
+    three_seats::<BareDisk, Brand, _>(&rt, rt.alloc(), named, plant)
+}
+
+/// The number and the connector of what was fired by this pick.
+fn fired_by<D: Disk, N: Naming>(
+    rt: &impl Wait,
+    host: &Host<'_, D, N>,
+    seat: &mut Seat<N>,
+    pick: u64,
+) -> Option<(u64, u16)> {
+    match host.fire(rt, seat, pick) {
+        Ok(fired) => Some((fired.number, fired.choice.connector)),
+        Err(_) => None,
+    }
+}
+
+/// One seat fires tick, send, tick and send, flushes, saves A and drops what no restart needs.
+fn save_and_trim<D: Disk, N: Naming, R: Wait + Abort>(
+    rt: &R,
+    host: &Host<'_, D, N>,
+    seat: &mut Seat<N>,
+) {
+    for (number, pick) in [(1, 0), (2, 1), (3, 0), (4, 1)] {
+        assert_eq!(rt; fired_by(rt, host, seat, pick), Some((number, pick as u16)));
+    }
+    assert!(rt; host.flush(rt, seat) == Ok(4));
+    assert!(rt; host.save_one(rt, seat, 0, &Open) == Ok(4));
+    assert!(rt; host.trim(rt, seat) == Ok(2));
+    assert!(rt; is_front(host.front(&mut seat.watch), 4, 4, 2));
+}
+
+/// A host that opens behind what was fired before tells what was fired since. A counts each of them, and the last send gave B the three before it.
+fn one_seat<D: Disk + Drop, N: Naming, R: Wait + Abort>(
+    rt: &R,
+    alloc: Global,
+    named: Named,
+    plant: Plant<'_, D>,
+) -> Result<(), Fail>
+    requires names { named ≡ record { table = N.table; opening = N.opening; ledger = N.name; parts = N.parts; seats = N.seats } }
+    requires opens { N.opening ≡ front_in N.view }
+    requires plant { definition_of plant ≡ N.plant }
+    requires view { view_of plant ≡ N.view }
+    requires seats { N.seats ≡ 1 }
+    requires parts { N.parts ≡ 1 }
+{
+    let before = plant.front().fired;
+    let Ok((host, mut seats)) = open::<D, N>(alloc, named, plant) else {
+        return Err(Fail::new("no memory"));
+    };
+    let Some(mut seat) = seats.pop() else {
+        return Err(Fail::new("a seat"));
+    };
+    if before == 0 {
+        save_and_trim(rt, &host, &mut seat);
+    } else {
+        assert!(rt; fires(rt, &host, &mut seat, &[0, 0, 0]));
+    }
+    seats.push(seat)?;
+    let Ok((plant, fired)) = host.close(seats) else {
+        return Err(Fail::new("the seat is there"));
+    };
+    let (wanted, counted) = if before == 0 {
+        ((4, 4), 4)
+    } else {
+        ((3, 7), 7)
+    };
+    assert!(rt; (fired, plant.front().fired) == wanted);
+    assert!(rt; (value_of(&plant, 0), value_of(&plant, 1)) == (counted, 3));
+    Ok(())
+}
+
+#[test]
+fn one_seat_saves_and_trims(rt: HostRuntime) -> Result<(), Fail> {
+    let system = plant_of_text(rt.alloc(), SAMPLE)?;
+    let plant = first_plant(rt.alloc(), &system, 8)?;
+    let named = name(rt.alloc(), &plant, 1)?;
+    one_seat::<BareDisk, Brand, _>(&rt, rt.alloc(), named, plant)
+}
+
+#[test]
+fn a_host_counts_from_where_it_opened(rt: HostRuntime) -> Result<(), Fail> {
+    let system = plant_of_text(rt.alloc(), SAMPLE)?;
+    let mut plant = first_plant(rt.alloc(), &system, 8)?;
+    for pick in 0..4 {
+        assert!(rt; plant.fire(pick).is_ok());
+    }
+    let named = name(rt.alloc(), &plant, 1)?;
+    one_seat::<BareDisk, Brand, _>(&rt, rt.alloc(), named, plant)
+}
