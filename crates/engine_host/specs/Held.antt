@@ -1,5 +1,5 @@
 -- What lies under the lock.
-use Rattle.std.specs.Prelude.{◌≡◌, ◌+◌, ◌≤◌, ◌++◌, ◌∷◌, [], ℕ, List, length}
+use Rattle.std.specs.Prelude.{◌≡◌, ◌+◌, ◌≤◌, ◌++◌, ◌∷◌, [], ℕ, Bool, List, length}
 use Rattle.disk_model.specs.DiskState.{DiskState}
 use Rattle.disk_model.specs.declared.disk.Disk.{Ghosts}
 use Rattle.plant_core.specs.declared.front.Front.{Front}
@@ -26,9 +26,12 @@ pub record Held : Type 0 where
 abbrev pub held_by : {D : Type 0} {disk : Ghosts D} → Plant D disk → List Entry → ℕ → Held
 held_by p history total = record { view = view_of p; device = device_of p; digest = text_digest p; history = history; total = total }
 
--- The history leads from the view at opening to that of the plant, and the book has as many as were fired since.
-pub record IsKept (plant : PlantDefinition) (opening : View) (front : Front) (own : PlantDefinition) (h : Held) : Type 0 where
+-- The history leads from the view at opening to that of the plant, and the book has as many as were fired since. The plant, its text and whether its device
+-- keeps the disk model are what they were then.
+pub record IsKept (plant : PlantDefinition) (opening : View) (digest : List ℕ) (keeps : Bool) (front : Front) (own : PlantDefinition) (h : Held) : Type 0 where
   pub plant_is : own ≡ plant
+  pub digest_is : h.digest ≡ digest
+  pub keeps_is : h.device.keeps ≡ keeps
   pub opens : front ≡ front_in opening
   pub history : IsHistory plant opening h.history h.view
   pub booked : h.total + fired_number opening ≡ fired_number h.view
@@ -40,3 +43,4 @@ pub record IsMade (plant : PlantDefinition) (old : Held) (happened : Happened) (
   pub history : new.history ≡ old.history ++ entry happened (front_in new.view) ∷ []
   pub total : new.total ≡ old.total + length (fired_by happened)
   pub digest : new.digest ≡ old.digest
+  pub keeps : new.device.keeps ≡ old.device.keeps

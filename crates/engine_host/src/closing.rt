@@ -1,7 +1,7 @@
 //! Closing a host.
 ghost use Rattle.std.specs.Prelude.{◌≡◌, ◌+◌, ◌<◌, ◌≤◌, ◌↔◌, IfErr, IfOk, IsOk, All, List, length, map, sum_by};
 ghost use mathlib.Core.List.{IsPrefix};
-ghost use Rattle.plant_core.specs.Plants.{definition_of, view_of};
+ghost use Rattle.plant_core.specs.Plants.{definition_of, device_of, text_digest, view_of};
 ghost use Rattle.engine_host.specs.Told.{IsClosed};
 ghost use Rattle.plant_core.specs.View.{fired_number};
 
@@ -29,6 +29,7 @@ impl<'s, D: Disk, N: Naming> Host<'s, D, N> {
     /// Closes the host, and gives the plant with how many choices were fired since it opened, which is the sum of all shares. One legal
     /// history leads to where the plant then stands, and what each seat's watch knew begins it. It takes no memory and makes no call of the
     /// device.
+    #[inline(never)]
     pub fn close(self, seats: Vec<Seat<N>>) -> Result<(Plant<'s, D>, u64), CloseRefused<'s, D, N>>
         requires whole { N.parts ≡ N.seats }
         requires some { 0 < N.seats }
@@ -36,6 +37,8 @@ impl<'s, D: Disk, N: Naming> Host<'s, D, N> {
         ensures sum { IfOk result (λ r. r.1 ≡ sum_by (λ s. s.share.amount) seats.items) }
         ensures fired { IfOk result (λ r. r.1 + fired_number N.view ≡ fired_number (view_of r.0)) }
         ensures plant { IfOk result (λ r. definition_of r.0 ≡ N.plant) }
+        ensures digest { IfOk result (λ r. text_digest r.0 ≡ N.digest) }
+        ensures keeps { IfOk result (λ r. (device_of r.0).keeps ≡ N.keeps) }
         ensures history { IfOk result (λ r. IsClosed N.plant N.view (map (λ s. s.watch) seats.items) (view_of r.0)) }
         ensures missing { IfErr result (λ r. (0 < r.missing) × (r.missing + length seats.items ≡ N.seats)) }
         ensures seats_back { IfErr result (λ r. r.seats.items ≡ seats.items) }

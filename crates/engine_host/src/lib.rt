@@ -27,5 +27,5 @@ pub use gate::Gate;
 pub use host::Host;
 pub use locked::Locked;
 pub use naming::Naming;
-pub use opening::{MOST_SEATS, Named, OpenRefused, name, open};
+pub use opening::{MOST_SEATS, Named, name, open};
 pub use seat::Seat;

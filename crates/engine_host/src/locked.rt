@@ -20,6 +20,7 @@ ghost use Rattle.plant_core.specs.Puts.{refusal_in};
 ghost use Rattle.step_core.specs.Runs.{IsRun};
 ghost use Rattle.engine_host.specs.Held.{IsMade};
 ghost use Rattle.engine_host.specs.History.{IsHistory, fronts};
+ghost use Rattle.engine_host.specs.Names.{hosted};
 ghost use Rattle.engine_host.specs.Told.{HasBegun, HasFired, HasHandedBack, HasMade};
 ghost use Rattle.engine_host.specs.Views.{front_in, is_used_up};
 
@@ -57,7 +58,7 @@ impl<'s, D: Disk, N: Naming> Model for Locked<'s, D, N> {
 
     ghost view = { λ l. held_by l.plant l.publisher l.book.total };
 
-    ghost invariant = { λ l. IsKept N.plant N.view N.opening (definition_of l.plant) (held_by l.plant l.publisher l.book.total) };
+    ghost invariant = { λ l. IsKept N.plant N.view N.digest N.keeps N.opening (definition_of l.plant) (held_by l.plant l.publisher l.book.total) };
 }
 
 impl<'s, D: Disk, N: Naming> Locked<'s, D, N> {
@@ -67,8 +68,7 @@ impl<'s, D: Disk, N: Naming> Locked<'s, D, N> {
         publisher: Publisher<Entry, N>,
         book: Book<N>,
     ) -> Locked<'s, D, N>
-        requires plant { definition_of plant ≡ N.plant }
-        requires view { view_of plant ≡ N.view }
+        requires over { hosted plant ≡ record { plant = N.plant; view = N.view; digest = N.digest; keeps = N.keeps } }
         requires opens { N.opening ≡ front_in N.view }
         requires history { publisher ≡ [] }
         requires book { book.total ≡ 0 }
@@ -119,6 +119,8 @@ impl<'s, D: Disk, N: Naming> Locked<'s, D, N> {
         ensures view { view_of result.0 ≡ self.entry.view }
         ensures plant { definition_of result.0 ≡ N.plant }
         ensures device { device_of result.0 ≡ self.entry.device }
+        ensures digest { text_digest result.0 ≡ N.digest }
+        ensures keeps { (device_of result.0).keeps ≡ N.keeps }
         ensures amount { result.1 ≡ sum_by (λ s. s.share.amount) seats.items }
         ensures fired { result.1 + fired_number N.view ≡ fired_number self.entry.view }
         ensures known { All (λ s. IsPrefix s.watch self.entry.history) seats.items }

@@ -1,6 +1,7 @@
 //! Naming and opening a host.
-ghost use Rattle.std.specs.Prelude.{◌≡◌, ◌+◌, ◌≤◌, [], All, IfErr, IfOk, length, vec_capacity};
-ghost use Rattle.plant_core.specs.Plants.{definition_of, device_of, text_digest, view_of};
+ghost use Rattle.std.specs.Prelude.{◌≡◌, ◌+◌, ◌≤◌, [], All, IfOk, length, vec_capacity};
+ghost use Rattle.plant_core.specs.Plants.{view_of};
+ghost use Rattle.engine_host.specs.Names.{IsNamedFor, hosted};
 ghost use Rattle.engine_host.specs.Views.{front_in};
 
 use crate::entry::Entry;
@@ -39,6 +40,16 @@ impl Model for Named {
     ghost invariant = { λ n. n.blank.parts ≡ n.seats };
 }
 
+impl Named {
+    /// Room for the seats of the host, which [`open`] puts there.
+    pub fn room<N: Naming>(&self, alloc: Global) -> Result<Vec<Seat<N>>, AllocError>
+        ensures none { IfOk result (λ room. room.items ≡ []) }
+        ensures room { IfOk result (λ room. self.now.seats ≤ vec_capacity room) }
+    {
+        Vec::with_capacity(alloc, self.seats)
+    }
+}
+
 /// Makes the word and the ledger of a host of this plant, with so many seats: 1 to [`MOST_SEATS`].
 pub fn name<D: Disk>(alloc: Global, plant: &Plant<'_, D>, seats: usize) -> Result<Named, AllocError>
     requires from { 1 ≤ seats }
@@ -55,34 +66,20 @@ pub fn name<D: Disk>(alloc: Global, plant: &Plant<'_, D>, seats: usize) -> Resul
     })
 }
 
-/// A host that was not opened: there was no memory. Both come back.
-#[derive(Drop)]
-pub struct OpenRefused<'s, D: Disk> {
-    /// What was named.
-    pub named: Named,
-    /// The plant.
-    pub plant: Plant<'s, D>,
-}
-
-/// Opens a host of the plant, with its seats, each with an empty share and a watch that knows nothing yet. No later call takes memory.
+/// Opens a host of the plant, with its seats, each with an empty share and a watch that knows nothing yet. They stand in the room that
+/// [`Named::room`] made. Neither this call nor any of the host takes memory.
+#[inline(never)]
 pub fn open<'s, D: Disk, N: Naming>(
-    alloc: Global,
     named: Named,
     plant: Plant<'s, D>,
-) -> Result<(Host<'s, D, N>, Vec<Seat<N>>), OpenRefused<'s, D>>
-    requires names { named ≡ record { table = N.table; opening = N.opening; ledger = N.name; parts = N.parts; seats = N.seats } }
-    requires opens { N.opening ≡ front_in N.view }
-    requires plant { definition_of plant ≡ N.plant }
-    requires view { view_of plant ≡ N.view }
-    ensures seats { IfOk result (λ r. length r.1.items ≡ N.seats) }
-    ensures empty { IfOk result (λ r. All (λ s. (s.share.amount ≡ 0) × (s.watch ≡ [])) r.1.items) }
-    ensures refused_names { IfErr result (λ r. r.named ≡ named) }
-    ensures refused_view { IfErr result (λ r. view_of r.plant ≡ view_of plant.entry) }
-    ensures refused_device { IfErr result (λ r. device_of r.plant ≡ device_of plant.entry) }
+    room: Vec<Seat<N>>,
+) -> (Host<'s, D, N>, Vec<Seat<N>>)
+    requires named { IsNamedFor named (record { table = N.table; opening = N.opening; ledger = N.name; parts = N.parts; seats = N.seats }) (record { plant = N.plant; view = N.view; digest = N.digest; keeps = N.keeps }) (hosted plant) }
+    requires none { room.items ≡ [] }
+    requires room { N.seats ≤ vec_capacity room }
+    ensures seats { length result.1.items ≡ N.seats }
+    ensures empty { All (λ s. (s.share.amount ≡ 0) × (s.watch ≡ [])) result.1.items }
 {
-    let Ok(mut seats) = Vec::with_capacity(alloc, named.seats) else {
-        return Err(OpenRefused { named, plant });
-    };
     let Named {
         word,
         blank,
@@ -90,13 +87,14 @@ pub fn open<'s, D: Disk, N: Naming>(
     } = named;
     let (word, mut publisher) = word.named::<N>();
     let (book, mut share) = blank.open::<N>();
+    let mut seats = room;
     take_seats(&word, &mut publisher, &mut share, count, &mut seats);
     let host = Host {
         lock: Mutex::new(Locked::new(plant, publisher, book)),
         word,
         seats: count,
     };
-    Ok((host, seats))
+    (host, seats)
 }
 
 /// Makes the seats of a host, for which there is room.

@@ -65,6 +65,13 @@ impl<'s, D: Disk> Plant<'s, D> {
         self.executor.look(atom)
     }
 
+    /// Whether the device failed in a call. Such a plant refuses each event, and its device has to be booted again.
+    pub fn is_broken(&self) -> bool
+        ensures { result ≡ (view_of self.now).broken }
+    {
+        self.broken
+    }
+
     /// The device, which is left as it is.
     pub fn into_disk(self) -> D
         ensures { D.state result ≡ device_of self.entry }

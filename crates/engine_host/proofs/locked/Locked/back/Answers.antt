@@ -1,6 +1,7 @@
 use Rattle.std.proofs.Common.{◌++◌, ◌∷◌, [], ap, ◌∙◌, subst, arith}
 use Rattle.step_core.specs.Job.{job_done}
 use Rattle.step_core.specs.Plant.{PlantDefinition}
+use Rattle.disk_model.specs.DiskState.{DiskState}
 use Rattle.plant_core.specs.Backs.{refusal_in}
 use Rattle.plant_core.specs.Events.{IsEvent, IsReturned}
 use Rattle.plant_core.specs.Plants.{definition_of, view_of}
@@ -14,13 +15,13 @@ use Rattle.engine_host.proofs.locked.Locked.back.Goals as goal
 pub publish-requires-clause-rises : goal.publish-requires-clause-rises
 publish-requires-clause-rises g c =
     let l = c.self.inside in
-    kept_rises g.N.Naming.plant g.N.Naming.view g.N.WordNaming.opening (definition_of l.plant) (held_by l.plant l.publisher l.book.total) (Back c.returned-returned.result (refusal_in c.back-answer.result)) (view_of c.back-answer.new.self) c.self.invariant
+    kept_rises g.N.Naming.plant g.N.Naming.view g.N.Naming.digest g.N.Naming.keeps g.N.WordNaming.opening (definition_of l.plant) (held_by l.plant l.publisher l.book.total) (Back c.returned-returned.result (refusal_in c.back-answer.result)) (view_of c.back-answer.new.self) c.self.invariant
     (job_done c.args.done, c.returned-returned.ensures, c.back-answer.ensures.event)
 
 pub invariant_of-self : goal.invariant_of-self
 invariant_of-self g c =
     let l = c.self.inside in
-    kept_goes_on g.N.Naming.plant g.N.Naming.view g.N.WordNaming.opening (definition_of l.plant) _ (held_by l.plant l.publisher l.book.total) _ (Back c.returned-returned.result (refusal_in c.back-answer.result)) c.self.invariant
+    kept_goes_on g.N.Naming.plant g.N.Naming.view g.N.Naming.digest g.N.Naming.keeps g.N.WordNaming.opening (definition_of l.plant) _ (held_by l.plant l.publisher l.book.total) _ (Back c.returned-returned.result (refusal_in c.back-answer.result)) c.self.invariant
     (job_done c.args.done, c.returned-returned.ensures, c.back-answer.ensures.event)
-    c.back-answer.ensures.plant (omega arith) (omega (arith, c.self.invariant.few))
+    c.back-answer.ensures.plant c.back-answer.ensures.digest (ap (λ (s : DiskState). s.keeps) c.back-answer.ensures.device) (omega arith) (omega (arith, c.self.invariant.few))
     (c.publish.ensures.history ∙ ap (λ r. l.publisher ++ entry (Back c.returned-returned.result r) (front_in (view_of c.back-answer.new.self)) ∷ []) c.back_refusal_of-told.ensures)

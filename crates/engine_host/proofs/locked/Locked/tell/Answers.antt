@@ -11,4 +11,4 @@ pub returns-clause-front : goal.returns-clause-front
 returns-clause-front g c =
     let l = c.self.inside in
     c.tell.ensures.front ∙ (ap (λ es. last_of g.N.WordNaming.opening (fronts es)) c.tell.ensures.whole
-    ∙ (kept_last g.N.Naming.plant g.N.Naming.view g.N.WordNaming.opening (definition_of l.plant) (held_by l.plant l.publisher l.book.total) c.self.invariant ∙ ap (λ (h : Held). front_in h.view) c.self.view_is))
+    ∙ (kept_last g.N.Naming.plant g.N.Naming.view g.N.Naming.digest g.N.Naming.keeps g.N.WordNaming.opening (definition_of l.plant) (held_by l.plant l.publisher l.book.total) c.self.invariant ∙ ap (λ (h : Held). front_in h.view) c.self.view_is))
