@@ -21,7 +21,7 @@ mod naming;
 mod opening;
 mod seat;
 
-pub use closing::CloseRefused;
+pub use closing::{CloseRefused, Closed};
 pub use entry::Entry;
 pub use gate::Gate;
 pub use host::Host;

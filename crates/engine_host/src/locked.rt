@@ -24,7 +24,7 @@ ghost use Rattle.engine_host.specs.Names.{hosted};
 ghost use Rattle.engine_host.specs.Told.{HasBegun, HasFired, HasHandedBack, HasMade};
 ghost use Rattle.engine_host.specs.Views.{front_in, is_used_up};
 
-use crate::closing::gather;
+use crate::closing::{Closed, gather};
 use crate::entry::Entry;
 use crate::making::{back_refusal_of, copy_of_answer, count_fired, front_of, publish, refusal_of};
 use crate::naming::Naming;
@@ -108,23 +108,19 @@ impl<'s, D: Disk, N: Naming> Locked<'s, D, N> {
     }
 
     /// The plant, with how many choices were fired since the opening: the sum of all shares. All that the seats know begins the history.
-    pub(crate) fn close(
-        self,
-        word: &FrontWord<Entry, N>,
-        seats: Vec<Seat<N>>,
-    ) -> (Plant<'s, D>, u64)
+    pub(crate) fn close(self, word: &FrontWord<Entry, N>, seats: Vec<Seat<N>>) -> Closed<'s, D>
         requires some { 0 < length seats.items }
         requires all { N.parts ≤ length seats.items }
         ensures within { length seats.items ≤ N.parts }
-        ensures view { view_of result.0 ≡ self.entry.view }
-        ensures plant { definition_of result.0 ≡ N.plant }
-        ensures device { device_of result.0 ≡ self.entry.device }
-        ensures digest { text_digest result.0 ≡ N.digest }
-        ensures keeps { (device_of result.0).keeps ≡ N.keeps }
-        ensures amount { result.1 ≡ sum_by (λ s. s.share.amount) seats.items }
-        ensures fired { result.1 + fired_number N.view ≡ fired_number self.entry.view }
+        ensures view { view_of result.plant ≡ self.entry.view }
+        ensures plant { definition_of result.plant ≡ N.plant }
+        ensures device { device_of result.plant ≡ self.entry.device }
+        ensures digest { text_digest result.plant ≡ N.digest }
+        ensures keeps { (device_of result.plant).keeps ≡ N.keeps }
+        ensures amount { result.fired ≡ sum_by (λ s. s.share.amount) seats.items }
+        ensures fired { result.fired + fired_number N.view ≡ fired_number self.entry.view }
         ensures known { All (λ s. IsPrefix s.watch self.entry.history) seats.items }
-        ensures history { IsHistory N.plant N.view self.entry.history (view_of result.0) }
+        ensures history { IsHistory N.plant N.view self.entry.history (view_of result.plant) }
     {
         let Locked {
             plant,
@@ -134,7 +130,7 @@ impl<'s, D: Disk, N: Naming> Locked<'s, D, N> {
         let mut all = gather(word, &mut publisher, seats);
         book.audit(&mut all);
         let fired = front_of(&plant).fired - word.opening().fired;
-        (plant, fired)
+        Closed { fired, plant }
     }
 
     /// Whether so many choices were fired since the opening that no more can be counted.

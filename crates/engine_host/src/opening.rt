@@ -68,7 +68,6 @@ pub fn name<D: Disk>(alloc: Global, plant: &Plant<'_, D>, seats: usize) -> Resul
 
 /// Opens a host of the plant, with its seats, each with an empty share and a watch that knows nothing yet. They stand in the room that
 /// [`Named::room`] made. Neither this call nor any of the host takes memory.
-#[inline(never)]
 pub fn open<'s, D: Disk, N: Naming>(
     named: Named,
     plant: Plant<'s, D>,
