@@ -3,6 +3,7 @@ mod broken;
 mod common;
 mod host;
 mod many;
+mod memory;
 mod replay;
 mod rows;
 mod told;

@@ -2,13 +2,12 @@
 ghost use Rattle.std.specs.Prelude.{◌≡◌, ◌^◌, ◌<◌};
 ghost use Rattle.disk_model.specs.DiskState.{size_of};
 ghost use Rattle.disk_model.specs.MemDisk.{state_of};
-ghost use Rattle.engine_host.specs.Views.{front_in};
-ghost use Rattle.plant_core.specs.Plants.{definition_of, view_of};
+ghost use Rattle.engine_host.specs.Names.{IsNamedFor, hosted};
 
 use super::common::{SAMPLE, booted, bytes_for, formatted};
 use super::rows::{fires, is_front};
 use disk_model::{CELL, Disk, DiskFault, MemDisk};
-use engine_host::{Named, Naming, name, open};
+use engine_host::{Closed, Named, Naming, name, open};
 use plant_core::{Plant, Refused};
 use plant_text::plant_of_text;
 use std::alloc::Global;
@@ -75,16 +74,12 @@ fn two_seats<D: Disk + Drop, N: Naming, R: Wait + Abort>(
     named: Named,
     plant: Plant<'_, D>,
 ) -> Result<(), Fail>
-    requires names { named ≡ record { table = N.table; opening = N.opening; ledger = N.name; parts = N.parts; seats = N.seats } }
-    requires opens { N.opening ≡ front_in N.view }
-    requires plant { definition_of plant ≡ N.plant }
-    requires view { view_of plant ≡ N.view }
+    requires named { IsNamedFor named (record { table = N.table; opening = N.opening; ledger = N.name; parts = N.parts; seats = N.seats }) (record { plant = N.plant; view = N.view; digest = N.digest; keeps = N.keeps }) (hosted plant) }
     requires seats { N.seats ≡ 2 }
     requires parts { N.parts ≡ 2 }
 {
-    let Ok((host, mut seats)) = open::<D, N>(alloc, named, plant) else {
-        return Err(Fail::new("no memory"));
-    };
+    let room = named.room(alloc)?;
+    let (host, mut seats) = open::<D, N>(named, plant, room);
     let (Some(mut first), Some(mut second)) = (seats.pop(), seats.pop()) else {
         return Err(Fail::new("two seats"));
     };
@@ -94,7 +89,7 @@ fn two_seats<D: Disk + Drop, N: Naming, R: Wait + Abort>(
     assert!(rt; matches!(host.fire(rt, &mut second, 0), Err(Refused::Broken)));
     seats.push(first)?;
     seats.push(second)?;
-    let Ok((plant, fired)) = host.close(seats) else {
+    let Ok(Closed { fired, plant }) = host.close(seats) else {
         return Err(Fail::new("both seats are there"));
     };
     assert!(rt; fired == 3 && is_front(plant.front(), 3, 0, 1));

@@ -17,6 +17,10 @@ use step_core::System;
 pub(super) const SAMPLE: &[u8] =
     b"atom A\nplace s init\nvar n 0\nport t n\ntrans t from s to s do n := + n 1\natom B\nplace s init\nvar m 0\nport u m\ntrans u from s to s\nconnector tick A.t\nconnector send A.t B.u\nmove B.m := A.n\n";
 
+/// A counts by itself, and so does B.
+pub(super) const APART: &[u8] =
+    b"atom A\nplace s init\nvar n 0\nport t\ntrans t from s to s do n := + n 1\natom B\nplace s init\nvar m 0\nport u\ntrans u from s to s do m := + m 1\nconnector tick A.t\nconnector tock B.u\n";
+
 /// Two who think and eat at a table with two forks: who takes both keeps the other from eating, until both are back.
 pub(super) const TABLE: &[u8] =
     b"atom L\nplace free init\nplace held\nport get\nport put\ntrans get from free to held\ntrans put from held to free\natom R\nplace free init\nplace held\nport get\nport put\ntrans get from free to held\ntrans put from held to free\natom P\nplace think init\nplace eat\nvar meals 0\nport take\nport done\ntrans take from think to eat do meals := + meals 1\ntrans done from eat to think\natom Q\nplace think init\nplace eat\nvar meals 0\nport take\nport done\ntrans take from think to eat do meals := + meals 1\ntrans done from eat to think\nconnector take_p L.get R.get P.take\nconnector done_p L.put R.put P.done\nconnector take_q L.get R.get Q.take\nconnector done_q L.put R.put Q.done\n";

@@ -1,14 +1,13 @@
 // Threads that make many events of one plant.
 ghost use Rattle.std.specs.Prelude.{◌≡◌, ◌≤◌};
-ghost use Rattle.engine_host.specs.Views.{front_in};
-ghost use Rattle.plant_core.specs.Plants.{definition_of, view_of};
+ghost use Rattle.engine_host.specs.Names.{IsNamedFor, hosted};
 
 use super::common::{SAMPLE, TABLE, first_plant};
 use super::replay::is_one_run;
 use super::told::{Told, Worker, ask_all};
 use bare_disk::BareDisk;
 use disk_model::Disk;
-use engine_host::{MOST_SEATS, Named, Naming, Seat, name, open};
+use engine_host::{Closed, MOST_SEATS, Named, Naming, Seat, name, open};
 use plant_core::Plant;
 use plant_text::plant_of_text;
 use std::alloc::{AllocError, Global};
@@ -54,20 +53,16 @@ fn many_seats<D: Disk + Drop + Send, N: Naming + Send + Sync, R: Threads + Wait 
     named: Named,
     plant: Plant<'_, D>,
 ) -> Result<(), Fail>
-    requires names { named ≡ record { table = N.table; opening = N.opening; ledger = N.name; parts = N.parts; seats = N.seats } }
-    requires opens { N.opening ≡ front_in N.view }
-    requires plant { definition_of plant ≡ N.plant }
-    requires view { view_of plant ≡ N.view }
+    requires named { IsNamedFor named (record { table = N.table; opening = N.opening; ledger = N.name; parts = N.parts; seats = N.seats }) (record { plant = N.plant; view = N.view; digest = N.digest; keeps = N.keeps }) (hosted plant) }
     requires some { 1 ≤ N.seats }
     requires parts { N.parts ≡ N.seats }
 {
-    let Ok((host, seats)) = open::<D, N>(alloc, named, plant) else {
-        return Err(Fail::new("no memory"));
-    };
+    let room = named.room(alloc)?;
+    let (host, seats) = open::<D, N>(named, plant, room);
     let workers = workers_of(alloc, seats)?;
     let workers = map_vec(rt, workers, &|worker: Worker<N>| ask_all(rt, &host, worker))?;
     let (seats, told) = parted(alloc, workers)?;
-    let Ok((plant, fired)) = host.close(seats) else {
+    let Ok(Closed { fired, plant }) = host.close(seats) else {
         return Err(Fail::new("all seats are there"));
     };
     assert_eq!(rt;

@@ -1,12 +1,11 @@
 // What a host answers, worked out by hand.
 ghost use Rattle.std.specs.Prelude.{◌≡◌};
-ghost use Rattle.plant_core.specs.Plants.{definition_of, view_of};
-ghost use Rattle.engine_host.specs.Views.{front_in};
+ghost use Rattle.engine_host.specs.Names.{IsNamedFor, hosted};
 
 use super::common::{Open, SAMPLE, first_plant, value_of};
 use bare_disk::BareDisk;
 use disk_model::Disk;
-use engine_host::{CloseRefused, Entry, Host, Named, Naming, Seat, name, open};
+use engine_host::{CloseRefused, Closed, Entry, Host, Named, Naming, Seat, name, open};
 use front_word::Watch;
 use plant_core::{Front, Plant};
 use plant_text::plant_of_text;
@@ -56,14 +55,10 @@ fn run_row<D: Disk + Drop, N: Naming, R: Wait + Abort>(
     named: Named,
     plant: Plant<'_, D>,
 ) -> Result<(), Fail>
-    requires names { named ≡ record { table = N.table; opening = N.opening; ledger = N.name; parts = N.parts; seats = N.seats } }
-    requires opens { N.opening ≡ front_in N.view }
-    requires plant { definition_of plant ≡ N.plant }
-    requires view { view_of plant ≡ N.view }
+    requires named { IsNamedFor named (record { table = N.table; opening = N.opening; ledger = N.name; parts = N.parts; seats = N.seats }) (record { plant = N.plant; view = N.view; digest = N.digest; keeps = N.keeps }) (hosted plant) }
 {
-    let Ok((host, mut seats)) = open::<D, N>(alloc, named, plant) else {
-        return Err(Fail::new("no memory"));
-    };
+    let room = named.room(alloc)?;
+    let (host, mut seats) = open::<D, N>(named, plant, room);
     let Some(mut seat) = seats.pop() else {
         return Err(Fail::new("a seat"));
     };
@@ -87,16 +82,12 @@ fn three_seats<D: Disk + Drop, N: Naming, R: Wait + Abort>(
     named: Named,
     plant: Plant<'_, D>,
 ) -> Result<(), Fail>
-    requires names { named ≡ record { table = N.table; opening = N.opening; ledger = N.name; parts = N.parts; seats = N.seats } }
-    requires opens { N.opening ≡ front_in N.view }
-    requires plant { definition_of plant ≡ N.plant }
-    requires view { view_of plant ≡ N.view }
+    requires named { IsNamedFor named (record { table = N.table; opening = N.opening; ledger = N.name; parts = N.parts; seats = N.seats }) (record { plant = N.plant; view = N.view; digest = N.digest; keeps = N.keeps }) (hosted plant) }
     requires seats { N.seats ≡ 3 }
     requires parts { N.parts ≡ 3 }
 {
-    let Ok((host, mut seats)) = open::<D, N>(alloc, named, plant) else {
-        return Err(Fail::new("no memory"));
-    };
+    let room = named.room(alloc)?;
+    let (host, mut seats) = open::<D, N>(named, plant, room);
     let (Some(mut first), Some(mut third)) = (seats.pop(), seats.pop()) else {
         return Err(Fail::new("three seats"));
     };
@@ -115,7 +106,7 @@ fn three_seats<D: Disk + Drop, N: Naming, R: Wait + Abort>(
     };
     assert_eq!(rt; (missing, seats.len()), (1, 2));
     seats.push(third)?;
-    let Ok((plant, fired)) = host.close(seats) else {
+    let Ok(Closed { fired, plant }) = host.close(seats) else {
         return Err(Fail::new("all seats are there"));
     };
     assert_eq!(rt; (fired, plant.front().fired), (7, 7));
@@ -158,61 +149,90 @@ fn save_and_trim<D: Disk, N: Naming, R: Wait + Abort>(
     assert!(rt; is_front(host.front(&mut seat.watch), 4, 4, 2));
 }
 
-/// A host that opens behind what was fired before tells what was fired since. A counts each of them, and the last send gave B the three before it.
+/// One seat works tick and then send, whose updates run outside the lock.
+fn work_twice<D: Disk, N: Naming, R: Wait + Abort>(
+    rt: &R,
+    host: &Host<'_, D, N>,
+    seat: &mut Seat<N>,
+) {
+    for (number, pick) in [(1, 0), (2, 1)] {
+        let answer = host.work(rt, seat, pick, &Open);
+        assert!(rt; matches!(answer, Ok(fired) if fired.number == number));
+    }
+}
+
+/// What one seat does.
+#[derive(Clone, Copy)]
+enum Course {
+    SaveAndTrim,
+    WorkTwice,
+    /// It ticks three times.
+    Tick,
+}
+
+/// One seat does this, and the host is closed: so many were fired since it opened and in all, and the variables have these values.
 fn one_seat<D: Disk + Drop, N: Naming, R: Wait + Abort>(
     rt: &R,
     alloc: Global,
     named: Named,
     plant: Plant<'_, D>,
+    course: Course,
+    wanted: (u64, u64),
+    values: (i64, i64),
 ) -> Result<(), Fail>
-    requires names { named ≡ record { table = N.table; opening = N.opening; ledger = N.name; parts = N.parts; seats = N.seats } }
-    requires opens { N.opening ≡ front_in N.view }
-    requires plant { definition_of plant ≡ N.plant }
-    requires view { view_of plant ≡ N.view }
+    requires named { IsNamedFor named (record { table = N.table; opening = N.opening; ledger = N.name; parts = N.parts; seats = N.seats }) (record { plant = N.plant; view = N.view; digest = N.digest; keeps = N.keeps }) (hosted plant) }
     requires seats { N.seats ≡ 1 }
     requires parts { N.parts ≡ 1 }
 {
-    let before = plant.front().fired;
-    let Ok((host, mut seats)) = open::<D, N>(alloc, named, plant) else {
-        return Err(Fail::new("no memory"));
-    };
+    let room = named.room(alloc)?;
+    let (host, mut seats) = open::<D, N>(named, plant, room);
     let Some(mut seat) = seats.pop() else {
         return Err(Fail::new("a seat"));
     };
-    if before == 0 {
-        save_and_trim(rt, &host, &mut seat);
-    } else {
-        assert!(rt; fires(rt, &host, &mut seat, &[0, 0, 0]));
+    match course {
+        Course::SaveAndTrim => save_and_trim(rt, &host, &mut seat),
+        Course::WorkTwice => work_twice(rt, &host, &mut seat),
+        Course::Tick => assert!(rt; fires(rt, &host, &mut seat, &[0, 0, 0])),
     }
     seats.push(seat)?;
-    let Ok((plant, fired)) = host.close(seats) else {
+    let Ok(Closed { fired, plant }) = host.close(seats) else {
         return Err(Fail::new("the seat is there"));
     };
-    let (wanted, counted) = if before == 0 {
-        ((4, 4), 4)
-    } else {
-        ((3, 7), 7)
-    };
-    assert!(rt; (fired, plant.front().fired) == wanted);
-    assert!(rt; (value_of(&plant, 0), value_of(&plant, 1)) == (counted, 3));
+    assert_eq!(rt; (fired, plant.front().fired), wanted);
+    assert_eq!(rt; (value_of(&plant, 0), value_of(&plant, 1)), values);
     Ok(())
+}
+
+/// One seat does this to a plant behind so many ticks and sends in turn.
+fn one_seat_behind<R: Wait + Abort>(
+    rt: &R,
+    alloc: Global,
+    before: u64,
+    course: Course,
+    wanted: (u64, u64),
+    values: (i64, i64),
+) -> Result<(), Fail> {
+    let system = plant_of_text(alloc, SAMPLE)?;
+    let mut plant = first_plant(alloc, &system, 8)?;
+    for pick in 0..before {
+        assert!(rt; plant.fire(pick).is_ok());
+    }
+    let named = name(alloc, &plant, 1)?;
+    one_seat::<BareDisk, Brand, R>(rt, alloc, named, plant, course, wanted, values)
 }
 
 #[test]
 fn one_seat_saves_and_trims(rt: HostRuntime) -> Result<(), Fail> {
-    let system = plant_of_text(rt.alloc(), SAMPLE)?;
-    let plant = first_plant(rt.alloc(), &system, 8)?;
-    let named = name(rt.alloc(), &plant, 1)?;
-    one_seat::<BareDisk, Brand, _>(&rt, rt.alloc(), named, plant)
+    one_seat_behind(&rt, rt.alloc(), 0, Course::SaveAndTrim, (4, 4), (4, 3))
 }
 
 #[test]
+fn one_seat_works_outside_the_lock(rt: HostRuntime) -> Result<(), Fail> {
+    one_seat_behind(&rt, rt.alloc(), 0, Course::WorkTwice, (2, 2), (2, 1))
+}
+
+/// A counts each of the four before and the three since, and the last send gave B the three before it.
+#[test]
 fn a_host_counts_from_where_it_opened(rt: HostRuntime) -> Result<(), Fail> {
-    let system = plant_of_text(rt.alloc(), SAMPLE)?;
-    let mut plant = first_plant(rt.alloc(), &system, 8)?;
-    for pick in 0..4 {
-        assert!(rt; plant.fire(pick).is_ok());
-    }
-    let named = name(rt.alloc(), &plant, 1)?;
-    one_seat::<BareDisk, Brand, _>(&rt, rt.alloc(), named, plant)
+    one_seat_behind(&rt, rt.alloc(), 4, Course::Tick, (3, 7), (7, 3))
 }

@@ -1,9 +1,9 @@
-use Rattle.plant_core.specs.Plants.{definition_of, view_of}
+use Rattle.plant_core.specs.Plants.{definition_of, device_of, text_digest, view_of}
 use Rattle.host_tests.proofs.tests.broken.a_failure_is_told_to_one_seat_and_breaks_the_plant_for_all.Given as goal
 
 -- the host that was just named
 abbrev pub ghosts-two_seats-N-Naming : goal.ghosts-two_seats-N-Naming
-ghosts-two_seats-N-Naming g a = record { plant = definition_of a.plant; view = view_of a.plant; seats = a.named.seats }
+ghosts-two_seats-N-Naming g a = record { plant = definition_of a.plant; view = view_of a.plant; digest = text_digest a.plant; keeps = (device_of a.plant).keeps; seats = a.named.seats }
 
 abbrev pub ghosts-two_seats-N-WordNaming : goal.ghosts-two_seats-N-WordNaming
 ghosts-two_seats-N-WordNaming g a = record { table = a.named.table; opening = a.named.opening }

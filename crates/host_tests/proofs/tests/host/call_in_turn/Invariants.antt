@@ -1,9 +1,9 @@
-use Rattle.plant_core.specs.Plants.{definition_of, view_of}
-use Rattle.host_tests.proofs.tests.host.call_one_waits_for_call_two.Given as goal
+use Rattle.plant_core.specs.Plants.{definition_of, device_of, text_digest, view_of}
+use Rattle.host_tests.proofs.tests.host.call_in_turn.Given as goal
 
 -- the host that was just named
 abbrev pub ghosts-call_one_waits-N-Naming : goal.ghosts-call_one_waits-N-Naming
-ghosts-call_one_waits-N-Naming g a = record { plant = definition_of a.plant; view = view_of a.plant; seats = a.named.seats }
+ghosts-call_one_waits-N-Naming g a = record { plant = definition_of a.plant; view = view_of a.plant; digest = text_digest a.plant; keeps = (device_of a.plant).keeps; seats = a.named.seats }
 
 abbrev pub ghosts-call_one_waits-N-WordNaming : goal.ghosts-call_one_waits-N-WordNaming
 ghosts-call_one_waits-N-WordNaming g a = record { table = a.named.table; opening = a.named.opening }
