@@ -1,0 +1,63 @@
+//! A boot of the image in a file, and a read of the file.
+use crate::command::Crew;
+use file_disk::FileDisk;
+use parallel_replay::Quiet;
+use plant_core::Front;
+use recovery::boot_par;
+use std::fs::File;
+use std::rt::{Clock, Files};
+use std::thread::Threads;
+use std::time::{Duration, Instant};
+use std::{fs, io};
+use step_core::System;
+
+/// How long a boot took, and how far the plant was behind it.
+#[derive(Clone, Copy)]
+pub(crate) struct Boot {
+    pub(crate) time: Duration,
+    front: Front,
+}
+
+impl Boot {
+    /// How many records the boot replayed.
+    pub(crate) fn records(&self) -> u64 {
+        self.front
+            .acked
+            .saturating_add(1)
+            .saturating_sub(self.front.base)
+    }
+}
+
+/// Boots the image at the path by so many workers, if nothing failed. A settled image is as it was.
+pub(crate) fn time_boot<R: Clock + Files<File = File> + Threads + Sync + AllocGlobal>(
+    rt: &R,
+    system: &System,
+    image: &str,
+    crew: Crew,
+) -> Option<Boot> {
+    let Ok(disk) = FileDisk::open(rt, image) else {
+        return None;
+    };
+    let start = Instant::now(rt);
+    let Ok(plant) = boot_par(rt, rt.alloc(), disk, system, crew.threads, &Quiet) else {
+        return None;
+    };
+    let time = time_since(rt, start);
+    let front = plant.front();
+    match time {
+        Some(time) => Some(Boot { time, front }),
+        None => None,
+    }
+}
+
+/// How long ago it was, if the clock told it then and tells it now.
+fn time_since<R: Clock>(rt: &R, start: io::Result<Instant>) -> Option<Duration> {
+    start.ok()?.elapsed(rt).ok()
+}
+
+/// Reads the file at the path into memory, from start to end, and says how long that took, if nothing failed.
+pub(crate) fn time_read<R: Clock + Files + AllocGlobal>(rt: &R, path: &str) -> Option<Duration> {
+    let start = Instant::now(rt);
+    let _bytes = fs::read(rt, path).ok()?;
+    time_since(rt, start)
+}

@@ -1,0 +1,157 @@
+//! What is measured and printed for each task.
+use crate::booting::{time_boot, time_read};
+use crate::command::Crew;
+use crate::course::Course;
+use crate::opening::{Fired, Read, atoms_of, fire_and_read, fire_both, fire_shared, first_plant};
+use crate::report::{Ratio, Seconds};
+use crate::working::{Plan, Way};
+use bare_disk::BareDisk;
+use engine_host::name;
+use std::fs::File;
+use std::marker::Brand;
+use std::rt::{Clock, Files};
+use std::sync::Wait;
+use std::thread::Threads;
+use step_core::System;
+
+/// Prints how fast a plant fires alone and under a host, if nothing failed.
+pub(crate) fn print_firing<R: Clock + Print + Wait + AllocGlobal>(
+    rt: &R,
+    system: &System,
+    steps: u64,
+) -> Option<()> {
+    let fired = measure_firing(rt, system, steps)?;
+    println!(rt;
+        "steps {} alone_per_s {} hosted_per_s {} hosted_to_alone {}",
+        fired.hosted.fired,
+        fired.alone.rate(),
+        fired.hosted.rate(),
+        Ratio {
+            of: fired.hosted.rate(),
+            to: fired.alone.rate()
+        }
+    )
+    .ok()
+}
+
+/// Prints how fast a seat fires, alone and while others read, and how fast they do, if nothing failed.
+pub(crate) fn print_reading<R: Clock + Print + Threads + Wait + Sync + AllocGlobal>(
+    rt: &R,
+    system: &System,
+    steps: u64,
+) -> Option<()> {
+    let read = measure_reading(rt, system, steps)?;
+    println!(rt;
+        "steps {} alone_per_s {} watched_per_s {} watched_to_alone {} reads_per_s {}",
+        read.watched.course.fired,
+        read.alone.rate(),
+        read.watched.course.rate(),
+        Ratio {
+            of: read.watched.course.rate(),
+            to: read.alone.rate()
+        },
+        read.watched.reads
+    )
+    .ok()
+}
+
+/// Fires a plant alone and one under a host, if nothing failed.
+fn measure_firing<R: Clock + Wait + AllocGlobal>(
+    rt: &R,
+    system: &System,
+    steps: u64,
+) -> Option<Fired> {
+    let Some(alone) = first_plant(rt.alloc(), system) else {
+        return None;
+    };
+    let Some(plant) = first_plant(rt.alloc(), system) else {
+        return None;
+    };
+    let Ok(named) = name(rt.alloc(), &plant, 1) else {
+        return None;
+    };
+    fire_both::<BareDisk, Brand, R>(rt, rt.alloc(), alone, named, plant, steps)
+}
+
+/// Fires a plant under a host, alone and while others read, if nothing failed.
+fn measure_reading<R: Clock + Threads + Wait + Sync + AllocGlobal>(
+    rt: &R,
+    system: &System,
+    steps: u64,
+) -> Option<Read> {
+    let Some(plant) = first_plant(rt.alloc(), system) else {
+        return None;
+    };
+    let Ok(named) = name(rt.alloc(), &plant, 1) else {
+        return None;
+    };
+    fire_and_read::<BareDisk, Brand, R>(rt, rt.alloc(), named, plant, steps)
+}
+
+/// Prints how fast threads with a seat each fire together, with the updates outside of the lock and then under it, if nothing failed.
+pub(crate) fn print_working<R: Clock + Print + Threads + Wait + Sync + AllocGlobal>(
+    rt: &R,
+    system: &System,
+    steps: u64,
+    crew: Crew,
+) -> Option<()> {
+    let work = measure_working(rt, system, steps, crew, Way::Work)?;
+    let fire = measure_working(rt, system, steps, crew, Way::Fire)?;
+    println!(rt;
+        "steps {} threads {} work_per_s {} fire_per_s {} work_to_fire {}",
+        work.fired,
+        crew.threads,
+        work.rate(),
+        fire.rate(),
+        Ratio {
+            of: work.rate(),
+            to: fire.rate()
+        }
+    )
+    .ok()
+}
+
+/// Fires about so many choices of a plant in this way, by as many threads as the crew has, if nothing failed.
+fn measure_working<R: Clock + Threads + Wait + Sync + AllocGlobal>(
+    rt: &R,
+    system: &System,
+    steps: u64,
+    crew: Crew,
+    way: Way,
+) -> Option<Course> {
+    let plan = Plan {
+        way,
+        atoms: atoms_of(system),
+        choices: steps / crew.threads as u64,
+        attempts: steps,
+    };
+    let Some(plant) = first_plant(rt.alloc(), system) else {
+        return None;
+    };
+    let Ok(named) = name(rt.alloc(), &plant, crew.threads) else {
+        return None;
+    };
+    fire_shared::<BareDisk, Brand, R>(rt, rt.alloc(), named, plant, plan)
+}
+
+/// Prints how long a boot of the image takes beside a read of its file, and how many records it replays, if nothing failed.
+pub(crate) fn print_booting<R: Clock + Files<File = File> + Print + Threads + Sync + AllocGlobal>(
+    rt: &R,
+    system: &System,
+    image: &str,
+    crew: Crew,
+) -> Option<()> {
+    let boot = time_boot(rt, system, image, crew)?;
+    let read = time_read(rt, image)?;
+    println!(rt;
+        "boot_s {} read_s {} boot_to_read {} records {}",
+        Seconds(boot.time),
+        Seconds(read),
+        Ratio {
+            of: boot.time.as_nanos(),
+            to: read.as_nanos()
+        },
+        boot.records()
+    )
+    .ok()
+}
