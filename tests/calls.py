@@ -2,7 +2,7 @@
 
 The program is traced as a debugger traces it (`ptrace`), so that it is the very program that is proved, and no tool and no right is needed. Where
 a system does not let its programs be traced, `why_not` says so. It is written for Linux on x86-64. The calls of the loader, before the
-program begins, are passed over.
+program begins, are passed over, and so are those of other threads than the first.
 
     Fails(errno)          the call is not made, and answers the error
     FailsHalfway(errno)   of a read or write the first half is done, and then the error is answered
@@ -36,6 +36,7 @@ NAMES = {
     **{0: "read", 1: "write", 3: "close", 8: "lseek", 16: "ioctl", 17: "pread64", 18: "pwrite64", 32: "dup", 72: "fcntl", 77: "ftruncate"},
     **{2: "openat", 257: "openat", 87: "unlink", 263: "unlink", 5: "fstat", 262: "fstat", 332: "fstat"},
     **{73: "flock", 74: "fsync", 75: "fdatasync", 9: "mmap", 12: "brk", 25: "mremap"},
+    **{56: "clone", 435: "clone"},
 }
 # In which register the path is.
 OF_PATHS = {2: "rdi", 87: "rdi", 257: "rsi", 263: "rsi"}
@@ -81,7 +82,7 @@ class LetGo:
 
 @dataclass
 class Call:
-    """A call: on which file, by the last part of its path, or `<input>`, `<output>`, `<error>` or `<memory>`; and what it answered."""
+    """A call: on which file, by the last part of its path, or `<input>`, `<output>`, `<error>`, `<memory>` or `<thread>`; and what it answered."""
 
     name: str
     file: str
@@ -151,6 +152,8 @@ class Traced:
             return Call(name, self.text(registers[OF_PATHS[registers["orig_rax"]]]))
         if name in OF_MEMORY:
             return Call(name, "<memory>", place=first)
+        if name == "clone":
+            return Call(name, "<thread>")
         call = Call(name, self.files.get(first % (1 << 32), "<none>"), count=third)
         if name in AT_A_PLACE:
             call.place = fourth

@@ -100,10 +100,10 @@ class Failures(OnImage):
     def watched(self, words, decide=lambda call: None, given=b""):
         return calls.watched(self.command(words), decide, given, cwd=self.folder)
 
-    def run_with(self, decide=lambda call: None):
+    def run_with(self, decide=lambda call: None, words="run plant image script"):
         """The run from a freshly formatted image."""
         self.image.write_bytes(FORMATTED)
-        return self.watched("run plant image script", decide)
+        return self.watched(words, decide)
 
     def count(self, ran, names, files=("image",)):
         return len([call for call in ran.calls if call.file in files and call.name in names])
@@ -132,6 +132,20 @@ class Failures(OnImage):
         for place, decide in zip(places, sweep(len(places), by_turns(Fails), {"fdatasync"})):
             self.assertEqual(self.run_with(decide).answer, answer_at(place))
             self.expect_failed(place)
+
+    def check_each_thread_of_a_worker(self):
+        """A thread that can't be made ends the run by workers before any event; while the image boots the program does without it."""
+        (self.folder / "script").write_bytes(b"fire 0\nfire 0\nfire 0\n")
+        words, made, of_threads = "run plant image script --workers 3", {"clone"}, {"<thread>"}
+        whole = self.run_with(words=words)
+        self.assertEqual(whole.answer, (0, "state A [s] n=3\nstate B [s] m=0\nfront 3 0 1\nby 3\n", ""))
+        count = self.count(whole, made, of_threads)
+        self.assertGreaterEqual(count, 3)
+        for number, decide in enumerate(sweep(count, lambda number: Fails(errno.EAGAIN), made, of_threads)):
+            of_a_worker = number >= count - 3
+            self.assertEqual(self.run_with(decide, words).answer, (3, "", "memory\n") if of_a_worker else whole.answer, number)
+            if of_a_worker:
+                self.assertEqual(self.image.read_bytes(), FORMATTED, number)
 
     def check_each_read_and_write_of_a_run(self):
         """They fail halfway. Each belongs to the boot or to an event that asks the device, one after the other."""

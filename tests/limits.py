@@ -34,11 +34,12 @@ LEAST_BLOCKS, LAST_BLOCKS = 100, 40
 WITH_THREADS, BLOCKS_WITH_THREADS = ("run", "recover"), 20
 # Of what asks for more blocks than so many, which makes the same calls over and over, one of so many is refused each.
 MANY_BLOCKS, BLOCKS_APART = 300, 37
-# Tests of the library that ask memory of each of these calls in turn. They print the name of one that is refused it, and make it again.
-TESTS = ROOT / "crates" / "durable_tests" / "out" / "durable_tests_tests"
-REFUSED = "tests::memory::a_refused_growth_changes_nothing"
+# Tests of the library, each with its crate, that ask memory of these calls in turn. They print the name of one that is refused it, and make it again.
+REFUSED = "durable_tests", "tests::memory::a_refused_growth_changes_nothing"
 ASKING = ["plant", "device", "format", "boot", "hands", "drive"]
-EXPLORING = "tests::memory::a_refused_growth_ends_an_exploration"
+EXPLORING = "durable_tests", "tests::memory::a_refused_growth_ends_an_exploration"
+# This one prints a line first, once its plant is there.
+OPENING = "host_tests", "tests::memory::a_refused_growth_opens_no_host"
 PASSED = "\ntest result: ok\n"
 FIRST = standing(0, 0, number=0)
 EXPLORED = (0, "stops 20 boots 80 bad 0\n", "")
@@ -86,6 +87,18 @@ class RefusesOnce:
         return Fails(errno.ENOMEM) if self.is_refusing else None
 
 
+class RefusesOnceAfterALine(RefusesOnce):
+    """The same, of the growths after the first line that the program prints."""
+
+    has_begun = False
+
+    def __call__(self, call):
+        if self.has_begun:
+            return super().__call__(call)
+        self.has_begun = call.file == "<output>"
+        return None
+
+
 def no_more_memory(process):
     """The process keeps the memory for data that it has, and gets no more. Its stack may grow."""
     used = re.search(r"^VmData:\s+(\d+) kB$", Path(f"/proc/{process}/status").read_text(), re.M)
@@ -115,6 +128,22 @@ class Limits(OnImage):
             fired, acked, _ = told_before(failing.get(cells))
             found = Image(self.plant, self.image.read_bytes())
             self.assertTrue(acked <= found.last <= fired, cells)
+            self.assertEqual(self.ran("recover plant image"), (0, found.printed(), ""))
+
+    def check_bytes_of_a_worker(self):
+        """Of the cells of the image those past the limit can't be written. The last lines are printed all the same, and the status alone tells that the device failed."""
+        (self.folder / "script").write_bytes(b"fire 0\nflush\nfire 1\nflush\nfire 0\n")
+        answers = {
+            8: (3, "state A [s] n=1\nstate B [s] m=0\nfront 1 0 1\nby 1\n", ""),
+            9: (3, "state A [s] n=2\nstate B [s] m=1\nfront 2 1 1\nby 2\n", ""),
+            10: (0, "state A [s] n=3\nstate B [s] m=1\nfront 3 2 1\nby 3\n", ""),
+        }
+        for acked, (cells, wanted) in enumerate(answers.items()):
+            self.image.write_bytes(FORMATTED)
+            ran = self.ran("run plant image script --workers 1", preexec_fn=at_most(resource.RLIMIT_FSIZE, cells * CELL))
+            self.assertEqual(ran, wanted, cells)
+            found = Image(self.plant, self.image.read_bytes())
+            self.assertTrue(acked <= found.last <= acked + 1, cells)
             self.assertEqual(self.ran("recover plant image"), (0, found.printed(), ""))
 
     def check_bytes_of_a_run_that_is_killed(self):
@@ -204,19 +233,24 @@ class Limits(OnImage):
             self.expect_untouched(data)
         self.assertEqual(found, lines)
 
-    def calls_refused(self, test, numbers):
-        """The calls of a test that tell it if each of these growths of memory is refused them, until a run meets no refusal."""
-        if reason := calls.why_not() or not TESTS.exists() and "the tests of durable_tests are not built":
+    def calls_refused(self, test, numbers, refuses=RefusesOnce, first=(), least=LEAST_BLOCKS):
+        """The calls of a test that tell it if each of these growths of memory is refused them, until a run meets no refusal. The lines that the test
+        prints first name none."""
+        crate, name = test
+        tests = ROOT / "crates" / crate / "out" / f"{crate}_tests"
+        if reason := calls.why_not() or not tests.exists() and f"the tests of {crate} are not built":
             self.skipTest(reason)
         found = []
         for number in numbers:
-            ran = calls.watched([TESTS, test], RefusesOnce(number), cwd=self.folder, env={**os.environ, **BLOCK_BY_BLOCK})
+            ran = calls.watched([tests, name], refuses(number), cwd=self.folder, env={**os.environ, **BLOCK_BY_BLOCK})
             self.assertEqual((ran.status, ran.told), (0, ""), number)
-            names = ran.printed.removesuffix(PASSED).split()
+            printed = ran.printed.removesuffix(PASSED).split()
+            self.assertEqual(tuple(printed[: len(first)]), first, number)
+            names = printed[len(first) :]
             if not names:
                 break
             found += names if names != found[-1:] else []
-        if number < LEAST_BLOCKS:
+        if number < least:
             self.skipTest("the C library does not ask the system for each block of memory by itself")
         return found
 
@@ -228,6 +262,11 @@ class Limits(OnImage):
         """The same of `explore`, which makes a run over and over: of its growths all of the first trials are refused, and then one of so many."""
         numbers = itertools.chain(range(MANY_BLOCKS), itertools.count(MANY_BLOCKS, BLOCKS_APART))
         self.assertEqual(self.calls_refused(EXPLORING, numbers), ["plant", "explore"])
+
+    def check_memory_of_a_host(self):
+        """The same of a host that is named and opened, once its plant is there."""
+        found = self.calls_refused(OPENING, itertools.count(), RefusesOnceAfterALine, ("host",), 1)
+        self.assertEqual(found, ["name", "room"])
 
     def put_image(self, data):
         self.image.unlink(missing_ok=True)

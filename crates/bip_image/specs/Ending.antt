@@ -13,6 +13,8 @@ use Rattle.image_commands.specs.declared.migrate_ending.MigrateEnding.{MigrateEn
 use Rattle.image_commands.specs.declared.migrate_ending.MigrateEnding.TheVariants as migrating
 use Rattle.image_commands.specs.declared.exploring.ExploreEnding.{ExploreEnding}
 use Rattle.image_commands.specs.declared.exploring.ExploreEnding.TheVariants as exploring
+use Rattle.worker_runs.specs.declared.ending.WorkersEnding.{WorkersEnding}
+use Rattle.worker_runs.specs.declared.ending.WorkersEnding.TheVariants as workers
 use Rattle.plant_tasks.specs.declared.ending.PlantEnding.TheVariants.{Memory}
 use Rattle.plant_tasks.specs.Ending as plant
 use Rattle.plant_tasks.specs.Paths.{plant_alone}
@@ -37,12 +39,17 @@ abbrev pub of_exploring : ExploreEnding → Ending
 of_exploring exploring.Memory = OfPlant Memory
 of_exploring exploring.Unwritten = Image image.Unwritten
 
+-- the ending where a run by workers ends early
+abbrev pub of_workers : WorkersEnding → Ending
+of_workers workers.Memory = OfPlant Memory
+of_workers (workers.Image ending) = Image ending
+
 -- what is told of an image's file that can't be opened or made
 abbrev pub unopened_text : List ℕ → FileFault → List ℕ
 unopened_text path file.InUse = codes "file " ++ path ++ codes " in use\n"
 unopened_text path fault = plant.file_line path
 
--- what is told of a command on an image that ended early: its refusal; the answers of a run tell that the device failed
+-- what is told of a command on an image that ended early: its refusal; the answers of a run tell that the device failed, and of one by workers the status alone
 abbrev pub image_text : ImageEnding → List ℕ
 image_text (image.Refused refusal) = refusal_line refusal ++ codes "\n"
 image_text image.Failed = []

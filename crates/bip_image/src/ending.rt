@@ -9,6 +9,7 @@ use plant_tasks::{PlantEnding, PlantTold, TaskPaths, shown_path};
 use script_lines::ScriptFault;
 use std::alloc::{AllocError, Global};
 use std::fmt;
+use worker_runs::WorkersEnding;
 
 /// Why the program ends without having done what it was asked for.
 #[derive(Clone, Copy)]
@@ -94,7 +95,7 @@ impl<'a> Paths<'a> {
     {
         let (script, image, made) = match &request.work {
             Work::OfPlant(_) | Work::ByHand => ("", "", ""),
-            Work::OnImage(image, ImageTask::Run(script)) => (*script, *image, ""),
+            Work::OnImage(image, ImageTask::Run(script, _)) => (*script, *image, ""),
             Work::OnImage(image, ImageTask::Migrate(made, _)) => ("", *image, *made),
             Work::OnImage(image, _) => ("", *image, ""),
             Work::Explored(exploration) => (exploration.script, "", ""),
@@ -273,6 +274,19 @@ impl From<ExploreEnding> for Ending {
         match ending {
             ExploreEnding::Memory => Ending::OfPlant(PlantEnding::Memory),
             ExploreEnding::Unwritten => Ending::Image(ImageEnding::Unwritten),
+        }
+    }
+}
+
+impl From<WorkersEnding> for Ending {
+    ghost use Rattle.bip_image.specs.Ending.{of_workers};
+
+    ghost from_gives = { λ told ending. ending ≡ of_workers told };
+
+    fn from(ending: WorkersEnding) -> Self {
+        match ending {
+            WorkersEnding::Memory => Ending::OfPlant(PlantEnding::Memory),
+            WorkersEnding::Image(ending) => Ending::Image(ending),
         }
     }
 }

@@ -5,8 +5,9 @@
 //! and which status the program then ends with are definitions in `specs/`, to which contracts tie the functions that do it:
 //!
 //! - `process`: the words, the files, the standard input, output and error. What the words ask for is read by the crate
-//!   `command_line`, the plant by the crate `plant_tasks`, and what is done on an image by the crate `image_commands`.
-//! - `script`: the script of a run. `progress`: how far an exploration is, on a terminal.
+//!   `command_line`, the plant by the crate `plant_tasks`, and what is done on an image by the crates `image_commands` and `worker_runs`.
+//! - `script`: the script of a run. `progress`: how far an exploration is, on a terminal. `workers_line`: how far a run by workers is. `terminal`:
+//!   what both lines share.
 //! - `ending`: why the program ends early, what it tells then, and its exit status.
 //!
 //! A task of a plant alone is done by the program `bip_run`; the launcher at the top of the repository runs whichever the words ask for.
@@ -16,6 +17,8 @@ mod ending;
 mod process;
 mod progress;
 mod script;
+mod terminal;
+mod workers_line;
 
 use std::io::IsTerminal;
 use std::process::ExitCode;

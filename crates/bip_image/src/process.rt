@@ -5,7 +5,10 @@ ghost use Rattle.bip_image.specs.Ending.{status_of};
 use crate::ending::{Ending, More, Paths, ShownPaths, Told, exit_status};
 use crate::progress::ProgressLine;
 use crate::script::read_events;
-use command_line::{Exploration, ImageTask, Request, Work, is_standard_input, read_request};
+use crate::workers_line::WorkersLine;
+use command_line::{
+    Exploration, ImageTask, Request, Work, WorkerCount, is_standard_input, read_request,
+};
 use file_disk::{FileDisk, FileFault};
 use image_commands::{
     ImageEnding, MigrateEnding, Progress, explore_plant, format_image, image_bytes, migrate_image,
@@ -20,14 +23,25 @@ use std::alloc::Global;
 use std::fs::File;
 use std::io::{BufWriter, Read, Write};
 use std::rt::{Clock, Env, Files};
+use std::sync::Wait;
 use std::thread::Threads;
 use std::{fs, io};
 use step_core::System;
+use worker_runs::run_by_workers;
 
 /// Does what the words of the command line ask for, and gives the exit status. Where a terminal shows the standard error, it is told there how far
 /// a long task is, and more of a fault; of a fault also where the words ask for it.
 pub(crate) fn run<
-    R: Env + Files<File = File> + Input + Print + Eprint + Clock + Threads + AllocGlobal + Sync,
+    R: Env
+        + Files<File = File>
+        + Input
+        + Print
+        + Eprint
+        + Clock
+        + AllocGlobal
+        + Threads
+        + Wait
+        + Sync,
 >(rt: &R, is_terminal: bool) -> u8 {
     match words_of_process(rt) {
         Ok(words) => answer(rt, words.as_slice(), is_terminal),
@@ -36,11 +50,9 @@ pub(crate) fn run<
 }
 
 /// Answers the words of the command line.
-fn answer<R: Files<File = File> + Input + Print + Eprint + Clock + Threads + AllocGlobal + Sync>(
-    rt: &R,
-    words: &[String],
-    is_terminal: bool,
-) -> u8 {
+fn answer<
+    R: Files<File = File> + Input + Print + Eprint + Clock + AllocGlobal + Threads + Wait + Sync,
+>(rt: &R, words: &[String], is_terminal: bool) -> u8 {
     match read_request(rt, words) {
         Ok(request) => serve(rt, &request, is_terminal),
         Err(answered) => end(rt, Paths::none(), ended(answered).map_err(Ending::OfPlant)),
@@ -48,11 +60,9 @@ fn answer<R: Files<File = File> + Input + Print + Eprint + Clock + Threads + All
 }
 
 /// Does what was asked for, tells why not where it ends early, and gives the exit status.
-fn serve<R: Files<File = File> + Input + Print + Eprint + Clock + Threads + AllocGlobal + Sync>(
-    rt: &R,
-    request: &Request<'_>,
-    is_terminal: bool,
-) -> u8 {
+fn serve<
+    R: Files<File = File> + Input + Print + Eprint + Clock + AllocGlobal + Threads + Wait + Sync,
+>(rt: &R, request: &Request<'_>, is_terminal: bool) -> u8 {
     let Ok(paths) = ShownPaths::of(rt.alloc(), Paths::of(request)) else {
         return end(rt, Paths::none(), Err(Ending::OfPlant(PlantEnding::Memory)));
     };
@@ -70,7 +80,9 @@ fn serve<R: Files<File = File> + Input + Print + Eprint + Clock + Threads + Allo
 
 /// Does what was asked for, where it is no task of the plant alone. The text of the plant is put into `text`, and a failure of the system into
 /// `failure`.
-fn work<R: Files<File = File> + Input + Print + Eprint + Clock + Threads + AllocGlobal + Sync>(
+fn work<
+    R: Files<File = File> + Input + Print + Eprint + Clock + AllocGlobal + Threads + Wait + Sync,
+>(
     rt: &R,
     request: &Request<'_>,
     is_terminal: bool,
@@ -94,7 +106,7 @@ fn work<R: Files<File = File> + Input + Print + Eprint + Clock + Threads + Alloc
 
 /// Does what was asked for with the plant that was read.
 fn work_with<
-    R: Files<File = File> + Input + Eprint + Clock + Threads + AllocGlobal + Sync,
+    R: Files<File = File> + Input + Eprint + Clock + AllocGlobal + Threads + Wait + Sync,
     W: Write,
 >(
     rt: &R,
@@ -106,7 +118,9 @@ fn work_with<
 ) -> Result<(), Ending> {
     match &request.work {
         Work::OfPlant(_) | Work::ByHand => Err(Ending::OfPlant(PlantEnding::Usage)),
-        Work::OnImage(image, task) => work_on_image(rt, *task, system, image, output, failure),
+        Work::OnImage(image, task) => {
+            work_on_image(rt, *task, is_terminal, system, image, output, failure)
+        }
         Work::Explored(exploration) => {
             let events = script_at(rt, system, exploration.script, failure)?;
             let mut progress = ProgressLine::new(rt, is_terminal);
@@ -150,9 +164,13 @@ fn explore<W: Write, P: Progress>(
 }
 
 /// Does a task of the plant on its image, the file at the path.
-fn work_on_image<R: Files<File = File> + Input + Threads + AllocGlobal + Sync, W: Write>(
+fn work_on_image<
+    R: Files<File = File> + Input + Eprint + Clock + AllocGlobal + Threads + Wait + Sync,
+    W: Write,
+>(
     rt: &R,
     task: ImageTask<'_>,
+    is_terminal: bool,
     system: &System,
     image: &str,
     output: &mut W,
@@ -166,10 +184,10 @@ fn work_on_image<R: Files<File = File> + Input + Threads + AllocGlobal + Sync, W
             )?;
             format_image(alloc, system, ring.records, disk, output)?;
         }
-        ImageTask::Run(script) => {
+        ImageTask::Run(script, count) => {
             let events = script_at(rt, system, script, failure)?;
             let disk = device_at(rt, image)?;
-            run_image(rt, alloc, system, &events, disk, output)?;
+            run_events(rt, is_terminal, system, &events, count, disk, output)?;
         }
         ImageTask::Recover => {
             let disk = device_at(rt, image)?;
@@ -183,6 +201,27 @@ fn work_on_image<R: Files<File = File> + Input + Threads + AllocGlobal + Sync, W
             )?;
             migrate_image(rt, alloc, system, ring.records, old, new, output)?;
         }
+    }
+    Ok(())
+}
+
+/// Runs the plant on its image by the events: they are asked one after another and answered, or are shared by so many workers.
+fn run_events<R: Eprint + Clock + AllocGlobal + Threads + Wait + Sync, W: Write>(
+    rt: &R,
+    is_terminal: bool,
+    system: &System,
+    events: &[Event],
+    count: WorkerCount,
+    disk: FileDisk,
+    output: &mut W,
+) -> Result<(), Ending> {
+    let alloc = rt.alloc();
+    let workers = usize::from(count.workers);
+    if workers == 0 {
+        run_image(rt, alloc, system, events, disk, output)?;
+    } else {
+        let progress = WorkersLine::new(rt, events.len(), is_terminal);
+        run_by_workers(rt, alloc, system, events, workers, disk, output, &progress)?;
     }
     Ok(())
 }

@@ -1,13 +1,8 @@
 //! How far an exploration is, on a terminal.
+use crate::terminal::{LEAST_SHOWN, OVER, milliseconds};
 use image_commands::Progress;
 use std::rt::Clock;
-use std::time::{Duration, Instant};
-
-/// How long a line stands at least, in milliseconds, before another takes its place. What is done sooner has none.
-const LEAST_SHOWN: u64 = 200;
-
-/// Puts the line that is written next over the one that is shown.
-const OVER: &str = "\r\x1b[K";
+use std::time::Instant;
 
 /// Tells on the standard error how far an exploration is: at first how many stops and starts there are, and then, in one line that is written over
 /// and over and is gone at the end, how many stops were tried and how long the others take. Where no terminal shows it, nothing is told.
@@ -80,13 +75,6 @@ impl<'a, R: Eprint + Clock> Progress for ProgressLine<'a, R> {
             self.next = 0;
         }
     }
-}
-
-/// A time in milliseconds.
-fn milliseconds(time: Duration) -> u64 {
-    time.as_secs()
-        .saturating_mul(1000)
-        .saturating_add(u64::from(time.subsec_millis()))
 }
 
 /// How many seconds the other stops take, where these took so many milliseconds, and each takes as long.

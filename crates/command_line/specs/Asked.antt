@@ -6,6 +6,7 @@ use Rattle.command_line.specs.Pickings.{IsSaid}
 use Rattle.command_line.specs.Rings.{ring_in}
 use Rattle.command_line.specs.Runs.{shape_in}
 use Rattle.command_line.specs.Said.{word_of, words_of}
+use Rattle.command_line.specs.Workers.{workers_in}
 use Rattle.command_line.specs.declared.names.CommandName.{CommandName}
 use Rattle.command_line.specs.declared.names.CommandName.TheVariants as command
 use Rattle.command_line.specs.declared.request.Picking.{Picking}
@@ -74,7 +75,8 @@ IsTask command.Explore asked said = ⊥
 -- the words of a command on an image ask for this task
 abbrev pub IsImageTask : CommandName → ImageTask → Said → Type 0
 IsImageTask command.Format (image.Format ring) said = ring_in (unwrap_or (word_of said.ring) (codes "64")) ≡ Some ring.records
-IsImageTask command.Run (image.Run script) said = word_of said.script ≡ Some script.now
+IsImageTask command.Run (image.Run script count) said =
+    (word_of said.script ≡ Some script.now) × (workers_in (unwrap_or (word_of said.workers) (codes "0")) ≡ Some count.workers)
 IsImageTask command.Recover image.Recover said = Unit {0}
 IsImageTask command.Migrate (image.Migrate made ring) said =
     (word_of said.new_image ≡ Some made.now) × (ring_in (unwrap_or (word_of said.ring) (codes "64")) ≡ Some ring.records)

@@ -48,7 +48,7 @@ abbrev pub read_beside : Work → Option (List ℕ)
 read_beside (OfPlant task) = recorded_by task
 read_beside ByHand = Some (codes "-")
 read_beside (OnImage path (image.Format ring)) = None
-read_beside (OnImage path (image.Run script)) = Some script.now
+read_beside (OnImage path (image.Run script count)) = Some script.now
 read_beside (OnImage path image.Recover) = None
 read_beside (OnImage path (image.Migrate made ring)) = None
 read_beside (Explored exploration) = Some exploration.script.now

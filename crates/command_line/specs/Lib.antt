@@ -3,6 +3,7 @@ pub mod Said
 pub mod Runs
 pub mod Picks
 pub mod Rings
+pub mod Workers
 pub mod Inputs
 pub mod Pickings
 pub mod Files

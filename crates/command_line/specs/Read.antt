@@ -23,6 +23,7 @@ pub record AreFound (said : Said) (found : Found) : Type 0 where
   pub seed : word_of said.seed ≡ first_value found (codes "seed")
   pub format : word_of said.format ≡ first_value found (codes "format")
   pub ring : word_of said.ring ≡ first_value found (codes "ring")
+  pub workers : word_of said.workers ≡ first_value found (codes "workers")
   pub after : words_of said.after ≡ are_found found (codes "after")
   pub only : words_of said.only ≡ are_found found (codes "only")
   pub strict : IsFlag found (codes "strict") said.strict

@@ -1,7 +1,8 @@
 //! The arguments and the options of the commands.
 use crate::names::{
     AFTER, EXPLAIN, FORMATS, IMAGE, LINES, LIST, NEW, OLD, ONLY, OUTLINE, PICK, PICKS, PLANT,
-    RANDOM, RING, RUN_FORMAT, SAVE_PICKS, SCRIPT, SEED, STATES, STRICT, USUAL_RING, WARN,
+    RANDOM, RING, RUN_FORMAT, SAVE_PICKS, SCRIPT, SEED, STATES, STRICT, USUAL_RING, USUAL_WORKERS,
+    WARN, WORKERS,
 };
 use clap::builder::ValueParser;
 use clap::{Arg, ArgAction};
@@ -56,6 +57,15 @@ pub(crate) fn ring_argument<'a>(alloc: Global) -> Arg<'a> {
         .value_name("N")
         .default_value(USUAL_RING)
         .help("For how many records the image has room")
+}
+
+/// The option that says how many workers share the events of a run.
+pub(crate) fn workers_argument<'a>(alloc: Global) -> Arg<'a> {
+    Arg::new(alloc, WORKERS)
+        .long(WORKERS)
+        .value_name("N")
+        .default_value(USUAL_WORKERS)
+        .help("How many threads share the events; with any no answers are printed")
 }
 
 /// The option that has each trial of a run told.

@@ -3,15 +3,17 @@ ghost use Rattle.std.specs.Prelude.{◌≡◌, IfOk, Some, codes, if◌then◌el
 ghost use Rattle.command_line.specs.Asked.{has_picks, IsAsked, IsDrawing, IsExploration, IsPicked, IsPickedBehind, IsTrace, IsWork};
 ghost use Rattle.command_line.specs.Rings.{ring_in};
 ghost use Rattle.command_line.specs.Said.{word_of};
+ghost use Rattle.command_line.specs.Workers.{workers_in};
 ghost use Rattle.command_line.specs.declared.request.Task.TheVariants.{Check, Warn};
 
 use crate::apart::{ApartFault, stand_apart};
-use crate::names::{CommandName, LINES, USUAL_RING};
+use crate::names::{CommandName, LINES, USUAL_RING, USUAL_WORKERS};
 use crate::picking::{PickingFault, picking_named};
 use crate::request::{Drawing, Exploration, ImageTask, Picking, Request, Task, Trace, Work};
 use crate::ring::{RingLength, ring_named};
 use crate::runs::shape_named;
 use crate::said::Said;
+use crate::workers::{WorkerCount, workers_named};
 use std::alloc::{AllocError, AllocFailed, Global};
 
 /// Why the words of a command ask for nothing that the program does.
@@ -27,6 +29,8 @@ pub(crate) enum AskingFault<'a> {
     OutlineOfPart,
     /// The word is no length of a ring.
     NoRing(&'a str),
+    /// The word is no number of workers.
+    NoWorkers(&'a str),
     /// The files of the request do not stand apart.
     Apart(ApartFault),
     /// Memory ran out.
@@ -119,7 +123,8 @@ fn work_asked<'a>(alloc: Global, said: &Said<'_, 'a>) -> Result<Work<'a>, Asking
         }
         CommandName::Run => {
             let script = path_in(said.script)?;
-            Ok(Work::OnImage(path_in(said.image)?, ImageTask::Run(script)))
+            let workers = workers_asked(said.workers)?;
+            Ok(Work::OnImage(path_in(said.image)?, ImageTask::Run(script, workers)))
         }
         CommandName::Recover => Ok(Work::OnImage(path_in(said.image)?, ImageTask::Recover)),
         CommandName::Migrate => {
@@ -238,5 +243,16 @@ fn ring_asked<'a>(word: Option<&'a str>) -> Result<RingLength, AskingFault<'a>>
     match ring_named(word) {
         Some(ring) => Ok(ring),
         None => Err(AskingFault::NoRing(word)),
+    }
+}
+
+/// How many workers share the events of a run.
+fn workers_asked<'a>(word: Option<&'a str>) -> Result<WorkerCount, AskingFault<'a>>
+    ensures { IfOk result (λ count. workers_in (unwrap_or (word_of word.entry) (codes "0")) ≡ Some count.workers) }
+{
+    let word = word.unwrap_or(USUAL_WORKERS);
+    match workers_named(word) {
+        Some(count) => Ok(count),
+        None => Err(AskingFault::NoWorkers(word)),
     }
 }

@@ -4,6 +4,7 @@ use crate::arguments::{
     only_argument, outline_argument, pick_argument, picks_argument, plant_argument,
     plant_file_argument, random_argument, ring_argument, run_format_argument, save_picks_argument,
     script_argument, seed_argument, states_argument, strict_argument, warn_argument,
+    workers_argument,
 };
 use crate::help::{
     ABOUT, AFTER, BRIEF, CHECK_ABOUT, CHECK_AFTER, CHECK_BRIEF, CHOICES_ABOUT, CHOICES_AFTER,
@@ -183,7 +184,8 @@ fn format_command<'a>(alloc: Global) -> Result<Command<'a>, AllocError> {
 /// The command that runs a plant on its image.
 fn run_command<'a>(alloc: Global) -> Result<Command<'a>, AllocError> {
     let command = described(alloc, RUN, RUN_BRIEF, RUN_ABOUT, RUN_AFTER);
-    let command = with_argument(Ok(command), explain_argument(alloc));
+    let command = with_argument(Ok(command), workers_argument(alloc));
+    let command = with_argument(command, explain_argument(alloc));
     let command = with_argument(command, plant_argument(alloc));
     let command = with_argument(command, image_argument(alloc));
     with_argument(command, script_argument(alloc))

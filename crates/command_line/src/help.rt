@@ -276,7 +276,13 @@ What 'flushed N' tells of stays, whatever stops the program or the machine. What
 since may be lost, from the last one back.
 
 An image holds as many records as its ring is long. Where it is full ('refused 4 RingFull'),
-'flush', save the atoms that took part in its oldest records ('ask', 'put'), and 'trim'.";
+'flush', save the atoms that took part in its oldest records ('ask', 'put'), and 'trim'.
+
+With --workers N, from 1 to 16, N threads share the events: thread number I takes those at I,
+I + N, I + 2 N and so on, all counted from 0, and asks them in this order. 'ask ATOM' saves
+the atom whole, 'begin P' fires as 'fire P' does and lets others fire while the participants
+work, and 'put' and 'back' ask for nothing. Answers are not printed, and what is refused is
+passed over. At the end come the same lines, and 'by T': how many interactions were fired.";
 
 pub(crate) const RUN_AFTER: &str = "Example:
   printf 'fire 0\\nfire 1\\nflush\\n' | bip_run run examples/sample.plant sample.image -

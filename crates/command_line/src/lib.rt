@@ -7,7 +7,7 @@
 //!   commands, as `clap` takes them. `help`: what is told of them.
 //! - `said`: what `clap` found of a command, part by part. `asked`: what that asks for.
 //! - `picking`: how the choices of a run are picked. `picks`: the words of a run's picks. `runs`: the words for how a run is printed.
-//!   `ring`: the word for an image's room. `input`: the word for the standard input. `apart`: which files may not be one another.
+//!   `ring`: the word for an image's room. `workers`: the word for how many share the events of a run. `input`: the word for the standard input. `apart`: which files may not be one another.
 //! - `answer`: what `clap` says in place of a request, and how the program then ends. `request`: what is asked for.
 //!
 //! `request_of` has the contract that its request is what the words of the command ask for that `clap` found; which words these are is
@@ -29,6 +29,7 @@ mod ring;
 mod runs;
 mod said;
 mod words;
+mod workers;
 
 pub use answer::Answered;
 pub use input::is_standard_input;
@@ -37,3 +38,4 @@ pub use request::{
 };
 pub use ring::RingLength;
 pub use words::read_request;
+pub use workers::{MOST_WORKERS, WorkerCount};

@@ -64,6 +64,8 @@ pub(crate) const RING: &str = "ring";
 
 pub(crate) const LIST: &str = "list";
 
+pub(crate) const WORKERS: &str = "workers";
+
 /// The format in which a run is printed if none is named.
 pub(crate) const LINES: &str = "lines";
 
@@ -72,6 +74,9 @@ pub(crate) const FORMATS: &[&str] = &[LINES, "csv", "jsonl", "vcd"];
 
 /// The length of a ring if none is named.
 pub(crate) const USUAL_RING: &str = "64";
+
+/// How many workers a run has if none are named: its events are asked one after another, and answered.
+pub(crate) const USUAL_WORKERS: &str = "0";
 
 /// The commands.
 #[derive(Clone, Copy, Debug, PartialEq, Eq)]

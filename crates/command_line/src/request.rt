@@ -1,6 +1,7 @@
 //! What the command line asks for.
 use crate::input::STANDARD_INPUT;
 use crate::ring::RingLength;
+use crate::workers::WorkerCount;
 use text_io::Format;
 
 /// What becomes of a pick whose number is past the list of choices.
@@ -140,8 +141,9 @@ impl<'a> Task<'a> {
 pub enum ImageTask<'a> {
     /// The image is made to stand for the plant's first state, with room for so many records.
     Format(RingLength),
-    /// The plant goes on from what the image stands for, by the script at this path: a file, or `-` for the standard input.
-    Run(&'a str),
+    /// The plant goes on from what the image stands for, by the script at this path: a file, or `-` for the standard input. So many workers share
+    /// its events.
+    Run(&'a str, WorkerCount),
     /// It is told where the plant stands.
     Recover,
     /// The image is of the first layout, and is brought over to a new one: the file at this path, with room for so many records.
@@ -184,7 +186,7 @@ impl<'a> Work<'a> {
         match self {
             Work::OfPlant(task) => task.recorded(),
             Work::ByHand => Some(STANDARD_INPUT),
-            Work::OnImage(_, ImageTask::Run(script)) => Some(*script),
+            Work::OnImage(_, ImageTask::Run(script, _)) => Some(*script),
             Work::Explored(exploration) => Some(exploration.script),
             Work::OnImage(
                 _,

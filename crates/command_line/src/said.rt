@@ -5,7 +5,7 @@ ghost use Rattle.command_line.specs.Read.{AreFound};
 
 use crate::names::{
     AFTER, CommandName, EXPLAIN, IMAGE, LIST, NEW, OLD, ONLY, OUTLINE, PICK, PICKS, PLANT, RANDOM,
-    RING, RUN_FORMAT, SAVE_PICKS, SCRIPT, SEED, STATES, STRICT, WARN,
+    RING, RUN_FORMAT, SAVE_PICKS, SCRIPT, SEED, STATES, STRICT, WARN, WORKERS,
 };
 use clap::ArgMatches;
 
@@ -38,6 +38,8 @@ pub(crate) struct Said<'m, 'a> {
     pub(crate) format: Option<&'a str>,
     /// The length of a ring.
     pub(crate) ring: Option<&'a str>,
+    /// How many workers share the events of a run.
+    pub(crate) workers: Option<&'a str>,
     /// The picks behind which a plant is drawn.
     pub(crate) after: Option<&'m [&'a str]>,
     /// The atoms that are drawn.
@@ -75,6 +77,7 @@ pub(crate) fn said_in<'m, 'a>(command: CommandName, found: &'m ArgMatches<'a>) -
         seed: found.get_str(SEED),
         format: found.get_str(RUN_FORMAT),
         ring: found.get_str(RING),
+        workers: found.get_str(WORKERS),
         after: found.get_strs(AFTER),
         only: found.get_strs(ONLY),
         strict: found.get_flag(STRICT),

@@ -10,6 +10,7 @@ use crate::names::{CommandName, command_named};
 use crate::picking::PickingFault;
 use crate::request::Request;
 use crate::said::said_in;
+use crate::workers::MOST_WORKERS;
 use clap::error::ErrorKind;
 use clap::{ArgMatches, Command, Error};
 use record_codec::{LEAST_RING, MOST_RING};
@@ -84,6 +85,7 @@ fn refusal(
             "an outline shows all atoms and no state, so '--only', '--after' and '--picks' cannot be with '--outline'",
         ),
         AskingFault::NoRing(word) => no_ring(alloc, command, word),
+        AskingFault::NoWorkers(word) => no_workers(alloc, command, word),
         AskingFault::Apart(fault) => not_apart(name, command, fault),
         AskingFault::Memory => Ok(Error::from(AllocError)),
     }
@@ -176,6 +178,14 @@ fn no_number(
 fn no_ring(alloc: Global, command: &mut Command<'_>, word: &str) -> Result<Error, AllocError> {
     let message = format!(in alloc;
         "invalid value '{word}' for '--ring <N>': a ring is digits alone, from {LEAST_RING} to {MOST_RING}"
+    )?;
+    command.error(ErrorKind::ValueValidation, message.as_str())
+}
+
+/// The answer to a word that stands for a number of workers and is none.
+fn no_workers(alloc: Global, command: &mut Command<'_>, word: &str) -> Result<Error, AllocError> {
+    let message = format!(in alloc;
+        "invalid value '{word}' for '--workers <N>': a number of workers is digits alone, from 0 to {MOST_WORKERS}"
     )?;
     command.error(ErrorKind::ValueValidation, message.as_str())
 }

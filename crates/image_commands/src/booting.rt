@@ -22,7 +22,7 @@ const WORKERS: usize = 4;
 
 /// The plant that the device stands for, or why there is none. Then the device is let go.
 #[tactic(auto, using(crate::proofs::Told::refused_as_told))]
-pub(crate) fn booted<'s, D: Disk + Drop, R: Threads + Sync>(
+pub fn booted<'s, D: Disk + Drop, R: Threads + Sync>(
     rt: &R,
     alloc: Global,
     system: &'s System,

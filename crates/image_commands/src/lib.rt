@@ -26,11 +26,13 @@ mod refusal;
 mod running;
 mod trial_line;
 
+pub use booting::booted;
 pub use ending::ImageEnding;
 pub use exploring::{ExploreEnding, Progress, explore_plant};
 pub use formatting::{format_image, image_bytes};
 pub use migrate_ending::{MigrateEnding, MigrateRefusal};
 pub use migrating::migrate_image;
+pub use printing::hand_on;
 pub use recovering::recover_image;
 pub use refusal::ImageRefusal;
 pub use running::run_image;

@@ -6,7 +6,7 @@ use std::io::Write;
 use text_io::WriteFault;
 
 /// Hands on what the writer still keeps.
-pub(crate) fn hand_on<W: Write>(output: &mut W) -> Result<(), WriteFault>
+pub fn hand_on<W: Write>(output: &mut W) -> Result<(), WriteFault>
     ensures { OnOk result (Keeps (W.contents output.old) (W.contents output.new)) }
 {
     output.flush()?;

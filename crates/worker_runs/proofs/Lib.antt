@@ -1,0 +1,4 @@
+pub mod Asking
+pub mod Growing
+pub mod Seen
+pub mod Standing

@@ -1,0 +1,4 @@
+pub mod Printed
+pub mod Asked
+pub mod Shares
+pub mod Runs
