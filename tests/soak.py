@@ -79,7 +79,7 @@ class Soak(unittest.TestCase):
         return acked, base
 
     def run_for(self, seconds, ending):
-        """Runs the events, and kills the program so many seconds after its first write; gives what it printed if it came to its end before."""
+        """Runs the events, and kills the program so many seconds after its first write; gives what it printed if it had printed all before."""
         latest, untouched = time.monotonic() + FIRST_WRITE, self.image.stat().st_mtime_ns
         running = self.started("run", PLANT, self.image, self.script, "--workers", WORKERS)
         while self.image.stat().st_mtime_ns == untouched and running.poll() is None and time.monotonic() < latest:
@@ -91,8 +91,9 @@ class Soak(unittest.TestCase):
             running.send_signal(ending)
             printed, told = running.communicate(timeout=60)
             if running.returncode == -ending:
-                self.assertEqual((printed, told), ("", ""))
-                return None
+                self.assertEqual(told, "")
+                # A kill may come while the program ends: then all is printed, or the first part of it.
+                return printed if STANDING.fullmatch(printed) else None
         self.assertEqual((running.returncode, told), (0, ""))
         return printed
 
