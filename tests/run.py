@@ -39,8 +39,8 @@ A case is a folder tests/COMMAND/CASE. The program runs in a fresh copy of it, i
 
 Each run that examples/README.md shows is a case too, shown/WORDS, and so is each stop of tests/stops.py, stops/MOMENT, each test of tests/soak.py,
 soak/NAME, each round of
-tests/images.py, texts.py and scripts.py, images/ROUND, texts/ROUND and scripts/ROUND, each test of tests/edits.py, launcher.py, faults.py, failures.py,
-limits.py and power.py, edits/NAME, launcher/NAME, faults/NAME, failures/NAME, limits/NAME and power/NAME, and usage/version_of_the_kit, by which the version
+tests/images.py, texts.py and scripts.py, images/ROUND, texts/ROUND and scripts/ROUND, each test of tests/edits.py, house.py, launcher.py, faults.py, failures.py,
+limits.py and power.py, edits/NAME, house/NAME, launcher/NAME, faults/NAME, failures/NAME, limits/NAME and power/NAME, and usage/version_of_the_kit, by which the version
 of the program names the logic that `rt version` tells.
 
 What the system does not let be tested is skipped: each such test is told with the reason in a line, and is counted neither as passed nor as failed.
@@ -66,6 +66,7 @@ from pathlib import Path
 import edits
 import failures
 import faults
+import house
 import images
 import launcher
 import limits
@@ -366,7 +367,7 @@ def cases(words):
 
 def suite(chosen, words):
     tests = unittest.TestSuite()
-    for kind in (edits, launcher, stops, soak, faults, failures, limits, power, images, texts, scripts):
+    for kind in (edits, house, launcher, stops, soak, faults, failures, limits, power, images, texts, scripts):
         tests.addTests(kind.suite(built_program, words))
     for case in chosen:
         setattr(Answers, f"test {case.name}", lambda self, case=case: self.check_case(case))

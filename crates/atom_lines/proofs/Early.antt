@@ -1,4 +1,4 @@
--- Steps of reading the line of an atom that take no memory, so that none of them tells of want of it.
+-- Steps of reading the line of an atom that take no memory, so that none of them answers want of it.
 use Rattle.std.proofs.Common.{Bool, true, false, not, ℕ, zero, suc, List, [], ◌∷◌, ◌++◌, length, drop, Ok, codes}
 use Rattle.std.specs.Prelude.{nat_lt, nat_eq}
 use Rattle.std.specs.List.{list_any}
@@ -12,7 +12,7 @@ use Rattle.plant_words.specs.Reading.{◌>>=◌, first_word, at_end}
 use Rattle.atom_lines.specs.Reading.{first_number, goes_on, mark_in, value_in}
 use Rattle.atom_lines.specs.Lookup.{place_number, variable_number}
 use Rattle.atom_lines.specs.Rows.{export_in, exports_in}
-use Rattle.atom_lines.specs.Transitions.{ends_places, place_in, places_in, places_behind, expression_on, update_in, updates_from, updates_in}
+use Rattle.atom_lines.specs.Transitions.{ends_places, place_in, places_in, places_after, expression_on, update_in, updates_from, updates_in}
 use Rattle.plant_words.specs.declared.line_fault.LineFault.TheVariants.{NotAscii, BadNumber, UnknownName, Shape, Limit, Twice}
 use Rattle.plant_words.proofs.Early.{TakesNone, check_takes_none, or_takes_none, then_takes_none, word_takes_none, keyword_takes_none, end_takes_none, line_takes_none, either_takes_none}
 
@@ -58,8 +58,8 @@ places_take_none a before (word ∷ words) is =
     either_takes_none (ends_places (word ∷ words)) (Ok (before, word ∷ words)) (place_in a before word >>= λ place. places_in a (before ++ place ∷ []) words) (λ is. absurd (cc))
     (then_takes_none _ _ (place_takes_none a before word) (λ place. places_take_none a (before ++ place ∷ []) words)) is
 
-pub places_behind_take_none : (keyword : List ℕ) (a : AtomDefinition) (words : List (List ℕ)) → TakesNone (places_behind keyword a words)
-places_behind_take_none keyword a words =
+pub places_after_take_none : (keyword : List ℕ) (a : AtomDefinition) (words : List (List ℕ)) → TakesNone (places_after keyword a words)
+places_after_take_none keyword a words =
     then_takes_none _ _ (keyword_takes_none keyword words)
     (λ begun. then_takes_none _ _ (places_take_none a [] (drop 1 words))
     (λ listed. then_takes_none _ _ (check_takes_none (nat_lt 0 (length listed.0)) Shape (λ is. absurd (cc))) (λ filled is. absurd (cc))))

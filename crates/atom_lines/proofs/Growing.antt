@@ -1,5 +1,5 @@
 -- What each line leaves as it is in an atom: its name, the ports and the places that it has.
-use Rattle.std.proofs.Common.{◌≡◌, refl, sym, subst, arith, ℕ, ◌+◌, ◌≤◌, ℤ, Bool, List, [], ◌∷◌, ◌++◌, append-nil, length, drop, Result, Ok}
+use Rattle.std.proofs.Common.{◌≡◌, refl, sym, subst, arith, ℕ, ◌+◌, ◌≤◌, List, [], ◌∷◌, ◌++◌, append-nil, length, drop, Result, Ok}
 use Rattle.std.specs.Prelude.{nat_lt, is_none}
 use Rattle.std.proofs.lemmas.List.{length-append}
 use Rattle.petri_atom.specs.Definition.{AtomDefinition, PortDefinition, TransitionDefinition}
@@ -14,9 +14,9 @@ use Rattle.plant_words.specs.Reading.{◌>>=◌, check, first_name}
 use Rattle.atom_lines.specs.Reading.{mark_in, value_in}
 use Rattle.atom_lines.specs.Rows.{place_row, variable_row, port_row, exports_in, with_place, with_variable, with_port}
 use Rattle.atom_lines.specs.Transitions.{transition_row, transition_in, with_transition}
-use Rattle.plant_words.proofs.Steps.{led_on, same_end}
+use Rattle.plant_words.proofs.Steps.{adds_named, led_on, same_end}
 
--- an atom that has the name and the ports of another, and may have more ports behind them; it has no fewer places
+-- an atom that has the name and the ports of another, and may have more ports after them; it has no fewer places
 pub record Grows (a grown : AtomDefinition) : Type 0 where
   pub name : grown.name ≡ a.name
   pub more : List PortDefinition
@@ -48,39 +48,18 @@ at_end a next grown told = subst (Grows a) (same_end next grown told)
 
 pub place_grows : (words : List (List ℕ)) (a grown : AtomDefinition) → place_row words a ≡ Ok grown → Grows a grown
 place_grows words a grown told =
-    let made : List ℕ → Bool → Result AtomDefinition LineFault = λ name marked. Ok (with_place a (record { name = name; marked = marked })) in
-    let marked : List ℕ → Unit {0} → Result AtomDefinition LineFault = λ name new. mark_in (drop 1 words) >>= made name in
-    let named : List ℕ → Result AtomDefinition LineFault = λ name. check (is_none (place_number a name)) Twice >>= marked name in
-    let room = led_on (check (nat_lt (length a.places) MAX_PLACES) Limit) (λ room. first_name words >>= named) grown told in
-    let name = led_on (first_name words) named grown room.2 in
-    let new = led_on (check (is_none (place_number a name.0)) Twice) (marked name.0) grown name.2 in
-    let mark = led_on (mark_in (drop 1 words)) (made name.0) grown new.2 in
-    let place : Place = record { name = name.0; marked = mark.0 } in
-    at_end a (with_place a place) grown mark.2 (more_places a place)
+    let line = adds_named (nat_lt (length a.places) MAX_PLACES) Limit Twice (first_name words) (λ name. is_none (place_number a name)) (mark_in (drop 1 words)) (λ name marked. Ok (with_place a (record { name = name; marked = marked }))) grown told in
+    at_end a _ grown line.gives (more_places a (record { name = line.name; marked = line.value }))
 
 pub variable_grows : (words : List (List ℕ)) (a grown : AtomDefinition) → variable_row words a ≡ Ok grown → Grows a grown
 variable_grows words a grown told =
-    let made : List ℕ → ℤ → Result AtomDefinition LineFault = λ name first. Ok (with_variable a (record { name = name; first = first })) in
-    let valued : List ℕ → Unit {0} → Result AtomDefinition LineFault = λ name new. value_in (drop 1 words) >>= made name in
-    let named : List ℕ → Result AtomDefinition LineFault = λ name. check (is_none (variable_number a name)) Twice >>= valued name in
-    let room = led_on (check (nat_lt (length a.variables) MAX_VARIABLES) Limit) (λ room. first_name words >>= named) grown told in
-    let name = led_on (first_name words) named grown room.2 in
-    let new = led_on (check (is_none (variable_number a name.0)) Twice) (valued name.0) grown name.2 in
-    let first = led_on (value_in (drop 1 words)) (made name.0) grown new.2 in
-    let variable : Variable = record { name = name.0; first = first.0 } in
-    at_end a (with_variable a variable) grown first.2 (more_variables a variable)
+    let line = adds_named (nat_lt (length a.variables) MAX_VARIABLES) Limit Twice (first_name words) (λ name. is_none (variable_number a name)) (value_in (drop 1 words)) (λ name first. Ok (with_variable a (record { name = name; first = first }))) grown told in
+    at_end a _ grown line.gives (more_variables a (record { name = line.name; first = line.value }))
 
 pub port_grows : (words : List (List ℕ)) (a grown : AtomDefinition) → port_row words a ≡ Ok grown → Grows a grown
 port_grows words a grown told =
-    let made : List ℕ → List ℕ → Result AtomDefinition LineFault = λ name exports. Ok (with_port a (record { name = name; exports = exports })) in
-    let exported : List ℕ → Unit {0} → Result AtomDefinition LineFault = λ name new. exports_in a [] (drop 1 words) >>= made name in
-    let named : List ℕ → Result AtomDefinition LineFault = λ name. check (is_none (port_number a name)) Twice >>= exported name in
-    let room = led_on (check (nat_lt (length a.ports) MAX_PORTS) Limit) (λ room. first_name words >>= named) grown told in
-    let name = led_on (first_name words) named grown room.2 in
-    let new = led_on (check (is_none (port_number a name.0)) Twice) (exported name.0) grown name.2 in
-    let exports = led_on (exports_in a [] (drop 1 words)) (made name.0) grown new.2 in
-    let port : PortDefinition = record { name = name.0; exports = exports.0 } in
-    at_end a (with_port a port) grown exports.2 (more_ports a port)
+    let line = adds_named (nat_lt (length a.ports) MAX_PORTS) Limit Twice (first_name words) (λ name. is_none (port_number a name)) (exports_in a [] (drop 1 words)) (λ name exports. Ok (with_port a (record { name = name; exports = exports }))) grown told in
+    at_end a _ grown line.gives (more_ports a (record { name = line.name; exports = line.value }))
 
 pub transition_grows : (words : List (List ℕ)) (a grown : AtomDefinition) → transition_row words a ≡ Ok grown → Grows a grown
 transition_grows words a grown told =

@@ -10,16 +10,17 @@ use Rattle.petri_atom.specs.declared.state.TheConstants.{MAX_PLACES, MAX_VARIABL
 use Rattle.petri_atom.specs.declared.parts.TheConstants.{MAX_PORTS, MAX_TRANSITIONS, MAX_UPDATES}
 use Rattle.plant_words.specs.Lines.{is_legal_line}
 use Rattle.plant_words.specs.Numbers.{int_in}
-use Rattle.plant_words.specs.Reading.{◌>>=◌, check, first_word, first_name, first_keyword, at_end, leads}
+use Rattle.plant_words.specs.Reading.{◌>>=◌, check, first_name, first_keyword, at_end, leads}
 use Rattle.plant_words.specs.declared.line_fault.LineFault.{LineFault}
 use Rattle.plant_words.specs.declared.line_fault.LineFault.TheVariants.{NotAscii, BadNumber, Twice, UnknownName, Shape, Limit}
 use Rattle.plant_words.proofs.Legal.{are_legal, word_is_legal, step_is_legal, name_is_legal, keyword_is_legal, leading_is_legal, end_is_legal, read_is_legal}
-use Rattle.plant_words.proofs.Steps.{led_on, passed, same_end, either_way}
+use Rattle.plant_words.proofs.Steps.{adds_named, led_on, passed, same_end, either_way}
 use Rattle.atom_lines.proofs.SoundParts.{with_updates, with_guard, with_targets, with_sources}
 use Rattle.atom_lines.specs.Lookup.{place_number, variable_number, port_number}
 use Rattle.atom_lines.specs.Reading.{first_number, goes_on, mark_in, value_in}
 use Rattle.atom_lines.specs.Rows.{place_row, variable_row, port_row, export_in, exports_in, with_place, with_variable, with_port}
-use Rattle.atom_lines.specs.Transitions.{ends_places, port_in, place_in, places_in, places_behind, expression_on, guard_in, update_in, updates_from, updates_in, transition_in, transition_row, with_transition}
+use Rattle.atom_lines.specs.Transitions.{ends_places, port_in, place_in, places_in, places_after, expression_on, guard_in, update_in, updates_from, updates_in, transition_in, transition_row, with_transition}
+use Rattle.atom_lines.proofs.UpdateSteps.{update_read}
 
 -- ---- words of one part
 
@@ -73,7 +74,7 @@ place_is_legal a before word k told =
     let legal = led_on (check (is_legal_line word) NotAscii) (λ _. ok_or (place_number a word) UnknownName >>= after) k told in
     passed (is_legal_line word) NotAscii legal.0 legal.1
 
--- the words that are left behind a list, or behind an expression
+-- the words that are left after a list, or after an expression
 abbrev left : {A : Type 0} → A × List (List ℕ) → Bool
 left read = are_legal read.1
 
@@ -87,9 +88,9 @@ places_are_legal a before (word ∷ words) listed legal told =
     and_from (is_legal_line word) (are_legal words) (place_is_legal a before word first.0 first.1) (places_are_legal a (before ++ first.0 ∷ []) words listed legal first.2))
     told
 
-places_behind_are_legal : (keyword : List ℕ) (a : AtomDefinition) (words : List (List ℕ)) (listed : List ℕ × List (List ℕ)) →
-    places_behind keyword a words ≡ Ok listed → left listed ≡ true → are_legal words ≡ true
-places_behind_are_legal keyword a words listed told legal =
+places_after_are_legal : (keyword : List ℕ) (a : AtomDefinition) (words : List (List ℕ)) (listed : List ℕ × List (List ℕ)) →
+    places_after keyword a words ≡ Ok listed → left listed ≡ true → are_legal words ≡ true
+places_after_are_legal keyword a words listed told legal =
     let last : List ℕ × List (List ℕ) → Result (List ℕ × List (List ℕ)) LineFault = λ l. check (nat_lt 0 (length l.0)) Shape >>= (λ _. Ok l) in
     let begun = led_on (first_keyword keyword words) (λ _. places_in a [] (drop 1 words) >>= last) listed told in
     let read = led_on (places_in a [] (drop 1 words)) last listed begun.2 in
@@ -109,16 +110,10 @@ guard_is_legal a words read told legal = by_test (leads (codes "when") words) re
 
 update_is_legal : (a : AtomDefinition) (words : List (List ℕ)) (read : UpdateDefinition × List (List ℕ)) → update_in a words ≡ Ok read → left read ≡ true → are_legal words ≡ true
 update_is_legal a words read told legal =
-    let made : ℕ → Tree ℕ × List (List ℕ) → Result (UpdateDefinition × List (List ℕ)) LineFault = λ v e. Ok (record { variable = v; value = e.0 }, e.1) in
-    let valued : ℕ → Result (UpdateDefinition × List (List ℕ)) LineFault = λ v. first_keyword (codes ":=") (drop 1 words) >>= (λ _. expression_on a (drop 1 (drop 1 words)) >>= made v) in
-    let word = led_on (first_word words) (λ w. ok_or (variable_number a w) UnknownName >>= valued) read told in
-    let variable = led_on (ok_or (variable_number a word.0) UnknownName) valued read word.2 in
-    let assigned = led_on (first_keyword (codes ":=") (drop 1 words)) (λ _. expression_on a (drop 1 (drop 1 words)) >>= made variable.0) read variable.2 in
-    let value = led_on (expression_on a (drop 1 (drop 1 words))) (made variable.0) read assigned.2 in
-    let same : ◌≡◌ {A = UpdateDefinition × List (List ℕ)} (record { variable = variable.0; value = value.0.0 }, value.0.1) read = same_end _ _ value.2 in
-    word_is_legal words word.0 word.1
-    (keyword_is_legal (codes ":=") (drop 1 words) assigned.0 assigned.1
-    (read_is_legal (variable_number a) (drop 1 (drop 1 words)) value.0 value.1 (ap (λ (r : UpdateDefinition × List (List ℕ)). left r) same ∙ legal)))
+    let update = update_read a words read told in
+    word_is_legal words update.word update.worded
+    (keyword_is_legal (codes ":=") (drop 1 words) update.assigns update.assigned
+    (read_is_legal (variable_number a) (drop 1 (drop 1 words)) update.value update.valued (ap (λ (r : UpdateDefinition × List (List ℕ)). left r) update.is ∙ legal)))
 
 -- where the line doesn't go on, no words are left
 updates_are_legal : (a : AtomDefinition) (room : ℕ) (before : List UpdateDefinition) (more : Bool) (words : List (List ℕ)) (us : List UpdateDefinition) →
@@ -144,49 +139,31 @@ update_list_is_legal a words us told =
 transition_is_legal : (a : AtomDefinition) (words : List (List ℕ)) (t : TransitionDefinition) → transition_in a words ≡ Ok t → are_legal words ≡ true
 transition_is_legal a words t told =
     let port = led_on (port_in a words) (with_sources a words) t told in
-    let sources = led_on (places_behind (codes "from") a (drop 1 words)) (with_targets a port.0) t port.2 in
-    let targets = led_on (places_behind (codes "to") a sources.0.1) (with_guard a port.0 sources.0.0) t sources.2 in
+    let sources = led_on (places_after (codes "from") a (drop 1 words)) (with_targets a port.0) t port.2 in
+    let targets = led_on (places_after (codes "to") a sources.0.1) (with_guard a port.0 sources.0.0) t sources.2 in
     let guard = led_on (guard_in a targets.0.1) (with_updates a port.0 sources.0.0 targets.0.0) t targets.2 in
     let updates = led_on (updates_in a guard.0.1) (λ us. Ok (record { port = port.0; sources = sources.0.0; targets = targets.0.0; guard = guard.0.0; updates = us })) t guard.2 in
     step_is_legal words (λ w. ok_or (port_number a w) UnknownName) port.0 port.1
-    (places_behind_are_legal (codes "from") a (drop 1 words) sources.0 sources.1
-    (places_behind_are_legal (codes "to") a sources.0.1 targets.0 targets.1
+    (places_after_are_legal (codes "from") a (drop 1 words) sources.0 sources.1
+    (places_after_are_legal (codes "to") a sources.0.1 targets.0 targets.1
     (guard_is_legal a targets.0.1 guard.0 guard.1 (update_list_is_legal a guard.0.1 updates.0 updates.1))))
 
 -- ---- lines
 
 pub place_row_is_legal : (words : List (List ℕ)) (a grown : AtomDefinition) → place_row words a ≡ Ok grown → are_legal words ≡ true
 place_row_is_legal words a grown told =
-    let made : List ℕ → Bool → Result AtomDefinition LineFault = λ name marked. Ok (with_place a (record { name = name; marked = marked })) in
-    let marked : List ℕ → Unit {0} → Result AtomDefinition LineFault = λ name new. mark_in (drop 1 words) >>= made name in
-    let named : List ℕ → Result AtomDefinition LineFault = λ name. check (is_none (place_number a name)) Twice >>= marked name in
-    let room = led_on (check (nat_lt (length a.places) MAX_PLACES) Limit) (λ room. first_name words >>= named) grown told in
-    let name = led_on (first_name words) named grown room.2 in
-    let new = led_on (check (is_none (place_number a name.0)) Twice) (marked name.0) grown name.2 in
-    let mark = led_on (mark_in (drop 1 words)) (made name.0) grown new.2 in
-    name_is_legal words name.0 name.1 (mark_is_legal (drop 1 words) mark.0 mark.1)
+    let line = adds_named (nat_lt (length a.places) MAX_PLACES) Limit Twice (first_name words) (λ name. is_none (place_number a name)) (mark_in (drop 1 words)) (λ name marked. Ok (with_place a (record { name = name; marked = marked }))) grown told in
+    name_is_legal words line.name line.named (mark_is_legal (drop 1 words) line.value line.valued)
 
 pub variable_row_is_legal : (words : List (List ℕ)) (a grown : AtomDefinition) → variable_row words a ≡ Ok grown → are_legal words ≡ true
 variable_row_is_legal words a grown told =
-    let made : List ℕ → ℤ → Result AtomDefinition LineFault = λ name first. Ok (with_variable a (record { name = name; first = first })) in
-    let valued : List ℕ → Unit {0} → Result AtomDefinition LineFault = λ name new. value_in (drop 1 words) >>= made name in
-    let named : List ℕ → Result AtomDefinition LineFault = λ name. check (is_none (variable_number a name)) Twice >>= valued name in
-    let room = led_on (check (nat_lt (length a.variables) MAX_VARIABLES) Limit) (λ room. first_name words >>= named) grown told in
-    let name = led_on (first_name words) named grown room.2 in
-    let new = led_on (check (is_none (variable_number a name.0)) Twice) (valued name.0) grown name.2 in
-    let value = led_on (value_in (drop 1 words)) (made name.0) grown new.2 in
-    name_is_legal words name.0 name.1 (value_is_legal (drop 1 words) value.0 value.1)
+    let line = adds_named (nat_lt (length a.variables) MAX_VARIABLES) Limit Twice (first_name words) (λ name. is_none (variable_number a name)) (value_in (drop 1 words)) (λ name first. Ok (with_variable a (record { name = name; first = first }))) grown told in
+    name_is_legal words line.name line.named (value_is_legal (drop 1 words) line.value line.valued)
 
 pub port_row_is_legal : (words : List (List ℕ)) (a grown : AtomDefinition) → port_row words a ≡ Ok grown → are_legal words ≡ true
 port_row_is_legal words a grown told =
-    let made : List ℕ → List ℕ → Result AtomDefinition LineFault = λ name exports. Ok (with_port a (record { name = name; exports = exports })) in
-    let exporting : List ℕ → Unit {0} → Result AtomDefinition LineFault = λ name new. exports_in a [] (drop 1 words) >>= made name in
-    let named : List ℕ → Result AtomDefinition LineFault = λ name. check (is_none (port_number a name)) Twice >>= exporting name in
-    let room = led_on (check (nat_lt (length a.ports) MAX_PORTS) Limit) (λ room. first_name words >>= named) grown told in
-    let name = led_on (first_name words) named grown room.2 in
-    let new = led_on (check (is_none (port_number a name.0)) Twice) (exporting name.0) grown name.2 in
-    let exports = led_on (exports_in a [] (drop 1 words)) (made name.0) grown new.2 in
-    name_is_legal words name.0 name.1 (exports_are_legal a [] (drop 1 words) exports.0 exports.1)
+    let line = adds_named (nat_lt (length a.ports) MAX_PORTS) Limit Twice (first_name words) (λ name. is_none (port_number a name)) (exports_in a [] (drop 1 words)) (λ name exports. Ok (with_port a (record { name = name; exports = exports }))) grown told in
+    name_is_legal words line.name line.named (exports_are_legal a [] (drop 1 words) line.value line.valued)
 
 pub transition_row_is_legal : (words : List (List ℕ)) (a grown : AtomDefinition) → transition_row words a ≡ Ok grown → are_legal words ≡ true
 transition_row_is_legal words a grown told =

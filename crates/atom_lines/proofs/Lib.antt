@@ -1,13 +1,14 @@
 mod Rows
-pub mod Updates
-pub mod Early
-pub mod Few
-pub mod Making
-pub mod Taken
+mod Updates
+mod Early
+mod Few
+mod Making
+mod Taken
 pub mod Growing
-pub mod Named
-pub mod Bounds
-pub mod SoundParts
-pub mod Rules
-pub mod Exports
+mod Named
+mod Bounds
+mod UpdateSteps
+mod SoundParts
+mod Rules
+mod Exports
 pub mod Legal

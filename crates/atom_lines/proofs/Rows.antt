@@ -1,4 +1,4 @@
--- Worked lines, as computed facts. The words are those behind the line's first one.
+-- Worked lines, as computed facts. The words are those after the line's first one.
 use Rattle.std.proofs.Common.{◌≡◌, [], ◌∷◌, ◌++◌, codes, replicate, refl, true, false, pos, negsuc, Some, None, Ok, Err}
 use Rattle.petri_atom.specs.Definition.{AtomDefinition}
 use Rattle.petri_atom.specs.Expression.{number, variable, operation}
@@ -62,30 +62,30 @@ init_misspelt : place_row (words_of (codes "q inti")) sample ≡ Err Shape
 unfolding sample
 init_misspelt = refl
 
-a_word_behind_init : place_row (words_of (codes "q init x")) sample ≡ Err Shape
+a_word_after_init : place_row (words_of (codes "q init x")) sample ≡ Err Shape
 unfolding sample
-a_word_behind_init = refl
+a_word_after_init = refl
 
 a_place_too_many : place_row (words_of (codes "to")) full ≡ Err Limit
 unfolding sample full
 a_place_too_many = refl
 
 -- 228 is a byte that may not stand in a text
-an_illegal_byte_behind_a_place_twice : place_row (words_of (codes "p " ++ 228 ∷ [])) sample ≡ Err Twice
+an_illegal_byte_after_a_place_twice : place_row (words_of (codes "p " ++ 228 ∷ [])) sample ≡ Err Twice
 unfolding sample
-an_illegal_byte_behind_a_place_twice = refl
+an_illegal_byte_after_a_place_twice = refl
 
 an_illegal_byte_in_place_of_init : place_row (words_of (codes "q in" ++ 228 ∷ codes "t x")) sample ≡ Err NotAscii
 unfolding sample
 an_illegal_byte_in_place_of_init = refl
 
-an_illegal_byte_behind_init : place_row (words_of (codes "q init " ++ 228 ∷ [])) sample ≡ Err NotAscii
+an_illegal_byte_after_init : place_row (words_of (codes "q init " ++ 228 ∷ [])) sample ≡ Err NotAscii
 unfolding sample
-an_illegal_byte_behind_init = refl
+an_illegal_byte_after_init = refl
 
-an_illegal_byte_behind_init_misspelt : place_row (words_of (codes "q inti " ++ 228 ∷ [])) sample ≡ Err Shape
+an_illegal_byte_after_init_misspelt : place_row (words_of (codes "q inti " ++ 228 ∷ [])) sample ≡ Err Shape
 unfolding sample
-an_illegal_byte_behind_init_misspelt = refl
+an_illegal_byte_after_init_misspelt = refl
 
 -- ---- variables
 
@@ -105,9 +105,9 @@ no_value : variable_row (words_of (codes "k")) sample ≡ Err Shape
 unfolding sample
 no_value = refl
 
-a_word_behind_the_value : variable_row (words_of (codes "k 7 8")) sample ≡ Err Shape
+a_word_after_the_value : variable_row (words_of (codes "k 7 8")) sample ≡ Err Shape
 unfolding sample
-a_word_behind_the_value = refl
+a_word_after_the_value = refl
 
 -- ---- ports
 
@@ -207,21 +207,21 @@ a_source_twice : transition_row (words_of (codes "t from p p")) moving ≡ Err T
 unfolding sample moving updates_from
 a_source_twice = refl
 
-no_guard_behind_when : transition_row (words_of (codes "t from p to q when")) moving ≡ Err BadExpression
+no_guard_after_when : transition_row (words_of (codes "t from p to q when")) moving ≡ Err BadExpression
 unfolding sample moving updates_from
-no_guard_behind_when = refl
+no_guard_after_when = refl
 
 an_update_before_the_guard : transition_row (words_of (codes "t from p to q do n := 1 when 1")) moving ≡ Err Shape
 unfolding sample moving updates_from
 an_update_before_the_guard = refl
 
-no_update_behind_do : transition_row (words_of (codes "t from p to q do")) moving ≡ Err Shape
+no_update_after_do : transition_row (words_of (codes "t from p to q do")) moving ≡ Err Shape
 unfolding sample moving updates_from
-no_update_behind_do = refl
+no_update_after_do = refl
 
-no_update_behind_a_semicolon : transition_row (words_of (codes "t from p to q do n := 1 ;")) moving ≡ Err Shape
+no_update_after_a_semicolon : transition_row (words_of (codes "t from p to q do n := 1 ;")) moving ≡ Err Shape
 unfolding sample moving updates_from
-no_update_behind_a_semicolon = refl
+no_update_after_a_semicolon = refl
 
 an_update_of_no_variable : transition_row (words_of (codes "t from p to q do p := 1")) moving ≡ Err UnknownName
 unfolding sample moving updates_from
@@ -239,22 +239,22 @@ an_illegal_byte_in_place_of_from : transition_row (words_of (codes "t " ++ 228 �
 unfolding sample moving updates_from
 an_illegal_byte_in_place_of_from = refl
 
-an_illegal_byte_behind_no_source : transition_row (words_of (codes "t from to " ++ 228 ∷ [])) moving ≡ Err Shape
+an_illegal_byte_after_no_source : transition_row (words_of (codes "t from to " ++ 228 ∷ [])) moving ≡ Err Shape
 unfolding sample moving updates_from
-an_illegal_byte_behind_no_source = refl
+an_illegal_byte_after_no_source = refl
 
 an_illegal_byte_in_a_guard : transition_row (words_of (codes "t from p to q when < n " ++ 228 ∷ [])) moving ≡ Err NotAscii
 unfolding sample moving updates_from
 an_illegal_byte_in_a_guard = refl
 
-an_illegal_byte_behind_a_guard : transition_row (words_of (codes "t from p to q when 1 " ++ 228 ∷ [])) moving ≡ Err NotAscii
+an_illegal_byte_after_a_guard : transition_row (words_of (codes "t from p to q when 1 " ++ 228 ∷ [])) moving ≡ Err NotAscii
 unfolding sample moving updates_from
-an_illegal_byte_behind_a_guard = refl
+an_illegal_byte_after_a_guard = refl
 
 an_illegal_byte_in_an_update : transition_row (words_of (codes "t from p to q do n :=" ++ 228 ∷ codes " 1")) moving ≡ Err NotAscii
 unfolding sample moving updates_from
 an_illegal_byte_in_an_update = refl
 
-an_illegal_byte_behind_an_update_of_no_variable : transition_row (words_of (codes "t from p to q do p " ++ 228 ∷ [])) moving ≡ Err UnknownName
+an_illegal_byte_after_an_update_of_no_variable : transition_row (words_of (codes "t from p to q do p " ++ 228 ∷ [])) moving ≡ Err UnknownName
 unfolding sample moving updates_from
-an_illegal_byte_behind_an_update_of_no_variable = refl
+an_illegal_byte_after_an_update_of_no_variable = refl

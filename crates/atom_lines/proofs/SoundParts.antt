@@ -21,12 +21,13 @@ use Rattle.plant_words.specs.Reading.{◌>>=◌, check, first_word, first_keywor
 use Rattle.atom_lines.specs.Reading.{goes_on}
 use Rattle.atom_lines.specs.Lookup.{place_number, variable_number, port_number}
 use Rattle.atom_lines.specs.Rows.{export_in, exports_in}
-use Rattle.atom_lines.specs.Transitions.{ends_places, port_in, place_in, places_in, places_behind, expression_on, guard_in, update_in, updates_from, updates_in, transition_in}
+use Rattle.atom_lines.specs.Transitions.{ends_places, port_in, place_in, places_in, places_after, expression_on, guard_in, update_in, updates_from, updates_in, transition_in}
 use Rattle.atom_lines.specs.Sound.{is_sound_port, is_sound_transition}
 use Rattle.plant_words.proofs.Steps.{led_on, passed, was_there, same_end, either_way}
 use Rattle.plant_words.proofs.Positions.{position-within}
 use Rattle.plant_words.proofs.Once.{listed_once}
 use Rattle.atom_lines.proofs.Bounds.{variables_below-all}
+use Rattle.atom_lines.proofs.UpdateSteps.{update_read}
 
 -- numbers below a bound, each once
 pub record Listed (bound : ℕ) (ks : List ℕ) : Type 0 where
@@ -45,7 +46,7 @@ one_listed bound ks k listed new below = record {
 
 -- ---- ports
 
--- an export behind others: there is room for it, and it is new
+-- an export after others: there is room for it, and it is new
 exported : (a : AtomDefinition) (before : List ℕ) (word : List ℕ) (k : ℕ) → export_in a before word ≡ Ok k →
     (length before < MAX_EXPORTS) × (list_any (λ j. nat_eq j k) before ≡ false) × (k < length a.variables)
 exported a before word k told =
@@ -61,7 +62,7 @@ exported a before word k told =
       subst (λ n. n < length a.variables) same (position-within (λ v. is_same_text v.name word) a.variables known.0 (was_there _ _ _ known.1)),
     )
 
--- the variables that words export, behind others
+-- the variables that words export, after others
 exports_listed : (a : AtomDefinition) (before : List ℕ) (words : List (List ℕ)) (ks : List ℕ) → Listed (length a.variables) before → length before ≤ MAX_EXPORTS →
     exports_in a before words ≡ Ok ks → Listed (length a.variables) ks × (length ks ≤ MAX_EXPORTS)
 exports_listed a before [] ks listed few told =
@@ -81,7 +82,7 @@ exports_sound a words name ks told =
 
 -- ---- places of a transition
 
--- a place behind others is new
+-- a place after others is new
 placed : (a : AtomDefinition) (before : List ℕ) (word : List ℕ) (k : ℕ) → place_in a before word ≡ Ok k →
     (list_any (λ j. nat_eq j k) before ≡ false) × (k < length a.places)
 placed a before word k told =
@@ -99,14 +100,14 @@ more_listed a before word k listed told =
     let facts = placed a before word k told in
     one_listed (length a.places) before k listed facts.0 facts.1
 
--- what is left to read behind a place leads to the same end
-pub place_behind : (a : AtomDefinition) (before after word : List ℕ) (rest words : List (List ℕ)) (k : ℕ) → after ≡ before ++ k ∷ [] → words ≡ word ∷ rest → ends_places words ≡ false → place_in a before word ≡ Ok k → places_in a after rest ≡ places_in a before words
-place_behind a before after word rest words k more is goes_on told =
+-- what is left to read after a place leads to the same end
+pub place_after : (a : AtomDefinition) (before after word : List ℕ) (rest words : List (List ℕ)) (k : ℕ) → after ≡ before ++ k ∷ [] → words ≡ word ∷ rest → ends_places words ≡ false → place_in a before word ≡ Ok k → places_in a after rest ≡ places_in a before words
+place_after a before after word rest words k more is goes_on told =
     let next : ℕ → Result (List ℕ × List (List ℕ)) LineFault = λ place. places_in a (before ++ place ∷ []) rest in
     ap (λ places. places_in a places rest) more
     ∙ sym (ap (places_in a before) is ∙ ap (λ ends. if ends then Ok (before, word ∷ rest) else (place_in a before word >>= next)) (ap ends_places (sym is) ∙ goes_on) ∙ ap (λ place. place >>= next) told)
 
--- the places that words list, behind others
+-- the places that words list, after others
 places_listed : (a : AtomDefinition) (before : List ℕ) (words : List (List ℕ)) (listed : List ℕ × List (List ℕ)) → Listed (length a.places) before →
     places_in a before words ≡ Ok listed → Listed (length a.places) listed.0
 places_listed a before [] listed so_far told =
@@ -121,7 +122,7 @@ places_listed a before (word ∷ words) listed so_far told =
     told
 
 -- the same of a list that begins with a word, which isn't empty
-places_sound : (a : AtomDefinition) (keyword : List ℕ) (words : List (List ℕ)) (listed : List ℕ × List (List ℕ)) → places_behind keyword a words ≡ Ok listed →
+places_sound : (a : AtomDefinition) (keyword : List ℕ) (words : List (List ℕ)) (listed : List ℕ × List (List ℕ)) → places_after keyword a words ≡ Ok listed →
     Listed (length a.places) listed.0 × (nat_lt 0 (length listed.0) ≡ true)
 places_sound a keyword words listed told =
     let last : List ℕ × List (List ℕ) → Result (List ℕ × List (List ℕ)) LineFault = λ l. check (nat_lt 0 (length l.0)) Shape >>= (λ _. Ok l) in
@@ -176,20 +177,14 @@ one_update variables us u sound small known = record {
 -- an update in a line
 update_sound : (a : AtomDefinition) (words : List (List ℕ)) (read : UpdateDefinition × List (List ℕ)) → update_in a words ≡ Ok read → (is_small_value read.0 ≡ true) × (has_known_variables (length a.variables) read.0 ≡ true)
 update_sound a words read told =
-    let made : ℕ → Tree ℕ × List (List ℕ) → Result (UpdateDefinition × List (List ℕ)) LineFault = λ v e. Ok (record { variable = v; value = e.0 }, e.1) in
-    let valued : ℕ → Result (UpdateDefinition × List (List ℕ)) LineFault = λ v. first_keyword (codes ":=") (drop 1 words) >>= (λ _. expression_on a (drop 1 (drop 1 words)) >>= made v) in
-    let word = led_on (first_word words) (λ w. ok_or (variable_number a w) UnknownName >>= valued) read told in
-    let variable = led_on (ok_or (variable_number a word.0) UnknownName) valued read word.2 in
-    let assigned = led_on (first_keyword (codes ":=") (drop 1 words)) (λ _. expression_on a (drop 1 (drop 1 words)) >>= made variable.0) read variable.2 in
-    let value = led_on (expression_on a (drop 1 (drop 1 words))) (made variable.0) read assigned.2 in
-    let same : ◌≡◌ {A = UpdateDefinition × List (List ℕ)} (record { variable = variable.0; value = value.0.0 }, value.0.1) read = same_end _ _ value.2 in
-    let fits = expression_fits a (drop 1 (drop 1 words)) value.0 value.1 in
-    let there : nat_lt variable.0 (length a.variables) ≡ true = lt-ltb _ _ (position-within (λ w. is_same_text w.name word.0) a.variables variable.0 (was_there _ _ _ variable.1)) in (
-      subst (λ r. is_small_value r.0 ≡ true) same fits.few,
-      subst (λ r. has_known_variables (length a.variables) r.0 ≡ true) same (and_from _ _ there fits.known),
+    let update = update_read a words read told in
+    let fits = expression_fits a (drop 1 (drop 1 words)) update.value update.valued in
+    let there : nat_lt update.variable (length a.variables) ≡ true = lt-ltb _ _ (position-within (λ w. is_same_text w.name update.word) a.variables update.variable (was_there _ _ _ update.named)) in (
+      subst (λ r. is_small_value r.0 ≡ true) update.is fits.few,
+      subst (λ r. has_known_variables (length a.variables) r.0 ≡ true) update.is (and_from _ _ there fits.known),
     )
 
--- the updates of a line, behind others
+-- the updates of a line, after others
 updates_sound : (a : AtomDefinition) (left : ℕ) (before : List UpdateDefinition) (more : Bool) (words : List (List ℕ)) (us : List UpdateDefinition) →
     SoundUpdates (length a.variables) before → length before + left ≤ MAX_UPDATES → updates_from a left before more words ≡ Ok us →
     SoundUpdates (length a.variables) us × (length us ≤ MAX_UPDATES)
@@ -211,7 +206,7 @@ updates_sound a (suc left) before true words us sound few told =
 
 -- ---- transitions
 
--- the steps of a transition's line, each behind the ones before
+-- the steps of a transition's line, each after the ones before
 abbrev pub with_updates : AtomDefinition → ℕ → List ℕ → List ℕ → Tree ℕ × List (List ℕ) → Result TransitionDefinition LineFault
 with_updates a port sources targets guard = updates_in a guard.1 >>= (λ updates. Ok (record { port = port; sources = sources; targets = targets; guard = guard.0; updates = updates }))
 
@@ -219,10 +214,10 @@ abbrev pub with_guard : AtomDefinition → ℕ → List ℕ → List ℕ × List
 with_guard a port sources targets = guard_in a targets.1 >>= with_updates a port sources targets.0
 
 abbrev pub with_targets : AtomDefinition → ℕ → List ℕ × List (List ℕ) → Result TransitionDefinition LineFault
-with_targets a port sources = places_behind (codes "to") a sources.1 >>= with_guard a port sources.0
+with_targets a port sources = places_after (codes "to") a sources.1 >>= with_guard a port sources.0
 
 abbrev pub with_sources : AtomDefinition → List (List ℕ) → ℕ → Result TransitionDefinition LineFault
-with_sources a words port = places_behind (codes "from") a (drop 1 words) >>= with_targets a port
+with_sources a words port = places_after (codes "from") a (drop 1 words) >>= with_targets a port
 
 -- a port that is named is there
 port_known : (a : AtomDefinition) (words : List (List ℕ)) (port : ℕ) → port_in a words ≡ Ok port → port < length a.ports
@@ -234,8 +229,8 @@ port_known a words port told =
 pub transition_sound : (a : AtomDefinition) (words : List (List ℕ)) (t : TransitionDefinition) → transition_in a words ≡ Ok t → is_sound_transition (length a.ports) (length a.places) (length a.variables) t ≡ true
 transition_sound a words t told =
     let port = led_on (port_in a words) (with_sources a words) t told in
-    let sources = led_on (places_behind (codes "from") a (drop 1 words)) (with_targets a port.0) t port.2 in
-    let targets = led_on (places_behind (codes "to") a sources.0.1) (with_guard a port.0 sources.0.0) t sources.2 in
+    let sources = led_on (places_after (codes "from") a (drop 1 words)) (with_targets a port.0) t port.2 in
+    let targets = led_on (places_after (codes "to") a sources.0.1) (with_guard a port.0 sources.0.0) t sources.2 in
     let guard = led_on (guard_in a targets.0.1) (with_updates a port.0 sources.0.0 targets.0.0) t targets.2 in
     let updates = led_on (updates_in a guard.0.1) (λ us. Ok (record { port = port.0; sources = sources.0.0; targets = targets.0.0; guard = guard.0.0; updates = us })) t guard.2 in
     let more = led_on (goes_on (codes "do") guard.0.1) (λ m. updates_from a MAX_UPDATES [] m (drop 1 guard.0.1)) updates.0 updates.1 in

@@ -41,15 +41,15 @@ pub at_none : {W : Type 0} (first : Option W) (Nothing : Type 0) (Behind : W →
 at_none None Nothing Behind is holds = holds
 at_none (Some word) Nothing Behind is holds = absurd (cc)
 
--- what was taken behind a look at the next word is that word
+-- what was taken after a look at the next word is that word
 module _ {W : Type 0} (text : W → List ℕ) (before words rest : List (List ℕ)) (word : List ℕ) (kept : before ≡ words) (next : words ≡ word ∷ drop 1 words) where
-  pub taken_behind : (first : Option W) → MatchOption first (before ≡ []) (λ w. before ≡ text w ∷ rest) → MatchOption first (rest ≡ words) (λ w. words ≡ text w ∷ rest)
-  taken_behind None none = absurd (cc)
-  taken_behind (Some w) taken = sym kept ∙ taken
+  pub taken_after : (first : Option W) → MatchOption first (before ≡ []) (λ w. before ≡ text w ∷ rest) → MatchOption first (rest ≡ words) (λ w. words ≡ text w ∷ rest)
+  taken_after None none = absurd (cc)
+  taken_after (Some w) taken = sym kept ∙ taken
 
-  pub goes_behind : (first : Option W) (ends : Bool) → ends ≡ false → MatchOption first (before ≡ []) (λ w. before ≡ text w ∷ rest) → MatchOption first (ends ≡ true) (λ w. ends ≡ false)
-  goes_behind None ends goes none = absurd (cc)
-  goes_behind (Some w) ends goes taken = goes
+  pub goes_after : (first : Option W) (ends : Bool) → ends ≡ false → MatchOption first (before ≡ []) (λ w. before ≡ text w ∷ rest) → MatchOption first (ends ≡ true) (λ w. ends ≡ false)
+  goes_after None ends goes none = absurd (cc)
+  goes_after (Some w) ends goes taken = goes
 
 -- the variable with the number has the name where its own is the same
 pub named_by : (variables : List Variable) (name : List ℕ) (number place : ℕ) (v : Variable) → place ≡ number → place < length variables → v ≡ get_or variables place v → is_same_text v.name name ≡ is_named variables name number

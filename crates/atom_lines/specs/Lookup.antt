@@ -1,3 +1,4 @@
+-- The parts of an atom, by their names.
 use Rattle.std.specs.Prelude.{ℕ, Bool, false, List, Option, position, slice_get}
 use Rattle.std.specs.Option.{option_map_or}
 use Rattle.petri_atom.specs.Name.{is_same_text}

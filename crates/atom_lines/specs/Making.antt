@@ -14,7 +14,7 @@ pub record IsRead {A B : Type 0} (meaning : B → A) (reading : Result (A × Lis
   pub says : reading ≡ Ok (value, rest)
   pub is_made : IfOk made (λ b. meaning b ≡ value)
 
--- the same of the updates of a line, behind which no words are left
+-- the same of the updates of a line, after which no words are left
 pub record AreRead (reading : Result (List UpdateDefinition) LineFault) (made : Result (Vec Update Global) AllocError) : Type 0 where
   pub updates : List UpdateDefinition
   pub says : reading ≡ Ok updates

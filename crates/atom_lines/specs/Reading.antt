@@ -26,7 +26,7 @@ mark_in words = do
   _ ← at_end (drop 1 words)
   Ok marked
 
--- the first value of a variable: a number, and no word behind it
+-- the first value of a variable: a number, and no word after it
 abbrev pub value_in : List (List ℕ) → Result ℤ LineFault
 value_in words = do
   first ← first_number words

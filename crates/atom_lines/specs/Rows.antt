@@ -1,4 +1,4 @@
--- What each line says of an atom, or the fault of its first word that is at fault. The words are those behind
+-- What each line says of an atom, or the fault of its first word that is at fault. The words are those after
 -- the line's first one. Where the atom has as many parts of the line's kind as it may, the line's first word
 -- is at fault, before all others.
 use Rattle.std.specs.Prelude.{ℕ, not, List, [], ◌∷◌, ◌++◌, length, drop, nat_lt, nat_eq, is_none, Result, Ok}
@@ -16,15 +16,15 @@ use Rattle.plant_words.specs.Reading.{◌>>=◌, check, first_name}
 use Rattle.atom_lines.specs.Reading.{mark_in, value_in}
 use Rattle.atom_lines.specs.Lookup.{place_number, variable_number, port_number}
 
--- the atom with one more place behind its others
+-- the atom with one more place after its others
 abbrev pub with_place : AtomDefinition → Place → AtomDefinition
 with_place a place = record a { places = a.places ++ place ∷ [] }
 
--- the atom with one more variable behind its others
+-- the atom with one more variable after its others
 abbrev pub with_variable : AtomDefinition → Variable → AtomDefinition
 with_variable a variable = record a { variables = a.variables ++ variable ∷ [] }
 
--- the atom with one more port behind its others
+-- the atom with one more port after its others
 abbrev pub with_port : AtomDefinition → PortDefinition → AtomDefinition
 with_port a port = record a { ports = a.ports ++ port ∷ [] }
 
@@ -46,7 +46,7 @@ variable_row words a = do
   first ← value_in (drop 1 words)
   Ok (with_variable a (record { name = name; first = first }))
 
--- The number of the variable that a port exports by the word, behind these: none too many, by a word of legal bytes, of a
+-- The number of the variable that a port exports by the word, after these: none too many, by a word of legal bytes, of a
 -- variable that is there, and not exported yet
 abbrev pub export_in : AtomDefinition → List ℕ → List ℕ → Result ℕ LineFault
 export_in a before word = do
@@ -56,7 +56,7 @@ export_in a before word = do
   _ ← check (not (list_any (λ k. nat_eq k number) before)) Twice
   Ok number
 
--- the numbers of the variables that the words name, behind these
+-- the numbers of the variables that the words name, after these
 abbrev pub exports_in : AtomDefinition → List ℕ → List (List ℕ) → Result (List ℕ) LineFault
 exports_in a before [] = Ok before
 exports_in a before (word ∷ words) = do

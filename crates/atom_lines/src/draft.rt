@@ -1,11 +1,11 @@
-//! The atom as its lines have told it so far.
+//! The atom as its lines have written it so far.
 ghost use Rattle.std.specs.Prelude.{◌<◌, ◌-◌, true, drop, length, map, IfSome, IsTrue, ◌≡◌, ◌≤◌, ◌∷◌, ◌++◌, IfOk, IfErr, OnOk, OnErr, IsOkAnd, Ok, Err, None, []};
 ghost use Rattle.std.specs.List.{list_all};
 ghost use Rattle.plant_words.specs.LineFaults.{IsFaultOf, IsLast};
 ghost use Rattle.atom_lines.specs.Making.{IsRead, AreRead};
 ghost use Rattle.atom_lines.specs.Rows.{place_row, variable_row, port_row, export_in, exports_in, with_place, with_variable, with_port};
 ghost use Rattle.atom_lines.specs.Lookup.{place_number, variable_number, port_number, export_number};
-ghost use Rattle.atom_lines.specs.Transitions.{port_in, place_in, places_in, places_behind, expression_on, guard_in, update_in, updates_from, updates_in, transition_in, transition_row};
+ghost use Rattle.atom_lines.specs.Transitions.{port_in, place_in, places_in, places_after, expression_on, guard_in, update_in, updates_from, updates_in, transition_in, transition_row};
 ghost use Rattle.atom_lines.specs.Sound.{is_sound_port, is_sound_transition};
 ghost use Rattle.petri_atom.specs.Definition.{is_each_once};
 ghost use Rattle.petri_atom.specs.Local.{are_places};
@@ -29,6 +29,8 @@ use plant_words::{LineFault, NameIndex, Variables, Words, is_legal, read_express
 use std::alloc::{AllocError, Global};
 
 /// An atom to which lines add parts.
+///
+/// The `ghost` lines are for contracts alone: the lists keep the rules of an atom at any time, and each index has the names of its list.
 #[derive(Drop)]
 pub struct AtomDraft {
     alloc: Global,
@@ -107,7 +109,7 @@ impl AtomDraft {
     }
 
     /// The place of the variable with the name among those that the port exports. `None` where the port exports none
-    /// with the name, and where there is no such port.
+    /// with the name, and if there is no such port.
     pub fn find_export(&self, port: u16, variable: &[u8]) -> Option<u8>
         ensures number { result ≡ export_number (drafted self.now) port variable.now }
         ensures within { IfSome result (λ number. number < MAX_EXPORTS) }
@@ -116,7 +118,7 @@ impl AtomDraft {
         Some(lookup::find_export(&self.variables, &port.exports, variable)? as u8)
     }
 
-    /// Adds the place of a line `place NAME` or `place NAME init`, by the words behind its first.
+    /// Adds the place of a line `place NAME` or `place NAME init`, by the words after its first.
     pub fn add_place(&mut self, words: &mut Words) -> Result<(), LineFault>
         ensures added { OnOk result (place_row words.old (drafted self.old) ≡ Ok (drafted self.new)) }
         ensures fault { IfErr result (IsFaultOf (place_row words.old (drafted self.old))) }
@@ -131,7 +133,7 @@ impl AtomDraft {
         Ok(())
     }
 
-    /// Puts a place with a new name behind the others. It comes into the list and into the index of names, or, where there
+    /// Puts a place with a new name after the others. It comes into the list and into the index of names, or, where there
     /// is no memory, into neither: so the list has its room first.
     fn push_place(&mut self, place: Place) -> Result<(), AllocError>
         requires few { length self.old.places.items < MAX_PLACES }
@@ -145,7 +147,7 @@ impl AtomDraft {
         Ok(())
     }
 
-    /// Adds the variable of a line `var NAME INT`, by the words behind its first.
+    /// Adds the variable of a line `var NAME INT`, by the words after its first.
     pub fn add_variable(&mut self, words: &mut Words) -> Result<(), LineFault>
         ensures added { OnOk result (variable_row words.old (drafted self.old) ≡ Ok (drafted self.new)) }
         ensures fault { IfErr result (IsFaultOf (variable_row words.old (drafted self.old))) }
@@ -163,7 +165,7 @@ impl AtomDraft {
         Ok(())
     }
 
-    /// Puts a variable with a new name behind the others, into the list and into the index of names, or into neither.
+    /// Puts a variable with a new name after the others, into the list and into the index of names, or into neither.
     fn push_variable(&mut self, variable: Variable) -> Result<(), AllocError>
         requires few { length self.old.variables.items < MAX_VARIABLES }
         requires new { variable_number (drafted self.old) variable.name ≡ None }
@@ -176,7 +178,7 @@ impl AtomDraft {
         Ok(())
     }
 
-    /// Adds the port of a line `port NAME VAR..`, by the words behind its first.
+    /// Adds the port of a line `port NAME VAR..`, by the words after its first.
     pub fn add_port(&mut self, words: &mut Words) -> Result<(), LineFault>
         ensures added { OnOk result (port_row words.old (drafted self.old) ≡ Ok (drafted self.new)) }
         ensures fault { IfErr result (IsFaultOf (port_row words.old (drafted self.old))) }
@@ -192,7 +194,7 @@ impl AtomDraft {
         Ok(())
     }
 
-    /// Puts a sound port with a new name behind the others, into the list and into the index of names, or into neither.
+    /// Puts a sound port with a new name after the others, into the list and into the index of names, or into neither.
     fn push_port(&mut self, port: Port) -> Result<(), AllocError>
         requires few { length self.old.ports.items < MAX_PORTS }
         requires new { port_number (drafted self.old) port.name ≡ None }
@@ -206,7 +208,7 @@ impl AtomDraft {
         Ok(())
     }
 
-    /// The number of the variable that the word exports behind these.
+    /// The number of the variable that the word exports after these.
     fn next_export(&self, before: &[u8], word: &[u8]) -> Result<u8, LineFault>
         ensures export { result ≡ export_in (drafted self.now) before.now word.now }
         ensures room { OnOk result (length before.now < MAX_EXPORTS) }
@@ -240,7 +242,7 @@ impl AtomDraft {
         self.find_port(word).ok_or(LineFault::UnknownName)
     }
 
-    /// The number of the place that the word lists behind these.
+    /// The number of the place that the word lists after these.
     fn next_place(&self, before: &[u8], word: &[u8]) -> Result<u8, LineFault>
         ensures place { result ≡ place_in (drafted self.now) before.now word.now }
         ensures within { IfOk result (λ place. place < MAX_PLACES) }
@@ -271,8 +273,8 @@ impl AtomDraft {
         keyword: &[u8],
         words: &mut Words,
     ) -> Result<ArrayVec<u8, MAX_PLACES>, LineFault>
-        ensures places { IfOk result (λ places. places_behind keyword.now (drafted self.now) words.old ≡ Ok (places.items, words.new)) }
-        ensures fault { IfErr result (λ fault. places_behind keyword.now (drafted self.now) words.old ≡ Err fault) }
+        ensures places { IfOk result (λ places. places_after keyword.now (drafted self.now) words.old ≡ Ok (places.items, words.new)) }
+        ensures fault { IfErr result (λ fault. places_after keyword.now (drafted self.now) words.old ≡ Err fault) }
         ensures within { IfOk result (λ places. IsTrue (are_places places.items)) }
     {
         next_keyword(words, keyword)?;
@@ -325,7 +327,7 @@ impl AtomDraft {
         self.read_update_list(more, words)
     }
 
-    /// The updates of a list, where there is one, as far as there is memory for them.
+    /// The updates of a list, if there is one, as far as there is memory for them.
     #[tactic(auto, using(crate::proofs::Updates::no_more_updates))]
     fn read_update_list(
         &self,
@@ -366,7 +368,7 @@ impl AtomDraft {
     }
 
     /// Adds the transition of a line `trans PORT from PLACE.. to PLACE..` with its guard and updates, by the words
-    /// behind its first.
+    /// after its first.
     pub fn add_transition(&mut self, words: &mut Words) -> Result<(), LineFault>
         ensures added { OnOk result (transition_row words.old (drafted self.old) ≡ Ok (drafted self.new)) }
         ensures fault { IfErr result (IsFaultOf (transition_row words.old (drafted self.old))) }
@@ -406,7 +408,7 @@ fn list_of(alloc: Global, numbers: &[u8]) -> Result<Vec<u8>, AllocError>
     numbers.to_vec(alloc)
 }
 
-/// The update of a variable to a value, where there was memory for that.
+/// The update of a variable to a value, if there was memory for that.
 fn update(variable: u8, value: Result<Expression<u8>, AllocError>) -> Result<Update, AllocError>
     ensures { IfOk result (λ update. IsOkAnd value (λ expression. update_of update ≡ record { variable = variable; value = tree_of expression })) }
 {
@@ -416,7 +418,7 @@ fn update(variable: u8, value: Result<Expression<u8>, AllocError>) -> Result<Upd
     })
 }
 
-/// The updates with one more behind them, where there was memory for all.
+/// The updates with one more after them, if there was memory for all.
 fn with_update(
     updates: Result<Vec<Update>, AllocError>,
     update: Result<Update, AllocError>,

@@ -1,4 +1,4 @@
-//! Steps of reading the line of an atom, beside those that lines of every kind share: each takes words, or tells the fault of one.
+//! Steps of reading the line of an atom, beside those that lines of every kind share: each takes words, or answers the fault of one.
 ghost use Rattle.std.specs.Prelude.{◌≡◌, drop, false, MatchOption, true, ◌∷◌};
 ghost use Rattle.atom_lines.specs.Reading.{first_number, goes_on, mark_in, value_in};
 ghost use Rattle.atom_lines.specs.Transitions.{ends_places};

@@ -14,7 +14,7 @@ PLANT is a file, or - for the standard input; STEPS and SEED are digits.
 pub(crate) enum Task {
     /// Reading and checking the plant.
     Read,
-    /// A run of so many steps, by the picks of the seed; the time is told where `timed`.
+    /// A run of so many steps, by the picks of the seed; the time is printed if `timed`.
     Run { steps: u64, seed: u64, timed: bool },
 }
 

@@ -1,1 +1,1 @@
-pub mod Scripts
+mod Scripts

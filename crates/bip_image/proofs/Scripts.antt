@@ -18,7 +18,7 @@ pub long_text_refused : (plant : PlantDefinition) (known : Option (List ℕ)) �
 long_text_refused plant None long = tt
 long_text_refused plant (Some bytes) long = long_text_is_refused plant bytes long
 
--- the fault of a script is told as an ending
+-- the fault of a script, as an ending
 pub script_tells : (plant : PlantDefinition) (text : List ℕ) (fault : ScriptFault) → IsFaultOf plant text fault → TellsOfScript plant (of_script fault) text
 script_tells plant text (Line number) is = is
 script_tells plant text Memory is = tt

@@ -1,4 +1,4 @@
--- What the program tells where it ends early, and its exit status.
+-- What the program prints if it ends early, and its exit status.
 use Rattle.std.specs.Prelude.{ℕ, List, [], ◌++◌, codes, decimal, Result, Ok, Err}
 use Rattle.file_disk.specs.Messages.{message_of}
 use Rattle.file_disk.specs.declared.fault.FileFault.{FileFault}
@@ -44,23 +44,24 @@ abbrev pub of_workers : WorkersEnding → Ending
 of_workers workers.Memory = OfPlant Memory
 of_workers (workers.Image ending) = Image ending
 
--- what is told of an image's file that can't be opened or made
+-- what is printed of an image's file that can't be opened or made
 abbrev pub unopened_text : List ℕ → FileFault → List ℕ
 unopened_text path file.InUse = codes "file " ++ path ++ codes " in use\n"
+unopened_text path file.AlreadyThere = codes "file " ++ path ++ codes " is there\n"
 unopened_text path fault = plant.file_line path
 
--- what is told of a command on an image that ended early: its refusal; the answers of a run tell that the device failed, and of one by workers the status alone
+-- what is printed of a command on an image that ended early: its refusal; the answers of a run show that the device failed, and of one by workers the status alone
 abbrev pub image_text : ImageEnding → List ℕ
 image_text (image.Refused refusal) = refusal_line refusal ++ codes "\n"
 image_text image.Failed = []
 image_text image.Unwritten = []
 
--- what is told where an image is not brought over
+-- what is printed if an image is not brought over
 abbrev pub migrate_text : MigrateEnding → List ℕ
 migrate_text (migrating.Refused refusal) = migrate_line refusal ++ codes "\n"
 migrate_text migrating.Unwritten = []
 
--- what is told of an ending, where the texts and the image are at these paths
+-- what is printed of an ending, where the texts and the image are at these paths
 abbrev pub told_text : Paths → Ending → List ℕ
 told_text paths (OfPlant ending) = plant.told_text (plant_alone paths.plant) ending
 told_text paths (Script line) = codes "script line " ++ decimal line ++ codes "\n"
@@ -71,27 +72,27 @@ told_text paths (NewUnopened fault) = unopened_text paths.made.now fault
 told_text paths (Migrate ending) = migrate_text ending
 told_text paths NotRight = []
 
--- a sentence behind the line of an ending
-abbrev pub behind_line : List ℕ → List ℕ
-behind_line sentence = codes "  " ++ sentence ++ codes "\n"
+-- a sentence after the line of an ending
+abbrev pub after_line : List ℕ → List ℕ
+after_line sentence = codes "  " ++ sentence ++ codes "\n"
 
--- what more is told of a command on an image that ended early
+-- what more is printed of a command on an image that ended early
 abbrev pub more_of_image : ImageEnding → List ℕ
-more_of_image (image.Refused refusal) = behind_line (advice_for refusal)
+more_of_image (image.Refused refusal) = after_line (advice_for refusal)
 more_of_image image.Failed = []
 more_of_image image.Unwritten = []
 
 -- the same where an image is not brought over
 abbrev pub more_of_migrating : MigrateEnding → List ℕ
-more_of_migrating (migrating.Refused refusal) = behind_line (migrate_advice refusal)
+more_of_migrating (migrating.Refused refusal) = after_line (migrate_advice refusal)
 more_of_migrating migrating.Unwritten = []
 
--- what is told behind the line of an ending, where more is to be told
+-- what is printed after the line of an ending, if more is to be printed
 abbrev pub more_text : Ending → List ℕ
-more_text (Script line) = behind_line (line_message line)
-more_text (ImageUnopened fault) = behind_line (message_of fault)
+more_text (Script line) = after_line (line_message line)
+more_text (ImageUnopened fault) = after_line (message_of fault)
 more_text (Image ending) = more_of_image ending
-more_text (NewUnopened fault) = behind_line (message_of fault)
+more_text (NewUnopened fault) = after_line (message_of fault)
 more_text (Migrate ending) = more_of_migrating ending
-more_text NotRight = behind_line (codes "a power cut left what it must not leave: '--list' tells which; keep the plant and the script, and run this plant on no image")
+more_text NotRight = after_line (codes "a power cut left what it must not leave: '--list' tells which; keep the plant and the script, and run this plant on no image")
 more_text ending = []

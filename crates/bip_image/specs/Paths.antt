@@ -7,14 +7,14 @@ use Rattle.command_line.specs.declared.request.Work.TheVariants.{OfPlant, ByHand
 
 -- where the script is of a task on an image; only a run has one
 abbrev pub script_of : ImageTask → List ℕ
-script_of (Format ring) = []
+script_of (Format ring if_there) = []
 script_of (Run script count) = script.now
 script_of Recover = []
 script_of (Migrate made ring) = []
 
 -- where the new image is of a task on an image; only one that is brought over has one
 abbrev pub made_of : ImageTask → List ℕ
-made_of (Format ring) = []
+made_of (Format ring if_there) = []
 made_of (Run script count) = []
 made_of Recover = []
 made_of (Migrate made ring) = made.now

@@ -13,7 +13,7 @@ abbrev pub of_script : ScriptFault → Ending
 of_script (script.Line number) = Script number
 of_script script.Memory = OfPlant Memory
 
--- An ending behind these bytes of a script for a plant: the line is the one for which they are refused; the reader may fail, and memory may be
+-- An ending after these bytes of a script for a plant: the line is the one for which they are refused; the reader may fail, and memory may be
 -- wanting; and nothing else has a part in it.
 abbrev pub TellsOfScript : PlantDefinition → Ending → List ℕ → Type 0
 TellsOfScript plant (Script line) bytes = script_meaning plant bytes ≡ Err line

@@ -1,11 +1,11 @@
-//! Why the program ends early, what it tells then, and its exit status.
+//! Why the program ends early, what it prints then, and its exit status.
 ghost use Rattle.std.specs.Prelude.{◌≡◌};
 ghost use Rattle.bip_image.specs.Ending.{status_of};
 
 use command_line::{ImageTask, Request, Work};
 use file_disk::FileFault;
 use image_commands::{ExploreEnding, ImageEnding, MigrateEnding};
-use plant_tasks::{PlantEnding, PlantTold, TaskPaths, shown_path};
+use plant_tasks::{PlantEnding, PlantEndingText, TaskPaths, shown_path};
 use script_lines::ScriptFault;
 use std::alloc::{AllocError, Global};
 use std::fmt;
@@ -32,7 +32,7 @@ pub(crate) enum Ending {
     NotRight,
 }
 
-/// What more is told where a stop left what is not right.
+/// What more is printed if a stop left what is not right.
 const NOT_RIGHT: &str =
     "a power cut left what it must not leave: '--list' tells which; keep the plant and the script, and run this plant on no image";
 
@@ -153,39 +153,45 @@ impl ShownPaths {
     }
 }
 
-/// What is told of an ending: a line, or nothing where `clap` or what was printed told it, and where the output failed.
+/// What is printed of an ending: a line, or nothing if `clap` or what was printed before says it, and if the output failed.
 #[derive(Clone, Copy)]
-pub(crate) struct Told<'a> {
+pub(crate) struct EndingText<'a> {
     /// Why the program ends early.
     pub(crate) ending: Ending,
     /// Where its texts and its image are.
     pub(crate) paths: Paths<'a>,
 }
 
-impl<'a> fmt::Display for Told<'a> {
+impl<'a> fmt::Display for EndingText<'a> {
     ghost use Rattle.std.specs.Prelude.{Some};
     ghost use Rattle.bip_image.specs.Ending.{told_text};
 
-    ghost output = { λ told. Some (told_text told.paths told.ending) };
+    ghost output = { λ text. Some (told_text text.paths text.ending) };
 
     fn fmt<W: fmt::Write>(&self, f: &mut fmt::Formatter<W>) -> fmt::Result {
         match self.ending {
             Ending::OfPlant(ending) => {
-                let told = PlantTold {
+                let text = PlantEndingText {
                     ending,
                     paths: TaskPaths::of_plant(self.paths.plant),
                 };
-                write!(f, "{told}")
+                write!(f, "{text}")
             }
             Ending::Script(line) => writeln!(f, "script line {line}"),
             Ending::ScriptUnread => writeln!(f, "file {}", self.paths.script),
             Ending::ImageUnopened(FileFault::InUse) => {
                 writeln!(f, "file {} in use", self.paths.image)
             }
+            Ending::ImageUnopened(FileFault::AlreadyThere) => {
+                writeln!(f, "file {} is there", self.paths.image)
+            }
             Ending::ImageUnopened(_) => writeln!(f, "file {}", self.paths.image),
             Ending::Image(ImageEnding::Refused(refusal)) => writeln!(f, "{refusal}"),
             Ending::NewUnopened(FileFault::InUse) => {
                 writeln!(f, "file {} in use", self.paths.made)
+            }
+            Ending::NewUnopened(FileFault::AlreadyThere) => {
+                writeln!(f, "file {} is there", self.paths.made)
             }
             Ending::NewUnopened(_) => writeln!(f, "file {}", self.paths.made),
             Ending::Migrate(MigrateEnding::Refused(refusal)) => writeln!(f, "{refusal}"),
@@ -194,7 +200,7 @@ impl<'a> fmt::Display for Told<'a> {
     }
 }
 
-/// What is told of an ending behind its line, where more is to be told: what it means, and what can be done. Of a plant's fault the
+/// What is printed of an ending after its line, if more is to be printed: what it means, and what can be done. Of a plant's fault the
 /// line of the text is shown in its place.
 #[derive(Clone, Copy)]
 pub(crate) struct More {
@@ -225,7 +231,7 @@ impl fmt::Display for More {
 impl From<PlantEnding> for Ending {
     ghost use Rattle.bip_image.specs.declared.ending.Ending.TheVariants.{OfPlant};
 
-    ghost from_gives = { λ told ending. ending ≡ OfPlant told };
+    ghost from_gives = { λ why ending. ending ≡ OfPlant why };
 
     fn from(ending: PlantEnding) -> Self {
         Ending::OfPlant(ending)
@@ -248,7 +254,7 @@ impl From<ScriptFault> for Ending {
 impl From<ImageEnding> for Ending {
     ghost use Rattle.bip_image.specs.declared.ending.Ending.TheVariants.{Image};
 
-    ghost from_gives = { λ told ending. ending ≡ Image told };
+    ghost from_gives = { λ why ending. ending ≡ Image why };
 
     fn from(ending: ImageEnding) -> Self {
         Ending::Image(ending)
@@ -258,7 +264,7 @@ impl From<ImageEnding> for Ending {
 impl From<MigrateEnding> for Ending {
     ghost use Rattle.bip_image.specs.declared.ending.Ending.TheVariants.{Migrate};
 
-    ghost from_gives = { λ told ending. ending ≡ Migrate told };
+    ghost from_gives = { λ why ending. ending ≡ Migrate why };
 
     fn from(ending: MigrateEnding) -> Self {
         Ending::Migrate(ending)
@@ -268,7 +274,7 @@ impl From<MigrateEnding> for Ending {
 impl From<ExploreEnding> for Ending {
     ghost use Rattle.bip_image.specs.Ending.{of_exploring};
 
-    ghost from_gives = { λ told ending. ending ≡ of_exploring told };
+    ghost from_gives = { λ why ending. ending ≡ of_exploring why };
 
     fn from(ending: ExploreEnding) -> Self {
         match ending {
@@ -281,7 +287,7 @@ impl From<ExploreEnding> for Ending {
 impl From<WorkersEnding> for Ending {
     ghost use Rattle.bip_image.specs.Ending.{of_workers};
 
-    ghost from_gives = { λ told ending. ending ≡ of_workers told };
+    ghost from_gives = { λ why ending. ending ≡ of_workers why };
 
     fn from(ending: WorkersEnding) -> Self {
         match ending {

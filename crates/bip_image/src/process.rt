@@ -2,13 +2,11 @@
 ghost use Rattle.std.specs.Prelude.{◌≡◌};
 ghost use Rattle.bip_image.specs.Ending.{status_of};
 
-use crate::ending::{Ending, More, Paths, ShownPaths, Told, exit_status};
+use crate::ending::{Ending, EndingText, More, Paths, ShownPaths, exit_status};
 use crate::progress::ProgressLine;
 use crate::script::read_events;
 use crate::workers_line::WorkersLine;
-use command_line::{
-    Exploration, ImageTask, Request, Work, WorkerCount, is_standard_input, read_request,
-};
+use command_line::{Exploration, IfThere, ImageTask, Request, Work, WorkerCount, read_request};
 use file_disk::{FileDisk, FileFault};
 use image_commands::{
     ImageEnding, MigrateEnding, Progress, explore_plant, format_image, image_bytes, migrate_image,
@@ -16,20 +14,19 @@ use image_commands::{
 };
 use plant_core::Event;
 use plant_tasks::{
-    PlantEnding, Watched, ended, read_plant, tell_file_failure, tell_more, tell_output_failure,
-    words_of_process,
+    PlantEnding, Watched, ended, open_text, plant_at, tell_file_failure, tell_more,
+    tell_output_failure, words_of_process,
 };
 use std::alloc::Global;
 use std::fs::File;
-use std::io::{BufWriter, Read, Write};
+use std::io::{self, BufWriter, Write};
 use std::rt::{Clock, Env, Files};
 use std::sync::Wait;
 use std::thread::Threads;
-use std::{fs, io};
 use step_core::System;
 use worker_runs::run_by_workers;
 
-/// Does what the words of the command line ask for, and gives the exit status. Where a terminal shows the standard error, it is told there how far
+/// Does what the words of the command line ask for, and gives the exit status. If a terminal shows the standard error, it is printed there how far
 /// a long task is, and more of a fault; of a fault also where the words ask for it.
 pub(crate) fn run<
     R: Env
@@ -59,7 +56,7 @@ fn answer<
     }
 }
 
-/// Does what was asked for, tells why not where it ends early, and gives the exit status.
+/// Does what was asked for, prints why not if it ends early, and gives the exit status.
 fn serve<
     R: Files<File = File> + Input + Print + Eprint + Clock + AllocGlobal + Threads + Wait + Sync,
 >(rt: &R, request: &Request<'_>, is_terminal: bool) -> u8 {
@@ -178,10 +175,13 @@ fn work_on_image<
 ) -> Result<(), Ending> {
     let alloc = rt.alloc();
     match task {
-        ImageTask::Format(ring) => {
-            let disk = device_to_format(rt, image, image_bytes(system, ring.records)).map_err(
-                Ending::ImageUnopened,
-            )?;
+        ImageTask::Format(ring, if_there) => {
+            let bytes = image_bytes(system, ring.records);
+            let disk = match if_there {
+                IfThere::Formatted => device_to_format(rt, image, bytes),
+                IfThere::Refused => FileDisk::create(rt, image, bytes),
+            }
+            .map_err(Ending::ImageUnopened)?;
             format_image(alloc, system, ring.records, disk, output)?;
         }
         ImageTask::Run(script, count) => {
@@ -226,38 +226,6 @@ fn run_events<R: Eprint + Clock + AllocGlobal + Threads + Wait + Sync, W: Write>
     Ok(())
 }
 
-/// The plant that stands at the path. Its text is put into `text`, and a failure of its file into `failure`.
-fn plant_at<R: Files<File = File> + Input + AllocGlobal>(
-    rt: &R,
-    path: &str,
-    text: &mut Vec<u8>,
-    failure: &mut Option<io::Error>,
-) -> Result<System, PlantEnding> {
-    if is_standard_input(path) {
-        return plant_from(rt.alloc(), rt.reader(), text, failure);
-    }
-    match fs::open(rt, path) {
-        Ok(file) => plant_from(rt.alloc(), file, text, failure),
-        Err(error) => {
-            *failure = Some(error);
-            Err(PlantEnding::Unopened)
-        }
-    }
-}
-
-/// The plant that a reader gives.
-fn plant_from<R: Read + Drop>(
-    alloc: Global,
-    reader: R,
-    text: &mut Vec<u8>,
-    failure: &mut Option<io::Error>,
-) -> Result<System, PlantEnding> {
-    let mut reader = Watched::new(reader);
-    let system = read_plant(alloc, &mut reader, text);
-    *failure = reader.failure();
-    system
-}
-
 /// The events that the script at the path asks of a plant of the system. A failure of its file is put into `failure`.
 fn script_at<R: Files<File = File> + Input + AllocGlobal>(
     rt: &R,
@@ -265,27 +233,10 @@ fn script_at<R: Files<File = File> + Input + AllocGlobal>(
     path: &str,
     failure: &mut Option<io::Error>,
 ) -> Result<Vec<Event>, Ending> {
-    if is_standard_input(path) {
-        return script_from(rt.alloc(), system, rt.reader(), failure);
-    }
-    match fs::open(rt, path) {
-        Ok(file) => script_from(rt.alloc(), system, file, failure),
-        Err(error) => {
-            *failure = Some(error);
-            Err(Ending::ScriptUnread)
-        }
-    }
-}
-
-/// The events of the script that a reader gives.
-fn script_from<R: Read + Drop>(
-    alloc: Global,
-    system: &System,
-    reader: R,
-    failure: &mut Option<io::Error>,
-) -> Result<Vec<Event>, Ending> {
-    let mut reader = Watched::new(reader);
-    let events = read_events(alloc, system, &mut reader);
+    let Some(mut reader) = open_text(rt, path, failure) else {
+        return Err(Ending::ScriptUnread);
+    };
+    let events = read_events(rt.alloc(), system, &mut reader);
     *failure = reader.failure();
     events
 }
@@ -307,7 +258,7 @@ fn device_to_format<R: Files<File = File>>(
     }
 }
 
-/// Tells more of an ending than its line: of a plant what [`tell_more`] tells, why a script could not be read or the output takes nothing, and
+/// Prints more of an ending than its line: of a plant what [`tell_more`] prints, why a script could not be read or the output takes nothing, and
 /// of any other ending what it means.
 fn tell_all<R: Eprint + AllocGlobal>(
     rt: &R,
@@ -338,7 +289,7 @@ fn end<R: Eprint>(rt: &R, paths: Paths<'_>, ended: Result<(), Ending>) -> u8
     ensures { result ≡ status_of ended }
 {
     if let Err(ending) = ended {
-        let _ = rt.eprint(Told { ending, paths });
+        let _ = rt.eprint(EndingText { ending, paths });
     }
     exit_status(&ended)
 }

@@ -5,12 +5,12 @@ use std::rt::Clock;
 use std::time::Instant;
 
 /// Tells on the standard error how far an exploration is: at first how many stops and starts there are, and then, in one line that is written over
-/// and over and is gone at the end, how many stops were tried and how long the others take. Where no terminal shows it, nothing is told.
+/// and over and is gone at the end, how many stops were tried and how long the others take. If no terminal shows it, nothing is printed.
 #[derive(Drop)]
 pub(crate) struct ProgressLine<'a, R> {
     /// What prints, and has a clock.
     rt: &'a R,
-    /// Whether anything is told.
+    /// Whether anything is printed.
     tells: bool,
     /// How many stops there are.
     stops: u64,
@@ -35,7 +35,7 @@ impl<'a, R: Eprint + Clock> ProgressLine<'a, R> {
         }
     }
 
-    /// How many milliseconds ago the first stop was tried, if the clock tells.
+    /// How many milliseconds ago the first stop was tried, if the clock gives the time.
     fn passed(&self) -> Option<u64> {
         let time = self.began?.elapsed(self.rt).ok()?;
         Some(milliseconds(time))

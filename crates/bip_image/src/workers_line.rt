@@ -7,12 +7,12 @@ use std::time::Instant;
 use worker_runs::RunProgress;
 
 /// Tells on the standard error how far a run by workers is, in one line that is written over and over and is gone at the end: how many events were
-/// passed, and how many choices were fired and acknowledged. Where no terminal shows it, nothing is told.
+/// passed, and how many choices were fired and acknowledged. If no terminal shows it, nothing is printed.
 #[derive(Drop)]
 pub(crate) struct WorkersLine<'a, R> {
     /// What prints, and has a clock.
     rt: &'a R,
-    /// When the run began, if anything is told.
+    /// When the run began, if anything is printed.
     began: Option<Instant>,
     /// How many events there are.
     events: usize,
@@ -37,13 +37,13 @@ impl<'a, R: Eprint + Clock> WorkersLine<'a, R> {
         }
     }
 
-    /// How many milliseconds ago the run began, where anything is told.
+    /// How many milliseconds ago the run began, if anything is printed.
     fn time(&self) -> Option<u64> {
         let time = self.began?.elapsed(self.rt).ok()?;
         Some(milliseconds(time))
     }
 
-    /// Whether it is time for a line, so many milliseconds after the beginning. Of the workers that ask it at once one is told so.
+    /// Whether it is time for a line, so many milliseconds after the beginning. Of the workers that ask it at once one is answered so.
     fn is_due(&self, time: u64) -> bool {
         let next = self.next.load(Ordering::SeqCst);
         let later = time.saturating_add(LEAST_SHOWN);

@@ -1,7 +1,7 @@
 //! The program for a plant alone: it reads a plant text and says what stands in it, draws it, or runs it.
 //!
 //! `main` only asks which ends of the process are a terminal, and hands the rest to `process`: the words, the files, the standard input,
-//! output and error. What the words ask for is read by the crate `command_line`, and what is done with a plant, and what is told where
+//! output and error. What the words ask for is read by the crate `command_line`, and what is done with a plant, and what is printed if
 //! that ends early, stands in the crate `plant_tasks`. A task on an image is done by the program `bip_image`; the launcher at the top of
 //! the repository runs whichever the words ask for.
 //!

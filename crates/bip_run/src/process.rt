@@ -6,14 +6,12 @@ use crate::paths::ShownPaths;
 use crate::saving::{FileSaver, lead_to_one_file, perform_saving};
 use command_line::{Drawing, Request, Task, Work, is_standard_input, read_request};
 use plant_tasks::{
-    PlantEnding, PlantTold, ReadPlant, TaskPaths, Watched, ended, read_plant, step, tell_more,
-    words_of_process,
+    PlantEnding, PlantEndingText, ReadPlant, TaskPaths, Watched, ended, open_text, plant_at, step,
+    tell_more, words_of_process,
 };
-use std::alloc::Global;
 use std::fs::File;
-use std::io::{BufReader, BufWriter, Read, Write};
+use std::io::{self, BufReader, BufWriter, Write};
 use std::rt::{Env, Files};
-use std::{fs, io};
 use step_core::System;
 
 /// Which ends of the process are a terminal.
@@ -21,7 +19,7 @@ use step_core::System;
 pub(crate) struct Terminals {
     /// The standard input and the standard output: a person types lines, and sees the answer to each.
     pub(crate) typed: bool,
-    /// The standard error: more is told there of a fault than its line.
+    /// The standard error: more of a fault than its line is printed there.
     pub(crate) told: bool,
 }
 
@@ -48,7 +46,7 @@ fn answer<R: Files<File = File> + Input + Print + Eprint + AllocGlobal>(
     }
 }
 
-/// Does what was asked for, tells why not where it ends early, and gives the exit status. More is told of an ending on a terminal, or where
+/// Does what was asked for, tells why not where it ends early, and gives the exit status. More is printed of an ending on a terminal, or if
 /// the words ask for it.
 fn serve<R: Files<File = File> + Input + Print + Eprint + AllocGlobal>(
     rt: &R,
@@ -120,38 +118,6 @@ fn saves_over_what_is_read<R: Files>(rt: &R, request: &Request<'_>) -> bool {
     leads_to(request.plant) || request.work.input().is_some_and(leads_to)
 }
 
-/// The plant that stands at the path. Its text is put into `text`, and a failure of its file into `failure`.
-fn plant_at<R: Files<File = File> + Input + AllocGlobal>(
-    rt: &R,
-    path: &str,
-    text: &mut Vec<u8>,
-    failure: &mut Option<io::Error>,
-) -> Result<System, PlantEnding> {
-    if is_standard_input(path) {
-        return plant_from(rt.alloc(), rt.reader(), text, failure);
-    }
-    match fs::open(rt, path) {
-        Ok(file) => plant_from(rt.alloc(), file, text, failure),
-        Err(error) => {
-            *failure = Some(error);
-            Err(PlantEnding::Unopened)
-        }
-    }
-}
-
-/// The plant that a reader gives.
-fn plant_from<R: Read + Drop>(
-    alloc: Global,
-    reader: R,
-    text: &mut Vec<u8>,
-    failure: &mut Option<io::Error>,
-) -> Result<System, PlantEnding> {
-    let mut reader = Watched::new(reader);
-    let system = read_plant(alloc, &mut reader, text);
-    *failure = reader.failure();
-    system
-}
-
 /// Does what was asked for with a plant that was read.
 fn work_on<R: Files<File = File> + Input + AllocGlobal, W: Write>(
     rt: &R,
@@ -181,31 +147,10 @@ fn work_by<R: Files<File = File> + Input + AllocGlobal, W: Write>(
     let Some(path) = request.work.input() else {
         return perform_saving(rt, task, plant, io::empty(), output, saved, failure);
     };
-    if is_standard_input(path) {
-        return work_from(rt, task, plant, rt.reader(), output, saved, failure);
-    }
-    match fs::open(rt, path) {
-        Ok(file) => work_from(rt, task, plant, file, output, saved, failure),
-        Err(error) => {
-            *failure = Some(error);
-            Err(PlantEnding::InputUnread)
-        }
-    }
-}
-
-/// Does a task of the plant alone with the picks that a reader gives, and puts a failure of the reader into `failure`.
-fn work_from<R: Files<File = File> + AllocGlobal, F: Read + Drop, W: Write>(
-    rt: &R,
-    task: &Task<'_>,
-    plant: &ReadPlant<'_>,
-    reader: F,
-    output: &mut W,
-    saved: Option<&str>,
-    failure: &mut Option<io::Error>,
-) -> Result<(), PlantEnding> {
-    let mut input = BufReader::new(rt.alloc(), Watched::new(reader)).map_err(
-        |_| PlantEnding::Memory,
-    )?;
+    let Some(reader) = open_text(rt, path, failure) else {
+        return Err(PlantEnding::InputUnread);
+    };
+    let mut input = BufReader::new(rt.alloc(), reader).map_err(|_| PlantEnding::Memory)?;
     let ended = perform_saving(rt, task, plant, &mut input, output, saved, failure);
     if let Err(PlantEnding::InputUnread) = ended {
         *failure = input.get_ref().failure();
@@ -249,7 +194,7 @@ fn end<R: Eprint>(rt: &R, paths: TaskPaths<'_>, ended: Result<(), PlantEnding>) 
     match ended {
         Ok(()) => 0,
         Err(ending) => {
-            let _ = rt.eprint(PlantTold { ending, paths });
+            let _ = rt.eprint(PlantEndingText { ending, paths });
             ending.exit_status()
         }
     }

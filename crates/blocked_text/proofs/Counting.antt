@@ -10,11 +10,11 @@ use Rattle.priority_filter.specs.declared.seen.At.{At}
 use Rattle.priority_filter.specs.declared.seen.Seen.{Seen}
 use Rattle.priority_filter.specs.declared.seen.TheConstants.{SEEN_ATOMS}
 use Rattle.priority_filter.proofs.Counting.{alike-counted}
-use Rattle.priority_filter.proofs.DecidedOrder.{told_no_fault}
+use Rattle.priority_filter.proofs.DecidedOrder.{decides_no_fault}
 use Rattle.step_core.specs.Choice.{active_in, is_marked_at, named, plant_interactions}
 use Rattle.step_core.specs.Plant.{PlantDefinition}
 use Rattle.step_core.specs.Rules.{fault_of}
-use Rattle.step_core.proofs.Alive.{order-sound}
+use Rattle.step_core.proofs.NoDeadlock.{order-sound}
 
 -- the rules of a plant that breaks no rule of plants ask for places that a row can show
 pub seen-counts : (plant : PlantDefinition) (states : List Local) (seen : List Seen) → fault_of plant ≡ None
@@ -22,7 +22,7 @@ pub seen-counts : (plant : PlantDefinition) (states : List Local) (seen : List S
     → active (may_be_marked seen) plant.rules ≡ active_in plant states
 seen-counts plant states seen valid shown =
     let interactions = map named (plant_interactions plant) in
-    let known : AreKnown plant.rules interactions = ((told_no_fault plant.rules interactions).0 (order-sound plant valid)).0 in
+    let known : AreKnown plant.rules interactions = ((decides_no_fault plant.rules interactions).0 (order-sound plant valid)).0 in
     alike-counted plant.rules (may_be_marked seen) (is_marked_at states) (λ left right at there.
     let is : rule_at plant.rules there.0 ≡ UnderAt left right at = sym (get_or_default plant.rules there.0 (UnderAt left right at) (Under (Whole 0) (Whole 0)) there.1) ∙ there.2 in
     let own : IsKnown interactions (UnderAt left right at) = subst (IsKnown interactions) is (known there.0 there.1) in

@@ -27,10 +27,10 @@ module _ {X Y : Type 0} (g : X → Y) (xs : List X) (ys : List Y) (made : map g 
 -- ---- what is said of an entry
 
 -- what is printed of an entry that is there
-pub told-entry : {X T E : Type 0} (say : X → List ℕ) (o : Option X) (x : X) (result : Result T E) (start after : Option (List ℕ))
+pub printed-entry : {X T E : Type 0} (say : X → List ℕ) (o : Option X) (x : X) (result : Result T E) (start after : Option (List ℕ))
     → o ≡ Some x → OnOk result (Appends start after (say x)) → OnOk result (Appends start after (option_map_or say o []))
-told-entry say o x result start after there told = subst (λ p. OnOk result (Appends start after (option_map_or say p []))) (sym there) told
+printed-entry say o x result start after there printed = subst (λ p. OnOk result (Appends start after (option_map_or say p []))) (sym there) printed
 
 -- nothing is printed of one that is not
-pub told-no-entry : {X : Type 0} (say : X → List ℕ) (o : Option X) (now : Option (List ℕ)) → o ≡ None → Appends now now (option_map_or say o [])
-told-no-entry say o now none = subst (λ p. Appends now now (option_map_or say p [])) (sym none) (Appends-nil now)
+pub printed-no-entry : {X : Type 0} (say : X → List ℕ) (o : Option X) (now : Option (List ℕ)) → o ≡ None → Appends now now (option_map_or say o [])
+printed-no-entry say o now none = subst (λ p. Appends now now (option_map_or say p [])) (sym none) (Appends-nil now)

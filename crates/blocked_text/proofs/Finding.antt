@@ -14,7 +14,7 @@ position_from-map p g i (x ∷ xs) = ap (cond (p (g x)) (Some i)) (position_from
 
 -- ---- whether something is found
 
--- the first of three is none where each of them is
+-- the first of three is none if each of them is
 pub none-of-three : {A B C R : Type 0} (f : A → R) (g : B → R) (h : C → R) (a : Option A) (b : Option B) (c : Option C)
     → is_none (option_or (option_map f a) (option_or (option_map g b) (option_map h c))) ≡ (is_none a && is_none b && is_none c)
 none-of-three f g h (Some x) b c = refl
@@ -50,37 +50,37 @@ none-placed p q other i (x ∷ xs) = each (p x) (none-placed p q other (i + 1) x
     each false more = more
 
 pub none-is : {X : Type 0} (o : Option X) → is_none o ≡ true → o ≡ None
-none-is None told = refl
-none-is (Some x) told = absurd (false≢true told)
+none-is None known = refl
+none-is (Some x) known = absurd (false≢true known)
 
--- nothing is there where it is not said that something is
-pub told-none : {X : Type 0} (o : Option X) (b : Bool) → is_some o ≡ not b → is_none o ≡ b
-told-none None true told = refl
-told-none None false told = absurd (false≢true told)
-told-none (Some x) true told = absurd (false≢true (sym told))
-told-none (Some x) false told = refl
+-- nothing is there if it is not said that something is
+pub none-by : {X : Type 0} (o : Option X) (b : Bool) → is_some o ≡ not b → is_none o ≡ b
+none-by None true known = refl
+none-by None false known = absurd (false≢true known)
+none-by (Some x) true known = absurd (false≢true (sym known))
+none-by (Some x) false known = refl
 
 -- ---- what is found
 
 -- what is found is in the list, and passes
 pub found-passes : {X : Type 0} (p : X → Bool) (xs : List X) (y : X) → find p xs ≡ Some y → Contains xs y × (p y ≡ true)
-found-passes p [] y told = absurd (none-some y told)
-found-passes p (x ∷ xs) y told = each (found-passes p xs y) (p x) refl told
+found-passes p [] y known = absurd (none-some y known)
+found-passes p (x ∷ xs) y known = each (found-passes p xs y) (p x) refl known
   where
     each : (find p xs ≡ Some y → Contains xs y × (p y ≡ true)) → (b : Bool) → p x ≡ b → cond b (Some x) (find p xs) ≡ Some y → Contains (x ∷ xs) y × (p y ≡ true)
-    each behind true passes is = let same : x ≡ y = same_Some x y is in (subst (Contains (x ∷ xs)) same (here x xs), ap p (sym same) ∙ passes)
-    each behind false fails is = let more = behind is in (later x xs y more.0, more.1)
+    each rest true passes is = let same : x ≡ y = same_Some x y is in (subst (Contains (x ∷ xs)) same (here x xs), ap p (sym same) ∙ passes)
+    each rest false fails is = let more = rest is in (later x xs y more.0, more.1)
 
 -- the element at the place that is found passes
 pub placed-passes : {X : Type 0} (p : X → Bool) (i : ℕ) (xs : List X) (k : ℕ) → position_from p i xs ≡ Some k
     → (j : ℕ) × (x : X) × (k ≡ i + j) × (slice_get xs j ≡ Some x) × (p x ≡ true)
-placed-passes p i [] k told = absurd (none-some k told)
-placed-passes p i (x ∷ xs) k told = each (placed-passes p (i + 1) xs k) (p x) refl told
+placed-passes p i [] k known = absurd (none-some k known)
+placed-passes p i (x ∷ xs) k known = each (placed-passes p (i + 1) xs k) (p x) refl known
   where
     each : (position_from p (i + 1) xs ≡ Some k → (j : ℕ) × (y : _) × (k ≡ (i + 1) + j) × (slice_get xs j ≡ Some y) × (p y ≡ true))
         → (b : Bool) → p x ≡ b → cond b (Some i) (position_from p (i + 1) xs) ≡ Some k → (j : ℕ) × (y : _) × (k ≡ i + j) × (slice_get (x ∷ xs) j ≡ Some y) × (p y ≡ true)
-    each behind true passes is = let same : i ≡ k = same_Some i k is in (zero, x, omega (arith, same), refl, passes)
-    each behind false fails is = let more = behind is in (suc more.0, more.1, omega (arith, more.2), more.3, more.4)
+    each rest true passes is = let same : i ≡ k = same_Some i k is in (zero, x, omega (arith, same), refl, passes)
+    each rest false fails is = let more = rest is in (suc more.0, more.1, omega (arith, more.2), more.3, more.4)
 
 -- ---- the first elements of a list
 
@@ -107,5 +107,5 @@ none-taken p xs i none fails = ap (λ k. list_any p (take k xs)) (let e : i + 1 
     one-more p (x ∷ xs) (suc i) none fails = each (p x) none (λ more. one-more p xs i more fails)
       where
         each : (b : Bool) → (b || list_any p (take i xs)) ≡ false → (list_any p (take i xs) ≡ false → list_any p (take (suc i) xs) ≡ false) → (b || list_any p (take (suc i) xs)) ≡ false
-        each true none behind = absurd (false≢true (sym none))
-        each false none behind = behind none
+        each true none rest = absurd (false≢true (sym none))
+        each false none rest = rest none

@@ -1,4 +1,4 @@
--- A connector can be fired exactly where one of its interactions is allowed.
+-- A connector can be fired exactly if one of its interactions is allowed.
 use Rattle.std.proofs.Common.{◌≡◌, ℕ, suc, ◌+◌, ◌≤◌, refl, sym, ◌∙◌, ap, List, [], ◌∷◌, map, length, arith, Bool, true, false, cond, ◌&&◌, ◌||◌, ◌==◌}
 use Rattle.std.specs.Prelude.{Some, slice_get}
 use Rattle.std.specs.List.{list_all, list_any, range_with_len}
@@ -9,7 +9,7 @@ use Rattle.petri_atom.specs.Local.{Local}
 use Rattle.step_core.specs.Choice.{ChoiceDefinition, Interaction, choices_at, choices_of, combinations, flat_from, is_allowed_at, is_offered_port, is_possible, is_possible_at, moves_of, plant_interactions}
 use Rattle.step_core.specs.Plant.{PlantDefinition}
 use Rattle.step_core.specs.declared.choice.Move.{Move}
-use Rattle.step_core.proofs.Alive.{some-rows}
+use Rattle.step_core.proofs.NoDeadlock.{some-rows}
 use Rattle.blocked_text.specs.Blocked.{can_fire, has_allowed, is_allowed_of}
 use Rattle.blocked_text.proofs.Reasoning.{none-allowed}
 
@@ -41,7 +41,7 @@ any-flat p give pass test n (x ∷ xs) gives tests =
         let e : n + suc k ≡ suc n + k = omega arith in
         ap test (sym e) ∙ tests (suc k) y there ∙ ap (λ j. pass j y) e
 
--- where all of a list are alike, one passes exactly where they do, if there is one
+-- if all of a list are alike, one passes exactly where they do, if there is one
 any-alike : {X Y : Type 0} (p : Y → Bool) (f : X → Y) (b : Bool) → ((x : X) → p (f x) ≡ b) → (xs : List X) → 1 ≤ length xs → list_any p (map f xs) ≡ b
 any-alike p f b alike [] some = absurd (omega arith)
 any-alike p f b alike (x ∷ xs) some = ap (λ c. c || list_any p (map f xs)) (alike x) ∙ each b alike xs
@@ -72,13 +72,13 @@ module _ (plant : PlantDefinition) (states : List Local) (connector : ℕ) where
       any-alike is_its (λ (moves : List Move). record { connector = i.connector; mask = i.mask; moves = moves }) (i.connector == connector) (λ moves. refl)
       (combinations (map (moves_of plant.atoms states) i.ports)) (some-rows plant.atoms states i.ports offered)
 
-  -- one of the choices of an interaction is of the connector where the interaction is allowed and is one of it
+  -- one of the choices of an interaction is of the connector if the interaction is allowed and is one of it
   its-choices : (n : ℕ) (i : Interaction) → slice_get all n ≡ Some i → list_any is_its (choices_at plant states all n i) ≡ (i.connector == connector && allowed n)
   its-choices n i there = each (allowed n) refl
     where
       ready : allowed n ≡ true → list_all (is_offered_port plant.atoms states) i.ports ≡ true
-      ready told =
-          let can : is_possible_at plant.atoms plant.wires states all n ≡ true = (and_parts _ _ told).0 in
+      ready known =
+          let can : is_possible_at plant.atoms plant.wires states all n ≡ true = (and_parts _ _ known).0 in
           (and_parts _ _ (sym (ap (λ o. option_map_or (is_possible plant.atoms plant.wires states) o false) there) ∙ can)).0
 
       and-false : (b : Bool) → false ≡ (b && false)
@@ -90,12 +90,12 @@ module _ (plant : PlantDefinition) (states : List Local) (connector : ℕ) where
       and-true false = refl
 
       each : (b : Bool) → allowed n ≡ b → list_any is_its (cond b (choices_of plant.atoms states i) []) ≡ (i.connector == connector && b)
-      each true told = some-its i (ready told) ∙ and-true (i.connector == connector)
-      each false told = and-false (i.connector == connector)
+      each true known = some-its i (ready known) ∙ and-true (i.connector == connector)
+      each false known = and-false (i.connector == connector)
 
-  -- the connector can be fired where one of its interactions has no reason
-  pub can-fire-told : has_allowed plant states all connector ≡ can_fire plant states connector
-  can-fire-told =
+  -- the connector can be fired if one of its interactions has no reason
+  pub can-fire-known : has_allowed plant states all connector ≡ can_fire plant states connector
+  can-fire-known =
       sym (any-flat is_its (choices_at plant states all) (λ n i. i.connector == connector && allowed n)
       (λ n. option_map_or (is_allowed_of plant states all connector n) (slice_get all n) false) 0 all
       (λ k i there. let e : k ≡ 0 + k = omega arith in its-choices (0 + k) i (ap (slice_get all) (sym e) ∙ there))

@@ -1,4 +1,4 @@
--- A hindrance is right, and a transition has none exactly where it is offered.
+-- A hindrance is right, and a transition has none exactly if it is offered.
 use Rattle.std.proofs.Common.{◌≡◌, ◌≢◌, ◌↔◌, ℕ, zero, suc, ◌+◌, ◌==◌, refl, sym, ◌∙◌, ap, subst, List, [], ◌∷◌, arith, ℤ, Bool, true, false, cond, not, ◌&&◌, ◌||◌}
 use Rattle.std.specs.Prelude.{Option, Some, None, slice_get, option_map, is_none}
 use Rattle.std.specs.List.{list_any}
@@ -15,16 +15,16 @@ use Rattle.blocked_text.specs.declared.hindrance.Hindrance.TheVariants.{Unmarked
 use Rattle.blocked_text.proofs.Finding.{found-passes, none-fails, none-is, none-passes}
 use Rattle.blocked_text.proofs.Reasoning.{zero-is}
 
--- the first of three is none where each of them is
+-- the first of three is none if each of them is
 none-of-guard : (a b : Option ℕ) (g : Bool) (h : Option Hindrance) → is_none h ≡ g
     → is_none (option_or (option_map Unmarked a) (option_or (option_map Marked b) h)) ≡ (is_none a && is_none b && g)
-none-of-guard (Some p) b g h told = refl
-none-of-guard None (Some q) g h told = refl
-none-of-guard None None g h told = told
+none-of-guard (Some p) b g h known = refl
+none-of-guard None (Some q) g h known = refl
+none-of-guard None None g h known = known
 
 not-true : (b : Bool) → not b ≡ true → b ≡ false
-not-true true told = absurd (false≢true told)
-not-true false told = refl
+not-true true known = absurd (false≢true known)
+not-true false known = refl
 
 module _ (state : Local) (t : TransitionDefinition) where
   abbrev value : ℤ
@@ -47,7 +47,7 @@ module _ (state : Local) (t : TransitionDefinition) where
   none-of = (λ none. sym none-offered ∙ ap is_none none, λ offered. none-is (hindrance_of state t) (none-offered ∙ offered))
 
   pub right : (h : Hindrance) → hindrance_of state t ≡ Some h → IsHindering state t h
-  right h told = each (first_unmarked state.marking t.sources) refl (first_marked state.marking t.targets t.sources) refl (is_true value) refl told
+  right h known = each (first_unmarked state.marking t.sources) refl (first_marked state.marking t.targets t.sources) refl (is_true value) refl known
     where
       each : (a : Option ℕ) → first_unmarked state.marking t.sources ≡ a → (b : Option ℕ) → first_marked state.marking t.targets t.sources ≡ b → (g : Bool) → is_true value ≡ g
           → option_or (option_map Unmarked a) (option_or (option_map Marked b) (cond g None (Some ZeroGuard))) ≡ Some h → IsHindering state t h
@@ -74,19 +74,19 @@ none-numbered f n (u ∷ ts) zero t there none =
     ap f (let e : n + 0 ≡ n = omega arith in e) ∙ first-fails (f n) (list_any f (numbers_from (suc n) t.port ts)) here
   where
     first-fails : (a b : Bool) → (a || b) ≡ false → a ≡ false
-    first-fails true b told = absurd (false≢true (sym told))
-    first-fails false b told = refl
+    first-fails true b known = absurd (false≢true (sym known))
+    first-fails false b known = refl
 none-numbered f n (u ∷ ts) (suc k) t there none =
     ap f (let e : n + suc k ≡ suc n + k = omega arith in e) ∙
     none-numbered f (suc n) ts k t there (each (u.port == t.port) none)
   where
     each : (b : Bool) → list_any f (cond b (n ∷ numbers_from (suc n) t.port ts) (numbers_from (suc n) t.port ts)) ≡ false → list_any f (numbers_from (suc n) t.port ts) ≡ false
-    each true told = last-fails (f n) (list_any f (numbers_from (suc n) t.port ts)) told
+    each true known = last-fails (f n) (list_any f (numbers_from (suc n) t.port ts)) known
       where
         last-fails : (a b : Bool) → (a || b) ≡ false → b ≡ false
-        last-fails true b told = absurd (false≢true (sym told))
-        last-fails false b told = told
-    each false told = told
+        last-fails true b known = absurd (false≢true (sym known))
+        last-fails false b known = known
+    each false known = known
 
 -- each transition of a port that offers nothing has a hindrance
 pub idle : (a : AtomDefinition) (state : Local) (n : ℕ) (t : TransitionDefinition) → slice_get a.transitions n ≡ Some t → offers_port a state t.port ≡ false → hindrance_of state t ≢ None

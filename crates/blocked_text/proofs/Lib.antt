@@ -1,10 +1,10 @@
 pub mod Separating
-pub mod Finding
-pub mod Entries
-pub mod Seeking
-pub mod Small
-pub mod Reasoning
-pub mod Counting
-pub mod Firing
-pub mod Hindering
+mod Finding
+mod Entries
+mod Seeking
+mod Small
+mod Reasoning
+mod Counting
+mod Firing
+mod Hindering
 mod Rows

@@ -1,4 +1,4 @@
--- A reason is right, and an interaction has none exactly where it is allowed.
+-- A reason is right, and an interaction has none exactly if it is allowed.
 use Rattle.std.proofs.Common.{◌≡◌, ◌↔◌, ℕ, refl, sym, ◌∙◌, ap, subst, List, map, length, arith, ℤ, pos, Bool, true, false, not, ◌&&◌, ◌||◌}
 use Rattle.std.specs.Prelude.{Option, Some, None, slice_get, option_map, is_none}
 use Rattle.std.specs.List.{list_all, list_any, range_with_len}
@@ -14,7 +14,7 @@ use Rattle.petri_atom.specs.Local.{Local}
 use Rattle.connector_tree.specs.Tree.{leaves}
 use Rattle.connector_tree.specs.declared.tree.Port.{Port}
 use Rattle.priority_filter.specs.Decided.{is_below, is_overruled}
-use Rattle.priority_filter.proofs.DecidedOrder.{told_below}
+use Rattle.priority_filter.proofs.DecidedOrder.{decides_below}
 use Rattle.step_core.specs.Choice.{Interaction, active_in, is_allowed_at, is_offered_port, is_possible, is_possible_at, named, passes_guards, plant_interactions}
 use Rattle.step_core.specs.Exports.{clause_applies, guards_hold, value_at}
 use Rattle.step_core.specs.Plant.{PlantDefinition, WireDefinition}
@@ -35,7 +35,7 @@ and-assoc true b c = refl
 and-assoc false b c = refl
 
 module _ (atoms : List AtomDefinition) (wires : List WireDefinition) (states : List Local) (i : Interaction) where
-  -- no guard clause that applies is 0 where the guards let the interaction pass
+  -- no guard clause that applies is 0 if the guards let the interaction pass
   pub none-zero : is_none (zero_of atoms wires states i) ≡ passes_guards atoms wires states i
   none-zero = each (slice_get wires i.connector)
     where
@@ -45,9 +45,9 @@ module _ (atoms : List AtomDefinition) (wires : List WireDefinition) (states : L
           none-placed (is_zero_clause atoms states (leaves w.connector) i.mask) (λ clause. not (clause_applies i.mask clause) || is_true (value_of (value_at atoms states (leaves w.connector)) clause))
           (λ clause. not-zero (clause_applies i.mask clause) (is_true (value_of (value_at atoms states (leaves w.connector)) clause))) 0 w.guards
 
-  -- it is possible where no port of it is idle and no such clause is 0
-  pub possible-told : (is_none (first_idle atoms states i.ports) && is_none (zero_of atoms wires states i)) ≡ is_possible atoms wires states i
-  possible-told =
+  -- it is possible if no port of it is idle and no such clause is 0
+  pub possible-known : (is_none (first_idle atoms states i.ports) && is_none (zero_of atoms wires states i)) ≡ is_possible atoms wires states i
+  possible-known =
       ap (λ b. b && is_none (zero_of atoms wires states i)) (none-fails (is_offered_port atoms states) i.ports) ∙
       ap (λ b. list_all (is_offered_port atoms states) i.ports && b) none-zero
 
@@ -55,7 +55,7 @@ module _ (plant : PlantDefinition) (states : List Local) (interactions : List In
   abbrev possible : ℕ → Bool
   possible = is_possible_at plant.atoms plant.wires states interactions
 
-  -- no possible interaction is above where the interaction is not overruled
+  -- no possible interaction is above if the interaction is not overruled
   none-over : (n : ℕ) → is_none (first_over plant states interactions n) ≡ not (is_overruled (active_in plant states) (map named interactions) possible n)
   unfolding is_overruled
   none-over n =
@@ -72,12 +72,12 @@ module _ (plant : PlantDefinition) (states : List Local) (interactions : List In
     possible-there : possible n ≡ is_possible plant.atoms plant.wires states i
     possible-there = ap (λ o. option_map_or (is_possible plant.atoms plant.wires states) o false) there
 
-    -- it has no reason exactly where it is allowed
+    -- it has no reason exactly if it is allowed
     pub none-allowed : is_none (reason_among plant states interactions n) ≡ is_allowed_at plant states interactions n
     none-allowed =
         ap is_none reason-there ∙
         none-of-three NotOffered GuardIsZero GivesWay (first_idle plant.atoms states i.ports) (zero_of plant.atoms plant.wires states i) (first_over plant states interactions n) ∙
-        ap (λ b. b && is_none (first_over plant states interactions n)) (possible-told plant.atoms plant.wires states i ∙ sym possible-there) ∙
+        ap (λ b. b && is_none (first_over plant states interactions n)) (possible-known plant.atoms plant.wires states i ∙ sym possible-there) ∙
         ap (λ b. possible n && b) (none-over n)
 
     pub none-of : reason_among plant states interactions n ≡ None ↔ (is_allowed_at plant states interactions n ≡ true)
@@ -86,21 +86,21 @@ module _ (plant : PlantDefinition) (states : List Local) (interactions : List In
       λ allowed. none-is (reason_among plant states interactions n) (none-allowed ∙ allowed),
     )
 
--- a number is 0 where it does not count as true
+-- a number is 0 if it does not count as true
 pub zero-is : (z : ℤ) → not (is_true z) ≡ true → z ≡ pos 0
 zero-is z zero = (Decides-int_eq z (pos 0)).0 (not-not (int_eq z (pos 0)) zero)
   where
     not-not : (b : Bool) → not (not b) ≡ true → b ≡ true
-    not-not true told = refl
-    not-not false told = absurd (false≢true told)
+    not-not true known = refl
+    not-not false known = absurd (false≢true known)
 
 module _ (plant : PlantDefinition) (states : List Local) where
   abbrev all : List Interaction
   all = plant_interactions plant
 
-  -- a clause that is told is a zero clause
+  -- a clause that is named is a zero clause
   zero-right : (i : Interaction) (k : ℕ) → zero_of plant.atoms plant.wires states i ≡ Some k → IsZeroClause plant states i k
-  zero-right i k told = each (slice_get plant.wires i.connector) refl told
+  zero-right i k known = each (slice_get plant.wires i.connector) refl known
     where
       each : (o : Option WireDefinition) → slice_get plant.wires i.connector ≡ o → option_map_or (λ w. first_zero plant.atoms states (leaves w.connector) i.mask w.guards) o None ≡ Some k → IsZeroClause plant states i k
       each None there is = absurd (none-some k is)
@@ -120,9 +120,9 @@ module _ (plant : PlantDefinition) (states : List Local) where
   module _ (n : ℕ) (i : Interaction) (there : slice_get all n ≡ Some i) where
     -- the reason of an interaction is right
     pub right : (r : Reason) → reason_of plant states n ≡ Some r → IsRight plant states n i r
-    right r told =
+    right r known =
         each (first_idle plant.atoms states i.ports) refl (zero_of plant.atoms plant.wires states i) refl (first_over plant states all n) refl r
-        (sym (reason-there plant states all n i there) ∙ told)
+        (sym (reason-there plant states all n i there) ∙ known)
       where
         each : (a : Option Port) → first_idle plant.atoms states i.ports ≡ a → (b : Option ℕ) → zero_of plant.atoms plant.wires states i ≡ b → (c : Option ℕ) → first_over plant states all n ≡ c
             → (r : Reason) → option_or (option_map NotOffered a) (option_or (option_map GuardIsZero b) (option_map GivesWay c)) ≡ Some r → IsRight plant states n i r
@@ -131,8 +131,8 @@ module _ (plant : PlantDefinition) (states : List Local) where
             subst (IsRight plant states n i) (same_Some (NotOffered p) r is) (found.0, not-true (is_offered_port plant.atoms states p) found.1)
           where
             not-true : (b : Bool) → not b ≡ true → b ≡ false
-            not-true true told = absurd (false≢true told)
-            not-true false told = refl
+            not-true true known = absurd (false≢true known)
+            not-true false known = refl
         each None idle (Some k) zero c over r is =
             subst (IsRight plant states n i) (same_Some (GuardIsZero k) r is) (zero-right i k zero)
         each None idle None zero (Some m) over r is =
@@ -141,8 +141,8 @@ module _ (plant : PlantDefinition) (states : List Local) where
             let both : (is_none (first_idle plant.atoms states i.ports) && is_none (zero_of plant.atoms plant.wires states i)) ≡ true =
             ap (λ o. is_none o && is_none (zero_of plant.atoms plant.wires states i)) idle ∙ ap is_none zero in
             subst (IsRight plant states n i) (same_Some (GivesWay m) r is) (
-              possible-there plant states all n i there ∙ sym (possible-told plant.atoms plant.wires states i) ∙ both,
+              possible-there plant states all n i there ∙ sym (possible-known plant.atoms plant.wires states i) ∙ both,
               passes.0,
-              (told_below (active_in plant states) (map named all) n m).0 passes.1,
+              (decides_below (active_in plant states) (map named all) n m).0 passes.1,
             )
         each None idle None zero None over r is = absurd (none-some r is)

@@ -118,7 +118,7 @@ senders = record {
 abbrev sending : ℤ → ℤ → List Local
 sending n m = state 1 (n ∷ []) ∷ state 1 (m ∷ []) ∷ []
 
--- A alone is told by the second clause, since the first does not apply to it; both are told by the first
+-- A alone is named by the second clause, since the first does not apply to it; both are named by the first
 zero_clauses : blocked_text senders (sending (pos 2) (pos 9)) [] ≡ codes "send: guard '== A.n 1' is 0 (A.n=2)\nsend: guard '< + A.n B.m B.m' is 0 (A.n=2, B.m=9)\n"
 unfolding senders digits int_wrap is_below is_overruled
 zero_clauses = refl
@@ -128,9 +128,9 @@ unfolding senders int_wrap is_below is_overruled
 zero_clause = refl
 
 -- where one interaction is allowed the connector can be fired
-nothing_told : blocked_text senders (sending (pos 1) (pos 9)) [] ≡ []
+nothing_printed : blocked_text senders (sending (pos 1) (pos 9)) [] ≡ []
 unfolding senders int_wrap is_below is_overruled
-nothing_told = refl
+nothing_printed = refl
 
 -- ---- the order
 
@@ -142,7 +142,7 @@ ordered rules = record {
   rules = rules;
 }
 
--- L and H can move, and M can where its place is marked
+-- L and H can move, and M can if its place is marked
 abbrev moving : ℕ → List Local
 moving m = state 1 [] ∷ state m [] ∷ state 1 [] ∷ []
 
@@ -171,7 +171,7 @@ top = refl
 abbrev low_high_twice : List Rule
 low_high_twice = UnderAt (Whole 0) (One 2 1) (record { atom = 1; place = 0 }) ∷ Under (Whole 0) (One 2 1) ∷ []
 
--- the first rule that counts is told
+-- the first rule that counts is printed
 while_marked : blocked_text (ordered low_high_twice) (moving 1) (7 ∷ 9 ∷ []) ≡ codes "low: possible, gives way to high:1 (line 7: prio low < high:1 when M at s)\n"
 unfolding ordered digits is_below is_overruled
 while_marked = refl
@@ -188,7 +188,7 @@ no_rule_counts = refl
 -- ---- each reason once
 
 -- three interactions: A alone, B alone, and both, which has the reason of A
-told_once : blocked_text (record { atoms = mover (codes "A") [] [] ∷ mover (codes "B") [] [] ∷ []; wires = wire (codes "any") (two true 0 true 1) [] ∷ []; rules = [] }) (state 0 [] ∷ state 0 [] ∷ []) []
+printed_once : blocked_text (record { atoms = mover (codes "A") [] [] ∷ mover (codes "B") [] [] ∷ []; wires = wire (codes "any") (two true 0 true 1) [] ∷ []; rules = [] }) (state 0 [] ∷ state 0 [] ∷ []) []
     ≡ codes "any: A.t offers nothing: place s is not marked\nany: B.t offers nothing: place s is not marked\n"
 unfolding digits is_below is_overruled
-told_once = refl
+printed_once = refl

@@ -23,7 +23,7 @@ separated-append before between (x ∷ xs) ys =
     ap (λ b. before ++ x ++ (separated_after between between xs ++ separated_after b between ys)) (after-same between xs) ∙
     sym (append_assoc (before ++ x) (separated_after between between xs) (separated_after between between ys))
 
--- the words of a numbered element are printed, and those of the elements behind it are left
+-- the words of a numbered element are printed, and those of the elements after it are left
 pub leads-numbered : {X : Type 0} (words : ℕ → X → List (List ℕ)) (xs : List X) (i : ℕ) (x : X) (before between : List ℕ) (start now next : Option (List ℕ)) (all : List ℕ)
     → i < length xs → x ≡ get_or xs i x → Leads start now (separated_after before between (numbered words i (drop i xs))) all
     → Appends now next (separated_after before between (words i x))
@@ -31,11 +31,11 @@ pub leads-numbered : {X : Type 0} (words : ℕ → X → List (List ℕ)) (xs : 
 leads-numbered words xs i x before between start now next all within here l p =
     leads-more _ _ _ _ _ _ (leads-same l (ap (separated_after before between) (numbered-left words xs i x within here) ∙ separated-append before between (words i x) _)) p
 
--- where no text is left, all of it is printed
-pub told-all : (start now : Option (List ℕ)) (left all : List ℕ) → Leads start now left all → left ≡ [] → Appends start now all
-told-all start now left all l none = l.by now (subst (Appends now now) (sym none) (Appends-nil now))
+-- if no text is left, all of it is printed
+pub printed-all : (start now : Option (List ℕ)) (left all : List ℕ) → Leads start now left all → left ≡ [] → Appends start now all
+printed-all start now left all l none = l.by now (subst (Appends now now) (sym none) (Appends-nil now))
 
--- none is left of a list from a place on where it has no entry
+-- none is left of a list from a place on if it has no entry
 pub none-left : {X : Type 0} (xs : List X) (k : ℕ) → slice_get xs k ≡ None → drop k xs ≡ []
 none-left [] zero none = refl
 none-left [] (suc k) none = refl

@@ -8,10 +8,10 @@ use Rattle.step_core.specs.Plant.{PlantDefinition, wire_name}
 use Rattle.text_io.specs.Numbered.{numbered}
 use Rattle.blocked_text.specs.Reason.{reason_among}
 use Rattle.blocked_text.specs.SameReason.{is_same_reason}
-use Rattle.blocked_text.specs.Told.{reason_text}
+use Rattle.blocked_text.specs.ReasonText.{reason_text}
 use Rattle.blocked_text.specs.declared.reason.Reason.{Reason}
 
--- a connector can be fired where one of the state's choices is of it
+-- a connector can be fired if one of the state's choices is of it
 abbrev pub can_fire : PlantDefinition → List Local → ℕ → Bool
 can_fire plant states connector = list_any (λ c. c.connector == connector) (choices plant states)
 
@@ -31,14 +31,14 @@ has_reason plant states interactions connector r n i =
     i.connector == connector && option_map_or (is_same_reason r) (reason_among plant states interactions n) false
 
 -- an interaction of the connector before the one with number n has this reason
-abbrev pub is_told_before : PlantDefinition → List Local → List Interaction → ℕ → ℕ → Reason → Bool
-is_told_before plant states interactions connector n r =
+abbrev pub is_printed_before : PlantDefinition → List Local → List Interaction → ℕ → ℕ → Reason → Bool
+is_printed_before plant states interactions connector n r =
     list_any (λ j. option_map_or (has_reason plant states interactions connector r j) (slice_get interactions j) false) (range_with_len 0 n)
 
--- the line of a reason of the interaction with number n; nothing where it is told before
+-- the line of a reason of the interaction with number n; nothing if it is printed before
 abbrev pub reason_line : PlantDefinition → List Local → List Interaction → List ℕ → ℕ → Interaction → Reason → List ℕ
 reason_line plant states interactions lines n i r =
-    if is_told_before plant states interactions i.connector n r then [] else
+    if is_printed_before plant states interactions i.connector n r then [] else
     wire_name plant i.connector ++ codes ": " ++ reason_text plant states interactions lines i r ++ codes "\n"
 
 -- the line of the interaction with number n, if it is one of the connector and has a reason

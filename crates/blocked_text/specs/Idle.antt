@@ -28,11 +28,11 @@ hindered_text a state t = option_map_or (hindrance_text a state t) (hindrance_of
 abbrev pub transition_count : ℕ → List TransitionDefinition → ℕ
 transition_count port ts = count_by (λ t. t.port == port) ts
 
--- the number of a transition, where its port has more than one
+-- the number of a transition, if its port has more than one
 abbrev pub number_text : ℕ → ℕ → List ℕ
 number_text count k = if nat_lt 1 count then codes "/" ++ decimal k ++ codes " " else []
 
--- why the transition with number k is not offered, where it is one of the port, which has so many
+-- why the transition with number k is not offered, if it is one of the port, which has so many
 abbrev pub hindered_word : AtomDefinition → Local → ℕ → ℕ → ℕ → TransitionDefinition → List (List ℕ)
 hindered_word a state port count k t =
     if t.port == port then (number_text count k ++ hindered_text a state t) ∷ [] else []

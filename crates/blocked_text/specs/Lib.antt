@@ -6,7 +6,8 @@ pub mod Idle
 pub mod Reason
 pub mod SameReason
 pub mod Way
-pub mod Told
+pub mod ReasonText
+pub mod Report
 pub mod Blocked
 pub mod Asked
 pub mod Laws

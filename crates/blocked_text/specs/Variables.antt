@@ -14,7 +14,7 @@ variables_in (operation op e f) = variables_in e ++ variables_in f
 abbrev pub is_before : {V : Type 0} → (V → V → Bool) → List V → ℕ → V → Bool
 is_before same xs k x = list_any (λ y. same y x) (take k xs)
 
--- the element of a list at a place, or at what place it is sought behind the list
+-- the element of a list at a place, or at what place it is sought after the list
 abbrev pub sought : {V : Type 0} → ℕ → List V → Result V ℕ
 sought place [] = Err place
 sought zero (x ∷ xs) = Ok x

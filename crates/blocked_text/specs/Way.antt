@@ -15,7 +15,7 @@ use Rattle.part_text.specs.Rule.{rule_text}
 abbrev pub has_several : List Interaction → ℕ → Bool
 has_several interactions connector = nat_lt 1 (count_by (λ i. i.connector == connector) interactions)
 
--- an interaction by its connector's name, and by its mask too where the connector has more than one interaction
+-- an interaction by its connector's name, and by its mask too if the connector has more than one interaction
 abbrev pub interaction_text : PlantDefinition → List Interaction → Interaction → List ℕ
 interaction_text plant interactions i =
     wire_name plant i.connector ++ (if has_several interactions i.connector then codes ":" ++ decimal i.mask else [])
@@ -29,14 +29,14 @@ abbrev pub line_text : List ℕ → ℕ → List ℕ
 line_text lines k = option_map_or (λ line. codes "line " ++ decimal line ++ codes ": ") (slice_get lines k) []
 
 -- the rule with a number, with its line; nothing of one that is not there
-abbrev pub rule_told : PlantDefinition → List ℕ → ℕ → List ℕ
-rule_told plant lines k =
+abbrev pub rule_with_line : PlantDefinition → List ℕ → ℕ → List ℕ
+rule_with_line plant lines k =
     option_map_or (λ rule. codes " (" ++ line_text lines k ++ rule_text plant rule ++ codes ")") (slice_get plant.rules k) []
 
 -- what puts the first interaction below the second in a state: one rule that counts, or else a chain of them
 abbrev pub by_text : PlantDefinition → List Local → List ℕ → Interaction → Interaction → List ℕ
 by_text plant states lines i j =
-    option_map_or (rule_told plant lines) (first_rule (is_marked_at states) plant.rules (named i) (named j)) (codes " (by a chain of rules)")
+    option_map_or (rule_with_line plant lines) (first_rule (is_marked_at states) plant.rules (named i) (named j)) (codes " (by a chain of rules)")
 
 -- the first interaction is possible, and gives way to the second
 abbrev pub way_text : PlantDefinition → List Local → List Interaction → List ℕ → Interaction → Interaction → List ℕ

@@ -11,7 +11,7 @@ use Rattle.blocked_text.specs.Variables.{is_before, variables_in}
 abbrev pub value_text : {V : Type 0} → (V → List ℕ) → (V → ℤ) → V → List ℕ
 value_text name at v = name v ++ codes "=" ++ signed_decimal (at v)
 
--- the variable at place k among those of an expression and its value; nothing where it stands before that place too
+-- the variable at place k among those of an expression and its value; nothing if it stands before that place too
 abbrev pub value_word : {V : Type 0} → (V → V → Bool) → (V → List ℕ) → (V → ℤ) → List V → ℕ → V → List (List ℕ)
 value_word same name at all k v = if is_before same all k v then [] else value_text name at v ∷ []
 
@@ -24,7 +24,7 @@ abbrev pub closing : {V : Type 0} → List V → List ℕ
 closing [] = []
 closing (v ∷ vs) = codes ")"
 
--- the values of some variables in parentheses; nothing where there is no variable
+-- the values of some variables in parentheses; nothing if there is no variable
 abbrev pub values_text : {V : Type 0} → (V → V → Bool) → (V → List ℕ) → (V → ℤ) → List V → List ℕ
 values_text same name at all = separated_after (codes " (") (codes ", ") (value_words same name at all) ++ closing all
 

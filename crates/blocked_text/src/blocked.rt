@@ -1,34 +1,34 @@
 //! The lines of a state, and of a connector.
-ghost use Rattle.std.specs.Prelude.{◌≡◌, false, slice_get, OnOk};
+ghost use Rattle.std.specs.Prelude.{◌≡◌, false, slice_get};
 ghost use Rattle.std.specs.Option.{option_map_or};
-ghost use Rattle.std.specs.Io.KnownBytes.{Appends};
 ghost use Rattle.step_core.specs.Choice.{plant_interactions};
-ghost use Rattle.step_core.specs.Interaction.{interaction_of};
+ghost use Rattle.text_io.specs.Printing.{Prints};
+ghost use Rattle.part_text.specs.Seen.{interaction_of};
 
 use crate::reason::Reason;
+use crate::reason_text::print_reason;
 use crate::reasons::Reasons;
-use crate::told::print_reason;
+use crate::report::Report;
 use std::io::Write;
 use step_core::{Interaction, PlantState};
 use text_io::{WriteFault, end_line, print_text};
 
 impl Reasons<'_> {
     ghost use Rattle.blocked_text.specs.Asked.{plant_asked};
-    ghost use Rattle.blocked_text.specs.Blocked.{blocked_lines, blocked_text, can_fire, connector_text, has_allowed, has_reason, is_allowed_of, is_told_before, line_of, lines_of, reason_line};
+    ghost use Rattle.blocked_text.specs.Blocked.{blocked_lines, blocked_text, can_fire, connector_text, has_allowed, has_reason, is_allowed_of, is_printed_before, line_of, lines_of, reason_line};
     ghost use Rattle.blocked_text.specs.Reason.{reason_of};
     ghost use Rattle.blocked_text.specs.SameReason.{is_same_reason};
 
     /// Prints, for each connector of which the states have no choice, in order, a line for each different reason of its
     /// interactions, in their order. Rule k of the plant stands on the line `rule_lines[k]` of its text; of a rule past these no
-    /// line is told.
+    /// line is printed.
     pub fn print_blocked<W: Write>(
         &self,
         states: &PlantState,
         rule_lines: &[u32],
         output: &mut W,
     ) -> Result<(), WriteFault>
-        ensures { OnOk result (Appends (W.contents output.old) (W.contents output.new)
-            (blocked_text (plant_asked self.now) states.now rule_lines.now)) }
+        ensures { Prints result (W.contents output.old) (W.contents output.new) (blocked_text (plant_asked self.now) states.now rule_lines.now) }
     {
         self.system.keeps_its_rules();
         for connector in 0..self.system.wires().len() {
@@ -37,7 +37,7 @@ impl Reasons<'_> {
         Ok(())
     }
 
-    /// Prints the same of the connector with this number alone, and where it can be fired a line that says so.
+    /// Prints the same of the connector with this number alone, and if it can be fired a line that says so.
     pub fn print_blocked_of<W: Write>(
         &self,
         states: &PlantState,
@@ -45,8 +45,7 @@ impl Reasons<'_> {
         rule_lines: &[u32],
         output: &mut W,
     ) -> Result<(), WriteFault>
-        ensures { OnOk result (Appends (W.contents output.old) (W.contents output.new)
-            (connector_text (plant_asked self.now) states.now rule_lines.now connector)) }
+        ensures { Prints result (W.contents output.old) (W.contents output.new) (connector_text (plant_asked self.now) states.now rule_lines.now connector) }
     {
         if self.can_fire(states, connector) {
             print_text(output, self.system.wire_name(connector))?;
@@ -64,8 +63,7 @@ impl Reasons<'_> {
         rule_lines: &[u32],
         output: &mut W,
     ) -> Result<(), WriteFault>
-        ensures { OnOk result (Appends (W.contents output.old) (W.contents output.new)
-            (blocked_lines (plant_asked self.now) states.now rule_lines.now connector)) }
+        ensures { Prints result (W.contents output.old) (W.contents output.new) (blocked_lines (plant_asked self.now) states.now rule_lines.now connector) }
     {
         if self.can_fire(states, connector) {
             return Ok(());
@@ -81,8 +79,7 @@ impl Reasons<'_> {
         rule_lines: &[u32],
         output: &mut W,
     ) -> Result<(), WriteFault>
-        ensures { OnOk result (Appends (W.contents output.old) (W.contents output.new)
-            (lines_of (plant_asked self.now) states.now rule_lines.now connector)) }
+        ensures { Prints result (W.contents output.old) (W.contents output.new) (lines_of (plant_asked self.now) states.now rule_lines.now connector) }
     {
         self.system.keeps_its_rules();
         for (number, interaction) in self.system.interactions().iter().enumerate() {
@@ -108,8 +105,8 @@ impl Reasons<'_> {
         rule_lines: &[u32],
         output: &mut W,
     ) -> Result<(), WriteFault>
-        ensures { OnOk result (Appends (W.contents output.old) (W.contents output.new)
-            (line_of (plant_asked self.now) states.now (plant_interactions (plant_asked self.now)) rule_lines.now connector number (interaction_of interaction.now))) }
+        ensures { Prints result (W.contents output.old) (W.contents output.new)
+            (line_of (plant_asked self.now) states.now (plant_interactions (plant_asked self.now)) rule_lines.now connector number (interaction_of interaction.now)) }
     {
         if interaction.connector != connector {
             return Ok(());
@@ -122,7 +119,7 @@ impl Reasons<'_> {
         }
     }
 
-    /// Prints the line of a reason of the interaction with this number; nothing where it is told before.
+    /// Prints the line of a reason of the interaction with this number; nothing if it is printed before.
     fn print_reason_line<W: Write>(
         &self,
         states: &PlantState,
@@ -132,27 +129,32 @@ impl Reasons<'_> {
         rule_lines: &[u32],
         output: &mut W,
     ) -> Result<(), WriteFault>
-        ensures { OnOk result (Appends (W.contents output.old) (W.contents output.new)
-            (reason_line (plant_asked self.now) states.now (plant_interactions (plant_asked self.now)) rule_lines.now number (interaction_of interaction.now) reason)) }
+        ensures { Prints result (W.contents output.old) (W.contents output.new)
+            (reason_line (plant_asked self.now) states.now (plant_interactions (plant_asked self.now)) rule_lines.now number (interaction_of interaction.now) reason) }
     {
-        if self.is_told_before(states, interaction.connector, number, reason) {
+        if self.is_printed_before(states, interaction.connector, number, reason) {
             return Ok(());
         }
         print_text(output, self.system.wire_name(interaction.connector))?;
         print_text(output, b": ")?;
-        print_reason(self.system, states, rule_lines, interaction, reason, output)?;
+        let report = Report {
+            system: self.system,
+            states,
+            lines: rule_lines,
+        };
+        print_reason(&report, interaction, reason, output)?;
         end_line(output)
     }
 
     /// Whether an interaction of the connector before the one with this number has the same reason.
-    fn is_told_before(
+    fn is_printed_before(
         &self,
         states: &PlantState,
         connector: u16,
         number: u16,
         reason: Reason,
     ) -> bool
-        ensures { result ≡ is_told_before (plant_asked self.now) states.now (plant_interactions (plant_asked self.now)) connector number reason }
+        ensures { result ≡ is_printed_before (plant_asked self.now) states.now (plant_interactions (plant_asked self.now)) connector number reason }
     {
         (0..number).any(|earlier| self.has_reason_at(states, connector, earlier, reason))
     }

@@ -2,11 +2,10 @@
 ghost use Rattle.std.specs.Prelude.{◌≡◌, ℤ, map, pos, slice_get};
 ghost use Rattle.std.specs.List.{position_from};
 ghost use Rattle.std.specs.Option.{option_map_or};
-ghost use Rattle.petri_atom.specs.Atom.{definition_of};
 ghost use Rattle.petri_atom.specs.Definition.{exported_value};
-ghost use Rattle.petri_atom.specs.Expression.{tree_of};
 ghost use Rattle.connector_tree.specs.Tree as connectors;
 ghost use Rattle.step_core.specs.Exports.{clause_applies, exported_at};
+ghost use Rattle.part_text.specs.Seen.{definition_of, tree_of};
 ghost use Rattle.blocked_text.specs.Reason.{first_zero, is_zero_clause};
 
 use connector_tree::{Connector, Mask, Port};
@@ -35,7 +34,7 @@ impl Valuation<Export> for ExportValues<'_> {
     }
 }
 
-/// The value of a variable that a port exports; 0 where there is none.
+/// The value of a variable that a port exports; 0 if there is none.
 fn exported_at(atoms: &[Atom], states: &PlantState, port: Port, export: u8) -> i64
     ensures { result ≡ exported_at (map definition_of atoms.now) states.now port export }
 {
@@ -45,7 +44,7 @@ fn exported_at(atoms: &[Atom], states: &PlantState, port: Port, export: u8) -> i
     }
 }
 
-/// The value of a variable that a port of this atom exports; 0 where there is none.
+/// The value of a variable that a port of this atom exports; 0 if there is none.
 fn exported_by(atom: &Atom, states: &PlantState, port: Port, export: u8) -> i64
     ensures { result ≡ option_map_or (λ s. exported_value (definition_of atom.now) s port.port export) (slice_get states.now port.atom) (pos 0) }
 {

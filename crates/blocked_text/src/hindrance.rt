@@ -1,7 +1,7 @@
 //! Why a state does not offer a transition.
 ghost use Rattle.std.specs.Prelude.{◌≡◌};
 ghost use Rattle.petri_atom.specs.Local.{has, is_in};
-ghost use Rattle.petri_atom.specs.Transition.{transition_of};
+ghost use Rattle.part_text.specs.Seen.{transition_of};
 ghost use Rattle.blocked_text.specs.Hindrance.{first_marked, first_unmarked, hindrance_of};
 
 use petri_atom::{AtomState, MAX_PLACES, Transition};
@@ -18,7 +18,7 @@ pub enum Hindrance {
 }
 
 /// Why the state does not offer the transition: the first source that is not marked, or else the first target that is marked and
-/// is no source, or else that its guard is 0. `None` where the state offers it.
+/// is no source, or else that its guard is 0. `None` if the state offers it.
 pub fn hindrance_of(transition: &Transition, state: &AtomState) -> Option<Hindrance>
     ensures { result ≡ hindrance_of state.now (transition_of transition.now) }
 {

@@ -1,13 +1,11 @@
 //! What is said of a port that offers nothing.
-ghost use Rattle.std.specs.Prelude.{◌≡◌, ◌++◌, [], true, codes, map, slice_get, IfOk, OnOk};
+ghost use Rattle.std.specs.Prelude.{◌≡◌, ◌++◌, [], true, codes, map, slice_get, IfOk};
 ghost use Rattle.std.specs.List.{list_all};
 ghost use Rattle.std.specs.Option.{option_map_or};
-ghost use Rattle.std.specs.Io.KnownBytes.{Appends};
-ghost use Rattle.petri_atom.specs.Atom.{definition_of};
 ghost use Rattle.petri_atom.specs.Definition.{is_small_transition};
-ghost use Rattle.petri_atom.specs.Transition.{transition_of};
 ghost use Rattle.step_core.specs.Plant.{of_atom};
-ghost use Rattle.step_core.specs.System.{plant_of};
+ghost use Rattle.text_io.specs.Printing.{Prints};
+ghost use Rattle.part_text.specs.Seen.{definition_of, plant_of, transition_of};
 ghost use Rattle.blocked_text.specs.Idle.{hindered_text, hindered_word, hindered_words, hindrance_text, idle_by, idle_text, number_text, port_text, transition_count};
 ghost use Rattle.part_text.specs.Rule.{place_name};
 ghost use Rattle.blocked_text.specs.Separated.{after_words, separated_after};
@@ -28,22 +26,20 @@ pub(crate) fn print_idle_port<W: Write>(
     port: Port,
     output: &mut W,
 ) -> Result<(), WriteFault>
-    ensures { OnOk result (Appends (W.contents output.old) (W.contents output.new)
-        (port_text (plant_of system.now).atoms states.now port)) }
+    ensures { Prints result (W.contents output.old) (W.contents output.new) (port_text (plant_of system.now).atoms states.now port) }
 {
     print_port(system.atoms(), port, output)?;
     print_idle_at(system, states, port, output)
 }
 
-/// Prints why a port offers nothing; nothing where its atom is not there.
+/// Prints why a port offers nothing; nothing if its atom is not there.
 fn print_idle_at<W: Write>(
     system: &System,
     states: &PlantState,
     port: Port,
     output: &mut W,
 ) -> Result<(), WriteFault>
-    ensures { OnOk result (Appends (W.contents output.old) (W.contents output.new)
-        (of_atom (plant_of system.now).atoms states.now port.atom (λ a state. idle_text a state port.port) [])) }
+    ensures { Prints result (W.contents output.old) (W.contents output.new) (of_atom (plant_of system.now).atoms states.now port.atom (λ a state. idle_text a state port.port) []) }
 {
     system.keeps_its_rules();
     match system.atoms().get(usize::from(port.atom)) {
@@ -52,7 +48,7 @@ fn print_idle_at<W: Write>(
     }
 }
 
-/// Prints why a port of this atom offers nothing; nothing where the atom has no state.
+/// Prints why a port of this atom offers nothing; nothing if the atom has no state.
 fn print_idle_of<W: Write>(
     atom: &Atom,
     states: &PlantState,
@@ -60,8 +56,8 @@ fn print_idle_of<W: Write>(
     output: &mut W,
 ) -> Result<(), WriteFault>
     requires { list_all is_small_transition (definition_of atom.now).transitions ≡ true }
-    ensures { OnOk result (Appends (W.contents output.old) (W.contents output.new)
-        (option_map_or (λ state. idle_text (definition_of atom.now) state port.port) (slice_get states.now port.atom) [])) }
+    ensures { Prints result (W.contents output.old) (W.contents output.new)
+        (option_map_or (λ state. idle_text (definition_of atom.now) state port.port) (slice_get states.now port.atom) []) }
 {
     if usize::from(port.atom) < states.len() {
         print_idle(atom, states.state(port.atom), port.port, output)
@@ -78,8 +74,7 @@ fn print_idle<W: Write>(
     output: &mut W,
 ) -> Result<(), WriteFault>
     requires { list_all is_small_transition (definition_of atom.now).transitions ≡ true }
-    ensures { OnOk result (Appends (W.contents output.old) (W.contents output.new)
-        (idle_text (definition_of atom.now) state.now port)) }
+    ensures { Prints result (W.contents output.old) (W.contents output.new) (idle_text (definition_of atom.now) state.now port) }
 {
     let count = transition_count(atom.transitions(), port);
     print_idle_by(atom, state, port, count, output)
@@ -94,8 +89,7 @@ fn print_idle_by<W: Write>(
     output: &mut W,
 ) -> Result<(), WriteFault>
     requires { list_all is_small_transition (definition_of atom.now).transitions ≡ true }
-    ensures { OnOk result (Appends (W.contents output.old) (W.contents output.new)
-        (idle_by (definition_of atom.now) state.now port count)) }
+    ensures { Prints result (W.contents output.old) (W.contents output.new) (idle_by (definition_of atom.now) state.now port count) }
 {
     if count == 0 {
         return print_text(output, b" has no transition");
@@ -123,8 +117,7 @@ fn print_hindered<W: Write>(
     output: &mut W,
 ) -> Result<(), WriteFault>
     requires { list_all is_small_transition (definition_of atom.now).transitions ≡ true }
-    ensures { OnOk result (Appends (W.contents output.old) (W.contents output.new)
-        (separated_after [] (codes "; ") (hindered_words (definition_of atom.now) state.now port count))) }
+    ensures { Prints result (W.contents output.old) (W.contents output.new) (separated_after [] (codes "; ") (hindered_words (definition_of atom.now) state.now port count)) }
 {
     let mut before: &'static [u8] = b"";
     for (number, transition) in atom.transitions().iter().enumerate() {
@@ -142,7 +135,7 @@ fn print_hindered<W: Write>(
     Ok(())
 }
 
-/// Prints why a transition is not offered, where it is one of the port, with `before` before it; returns what is to stand before
+/// Prints why a transition is not offered, if it is one of the port, with `before` before it; returns what is to stand before
 /// the next one.
 fn print_one<W: Write>(
     atom: &Atom,
@@ -155,8 +148,8 @@ fn print_one<W: Write>(
     output: &mut W,
 ) -> Result<&'static [u8], WriteFault>
     requires { is_small_transition (transition_of transition.now) ≡ true }
-    ensures printed { OnOk result (Appends (W.contents output.old) (W.contents output.new)
-        (separated_after before.now (codes "; ") (hindered_word (definition_of atom.now) state.now port count number (transition_of transition.now)))) }
+    ensures printed { Prints result (W.contents output.old) (W.contents output.new)
+        (separated_after before.now (codes "; ") (hindered_word (definition_of atom.now) state.now port count number (transition_of transition.now))) }
     ensures next { IfOk result (λ next. next.now ≡ after_words before.now (codes "; ") (hindered_word (definition_of atom.now) state.now port count number (transition_of transition.now))) }
 {
     if transition.port() != port {
@@ -167,7 +160,7 @@ fn print_one<W: Write>(
     Ok(b"; ")
 }
 
-/// Prints why a transition is not offered, after its number where its port has more than one.
+/// Prints why a transition is not offered, after its number if its port has more than one.
 fn print_transition<W: Write>(
     atom: &Atom,
     state: &AtomState,
@@ -177,8 +170,8 @@ fn print_transition<W: Write>(
     output: &mut W,
 ) -> Result<(), WriteFault>
     requires { is_small_transition (transition_of transition.now) ≡ true }
-    ensures { OnOk result (Appends (W.contents output.old) (W.contents output.new)
-        (number_text count number ++ hindered_text (definition_of atom.now) state.now (transition_of transition.now))) }
+    ensures { Prints result (W.contents output.old) (W.contents output.new)
+        (number_text count number ++ hindered_text (definition_of atom.now) state.now (transition_of transition.now)) }
 {
     print_transition_number(count, number, output)?;
     match hindrance_of(transition, state) {
@@ -187,14 +180,13 @@ fn print_transition<W: Write>(
     }
 }
 
-/// Prints the number of a transition, where its port has more than one.
+/// Prints the number of a transition, if its port has more than one.
 fn print_transition_number<W: Write>(
     count: usize,
     number: u64,
     output: &mut W,
 ) -> Result<(), WriteFault>
-    ensures { OnOk result (Appends (W.contents output.old) (W.contents output.new)
-        (number_text count number)) }
+    ensures { Prints result (W.contents output.old) (W.contents output.new) (number_text count number) }
 {
     if count <= 1 {
         return Ok(());
@@ -213,8 +205,7 @@ fn print_hindrance<W: Write>(
     output: &mut W,
 ) -> Result<(), WriteFault>
     requires { is_small_transition (transition_of transition.now) ≡ true }
-    ensures { OnOk result (Appends (W.contents output.old) (W.contents output.new)
-        (hindrance_text (definition_of atom.now) state.now (transition_of transition.now) hindrance)) }
+    ensures { Prints result (W.contents output.old) (W.contents output.new) (hindrance_text (definition_of atom.now) state.now (transition_of transition.now) hindrance) }
 {
     match hindrance {
         Hindrance::Unmarked(place) => print_place(atom, place, b" is not marked", output),
@@ -230,8 +221,7 @@ fn print_place<W: Write>(
     said: &[u8],
     output: &mut W,
 ) -> Result<(), WriteFault>
-    ensures { OnOk result (Appends (W.contents output.old) (W.contents output.new)
-        (codes "place " ++ place_name (definition_of atom.now) place ++ said.now)) }
+    ensures { Prints result (W.contents output.old) (W.contents output.new) (codes "place " ++ place_name (definition_of atom.now) place ++ said.now) }
 {
     print_text(output, b"place ")?;
     print_text(output, place_name(atom, u16::from(place)))?;

@@ -11,7 +11,7 @@ ghost use Rattle.blocked_text.specs.declared.hindrance.Hindrance.{Hindrance};
 ghost use Rattle.blocked_text.specs.declared.reason.Reason.{Reason};
 
 /// The reason of an interaction is one: the port that it names is one of the interaction's and is not offered, the clause that it
-/// names applies and is 0, or the interaction that it names is possible and above. An interaction has no reason exactly where it is
+/// names applies and is 0, or the interaction that it names is possible and above. An interaction has no reason exactly if it is
 /// allowed.
 pub fn a_reason_is_right()
     ensures right { (plant : PlantDefinition) (states : List Local) (n : ℕ) (i : Interaction) (r : Reason)

@@ -1,8 +1,8 @@
 //! Why a connector can't be fired.
 //!
-//! A state allows an interaction where each of its ports is offered, each guard clause that applies is not 0, and no possible
-//! interaction is above it. [`Reasons::reason_of`] tells the first of these that fails, as a [`Reason`] (`specs/Reason.antt`);
-//! `laws` says that a reason is one, and that an interaction has none exactly where it is allowed.
+//! A state allows an interaction if each of its ports is offered, each guard clause that applies is not 0, and no possible
+//! interaction is above it. [`Reasons::reason_of`] answers the first of these that fails, as a [`Reason`] (`specs/Reason.antt`);
+//! `laws` says that a reason is one, and that an interaction has none exactly if it is allowed.
 //!
 //! [`Reasons::print_blocked`] prints a line for each different reason of each connector that a state has no choice of:
 //!
@@ -17,8 +17,9 @@
 //!
 //! - `reasons`: the plant that is asked, with its order: made once, which alone takes memory. `reason`: a reason, as data.
 //! - `offering`, `clauses`, `overruling`: the three kinds of reason, found. `hindrance`: why a transition is not offered.
-//! - `blocked`: the lines of a state, and of a connector. `told`: what is said of a reason; `idle` of a port, `zero` of a guard with
-//!   its values, `way` of an interaction that gives way.
+//! - `blocked`: the lines of a state, and of a connector. `report`: what reasons are printed of.
+//! - `reason_text`: what is printed of a reason; `idle` of a port that offers nothing, `zero` of a guard that is 0 with its values, `way` of an
+//!   interaction that gives way.
 //! - `variables`: the variables of an expression in their order. `rules`: what one rule puts below what.
 //! - `laws`: what a reason says.
 #![tactic(auto)]
@@ -31,9 +32,10 @@ pub mod laws;
 mod offering;
 mod overruling;
 mod reason;
+mod reason_text;
 mod reasons;
+mod report;
 mod rules;
-mod told;
 mod variables;
 mod way;
 mod zero;

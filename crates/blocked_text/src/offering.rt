@@ -1,9 +1,9 @@
 //! Which ports a state offers.
 ghost use Rattle.std.specs.Prelude.{◌≡◌, map, false, slice_get};
 ghost use Rattle.std.specs.Option.{option_map_or};
-ghost use Rattle.petri_atom.specs.Atom.{definition_of};
 ghost use Rattle.petri_atom.specs.Definition.{offers_port};
 ghost use Rattle.step_core.specs.Choice.{is_offered_port};
+ghost use Rattle.part_text.specs.Seen.{definition_of};
 ghost use Rattle.blocked_text.specs.Reason.{first_idle};
 
 use connector_tree::Port;

@@ -2,7 +2,7 @@
 ghost use Rattle.std.specs.Prelude.{◌≡◌, length};
 ghost use Rattle.priority_filter.specs.Active.{active, may_be_marked};
 ghost use Rattle.step_core.specs.Choice.{is_possible, is_possible_at, plant_interactions};
-ghost use Rattle.step_core.specs.Interaction.{interaction_of};
+ghost use Rattle.part_text.specs.Seen.{interaction_of};
 
 use crate::offering::first_idle;
 use crate::reasons::Reasons;

@@ -2,15 +2,14 @@
 ghost use Rattle.std.specs.Prelude.{◌≡◌, ◌≤◌, IfOk, length, map};
 ghost use Rattle.priority_filter.specs.declared.interaction_set.TheConstants.{INTERACTION_LIMIT};
 ghost use Rattle.step_core.specs.Choice.{named, plant_interactions};
-ghost use Rattle.step_core.specs.Interaction.{interaction_of};
-ghost use Rattle.step_core.specs.System.{plant_of};
+ghost use Rattle.part_text.specs.Seen.{interaction_of, plant_of};
 
 use crate::clauses::{ExportValues, first_zero};
 use crate::offering::first_idle;
 use crate::reason::Reason;
 use priority_filter::Order;
 use std::alloc::{AllocError, Global};
-use step_core::{Interaction, PlantState, System};
+use step_core::{Interaction, PlantState, System, names_of};
 
 /// A plant that is asked for reasons: its system, and the order that its priority rules put on its interactions.
 #[derive(Drop)]
@@ -37,7 +36,7 @@ impl Reasons<'_> {
     ghost use Rattle.blocked_text.specs.Asked.{plant_asked};
     ghost use Rattle.blocked_text.specs.Reason.{reason_by, reason_of, zero_of};
 
-    /// Why the states do not allow the interaction with this number; `None` where they allow it, and of a number that no
+    /// Why the states do not allow the interaction with this number; `None` if they allow it, and of a number that no
     /// interaction has.
     pub fn reason_of(&self, states: &PlantState, number: u16) -> Option<Reason>
         ensures { result ≡ reason_of (plant_asked self.now) states.now number }
@@ -99,15 +98,4 @@ fn order_of(alloc: Global, system: &System) -> Result<Order, AllocError>
         // A system keeps the rules of a plant, so that only memory can be wanting.
         Err(_) => Err(AllocError),
     }
-}
-
-/// The interactions as priority rules name them: each by its connector and its mask.
-fn names_of(alloc: Global, interactions: &[Interaction]) -> Result<Vec<(u16, u16)>, AllocError>
-    ensures { IfOk result (λ names. names.items ≡ map named (map interaction_of interactions.now)) }
-{
-    let mut names = Vec::with_capacity(alloc, interactions.len())?;
-    for interaction in interactions {
-        names.push((interaction.connector, interaction.mask))?;
-    }
-    Ok(names)
 }

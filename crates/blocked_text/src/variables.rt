@@ -1,7 +1,7 @@
 //! The variables that an expression names, in their order.
 ghost use Rattle.std.specs.Prelude.{◌≡◌, Bool, false, slice_get};
 ghost use Rattle.std.specs.Option.{option_map_or};
-ghost use Rattle.petri_atom.specs.Expression.{tree_of};
+ghost use Rattle.part_text.specs.Seen.{tree_of};
 ghost use Rattle.blocked_text.specs.Variables.{is_before, sought, variables_in};
 
 use petri_atom::Expression;
@@ -46,7 +46,7 @@ pub(crate) fn variable_at<V: Copy>(expression: &Expression<V>, place: usize) -> 
     }
 }
 
-/// Seeks a variable by its place; an error has the place that it has behind this expression.
+/// Seeks a variable by its place; an error has the place that it has after this expression.
 fn seek<V: Copy>(expression: &Expression<V>, place: usize) -> Result<V, usize>
     ensures { result ≡ sought place (variables_in (tree_of expression.now)) }
 {

@@ -1,8 +1,9 @@
 //! What is said of a guard that is 0: its expression, and the values of its variables.
-ghost use Rattle.std.specs.Prelude.{◌≡◌, ◌≤◌, IfOk, OnOk, codes};
-ghost use Rattle.std.specs.Io.KnownBytes.{Appends};
-ghost use Rattle.petri_atom.specs.Expression.{tree_of, word_count};
+ghost use Rattle.std.specs.Prelude.{◌≡◌, ◌≤◌, IfOk, codes};
+ghost use Rattle.petri_atom.specs.Expression.{word_count};
 ghost use Rattle.petri_atom.specs.declared.parts.TheConstants.{MAX_WORDS};
+ghost use Rattle.text_io.specs.Printing.{Prints};
+ghost use Rattle.part_text.specs.Seen.{tree_of};
 ghost use Rattle.blocked_text.specs.Separated.{after_words, separated_after};
 ghost use Rattle.blocked_text.specs.Variables.{variables_in};
 ghost use Rattle.blocked_text.specs.Zero.{closing, value_text, value_word, value_words, values_text, zero_text};
@@ -21,8 +22,7 @@ pub(crate) fn print_zero<V: Same, N: Names<V>, S: Valuation<V>, W: Write>(
     output: &mut W,
 ) -> Result<(), WriteFault>
     requires { word_count (tree_of guard.now) ≤ MAX_WORDS }
-    ensures { OnOk result (Appends (W.contents output.old) (W.contents output.new)
-        (zero_text V.same (N.name_of names.now) (S.value_at values.now) (tree_of guard.now))) }
+    ensures { Prints result (W.contents output.old) (W.contents output.new) (zero_text V.same (N.name_of names.now) (S.value_at values.now) (tree_of guard.now)) }
 {
     print_text(output, b"guard '")?;
     print_expression(guard, names, output)?;
@@ -30,7 +30,7 @@ pub(crate) fn print_zero<V: Same, N: Names<V>, S: Valuation<V>, W: Write>(
     print_values(guard, names, values, output)
 }
 
-/// Prints the values of the variables that an expression names, each once, in parentheses; nothing where it names none.
+/// Prints the values of the variables that an expression names, each once, in parentheses; nothing if it names none.
 fn print_values<V: Same, N: Names<V>, S: Valuation<V>, W: Write>(
     expression: &Expression<V>,
     names: &N,
@@ -38,20 +38,19 @@ fn print_values<V: Same, N: Names<V>, S: Valuation<V>, W: Write>(
     output: &mut W,
 ) -> Result<(), WriteFault>
     requires { word_count (tree_of expression.now) ≤ MAX_WORDS }
-    ensures { OnOk result (Appends (W.contents output.old) (W.contents output.new)
-        (values_text V.same (N.name_of names.now) (S.value_at values.now) (variables_in (tree_of expression.now)))) }
+    ensures { Prints result (W.contents output.old) (W.contents output.new)
+        (values_text V.same (N.name_of names.now) (S.value_at values.now) (variables_in (tree_of expression.now))) }
 {
     print_words(expression, names, values, output)?;
     print_closing(expression, output)
 }
 
-/// Prints the end of the list of values; nothing where the expression names no variable.
+/// Prints the end of the list of values; nothing if the expression names no variable.
 fn print_closing<V: Copy, W: Write>(
     expression: &Expression<V>,
     output: &mut W,
 ) -> Result<(), WriteFault>
-    ensures { OnOk result (Appends (W.contents output.old) (W.contents output.new)
-        (closing (variables_in (tree_of expression.now)))) }
+    ensures { Prints result (W.contents output.old) (W.contents output.new) (closing (variables_in (tree_of expression.now))) }
 {
     match variable_at(expression, 0) {
         Some(_) => print_text(output, b")"),
@@ -67,8 +66,8 @@ fn print_words<V: Same, N: Names<V>, S: Valuation<V>, W: Write>(
     output: &mut W,
 ) -> Result<(), WriteFault>
     requires { word_count (tree_of expression.now) ≤ MAX_WORDS }
-    ensures { OnOk result (Appends (W.contents output.old) (W.contents output.new)
-        (separated_after (codes " (") (codes ", ") (value_words V.same (N.name_of names.now) (S.value_at values.now) (variables_in (tree_of expression.now))))) }
+    ensures { Prints result (W.contents output.old) (W.contents output.new)
+        (separated_after (codes " (") (codes ", ") (value_words V.same (N.name_of names.now) (S.value_at values.now) (variables_in (tree_of expression.now)))) }
 {
     let mut before: &'static [u8] = b" (";
     let mut place = 0;
@@ -79,7 +78,7 @@ fn print_words<V: Same, N: Names<V>, S: Valuation<V>, W: Write>(
     Ok(())
 }
 
-/// Prints the variable at this place and its value, where it stands there first, with `before` before it; returns what is to
+/// Prints the variable at this place and its value, if it stands there first, with `before` before it; returns what is to
 /// stand before the next one.
 fn print_first<V: Same, N: Names<V>, S: Valuation<V>, W: Write>(
     expression: &Expression<V>,
@@ -90,8 +89,8 @@ fn print_first<V: Same, N: Names<V>, S: Valuation<V>, W: Write>(
     before: &'static [u8],
     output: &mut W,
 ) -> Result<&'static [u8], WriteFault>
-    ensures printed { OnOk result (Appends (W.contents output.old) (W.contents output.new)
-        (separated_after before.now (codes ", ") (value_word V.same (N.name_of names.now) (S.value_at values.now) (variables_in (tree_of expression.now)) place variable))) }
+    ensures printed { Prints result (W.contents output.old) (W.contents output.new)
+        (separated_after before.now (codes ", ") (value_word V.same (N.name_of names.now) (S.value_at values.now) (variables_in (tree_of expression.now)) place variable)) }
     ensures next { IfOk result (λ next. next.now ≡ after_words before.now (codes ", ") (value_word V.same (N.name_of names.now) (S.value_at values.now) (variables_in (tree_of expression.now)) place variable)) }
 {
     if is_before(expression, place, variable) {
@@ -109,8 +108,7 @@ fn print_value<V: Same, N: Names<V>, S: Valuation<V>, W: Write>(
     values: &S,
     output: &mut W,
 ) -> Result<(), WriteFault>
-    ensures { OnOk result (Appends (W.contents output.old) (W.contents output.new)
-        (value_text (N.name_of names.now) (S.value_at values.now) variable)) }
+    ensures { Prints result (W.contents output.old) (W.contents output.new) (value_text (N.name_of names.now) (S.value_at values.now) variable) }
 {
     names.print_name(&variable, output)?;
     print_text(output, b"=")?;

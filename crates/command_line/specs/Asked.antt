@@ -15,6 +15,7 @@ use Rattle.command_line.specs.declared.request.Drawing.{Drawing}
 use Rattle.command_line.specs.declared.request.Drawing.TheVariants.{Whole, Outline, After, Only}
 use Rattle.command_line.specs.declared.request.Task.{Task}
 use Rattle.command_line.specs.declared.request.Task.TheVariants as task
+use Rattle.command_line.specs.declared.request.IfThere.TheVariants.{Formatted, Refused}
 use Rattle.command_line.specs.declared.request.ImageTask.{ImageTask}
 use Rattle.command_line.specs.declared.request.ImageTask.TheVariants as image
 use Rattle.command_line.specs.declared.request.Exploration.{Exploration}
@@ -37,26 +38,26 @@ IsTrace trace said =
     IsPicked trace.picking said × (trace.shape ≡ shape_in (unwrap_or (word_of said.format) (codes "lines")) said.states) ×
     (word_of trace.saved ≡ word_of said.saved)
 
--- the words for the picks behind which a plant is drawn
-abbrev pub words_behind : Said → List (List ℕ)
-words_behind said = unwrap_or (words_of said.after) []
+-- the words for the picks after which a plant is drawn
+abbrev pub words_after : Said → List (List ℕ)
+words_after said = unwrap_or (words_of said.after) []
 
--- a plant is drawn behind picks: some are given, or a text has them
+-- a plant is drawn after picks: some are given, or a text has them
 abbrev pub has_picks : Said → Bool
 has_picks said = is_some said.after || is_some said.recorded
 
--- the picks behind which a plant is drawn, if there are some
-abbrev pub IsPickedBehind : Option Picking → Said → Type 0
-IsPickedBehind None said = (has_picks said ≡ false) × (said.strict ≡ false)
-IsPickedBehind (Some picking) said = (has_picks said ≡ true) × IsSaid picking (words_behind said) said
+-- the picks after which a plant is drawn, if there are some
+abbrev pub IsPickedAfter : Option Picking → Said → Type 0
+IsPickedAfter None said = (has_picks said ≡ false) × (said.strict ≡ false)
+IsPickedAfter (Some picking) said = (has_picks said ≡ true) × IsSaid picking (words_after said) said
 
 -- the words ask for this drawing
 abbrev pub IsDrawing : Drawing → Said → Type 0
-IsDrawing Whole said = (said.outline ≡ false) × (words_of said.only ≡ None) × IsPickedBehind None said
-IsDrawing Outline said = (said.outline ≡ true) × (words_of said.only ≡ None) × IsPickedBehind None said
-IsDrawing (After picking) said = (said.outline ≡ false) × (words_of said.only ≡ None) × IsPickedBehind (Some picking) said
+IsDrawing Whole said = (said.outline ≡ false) × (words_of said.only ≡ None) × IsPickedAfter None said
+IsDrawing Outline said = (said.outline ≡ true) × (words_of said.only ≡ None) × IsPickedAfter None said
+IsDrawing (After picking) said = (said.outline ≡ false) × (words_of said.only ≡ None) × IsPickedAfter (Some picking) said
 IsDrawing (Only names picking) said =
-    (said.outline ≡ false) × (words_of said.only ≡ Some (map (λ name. name.now) names.items)) × IsPickedBehind picking said
+    (said.outline ≡ false) × (words_of said.only ≡ Some (map (λ name. name.now) names.items)) × IsPickedAfter picking said
 
 -- the words of a command of a plant alone ask for this task
 abbrev pub IsTask : CommandName → Task → Said → Type 0
@@ -74,7 +75,8 @@ IsTask command.Explore asked said = ⊥
 
 -- the words of a command on an image ask for this task
 abbrev pub IsImageTask : CommandName → ImageTask → Said → Type 0
-IsImageTask command.Format (image.Format ring) said = ring_in (unwrap_or (word_of said.ring) (codes "64")) ≡ Some ring.records
+IsImageTask command.Format (image.Format ring if_there) said =
+    (ring_in (unwrap_or (word_of said.ring) (codes "64")) ≡ Some ring.records) × (if_there ≡ (if said.only_new then Refused else Formatted))
 IsImageTask command.Run (image.Run script count) said =
     (word_of said.script ≡ Some script.now) × (workers_in (unwrap_or (word_of said.workers) (codes "0")) ≡ Some count.workers)
 IsImageTask command.Recover image.Recover said = Unit {0}
@@ -87,7 +89,7 @@ abbrev pub image_word : CommandName → Said → Option (List ℕ)
 image_word command.Migrate said = word_of said.old_image
 image_word command said = word_of said.image
 
--- the words ask for this run to be explored: the script that it has, the length of the ring, and whether each trial is told
+-- the words ask for this run to be explored: the script that it has, the length of the ring, and whether each trial is printed
 abbrev pub IsExploration : Exploration → Said → Type 0
 IsExploration asked said =
     (word_of said.script ≡ Some asked.script.now) × (ring_in (unwrap_or (word_of said.ring) (codes "64")) ≡ Some asked.ring.records) ×

@@ -17,13 +17,13 @@ recorded_in (Given picks numbers) = None
 recorded_in (Recorded path numbers) = Some path.now
 recorded_in (Random many by) = None
 
--- the same of picks behind which a plant is drawn
-abbrev pub recorded_behind : Drawing → Option (List ℕ)
-recorded_behind Whole = None
-recorded_behind Outline = None
-recorded_behind (After picking) = recorded_in picking
-recorded_behind (Only names None) = None
-recorded_behind (Only names (Some picking)) = recorded_in picking
+-- the same of picks after which a plant is drawn
+abbrev pub recorded_after : Drawing → Option (List ℕ)
+recorded_after Whole = None
+recorded_after Outline = None
+recorded_after (After picking) = recorded_in picking
+recorded_after (Only names None) = None
+recorded_after (Only names (Some picking)) = recorded_in picking
 
 -- the same of a task
 abbrev pub recorded_by : Task → Option (List ℕ)
@@ -32,7 +32,7 @@ recorded_by Warn = None
 recorded_by (Trace trace) = recorded_in trace.picking
 recorded_by (Choices picking) = recorded_in picking
 recorded_by (Why picking) = recorded_in picking
-recorded_by (Draw drawing) = recorded_behind drawing
+recorded_by (Draw drawing) = recorded_after drawing
 
 -- the file in which a task of the plant alone saves what is fired
 abbrev pub saved_by : Task → Option (List ℕ)
@@ -47,7 +47,7 @@ saved_by (Draw drawing) = None
 abbrev pub read_beside : Work → Option (List ℕ)
 read_beside (OfPlant task) = recorded_by task
 read_beside ByHand = Some (codes "-")
-read_beside (OnImage path (image.Format ring)) = None
+read_beside (OnImage path (image.Format ring if_there)) = None
 read_beside (OnImage path (image.Run script count)) = Some script.now
 read_beside (OnImage path image.Recover) = None
 read_beside (OnImage path (image.Migrate made ring)) = None

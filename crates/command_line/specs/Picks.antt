@@ -5,14 +5,14 @@ use Rattle.plant_words.specs.Numbers.{pick_in}
 use Rattle.command_line.specs.declared.picks.PickFault.{PickFault}
 use Rattle.command_line.specs.declared.picks.PickFault.TheVariants.{NoPick, Memory}
 
--- these picks and those that words write behind them, or the first word that writes none
-abbrev pub picks_behind : List ℕ → List (List ℕ) → Result (List ℕ) (List ℕ)
-picks_behind picks [] = Ok picks
-picks_behind picks (word ∷ words) = option_map_or (λ pick. picks_behind (picks ++ pick ∷ []) words) (pick_in word) (Err word)
+-- these picks and those that words write after them, or the first word that writes none
+abbrev pub picks_after : List ℕ → List (List ℕ) → Result (List ℕ) (List ℕ)
+picks_after picks [] = Ok picks
+picks_after picks (word ∷ words) = option_map_or (λ pick. picks_after (picks ++ pick ∷ []) words) (pick_in word) (Err word)
 
 -- the picks that words write, in their order, or the first word that writes none
 abbrev pub picks_in : List (List ℕ) → Result (List ℕ) (List ℕ)
-picks_in words = picks_behind [] words
+picks_in words = picks_after [] words
 
 -- a fault of words is the first of them that writes no pick, or that memory ran out, where each writes one
 abbrev pub IsFaultOf : List (List ℕ) → PickFault → Type 0

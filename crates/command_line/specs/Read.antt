@@ -31,6 +31,7 @@ pub record AreFound (said : Said) (found : Found) : Type 0 where
   pub states : IsFlag found (codes "states") said.states
   pub warn : IsFlag found (codes "warn") said.warn
   pub list : IsFlag found (codes "list") said.list
+  pub only_new : IsFlag found (codes "new") said.only_new
   pub explain : IsFlag found (codes "explain") said.explain
 
 -- the request is what the words of the command ask for that was found

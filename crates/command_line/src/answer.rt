@@ -11,7 +11,7 @@ use clap::error::ErrorKind;
 pub enum Answered {
     /// Help was asked for, and was printed.
     Helped,
-    /// The words ask for nothing that the program does, and it was told why.
+    /// The words ask for nothing that the program does, and it was printed why.
     Usage,
     /// Memory ran out.
     Memory,
@@ -20,16 +20,16 @@ pub enum Answered {
 }
 
 /// Prints what `clap` has to say: help that was asked for on the standard output, and anything else on the standard error.
-pub(crate) fn show<R: Print + Eprint>(rt: &R, told: &Error) -> Answered
-    ensures memory { (result ≡ Memory) ↔ (kind_of told.now ≡ ErrorKind.OutOfMemory) }
+pub(crate) fn show<R: Print + Eprint>(rt: &R, error: &Error) -> Answered
+    ensures memory { (result ≡ Memory) ↔ (kind_of error.now ≡ ErrorKind.OutOfMemory) }
     ensures usage { (result ≡ Usage) ↔
-        ((kind_of told.now ≢ ErrorKind.OutOfMemory) × (kind_of told.now ≢ ErrorKind.DisplayHelp) × (kind_of told.now ≢ ErrorKind.DisplayVersion)) }
+        ((kind_of error.now ≢ ErrorKind.OutOfMemory) × (kind_of error.now ≢ ErrorKind.DisplayHelp) × (kind_of error.now ≢ ErrorKind.DisplayVersion)) }
 {
-    if told.kind() == ErrorKind::OutOfMemory {
+    if error.kind() == ErrorKind::OutOfMemory {
         return Answered::Memory;
     }
-    let shown = told.print(rt);
-    if told.use_stderr() {
+    let shown = error.print(rt);
+    if error.use_stderr() {
         Answered::Usage
     } else if shown.is_err() {
         Answered::Unwritten

@@ -1,20 +1,23 @@
 //! What the words of a command ask for.
 ghost use Rattle.std.specs.Prelude.{◌≡◌, IfOk, Some, codes, if◌then◌else◌, unwrap_or};
-ghost use Rattle.command_line.specs.Asked.{has_picks, IsAsked, IsDrawing, IsExploration, IsPicked, IsPickedBehind, IsTrace, IsWork};
+ghost use Rattle.command_line.specs.Asked.{has_picks, IsAsked, IsDrawing, IsExploration, IsPicked, IsPickedAfter, IsTrace, IsWork};
 ghost use Rattle.command_line.specs.Rings.{ring_in};
 ghost use Rattle.command_line.specs.Said.{word_of};
 ghost use Rattle.command_line.specs.Workers.{workers_in};
+ghost use Rattle.command_line.specs.declared.request.IfThere.TheVariants.{Formatted, Refused};
 ghost use Rattle.command_line.specs.declared.request.Task.TheVariants.{Check, Warn};
 
 use crate::apart::{ApartFault, stand_apart};
 use crate::names::{CommandName, LINES, USUAL_RING, USUAL_WORKERS};
 use crate::picking::{PickingFault, picking_named};
-use crate::request::{Drawing, Exploration, ImageTask, Picking, Request, Task, Trace, Work};
+use crate::request::{
+    Drawing, Exploration, IfThere, ImageTask, Picking, Request, Task, Trace, Work,
+};
 use crate::ring::{RingLength, ring_named};
 use crate::runs::shape_named;
 use crate::said::Said;
 use crate::workers::{WorkerCount, workers_named};
-use std::alloc::{AllocError, AllocFailed, Global};
+use std::alloc::{AllocError, Global};
 
 /// Why the words of a command ask for nothing that the program does.
 #[derive(Clone, Copy, Debug, PartialEq, Eq)]
@@ -40,7 +43,7 @@ pub(crate) enum AskingFault<'a> {
 impl<'a> From<PickingFault<'a>> for AskingFault<'a> {
     ghost use Rattle.command_line.specs.declared.asked.AskingFault.TheVariants.{Picking};
 
-    ghost from_gives = { λ fault told. told ≡ Picking fault };
+    ghost from_gives = { λ fault why. why ≡ Picking fault };
 
     fn from(fault: PickingFault<'a>) -> Self {
         AskingFault::Picking(fault)
@@ -50,7 +53,7 @@ impl<'a> From<PickingFault<'a>> for AskingFault<'a> {
 impl<'a> From<ApartFault> for AskingFault<'a> {
     ghost use Rattle.command_line.specs.declared.asked.AskingFault.TheVariants.{Apart};
 
-    ghost from_gives = { λ fault told. told ≡ Apart fault };
+    ghost from_gives = { λ fault why. why ≡ Apart fault };
 
     fn from(fault: ApartFault) -> Self {
         AskingFault::Apart(fault)
@@ -63,16 +66,6 @@ impl<'a> From<AllocError> for AskingFault<'a> {
     ghost from_gives = { λ _ fault. fault ≡ Memory };
 
     fn from(_: AllocError) -> Self {
-        AskingFault::Memory
-    }
-}
-
-impl<'a, T: Drop> From<AllocFailed<T>> for AskingFault<'a> {
-    ghost use Rattle.command_line.specs.declared.asked.AskingFault.TheVariants.{Memory};
-
-    ghost from_gives = { λ _ fault. fault ≡ Memory };
-
-    fn from(_: AllocFailed<T>) -> Self {
         AskingFault::Memory
     }
 }
@@ -119,7 +112,8 @@ fn work_asked<'a>(alloc: Global, said: &Said<'_, 'a>) -> Result<Work<'a>, Asking
         }
         CommandName::Format => {
             let ring = ring_asked(said.ring)?;
-            Ok(Work::OnImage(path_in(said.image)?, ImageTask::Format(ring)))
+            let task = ImageTask::Format(ring, if_there(said.only_new));
+            Ok(Work::OnImage(path_in(said.image)?, task))
         }
         CommandName::Run => {
             let script = path_in(said.script)?;
@@ -134,6 +128,17 @@ fn work_asked<'a>(alloc: Global, said: &Said<'_, 'a>) -> Result<Work<'a>, Asking
             Ok(Work::OnImage(old, ImageTask::Migrate(made, ring)))
         }
         CommandName::Explore => Ok(Work::Explored(exploration_asked(said)?)),
+    }
+}
+
+/// What becomes of a file that stands where an image is to be made.
+fn if_there(only_new: bool) -> IfThere
+    ensures { result ≡ (if only_new then Refused else Formatted) }
+{
+    if only_new {
+        IfThere::Refused
+    } else {
+        IfThere::Formatted
     }
 }
 
@@ -192,7 +197,7 @@ fn trace_asked<'a>(alloc: Global, said: &Said<'_, 'a>) -> Result<Trace<'a>, Aski
 fn drawing_asked<'a>(alloc: Global, said: &Said<'_, 'a>) -> Result<Drawing<'a>, AskingFault<'a>>
     ensures { IfOk result (λ drawing. IsDrawing drawing said.now) }
 {
-    let picking = picking_behind(alloc, said)?;
+    let picking = picking_after(alloc, said)?;
     match (said.outline, said.only, picking) {
         (true, None, None) => Ok(Drawing::Outline),
         (true, _, _) => Err(AskingFault::OutlineOfPart),
@@ -202,12 +207,12 @@ fn drawing_asked<'a>(alloc: Global, said: &Said<'_, 'a>) -> Result<Drawing<'a>, 
     }
 }
 
-/// The picks behind which a plant is drawn, if there are some.
-fn picking_behind<'a>(
+/// The picks after which a plant is drawn, if there are some.
+fn picking_after<'a>(
     alloc: Global,
     said: &Said<'_, 'a>,
 ) -> Result<Option<Picking<'a>>, AskingFault<'a>>
-    ensures { IfOk result (λ picking. IsPickedBehind picking said.now) }
+    ensures { IfOk result (λ picking. IsPickedAfter picking said.now) }
 {
     if has_picks(said) {
         let given = said.after.unwrap_or(&[]);
@@ -219,7 +224,7 @@ fn picking_behind<'a>(
     }
 }
 
-/// Whether a plant is to be drawn behind picks.
+/// Whether a plant is to be drawn after picks.
 fn has_picks(said: &Said<'_, '_>) -> bool
     ensures { result ≡ has_picks said.now }
 {
@@ -240,10 +245,7 @@ fn ring_asked<'a>(word: Option<&'a str>) -> Result<RingLength, AskingFault<'a>>
     ensures { IfOk result (λ ring. ring_in (unwrap_or (word_of word.entry) (codes "64")) ≡ Some ring.records) }
 {
     let word = word.unwrap_or(USUAL_RING);
-    match ring_named(word) {
-        Some(ring) => Ok(ring),
-        None => Err(AskingFault::NoRing(word)),
-    }
+    ring_named(word).ok_or(AskingFault::NoRing(word))
 }
 
 /// How many workers share the events of a run.
@@ -251,8 +253,5 @@ fn workers_asked<'a>(word: Option<&'a str>) -> Result<WorkerCount, AskingFault<'
     ensures { IfOk result (λ count. workers_in (unwrap_or (word_of word.entry) (codes "0")) ≡ Some count.workers) }
 {
     let word = word.unwrap_or(USUAL_WORKERS);
-    match workers_named(word) {
-        Some(count) => Ok(count),
-        None => Err(AskingFault::NoWorkers(word)),
-    }
+    workers_named(word).ok_or(AskingFault::NoWorkers(word))
 }

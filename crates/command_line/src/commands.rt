@@ -1,11 +1,5 @@
 //! The commands of the program, with their arguments and options.
-use crate::arguments::{
-    after_argument, explain_argument, image_argument, list_argument, new_argument, old_argument,
-    only_argument, outline_argument, pick_argument, picks_argument, plant_argument,
-    plant_file_argument, random_argument, ring_argument, run_format_argument, save_picks_argument,
-    script_argument, seed_argument, states_argument, strict_argument, warn_argument,
-    workers_argument,
-};
+use crate::arguments::{Argument, described};
 use crate::help::{
     ABOUT, AFTER, BRIEF, CHECK_ABOUT, CHECK_AFTER, CHECK_BRIEF, CHOICES_ABOUT, CHOICES_AFTER,
     CHOICES_BRIEF, DRAW_ABOUT, DRAW_AFTER, DRAW_BRIEF, DRAW_USAGE, EXPLORE_ABOUT, EXPLORE_AFTER,
@@ -14,11 +8,8 @@ use crate::help::{
     STEP_ABOUT, STEP_AFTER, STEP_BRIEF, TRACE_ABOUT, TRACE_AFTER, TRACE_BRIEF, VERSION, WHY_ABOUT,
     WHY_AFTER, WHY_BRIEF,
 };
-use crate::names::{
-    CHECK, CHOICES, COMMANDS, CommandName, DRAW, EXPLORE, FORMAT, MIGRATE, RECOVER, RUN, STEP,
-    TRACE, WHY,
-};
-use clap::{Arg, Command};
+use crate::names::{COMMANDS, CommandName, word_of};
+use clap::Command;
 use std::alloc::{AllocError, Global};
 
 /// The program with its commands.
@@ -61,160 +52,125 @@ fn words_of(name: CommandName) -> &'static str {
     }
 }
 
-/// The command with this name.
-fn command_called<'a>(alloc: Global, name: CommandName) -> Result<Command<'a>, AllocError> {
-    match name {
-        CommandName::Check => check_command(alloc),
-        CommandName::Choices => choices_command(alloc),
-        CommandName::Why => why_command(alloc),
-        CommandName::Trace => trace_command(alloc),
-        CommandName::Step => step_command(alloc),
-        CommandName::Draw => draw_command(alloc),
-        CommandName::Format => format_command(alloc),
-        CommandName::Run => run_command(alloc),
-        CommandName::Recover => recover_command(alloc),
-        CommandName::Migrate => migrate_command(alloc),
-        CommandName::Explore => explore_command(alloc),
-    }
-}
-
-/// The command with one more argument, where there was memory for it.
-//
-// A command is put together by calls that hand want of memory on: a function with a `?` at each argument takes the prover as long as
-// all else of this crate.
-fn with_argument<'a>(
-    command: Result<Command<'a>, AllocError>,
-    argument: Arg<'a>,
-) -> Result<Command<'a>, AllocError> {
-    command?.arg(argument)
-}
-
-/// A command with what its help says.
-fn described<'a>(
-    alloc: Global,
-    name: &'a str,
+/// The word that names a command, and what its help says: in the list of commands, above its arguments, and below them.
+#[derive(Clone, Copy)]
+struct Help<'a> {
+    word: &'a str,
     brief: &'a str,
     about: &'a str,
     after: &'a str,
-) -> Command<'a> {
-    Command::new(alloc, name)
-        .about(brief)
-        .long_about(about)
-        .after_long_help(after)
 }
 
-/// The command that counts the parts of a plant.
-fn check_command<'a>(alloc: Global) -> Result<Command<'a>, AllocError> {
-    let command = described(alloc, CHECK, CHECK_BRIEF, CHECK_ABOUT, CHECK_AFTER);
-    let command = with_argument(Ok(command), warn_argument(alloc));
-    let command = with_argument(command, explain_argument(alloc));
-    with_argument(command, plant_argument(alloc))
+/// The help of the command.
+fn help_of<'a>(name: CommandName) -> Help<'a> {
+    let (brief, about, after) = match name {
+        CommandName::Check => (CHECK_BRIEF, CHECK_ABOUT, CHECK_AFTER),
+        CommandName::Choices => (CHOICES_BRIEF, CHOICES_ABOUT, CHOICES_AFTER),
+        CommandName::Why => (WHY_BRIEF, WHY_ABOUT, WHY_AFTER),
+        CommandName::Trace => (TRACE_BRIEF, TRACE_ABOUT, TRACE_AFTER),
+        CommandName::Step => (STEP_BRIEF, STEP_ABOUT, STEP_AFTER),
+        CommandName::Draw => (DRAW_BRIEF, DRAW_ABOUT, DRAW_AFTER),
+        CommandName::Format => (FORMAT_BRIEF, FORMAT_ABOUT, FORMAT_AFTER),
+        CommandName::Run => (RUN_BRIEF, RUN_ABOUT, RUN_AFTER),
+        CommandName::Recover => (RECOVER_BRIEF, RECOVER_ABOUT, RECOVER_AFTER),
+        CommandName::Migrate => (MIGRATE_BRIEF, MIGRATE_ABOUT, MIGRATE_AFTER),
+        CommandName::Explore => (EXPLORE_BRIEF, EXPLORE_ABOUT, EXPLORE_AFTER),
+    };
+    Help {
+        word: word_of(name),
+        brief,
+        about,
+        after,
+    }
 }
 
-/// The command that lists what can be fired next.
-fn choices_command<'a>(alloc: Global) -> Result<Command<'a>, AllocError> {
-    let command = described(alloc, CHOICES, CHOICES_BRIEF, CHOICES_ABOUT, CHOICES_AFTER);
-    let command = with_argument(Ok(command), picks_argument(alloc));
-    let command = with_argument(command, strict_argument(alloc));
-    let command = with_argument(command, random_argument(alloc));
-    let command = with_argument(command, seed_argument(alloc));
-    let command = with_argument(command, explain_argument(alloc));
-    let command = with_argument(command, plant_argument(alloc));
-    with_argument(command, pick_argument(alloc))
+/// The arguments of a command that runs a plant by picks and prints what it comes to.
+const BY_PICKS: &[Argument] = &[
+    Argument::Picks,
+    Argument::Strict,
+    Argument::Random,
+    Argument::Seed,
+    Argument::Explain,
+    Argument::Plant,
+    Argument::Pick,
+];
+
+/// The arguments and options of the command, in the order of its help.
+fn arguments_of(name: CommandName) -> &'static [Argument] {
+    match name {
+        CommandName::Check => &[Argument::Warn, Argument::Explain, Argument::Plant],
+        CommandName::Choices | CommandName::Why => BY_PICKS,
+        CommandName::Trace => &[
+            Argument::RunFormat,
+            Argument::States,
+            Argument::Picks,
+            Argument::Strict,
+            Argument::SavePicks,
+            Argument::Random,
+            Argument::Seed,
+            Argument::Explain,
+            Argument::Plant,
+            Argument::Pick,
+        ],
+        CommandName::Step => &[Argument::Explain, Argument::PlantFile],
+        CommandName::Draw => &[
+            Argument::Outline,
+            Argument::Only,
+            Argument::After,
+            Argument::Picks,
+            Argument::Strict,
+            Argument::Explain,
+            Argument::Plant,
+        ],
+        CommandName::Format => &[
+            Argument::OnlyNew,
+            Argument::Ring,
+            Argument::Explain,
+            Argument::Plant,
+            Argument::Image,
+        ],
+        CommandName::Run => &[
+            Argument::Workers,
+            Argument::Explain,
+            Argument::Plant,
+            Argument::Image,
+            Argument::Script,
+        ],
+        CommandName::Recover => &[Argument::Explain, Argument::Plant, Argument::Image],
+        CommandName::Migrate => &[
+            Argument::Ring,
+            Argument::Explain,
+            Argument::Plant,
+            Argument::Old,
+            Argument::New,
+        ],
+        CommandName::Explore => &[
+            Argument::Ring,
+            Argument::List,
+            Argument::Explain,
+            Argument::Plant,
+            Argument::Script,
+        ],
+    }
 }
 
-/// The command that tells why a connector can't be fired next.
-fn why_command<'a>(alloc: Global) -> Result<Command<'a>, AllocError> {
-    let command = described(alloc, WHY, WHY_BRIEF, WHY_ABOUT, WHY_AFTER);
-    let command = with_argument(Ok(command), picks_argument(alloc));
-    let command = with_argument(command, strict_argument(alloc));
-    let command = with_argument(command, random_argument(alloc));
-    let command = with_argument(command, seed_argument(alloc));
-    let command = with_argument(command, explain_argument(alloc));
-    let command = with_argument(command, plant_argument(alloc));
-    with_argument(command, pick_argument(alloc))
+/// A command with its help, and no argument yet.
+fn with_help<'a>(alloc: Global, help: Help<'a>) -> Command<'a> {
+    Command::new(alloc, help.word)
+        .about(help.brief)
+        .long_about(help.about)
+        .after_long_help(help.after)
 }
 
-/// The command that runs a plant.
-fn trace_command<'a>(alloc: Global) -> Result<Command<'a>, AllocError> {
-    let command = described(alloc, TRACE, TRACE_BRIEF, TRACE_ABOUT, TRACE_AFTER);
-    let command = with_argument(Ok(command), run_format_argument(alloc));
-    let command = with_argument(command, states_argument(alloc));
-    let command = with_argument(command, picks_argument(alloc));
-    let command = with_argument(command, strict_argument(alloc));
-    let command = with_argument(command, save_picks_argument(alloc));
-    let command = with_argument(command, random_argument(alloc));
-    let command = with_argument(command, seed_argument(alloc));
-    let command = with_argument(command, explain_argument(alloc));
-    let command = with_argument(command, plant_argument(alloc));
-    with_argument(command, pick_argument(alloc))
-}
-
-/// The command that runs a plant by hand.
-fn step_command<'a>(alloc: Global) -> Result<Command<'a>, AllocError> {
-    let command = described(alloc, STEP, STEP_BRIEF, STEP_ABOUT, STEP_AFTER);
-    let command = with_argument(Ok(command), explain_argument(alloc));
-    with_argument(command, plant_file_argument(alloc))
-}
-
-/// The command that draws a plant.
-fn draw_command<'a>(alloc: Global) -> Result<Command<'a>, AllocError> {
-    // What 'clap' would show puts PLANT behind the picks, which would take it for one of them.
-    let command = described(alloc, DRAW, DRAW_BRIEF, DRAW_ABOUT, DRAW_AFTER).override_usage(
-        DRAW_USAGE,
-    );
-    let command = with_argument(Ok(command), outline_argument(alloc));
-    let command = with_argument(command, only_argument(alloc));
-    let command = with_argument(command, after_argument(alloc));
-    let command = with_argument(command, picks_argument(alloc));
-    let command = with_argument(command, strict_argument(alloc));
-    let command = with_argument(command, explain_argument(alloc));
-    with_argument(command, plant_argument(alloc))
-}
-
-/// The command that makes an image of a plant.
-fn format_command<'a>(alloc: Global) -> Result<Command<'a>, AllocError> {
-    let command = described(alloc, FORMAT, FORMAT_BRIEF, FORMAT_ABOUT, FORMAT_AFTER);
-    let command = with_argument(Ok(command), ring_argument(alloc));
-    let command = with_argument(command, explain_argument(alloc));
-    let command = with_argument(command, plant_argument(alloc));
-    with_argument(command, image_argument(alloc))
-}
-
-/// The command that runs a plant on its image.
-fn run_command<'a>(alloc: Global) -> Result<Command<'a>, AllocError> {
-    let command = described(alloc, RUN, RUN_BRIEF, RUN_ABOUT, RUN_AFTER);
-    let command = with_argument(Ok(command), workers_argument(alloc));
-    let command = with_argument(command, explain_argument(alloc));
-    let command = with_argument(command, plant_argument(alloc));
-    let command = with_argument(command, image_argument(alloc));
-    with_argument(command, script_argument(alloc))
-}
-
-/// The command that tells where a plant stands.
-fn recover_command<'a>(alloc: Global) -> Result<Command<'a>, AllocError> {
-    let command = described(alloc, RECOVER, RECOVER_BRIEF, RECOVER_ABOUT, RECOVER_AFTER);
-    let command = with_argument(Ok(command), explain_argument(alloc));
-    let command = with_argument(command, plant_argument(alloc));
-    with_argument(command, image_argument(alloc))
-}
-
-/// The command that brings an image of the first layout over to a new one.
-fn migrate_command<'a>(alloc: Global) -> Result<Command<'a>, AllocError> {
-    let command = described(alloc, MIGRATE, MIGRATE_BRIEF, MIGRATE_ABOUT, MIGRATE_AFTER);
-    let command = with_argument(Ok(command), ring_argument(alloc));
-    let command = with_argument(command, explain_argument(alloc));
-    let command = with_argument(command, plant_argument(alloc));
-    let command = with_argument(command, old_argument(alloc));
-    with_argument(command, new_argument(alloc))
-}
-
-/// The command that tells what a power cut at each moment of a run leaves.
-fn explore_command<'a>(alloc: Global) -> Result<Command<'a>, AllocError> {
-    let command = described(alloc, EXPLORE, EXPLORE_BRIEF, EXPLORE_ABOUT, EXPLORE_AFTER);
-    let command = with_argument(Ok(command), ring_argument(alloc));
-    let command = with_argument(command, list_argument(alloc));
-    let command = with_argument(command, explain_argument(alloc));
-    let command = with_argument(command, plant_argument(alloc));
-    with_argument(command, script_argument(alloc))
+/// The command with this name.
+fn command_called<'a>(alloc: Global, name: CommandName) -> Result<Command<'a>, AllocError> {
+    let mut command = with_help(alloc, help_of(name));
+    if name == CommandName::Draw {
+        // What 'clap' would show puts PLANT after the picks, which would take it for one of them.
+        command = command.override_usage(DRAW_USAGE);
+    }
+    for argument in arguments_of(name) {
+        command = command.arg(described(alloc, *argument))?;
+    }
+    Ok(command)
 }

@@ -233,7 +233,8 @@ pub(crate) const FORMAT_ABOUT: &str =
 
 An image is the file in which a plant is kept: it holds what was fired, so that each run
 goes on where the one before it ended, whatever ended it. IMAGE is made where nothing is
-there. A file that is there must have the size of the image, and loses all that it held.
+there. A file that is there must have the size of the image, and loses all that it held;
+with --new it is refused, and stays as it is.
 
 The image has room for the records of N interactions, from 8 to 4096. It has 3 cells, 2
 more for each atom, and one for each record, each of 1,024 bytes. Prints one line: how many
@@ -249,9 +250,10 @@ Exit status:
   1  the text is no plant ('plant line L: fault K NAME' on the standard error), or IMAGE
      is a file of another size, which is left as it was ('image: refusal 4 WrongSize')
   2  the words of the command line were not understood
-  3  a file ('file PATH'; 'file PATH in use' where another program has the image open),
-     the device below the image ('image: refusal 8 Disk'), the memory ('memory', 'plant
-     line 0: fault 15 Memory' or 'image: refusal 9 Memory') or the standard output failed";
+  3  a file ('file PATH'; 'file PATH in use' where another program has the image open;
+     'file PATH is there' with --new), the device below the image ('image: refusal 8
+     Disk'), the memory ('memory', 'plant line 0: fault 15 Memory' or 'image: refusal 9
+     Memory') or the standard output failed";
 
 pub(crate) const RUN_BRIEF: &str = "Runs a plant by a script, from where its image stands";
 

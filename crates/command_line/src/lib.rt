@@ -4,7 +4,7 @@
 //! crate above needs to know of `clap`:
 //!
 //! - `words`: how a request is read from the words. `names`: the words that name commands and options. `commands`, `arguments`: the
-//!   commands, as `clap` takes them. `help`: what is told of them.
+//!   commands, as `clap` takes them. `help`: what its help says of them.
 //! - `said`: what `clap` found of a command, part by part. `asked`: what that asks for.
 //! - `picking`: how the choices of a run are picked. `picks`: the words of a run's picks. `runs`: the words for how a run is printed.
 //!   `ring`: the word for an image's room. `workers`: the word for how many share the events of a run. `input`: the word for the standard input. `apart`: which files may not be one another.
@@ -34,7 +34,7 @@ mod workers;
 pub use answer::Answered;
 pub use input::is_standard_input;
 pub use request::{
-    Drawing, Exploration, ImageTask, Numbers, Picking, Request, Shape, Task, Trace, Work,
+    Drawing, Exploration, IfThere, ImageTask, Numbers, Picking, Request, Shape, Task, Trace, Work,
 };
 pub use ring::RingLength;
 pub use words::read_request;

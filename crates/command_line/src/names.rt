@@ -1,28 +1,28 @@
 //! The words that name the commands, their arguments and their options.
 ghost use Rattle.std.specs.Prelude.{◌≡◌};
-ghost use Rattle.command_line.specs.Names.{command_in};
+ghost use Rattle.command_line.specs.Names.{command_in, word_for};
 
-pub(crate) const CHECK: &str = "check";
+const CHECK: &str = "check";
 
-pub(crate) const CHOICES: &str = "choices";
+const CHOICES: &str = "choices";
 
-pub(crate) const WHY: &str = "why";
+const WHY: &str = "why";
 
-pub(crate) const TRACE: &str = "trace";
+const TRACE: &str = "trace";
 
-pub(crate) const STEP: &str = "step";
+const STEP: &str = "step";
 
-pub(crate) const DRAW: &str = "draw";
+const DRAW: &str = "draw";
 
-pub(crate) const FORMAT: &str = "format";
+const FORMAT: &str = "format";
 
-pub(crate) const RUN: &str = "run";
+const RUN: &str = "run";
 
-pub(crate) const RECOVER: &str = "recover";
+const RECOVER: &str = "recover";
 
-pub(crate) const MIGRATE: &str = "migrate";
+const MIGRATE: &str = "migrate";
 
-pub(crate) const EXPLORE: &str = "explore";
+const EXPLORE: &str = "explore";
 
 pub(crate) const PLANT: &str = "PLANT";
 
@@ -63,6 +63,8 @@ pub(crate) const AFTER: &str = "after";
 pub(crate) const RING: &str = "ring";
 
 pub(crate) const LIST: &str = "list";
+
+pub(crate) const ONLY_NEW: &str = "new";
 
 pub(crate) const WORKERS: &str = "workers";
 
@@ -120,34 +122,31 @@ pub(crate) const COMMANDS: [CommandName; 11] = [
     CommandName::Explore,
 ];
 
+/// The word that names the command.
+pub(crate) fn word_of(name: CommandName) -> &'static str
+    ensures { result.now ≡ word_for name }
+{
+    match name {
+        CommandName::Check => CHECK,
+        CommandName::Choices => CHOICES,
+        CommandName::Why => WHY,
+        CommandName::Trace => TRACE,
+        CommandName::Step => STEP,
+        CommandName::Draw => DRAW,
+        CommandName::Format => FORMAT,
+        CommandName::Run => RUN,
+        CommandName::Recover => RECOVER,
+        CommandName::Migrate => MIGRATE,
+        CommandName::Explore => EXPLORE,
+    }
+}
+
 /// The command that the word names.
 pub(crate) fn command_named(word: &str) -> Option<CommandName>
     ensures { result ≡ command_in word.now }
 {
-    let word = word.as_bytes();
-    if word == CHECK.as_bytes() {
-        Some(CommandName::Check)
-    } else if word == CHOICES.as_bytes() {
-        Some(CommandName::Choices)
-    } else if word == WHY.as_bytes() {
-        Some(CommandName::Why)
-    } else if word == TRACE.as_bytes() {
-        Some(CommandName::Trace)
-    } else if word == STEP.as_bytes() {
-        Some(CommandName::Step)
-    } else if word == DRAW.as_bytes() {
-        Some(CommandName::Draw)
-    } else if word == FORMAT.as_bytes() {
-        Some(CommandName::Format)
-    } else if word == RUN.as_bytes() {
-        Some(CommandName::Run)
-    } else if word == RECOVER.as_bytes() {
-        Some(CommandName::Recover)
-    } else if word == MIGRATE.as_bytes() {
-        Some(CommandName::Migrate)
-    } else if word == EXPLORE.as_bytes() {
-        Some(CommandName::Explore)
-    } else {
-        None
-    }
+    COMMANDS
+        .iter()
+        .copied()
+        .find(|name| word.as_bytes() == word_of(*name).as_bytes())
 }

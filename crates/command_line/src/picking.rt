@@ -37,7 +37,7 @@ pub(crate) enum PickingFault<'a> {
 impl<'a> From<PickFault<'a>> for PickingFault<'a> {
     ghost use Rattle.command_line.specs.Pickings.{of_picks};
 
-    ghost from_gives = { λ fault told. told ≡ of_picks fault };
+    ghost from_gives = { λ fault why. why ≡ of_picks fault };
 
     fn from(fault: PickFault<'a>) -> Self {
         match fault {

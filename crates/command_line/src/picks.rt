@@ -3,7 +3,7 @@ ghost use Rattle.std.specs.Prelude.{◌≡◌, [], ◌∷◌, ◌++◌, map, Ok,
 ghost use Rattle.command_line.specs.Picks.{picks_in, IsFaultOf};
 
 use plant_words::read_decimal;
-use std::alloc::{AllocError, AllocFailed, Global};
+use std::alloc::{AllocError, Global};
 
 /// Why words are no picks.
 #[derive(Clone, Copy, Debug, PartialEq, Eq)]
@@ -24,16 +24,6 @@ impl<'a> From<AllocError> for PickFault<'a> {
     }
 }
 
-impl<'a, T: Drop> From<AllocFailed<T>> for PickFault<'a> {
-    ghost use Rattle.command_line.specs.declared.picks.PickFault.TheVariants.{Memory};
-
-    ghost from_gives = { λ _ fault. fault ≡ Memory };
-
-    fn from(_: AllocFailed<T>) -> Self {
-        PickFault::Memory
-    }
-}
-
 /// The picks that the words write, or the first word that writes none: a pick is digits alone, within a `u64`. Words are
 /// read on where memory is wanting, so that it hides no such word.
 pub(crate) fn read_picks<'a>(alloc: Global, words: &[&'a str]) -> Result<Vec<u64>, PickFault<'a>>
@@ -50,7 +40,7 @@ pub(crate) fn read_picks<'a>(alloc: Global, words: &[&'a str]) -> Result<Vec<u64
     Ok(picks?)
 }
 
-/// The picks with one more behind them, where there was memory for them.
+/// The picks with one more after them, where there was memory for them.
 fn with_pick(picks: Result<Vec<u64>, AllocError>, pick: u64) -> Result<Vec<u64>, AllocError>
     ensures { IfOk result (λ more. IsOkAnd picks (λ before. more.items ≡ before.items ++ pick ∷ [])) }
 {

@@ -77,12 +77,12 @@ pub enum Drawing<'a> {
 
 impl<'a> Drawing<'a> {
     ghost use Rattle.std.specs.Prelude.{◌≡◌};
-    ghost use Rattle.command_line.specs.Files.{recorded_behind};
+    ghost use Rattle.command_line.specs.Files.{recorded_after};
     ghost use Rattle.command_line.specs.Said.{word_of};
 
-    /// Where the text of the picks is behind which the plant is drawn, if a text has them.
+    /// Where the text of the picks is after which the plant is drawn, if a text has them.
     fn recorded(&self) -> Option<&'a str>
-        ensures { word_of result ≡ recorded_behind self.now }
+        ensures { word_of result ≡ recorded_after self.now }
     {
         match self {
             Drawing::After(picking) | Drawing::Only(_, Some(picking)) => picking.recorded(),
@@ -96,13 +96,13 @@ impl<'a> Drawing<'a> {
 pub enum Task<'a> {
     /// Its parts are counted.
     Check,
-    /// Its parts are counted, and what is probably a mistake is told.
+    /// Its parts are counted, and what is probably a mistake is printed.
     Warn,
     /// It is run from its first state, and the run is printed.
     Trace(Trace<'a>),
     /// It is run from its first state by these picks, and what can be fired next is listed.
     Choices(Picking<'a>),
-    /// The same, and of each connector that can't be fired next it is told why.
+    /// The same, and of each connector that can't be fired next it is printed why.
     Why(Picking<'a>),
     /// It is drawn as a graph.
     Draw(Drawing<'a>),
@@ -136,15 +136,24 @@ impl<'a> Task<'a> {
     }
 }
 
+/// What becomes of a file that stands where an image is to be made.
+#[derive(Clone, Copy, Debug, PartialEq, Eq)]
+pub enum IfThere {
+    /// It is formatted, if it has the size of the image.
+    Formatted,
+    /// It is left as it is, and the command refused.
+    Refused,
+}
+
 /// What is to be done with a plant and its image.
 #[derive(Clone, Copy)]
 pub enum ImageTask<'a> {
     /// The image is made to stand for the plant's first state, with room for so many records.
-    Format(RingLength),
+    Format(RingLength, IfThere),
     /// The plant goes on from what the image stands for, by the script at this path: a file, or `-` for the standard input. So many workers share
     /// its events.
     Run(&'a str, WorkerCount),
-    /// It is told where the plant stands.
+    /// Where the plant stands is printed.
     Recover,
     /// The image is of the first layout, and is brought over to a new one: the file at this path, with room for so many records.
     Migrate(&'a str, RingLength),
@@ -157,7 +166,7 @@ pub struct Exploration<'a> {
     pub script: &'a str,
     /// For how many records the device has room.
     pub ring: RingLength,
-    /// Whether each trial is told, too.
+    /// Whether each trial is printed, too.
     pub list: bool,
 }
 
@@ -170,7 +179,7 @@ pub enum Work<'a> {
     ByHand,
     /// A task of the plant and of its image, the file at this path.
     OnImage(&'a str, ImageTask<'a>),
-    /// A run of the plant, without an image, of which it is told what each stop leaves.
+    /// A run of the plant, without an image, of which what each stop leaves is printed.
     Explored(Exploration<'a>),
 }
 
@@ -190,7 +199,7 @@ impl<'a> Work<'a> {
             Work::Explored(exploration) => Some(exploration.script),
             Work::OnImage(
                 _,
-                ImageTask::Format(_) | ImageTask::Recover | ImageTask::Migrate(_, _),
+                ImageTask::Format(_, _) | ImageTask::Recover | ImageTask::Migrate(_, _),
             ) => None,
         }
     }
@@ -213,6 +222,6 @@ pub struct Request<'a> {
     pub work: Work<'a>,
     /// Where the plant text stands: the path of a file, or `-` for the standard input.
     pub plant: &'a str,
-    /// Whether more is told of a fault than its line, also where the standard error is no terminal.
+    /// Whether more is printed of a fault than its line, also where the standard error is no terminal.
     pub explain: bool,
 }

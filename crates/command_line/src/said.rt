@@ -4,8 +4,8 @@ ghost use Rattle.clap.specs.Matches.{found_of};
 ghost use Rattle.command_line.specs.Read.{AreFound};
 
 use crate::names::{
-    AFTER, CommandName, EXPLAIN, IMAGE, LIST, NEW, OLD, ONLY, OUTLINE, PICK, PICKS, PLANT, RANDOM,
-    RING, RUN_FORMAT, SAVE_PICKS, SCRIPT, SEED, STATES, STRICT, WARN, WORKERS,
+    AFTER, CommandName, EXPLAIN, IMAGE, LIST, NEW, OLD, ONLY, ONLY_NEW, OUTLINE, PICK, PICKS,
+    PLANT, RANDOM, RING, RUN_FORMAT, SAVE_PICKS, SCRIPT, SEED, STATES, STRICT, WARN, WORKERS,
 };
 use clap::ArgMatches;
 
@@ -40,7 +40,7 @@ pub(crate) struct Said<'m, 'a> {
     pub(crate) ring: Option<&'a str>,
     /// How many workers share the events of a run.
     pub(crate) workers: Option<&'a str>,
-    /// The picks behind which a plant is drawn.
+    /// The picks after which a plant is drawn.
     pub(crate) after: Option<&'m [&'a str]>,
     /// The atoms that are drawn.
     pub(crate) only: Option<&'m [&'a str]>,
@@ -50,15 +50,17 @@ pub(crate) struct Said<'m, 'a> {
     pub(crate) outline: bool,
     /// Whether the states of a run are printed.
     pub(crate) states: bool,
-    /// Whether what is probably a mistake is told.
+    /// Whether what is probably a mistake is printed.
     pub(crate) warn: bool,
-    /// Whether each trial of a run is told.
+    /// Whether each trial of a run is printed.
     pub(crate) list: bool,
-    /// Whether more is told of a fault.
+    /// Whether a file that is there is not formatted.
+    pub(crate) only_new: bool,
+    /// Whether more is printed of a fault.
     pub(crate) explain: bool,
 }
 
-/// What was found behind the word of a command.
+/// What was found after the word of a command.
 pub(crate) fn said_in<'m, 'a>(command: CommandName, found: &'m ArgMatches<'a>) -> Said<'m, 'a>
     ensures command { result.command ≡ command }
     ensures found { AreFound result (found_of found.now) }
@@ -85,6 +87,7 @@ pub(crate) fn said_in<'m, 'a>(command: CommandName, found: &'m ArgMatches<'a>) -
         states: found.get_flag(STATES),
         warn: found.get_flag(WARN),
         list: found.get_flag(LIST),
+        only_new: found.get_flag(ONLY_NEW),
         explain: found.get_flag(EXPLAIN),
     }
 }

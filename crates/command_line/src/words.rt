@@ -17,12 +17,12 @@ use record_codec::{LEAST_RING, MOST_RING};
 use std::alloc::{AllocError, Global};
 
 /// What the words of the command line ask for, the program's own name first. Where they ask for help, or for nothing that the
-/// program does, that is printed, and it is told how the program ends.
+/// program does, that is printed, and the answer says how the program ends.
 pub fn read_request<'a, R: Print + Eprint + AllocGlobal>(
     rt: &R,
     words: &'a [String],
 ) -> Result<Request<'a>, Answered> {
-    request_in(rt.alloc(), words).map_err(|told| show(rt, &told))
+    request_in(rt.alloc(), words).map_err(|error| show(rt, &error))
 }
 
 /// What the words ask for, or what `clap` says in its place.

@@ -1,5 +1,5 @@
 -- What holds of the guard clauses and of the transfers of a connector holds of them with the one that a line adds.
-use Rattle.std.proofs.Common.{◌≡◌, subst, Bool, true, false, not, ◌&&◌, List, [], ◌∷◌, ◌++◌, length, drop, codes, Result, Ok, ℕ}
+use Rattle.std.proofs.Common.{◌≡◌, subst, Bool, true, false, not, ◌&&◌, List, [], ◌∷◌, ◌++◌, length, Result, Ok, ℕ}
 use Rattle.std.specs.Prelude.{nat_lt, nat_le}
 use Rattle.std.specs.List.{list_all}
 use Rattle.std.specs.Option.{ok_or}
@@ -12,14 +12,15 @@ use Rattle.step_core.specs.declared.limits.TheConstants.{MAX_GUARDS, MAX_TRANSFE
 use Rattle.step_core.specs.declared.wire.Export.{Export}
 use Rattle.plant_words.specs.declared.line_fault.LineFault.{LineFault}
 use Rattle.plant_words.specs.declared.line_fault.LineFault.TheVariants.{Twice, UnknownName, Limit}
-use Rattle.plant_words.specs.Reading.{◌>>=◌, check, first_word, first_keyword}
+use Rattle.plant_words.specs.Reading.{◌>>=◌, check, first_word}
 use Rattle.plant_words.proofs.Exits.{room_for_one}
 use Rattle.plant_words.proofs.Once.{all_and_one}
 use Rattle.plant_words.proofs.Steps.{led_on, passed, same_end}
 use Rattle.connector_lines.specs.Rows.{Named, whole_expression, has_target, has_targets_once, target_in, transfer_in, guards_with, transfers_with}
 use Rattle.connector_lines.specs.Parts.{Passes}
 use Rattle.connector_lines.proofs.Expressions.{expression_is_kept}
-use Rattle.connector_lines.proofs.Kept.{transfer_is_kept}
+use Rattle.connector_lines.proofs.OnePartMore.{transfer_is_kept}
+use Rattle.connector_lines.proofs.TransferSteps.{transfer_read}
 use Rattle.connector_lines.proofs.Targets.{targets_once_with_another}
 
 -- ---- guard clauses
@@ -66,14 +67,8 @@ target_is_new named before words target told =
 transfer_is_new : (named : Named) (before : List TransferDefinition) (words : List (List ℕ)) (t : TransferDefinition) →
     transfer_in named before words ≡ Ok t → has_target before t.target ≡ false
 transfer_is_new named before words t told =
-    let made : Export → Tree Export → Result TransferDefinition LineFault = λ target value. Ok (record { target = target; value = value }) in
-    let valued : Export → Unit {0} → Result TransferDefinition LineFault = λ target assigns. whole_expression named (drop 1 (drop 1 words)) >>= made target in
-    let assigned : Export → Result TransferDefinition LineFault = λ target. first_keyword (codes ":=") (drop 1 words) >>= valued target in
-    let target = led_on (target_in named before words) assigned t told in
-    let assigns = led_on (first_keyword (codes ":=") (drop 1 words)) (valued target.0) t target.2 in
-    let value = led_on (whole_expression named (drop 1 (drop 1 words))) (made target.0) t assigns.2 in
-    let same : record { target = target.0; value = value.0 } ≡ t = same_end (record { target = target.0; value = value.0 }) t value.2 in
-    subst (λ s. has_target before s.target ≡ false) same (target_is_new named before words target.0 target.1)
+    let read = transfer_read named before words t told in
+    subst (λ s. has_target before s.target ≡ false) read.is (target_is_new named before words read.target read.targeted)
 
 pub transfers_sound : (test : Export → Bool) (named : Named) → Passes test named →
     (words : List (List ℕ)) (transfers next : List TransferDefinition) →

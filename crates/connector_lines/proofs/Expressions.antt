@@ -16,7 +16,7 @@ pub record IsKept (test : Export → Bool) (tree : Tree Export) : Type 0 where
   pub within : word_count tree ≤ MAX_WORDS
   pub passing : all_variables test tree ≡ true
 
--- no word behind an expression changes it
+-- no word after an expression changes it
 only_at_end : (P : Tree Export → Type 0) (read : Result (Tree Export × List (List ℕ)) ExpressionFault) →
     ((tree : Tree Export) (rest : List (List ℕ)) → read ≡ Ok (tree, rest) → P tree) →
     IfOk (on_line read >>= λ r. (at_end r.1 >>= λ _. Ok r.0)) P

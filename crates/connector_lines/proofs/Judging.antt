@@ -9,14 +9,14 @@ use Rattle.connector_tree.specs.declared.faults.TreeFault.TheVariants.{TooManyLe
 use Rattle.connector_tree.specs.Faults.{has_repeat, atoms}
 use Rattle.connector_tree.specs.declared.token.Token.{Token}
 use Rattle.connector_tree.specs.declared.token.Token.TheVariants.{Leaf, Open, Close}
-use Rattle.connector_tree.specs.Tokens.{level_behind, ports_in}
+use Rattle.connector_tree.specs.Tokens.{level_after, ports_in}
 use Rattle.connector_tree.specs.TokenFaults.{deepest, is_open, is_close, begins_with_close, has_empty_bracket}
 use Rattle.connector_tree.proofs.TokenDepth.{level_least}
 use Rattle.connector_tree.proofs.Levels.{some_same}
 use Rattle.connector_lines.specs.declared.shape.Shape.{Shape}
-use Rattle.connector_lines.specs.Judging.{is_too_wide_behind, is_too_deep_behind, has_empty_behind, fault_behind}
+use Rattle.connector_lines.specs.Judging.{is_too_wide_after, is_too_deep_after, has_empty_after, fault_after}
 
--- the fault that four tests tell, in their order
+-- the fault that four tests find, in their order
 fault_at : Bool → Bool → Bool → Bool → Option TreeFault
 fault_at wide deep same empty =
     if wide then Some TooManyLeaves
@@ -25,7 +25,7 @@ fault_at wide deep same empty =
     else (if empty then Some Empty
     else None)))
 
--- tests that answer the same tell the same fault; of too many ports it doesn't matter whose they are
+-- tests that answer the same find the same fault; of too many ports it doesn't matter whose they are
 same_fault : (wide wide' deep deep' same same' empty empty' : Bool) → wide ≡ wide' → deep ≡ deep' → (wide' ≡ false → same ≡ same') → empty ≡ empty' → fault_at wide deep same empty ≡ fault_at wide' deep' same' empty'
 unfolding fault_at
 same_fault wide true deep deep' same same' empty empty' w d s e = ap (λ b. if b then Some TooManyLeaves else (if deep then Some TooDeep else (if same then Some SameAtom else (if empty then Some Empty else None)))) w
@@ -52,15 +52,15 @@ deepest_at false false limit level last is next = le-ltb limit (max (level + 1) 
 deepest_of : (limit level last : ℕ) → nat_lt limit (max (level + 1) last) ≡ (nat_le limit level || nat_lt limit last)
 deepest_of limit level last = deepest_at (nat_le limit level) (nat_lt limit last) limit level last refl refl
 
--- where so many brackets are open behind the end of one
+-- where so many brackets are open after the end of one
 closed : (none : Bool) (level next : ℕ) → (level == 0) ≡ none → (if none then None else Some (level - 1)) ≡ Some next → level ≡ next + 1
 closed true level next zero is = absurd (cc)
 closed false level next zero is =
     let same : level - 1 ≡ next = some_same (level - 1) next is in
     omega (arith, same, eqb-false level 0 zero)
 
--- the levels behind a token, and its own
-deep_token : (limit : ℕ) (token : Token) (level next : ℕ) (tokens : List Token) → level_behind token level ≡ Some next →
+-- the levels after a token, and its own
+deep_token : (limit : ℕ) (token : Token) (level next : ℕ) (tokens : List Token) → level_after token level ≡ Some next →
     nat_lt limit (deepest (level + 1) (token ∷ tokens)) ≡ (nat_le limit level || nat_lt limit (deepest (next + 1) tokens))
 deep_token limit (Leaf port trigger) level next tokens is =
     let same : level ≡ next = some_same level next is in
@@ -93,16 +93,16 @@ empty_token empty behind (Close trigger) tokens = or_none (empty || (behind && t
 -- ---- a token more
 
 pub token_added : (old new : Shape) (token : Token) (level next : ℕ) (tokens : List Token) →
-    is_too_wide_behind old (atoms (ports_in (token ∷ tokens))) ≡ is_too_wide_behind new (atoms (ports_in tokens)) →
-    (is_too_wide_behind new (atoms (ports_in tokens)) ≡ false → old.atoms.items ++ atoms (ports_in (token ∷ tokens)) ≡ new.atoms.items ++ atoms (ports_in tokens)) →
+    is_too_wide_after old (atoms (ports_in (token ∷ tokens))) ≡ is_too_wide_after new (atoms (ports_in tokens)) →
+    (is_too_wide_after new (atoms (ports_in tokens)) ≡ false → old.atoms.items ++ atoms (ports_in (token ∷ tokens)) ≡ new.atoms.items ++ atoms (ports_in tokens)) →
     new.is_too_deep ≡ (old.is_too_deep || nat_le MAX_DEPTH level) →
     new.has_empty_bracket ≡ (old.has_empty_bracket || (old.is_behind_open && is_close token)) →
     new.is_behind_open ≡ is_open token →
-    level_behind token level ≡ Some next →
-    fault_behind old level (token ∷ tokens) ≡ fault_behind new next tokens
+    level_after token level ≡ Some next →
+    fault_after old level (token ∷ tokens) ≡ fault_after new next tokens
 unfolding fault_at
 token_added old new token level next tokens wide same deep empty begun behind =
-    same_fault _ (is_too_wide_behind new (atoms (ports_in tokens))) _ (is_too_deep_behind new next tokens) _ (has_repeat (new.atoms.items ++ atoms (ports_in tokens))) _ (has_empty_behind new tokens)
+    same_fault _ (is_too_wide_after new (atoms (ports_in tokens))) _ (is_too_deep_after new next tokens) _ (has_repeat (new.atoms.items ++ atoms (ports_in tokens))) _ (has_empty_after new tokens)
     wide
     (ap (λ b. old.is_too_deep || b) (deep_token MAX_DEPTH token level next tokens behind) ∙ or_again old.is_too_deep (nat_le MAX_DEPTH level) (nat_lt MAX_DEPTH (deepest (next + 1) tokens)) ∙ ap (λ b. b || nat_lt MAX_DEPTH (deepest (next + 1) tokens)) (sym deep))
     (λ few. ap has_repeat (same few))

@@ -6,7 +6,7 @@ use Rattle.std.proofs.lemmas.Bool.{and_from}
 use Rattle.std.proofs.lemmas.List.{drop-drop}
 use Rattle.petri_atom.specs.Expression.{Tree}
 use Rattle.connector_tree.specs.declared.token.Token.{Token}
-use Rattle.connector_tree.specs.Tokens.{level_behind}
+use Rattle.connector_tree.specs.Tokens.{level_after}
 use Rattle.priority_filter.specs.declared.rule.Rule.{Rule}
 use Rattle.priority_filter.specs.declared.rule.Rule.TheVariants.{UnderAt, Maximal}
 use Rattle.priority_filter.specs.declared.rule.Side.{Side}
@@ -23,12 +23,13 @@ use Rattle.plant_words.proofs.Legal.{are_legal, word_is_legal, step_is_legal, ke
 use Rattle.plant_words.proofs.Steps.{led_on}
 use Rattle.connector_lines.specs.declared.tree_words_fault.TreeWordsFault.{TreeWordsFault}
 use Rattle.connector_lines.specs.declared.tree_words_fault.TreeWordsFault.TheVariants.{NotAscii, Shape}
-use Rattle.connector_lines.specs.Conditions.{AtomsNamed, PlacesNamed, condition_in, condition_behind, rule_behind}
+use Rattle.connector_lines.specs.Conditions.{AtomsNamed, PlacesNamed, condition_in, condition_after, rule_after}
 use Rattle.connector_lines.specs.Rows.{Named, whole_expression, has_target, target_in, transfer_in, guards_with, transfers_with}
 use Rattle.connector_lines.specs.Rules.{priority_in, maximal_in}
 use Rattle.connector_lines.specs.Sides.{side_of, side_in}
 use Rattle.connector_lines.specs.Tokens.{Names, Reading, legal_token_in, led_by, behind, tokens_in}
 use Rattle.connector_lines.specs.Trees.{judged, tree_in}
+use Rattle.connector_lines.proofs.TransferSteps.{transfer_read}
 
 -- ---- guard clauses and transfers
 
@@ -47,14 +48,9 @@ target_is_legal named before words target told rest =
 transfer_is_legal : (named : Named) (before : List TransferDefinition) (words : List (List ℕ)) (t : TransferDefinition) →
     transfer_in named before words ≡ Ok t → are_legal words ≡ true
 transfer_is_legal named before words t told =
-    let made : Export → Tree Export → Result TransferDefinition LineFault = λ target value. Ok (record { target = target; value = value }) in
-    let valued : Export → Unit {0} → Result TransferDefinition LineFault = λ target assigns. whole_expression named (drop 1 (drop 1 words)) >>= made target in
-    let assigned : Export → Result TransferDefinition LineFault = λ target. first_keyword (codes ":=") (drop 1 words) >>= valued target in
-    let target = led_on (target_in named before words) assigned t told in
-    let assigns = led_on (first_keyword (codes ":=") (drop 1 words)) (valued target.0) t target.2 in
-    let value = led_on (whole_expression named (drop 1 (drop 1 words))) (made target.0) t assigns.2 in
-    target_is_legal named before words target.0 target.1
-    (keyword_is_legal (codes ":=") (drop 1 words) assigns.0 assigns.1 (whole_is_legal named (drop 1 (drop 1 words)) value.0 value.1))
+    let read = transfer_read named before words t told in
+    target_is_legal named before words read.target read.targeted
+    (keyword_is_legal (codes ":=") (drop 1 words) read.assigns read.assigned (whole_is_legal named (drop 1 (drop 1 words)) read.value read.valued))
 
 pub guards_are_legal : (named : Named) (words : List (List ℕ)) (guards next : List (Tree Export)) → guards_with named words guards ≡ Ok next → are_legal words ≡ true
 guards_are_legal named words guards next told =
@@ -95,20 +91,20 @@ module _ (connector_named : List ℕ → Option ℕ) (has_interaction : ℕ → 
       (ap are_legal (drop-drop 1 1 words)
       ∙ word_is_legal (drop 2 words) second.0 second.1 (ap are_legal (drop-drop 1 2 words) ∙ end_is_legal (drop 3 words) end.0 end.1)))
 
-  condition_is_legal : (words : List (List ℕ)) (at : At) → condition_behind atom_named place_named words ≡ Ok at → are_legal words ≡ true
+  condition_is_legal : (words : List (List ℕ)) (at : At) → condition_after atom_named place_named words ≡ Ok at → are_legal words ≡ true
   condition_is_legal words at told =
       let keyword = led_on (first_keyword (codes "when") words) (λ _. condition_in atom_named place_named (drop 1 words)) at told in
       keyword_is_legal (codes "when") words keyword.0 keyword.1 (place_is_legal (drop 1 words) at keyword.2)
 
-  behind_is_legal : (left right : Side) (words : List (List ℕ)) (rule : Rule) → rule_behind atom_named place_named left right words ≡ Ok rule → are_legal words ≡ true
-  behind_is_legal left right [] rule told = refl
-  behind_is_legal left right (word ∷ words) rule told =
-      let at = led_on (condition_behind atom_named place_named (word ∷ words)) (λ at. Ok (UnderAt left right at)) rule told in
+  after_is_legal : (left right : Side) (words : List (List ℕ)) (rule : Rule) → rule_after atom_named place_named left right words ≡ Ok rule → are_legal words ≡ true
+  after_is_legal left right [] rule told = refl
+  after_is_legal left right (word ∷ words) rule told =
+      let at = led_on (condition_after atom_named place_named (word ∷ words)) (λ at. Ok (UnderAt left right at)) rule told in
       condition_is_legal (word ∷ words) at.0 at.1
 
   pub priority_is_legal : (words : List (List ℕ)) (rule : Rule) → priority_in connector_named has_interaction atom_named place_named words ≡ Ok rule → are_legal words ≡ true
   priority_is_legal words rule told =
-      let ended : Side → Side → Result Rule LineFault = λ left right. rule_behind atom_named place_named left right (drop 3 words) in
+      let ended : Side → Side → Result Rule LineFault = λ left right. rule_after atom_named place_named left right (drop 3 words) in
       let higher : Side → Unit {0} → Result Rule LineFault = λ left below. side_in connector_named has_interaction (drop 2 words) >>= ended left in
       let between : Side → Result Rule LineFault = λ left. first_keyword (codes "<") (drop 1 words) >>= higher left in
       let left = led_on (side_in connector_named has_interaction words) between rule told in
@@ -117,7 +113,7 @@ module _ (connector_named : List ℕ → Option ℕ) (has_interaction : ℕ → 
       side_is_legal words left.0 left.1
       (keyword_is_legal (codes "<") (drop 1 words) below.0 below.1
       (ap are_legal (drop-drop 1 1 words)
-      ∙ side_is_legal (drop 2 words) right.0 right.1 (ap are_legal (drop-drop 1 2 words) ∙ behind_is_legal left.0 right.0 (drop 3 words) rule right.2)))
+      ∙ side_is_legal (drop 2 words) right.0 right.1 (ap are_legal (drop-drop 1 2 words) ∙ after_is_legal left.0 right.0 (drop 3 words) rule right.2)))
 
 pub maximal_is_legal : (connector_named : List ℕ → Option ℕ) (words : List (List ℕ)) (rule : Rule) → maximal_in connector_named words ≡ Ok rule → are_legal words ≡ true
 maximal_is_legal connector_named words rule told =
@@ -131,25 +127,25 @@ maximal_is_legal connector_named words rule told =
 
 -- ---- trees
 
-led_told : (token : Token) (read : Reading) (tokens : List Token) → led_by token read ≡ Ok tokens → (later : List Token) × (read ≡ Ok later)
-led_told token (Ok later) tokens told = (later, refl)
-led_told token (Err fault) tokens told = absurd (cc)
+led_found : (token : Token) (read : Reading) (tokens : List Token) → led_by token read ≡ Ok tokens → (later : List Token) × (read ≡ Ok later)
+led_found token (Ok later) tokens told = (later, refl)
+led_found token (Err fault) tokens told = absurd (cc)
 
-level_told : (token : Token) (level : Option ℕ) (read : ℕ → Reading) (tokens : List Token) → option_map_or (λ next. led_by token (read next)) level (Err Shape) ≡ Ok tokens →
+level_found : (token : Token) (level : Option ℕ) (read : ℕ → Reading) (tokens : List Token) → option_map_or (λ next. led_by token (read next)) level (Err Shape) ≡ Ok tokens →
     (next : ℕ) × (later : List Token) × (read next ≡ Ok later)
-level_told token None read tokens told = absurd (cc)
-level_told token (Some next) read tokens told = let later = led_told token (read next) tokens told in (next, later.0, later.1)
+level_found token None read tokens told = absurd (cc)
+level_found token (Some next) read tokens told = let later = led_found token (read next) tokens told in (next, later.0, later.1)
 
-behind_told : (legal : Bool) (said : Result Token TreeWordsFault) (level : ℕ) (read : ℕ → Reading) (tokens : List Token) →
+after_found : (legal : Bool) (said : Result Token TreeWordsFault) (level : ℕ) (read : ℕ → Reading) (tokens : List Token) →
     behind (if legal then said else Err NotAscii) level read ≡ Ok tokens → (legal ≡ true) × ((next : ℕ) × (later : List Token) × (read next ≡ Ok later))
-behind_told false said level read tokens told = absurd (cc)
-behind_told true (Err fault) level read tokens told = absurd (cc)
-behind_told true (Ok token) level read tokens told = (refl, level_told token (level_behind token level) read tokens told)
+after_found false said level read tokens told = absurd (cc)
+after_found true (Err fault) level read tokens told = absurd (cc)
+after_found true (Ok token) level read tokens told = (refl, level_found token (level_after token level) read tokens told)
 
 tokens_are_legal : (named : Names) (level : ℕ) (words : List (List ℕ)) (tokens : List Token) → tokens_in named level words ≡ Ok tokens → are_legal words ≡ true
 tokens_are_legal named level [] tokens told = refl
 tokens_are_legal named level (word ∷ words) tokens told =
-    let found = behind_told (is_legal_line word) (legal_token_in named word) level (λ next. tokens_in named next words) tokens told in
+    let found = after_found (is_legal_line word) (legal_token_in named word) level (λ next. tokens_in named next words) tokens told in
     and_from (is_legal_line word) (are_legal words) found.0 (tokens_are_legal named found.1.0 words found.1.1 found.1.2)
 
 unjudged : (read : Reading) (tokens : List Token) → judged read ≡ Ok tokens → (later : List Token) × (read ≡ Ok later)

@@ -1,14 +1,15 @@
-pub mod Judging
+mod Judging
 pub mod Readings
-pub mod WantingTrees
+mod WantingTrees
 pub mod NamedPorts
 mod TreeRows
-pub mod Expressions
-pub mod Targets
-pub mod Kept
+mod Expressions
+mod Targets
+mod TransferSteps
+mod OnePartMore
 pub mod Added
-pub mod Adding
-pub mod WantingLines
+mod Adding
+mod WantingLines
 pub mod NamedExports
 mod WireRows
 mod RuleRows

@@ -10,7 +10,7 @@ use Rattle.connector_tree.specs.declared.tree.Port.{Port}
 use Rattle.connector_tree.specs.declared.faults.TreeFault.{TreeFault}
 use Rattle.connector_tree.specs.declared.token.Token.{Token}
 use Rattle.connector_tree.specs.declared.token.Token.TheVariants.{Leaf, Open, Close}
-use Rattle.connector_tree.specs.Tokens.{level_behind, ports_in}
+use Rattle.connector_tree.specs.Tokens.{level_after, ports_in}
 use Rattle.connector_tree.specs.TokenFaults.{fault_in}
 use Rattle.connector_lines.specs.declared.tree_words_fault.TreeWordsFault.{TreeWordsFault}
 use Rattle.connector_lines.specs.declared.tree_words_fault.TreeWordsFault.TheVariants.{NotAscii, Shape}
@@ -86,7 +86,7 @@ module _ (test : Port → Bool) (named : Names) (passes : (atom port : List ℕ)
       IfOk word (λ token. token_passes test token ≡ true) → ((next : ℕ) → PortsPass test (read next)) →
       PortsPass test (behind word level read)
   at_word (Err fault) level read own all = tt
-  at_word (Ok token) level read own all = at_level token (level_behind token level) read own all
+  at_word (Ok token) level read own all = at_level token (level_after token level) read own all
 
   at_end : (closed : Bool) → PortsPass test (if closed then Ok [] else Err Shape)
   at_end true = refl

@@ -6,17 +6,17 @@ use Rattle.std.specs.declared.alloc.Global.{Global}
 use Rattle.std.specs.declared.vec.Vec.{Vec}
 use Rattle.connector_tree.specs.declared.faults.TreeFault.{TreeFault}
 use Rattle.connector_tree.specs.declared.token.Token.{Token}
-use Rattle.connector_tree.specs.Tokens.{level_behind, is_balanced}
+use Rattle.connector_tree.specs.Tokens.{level_after, is_balanced}
 use Rattle.connector_tree.specs.TokenFaults.{fault_in}
 use Rattle.connector_lines.specs.declared.tree_words_fault.TreeWordsFault.{TreeWordsFault}
 use Rattle.connector_lines.specs.declared.tree_words_fault.TreeWordsFault.TheVariants.{Shape}
 use Rattle.connector_lines.specs.Tokens.{Names, Reading, token_in, led_by, behind, tokens_in}
 use Rattle.connector_lines.specs.Trees.{unless, judged, tree_in}
 
--- tokens in front of those that are read behind them
-abbrev pub behind_all : List Token → Reading → Reading
-behind_all before (Ok tokens) = Ok (before ++ tokens)
-behind_all before (Err fault) = Err fault
+-- tokens in front of those that are read after them
+abbrev pub after_all : List Token → Reading → Reading
+after_all before (Ok tokens) = Ok (before ++ tokens)
+after_all before (Err fault) = Err fault
 
 -- tokens whose brackets are balanced, where some were read
 IsBalanced : ℕ → Reading → Type 0
@@ -27,12 +27,12 @@ unfolding IsBalanced
 at_end true level h = h
 at_end false level h = tt
 
-at_rest : (token : Token) (level next : ℕ) (reading : Reading) → level_behind token level ≡ Some next → IsBalanced next reading → IsBalanced level (led_by token reading)
+at_rest : (token : Token) (level next : ℕ) (reading : Reading) → level_after token level ≡ Some next → IsBalanced next reading → IsBalanced level (led_by token reading)
 unfolding IsBalanced
 at_rest token level next (Ok tokens) h balanced = ap (λ o. option_map_or (λ n. is_balanced n tokens) o false) h ∙ balanced
 at_rest token level next (Err fault) h balanced = tt
 
-at_level : (token : Token) (level : ℕ) (o : Option ℕ) (read : ℕ → Reading) → level_behind token level ≡ o → ((next : ℕ) → IsBalanced next (read next)) → IsBalanced level (option_map_or (λ next. led_by token (read next)) o (Err Shape))
+at_level : (token : Token) (level : ℕ) (o : Option ℕ) (read : ℕ → Reading) → level_after token level ≡ o → ((next : ℕ) → IsBalanced next (read next)) → IsBalanced level (option_map_or (λ next. led_by token (read next)) o (Err Shape))
 unfolding IsBalanced
 at_level token level None read h each = tt
 at_level token level (Some next) read h each = at_rest token level next (read next) h (each next)
@@ -40,7 +40,7 @@ at_level token level (Some next) read h each = at_rest token level next (read ne
 at_word : (word : Result Token TreeWordsFault) (level : ℕ) (read : ℕ → Reading) → ((next : ℕ) → IsBalanced next (read next)) → IsBalanced level (behind word level read)
 unfolding IsBalanced
 at_word (Err fault) level read each = tt
-at_word (Ok token) level read each = at_level token level (level_behind token level) read refl each
+at_word (Ok token) level read each = at_level token level (level_after token level) read refl each
 
 at_words : (named : Names) (words : List (List ℕ)) (level : ℕ) → IsBalanced level (tokens_in named level words)
 at_words named [] level = at_end (level == 0) level refl
@@ -58,9 +58,9 @@ tree_of_some : (named : Names) (words : List (List ℕ)) → words ≢ [] → tr
 tree_of_some named [] some = absurd (some refl)
 tree_of_some named (word ∷ words) some = refl
 
--- where no word is left, the tokens are those before
-pub all_read : (named : Names) (words : List (List ℕ)) (before : List Token) (level : ℕ) (rest : Reading) → behind_all before rest ≡ tokens_in named 0 words → rest ≡ Ok [] → tokens_in named 0 words ≡ Ok before
-all_read named words before level rest all is = sym all ∙ ap (behind_all before) is ∙ ap Ok (append-nil before)
+-- if no word is left, the tokens are those before
+pub all_read : (named : Names) (words : List (List ℕ)) (before : List Token) (level : ℕ) (rest : Reading) → after_all before rest ≡ tokens_in named 0 words → rest ≡ Ok [] → tokens_in named 0 words ≡ Ok before
+all_read named words before level rest all is = sym all ∙ ap (after_all before) is ∙ ap Ok (append-nil before)
 
 -- the tokens of words are a tree, or have its fault
 pub tree_of_tokens : (named : Names) (words : List (List ℕ)) (tokens : List Token) (fault : Option TreeFault) → words ≢ [] → tokens_in named 0 words ≡ Ok tokens → fault_in tokens ≡ fault → tree_in named words ≡ unless tokens fault
@@ -76,7 +76,7 @@ none_led token (Some next) read is = first_led token (read next) is
 
 no_tokens : (said : Result Token TreeWordsFault) (level : ℕ) (read : ℕ → Reading) → behind said level read ≢ Ok []
 no_tokens (Err fault) level read is = absurd (cc)
-no_tokens (Ok token) level read is = none_led token (level_behind token level) read is
+no_tokens (Ok token) level read is = none_led token (level_after token level) read is
 
 -- words that are there have tokens
 pub some_tokens : (named : Names) (words : List (List ℕ)) (tokens : List Token) → words ≢ [] → tokens_in named 0 words ≡ Ok tokens → 0 < length tokens
@@ -101,22 +101,22 @@ tree_read named (word ∷ words) tokens is = judged_read (tokens_in named 0 (wor
 
 -- ---- one word after the other
 
-what_word_says : (named : Names) (level : ℕ) (words rest : List (List ℕ)) (word : List ℕ) (token : Token) (next : Option ℕ) → words ≡ word ∷ rest → token_in named word ≡ Ok token → level_behind token level ≡ next →
+what_word_says : (named : Names) (level : ℕ) (words rest : List (List ℕ)) (word : List ℕ) (token : Token) (next : Option ℕ) → words ≡ word ∷ rest → token_in named word ≡ Ok token → level_after token level ≡ next →
     tokens_in named level words ≡ option_map_or (λ n. led_by token (tokens_in named n rest)) next (Err Shape)
 what_word_says named level words rest word token next is said goes =
     ap (tokens_in named level) is ∙ ap (λ r. behind r level (λ n. tokens_in named n rest)) said ∙ ap (λ o. option_map_or (λ n. led_by token (tokens_in named n rest)) o (Err Shape)) goes
 
-led_behind : (before : List Token) (token : Token) (r : Reading) → behind_all (before ++ token ∷ []) r ≡ behind_all before (led_by token r)
-led_behind before token (Ok tokens) = ap Ok (append_assoc before (token ∷ []) tokens)
-led_behind before token (Err fault) = refl
+led_after : (before : List Token) (token : Token) (r : Reading) → after_all (before ++ token ∷ []) r ≡ after_all before (led_by token r)
+led_after before token (Ok tokens) = ap Ok (append_assoc before (token ∷ []) tokens)
+led_after before token (Err fault) = refl
 
--- the token of the next word stands behind those before
-pub word_is_behind : (named : Names) (before : List Token) (level next : ℕ) (words rest : List (List ℕ)) (word : List ℕ) (token : Token) → words ≡ word ∷ rest → token_in named word ≡ Ok token → level_behind token level ≡ Some next →
-    behind_all (before ++ token ∷ []) (tokens_in named next rest) ≡ behind_all before (tokens_in named level words)
-word_is_behind named before level next words rest word token is said goes =
-    led_behind before token (tokens_in named next rest) ∙ sym (ap (behind_all before) (what_word_says named level words rest word token (Some next) is said goes))
+-- the token of the next word stands after those before
+pub word_is_after : (named : Names) (before : List Token) (level next : ℕ) (words rest : List (List ℕ)) (word : List ℕ) (token : Token) → words ≡ word ∷ rest → token_in named word ≡ Ok token → level_after token level ≡ Some next →
+    after_all (before ++ token ∷ []) (tokens_in named next rest) ≡ after_all before (tokens_in named level words)
+word_is_after named before level next words rest word token is said goes =
+    led_after before token (tokens_in named next rest) ∙ sym (ap (after_all before) (what_word_says named level words rest word token (Some next) is said goes))
 
--- no bracket is open behind the last word
+-- no bracket is open after the last word
 pub all_closed : (named : Names) (level : ℕ) (words : List (List ℕ)) → words ≡ [] → level ≡ 0 → tokens_in named level words ≡ Ok []
 all_closed named level words none closed = ap (tokens_in named level) none ∙ ap (λ n. tokens_in named n []) closed
 

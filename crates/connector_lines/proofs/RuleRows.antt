@@ -1,4 +1,4 @@
--- Worked lines, as computed facts. The words are those behind the line's first one.
+-- Worked lines, as computed facts. The words are those after the line's first one.
 use Rattle.std.proofs.Common.{◌≡◌, ℕ, Bool, true, List, [], ◌∷◌, ◌++◌, codes, if◌then◌else◌, ◌&&◌, ◌||◌, ◌==◌, refl, Option, Some, None, Ok, Err}
 use Rattle.petri_atom.specs.Name.{is_same_text}
 use Rattle.plant_words.specs.Words.{words_of}
@@ -160,9 +160,9 @@ an_illegal_byte_in_place_of_below : priority_in connector_named has_interaction 
 unfolding connector_named has_interaction
 an_illegal_byte_in_place_of_below = refl
 
-an_illegal_byte_behind_an_unknown_side : priority_in connector_named has_interaction atom_named place_named (words_of (codes "no " ++ 228 ∷ [])) ≡ Err UnknownName
+an_illegal_byte_after_an_unknown_side : priority_in connector_named has_interaction atom_named place_named (words_of (codes "no " ++ 228 ∷ [])) ≡ Err UnknownName
 unfolding connector_named has_interaction
-an_illegal_byte_behind_an_unknown_side = refl
+an_illegal_byte_after_an_unknown_side = refl
 
 an_illegal_byte_left_over : priority_in connector_named has_interaction atom_named place_named (words_of (codes "tick < send x" ++ 228 ∷ [])) ≡ Err NotAscii
 unfolding connector_named has_interaction
@@ -210,21 +210,21 @@ an_unknown_side_before_its_condition : priority_in connector_named has_interacti
 unfolding connector_named has_interaction atom_named place_named
 an_unknown_side_before_its_condition = refl
 
-no_atom_behind_when : priority_in connector_named has_interaction atom_named place_named (words_of (codes "tick < send when")) ≡ Err Shape
+no_atom_after_when : priority_in connector_named has_interaction atom_named place_named (words_of (codes "tick < send when")) ≡ Err Shape
 unfolding connector_named has_interaction atom_named place_named
-no_atom_behind_when = refl
+no_atom_after_when = refl
 
-nothing_behind_the_atom : priority_in connector_named has_interaction atom_named place_named (words_of (codes "tick < send when A")) ≡ Err Shape
+nothing_after_the_atom : priority_in connector_named has_interaction atom_named place_named (words_of (codes "tick < send when A")) ≡ Err Shape
 unfolding connector_named has_interaction atom_named place_named
-nothing_behind_the_atom = refl
+nothing_after_the_atom = refl
 
-no_place_behind_at : priority_in connector_named has_interaction atom_named place_named (words_of (codes "tick < send when A at")) ≡ Err Shape
+no_place_after_at : priority_in connector_named has_interaction atom_named place_named (words_of (codes "tick < send when A at")) ≡ Err Shape
 unfolding connector_named has_interaction atom_named place_named
-no_place_behind_at = refl
+no_place_after_at = refl
 
-a_word_behind_a_condition : priority_in connector_named has_interaction atom_named place_named (words_of (codes "tick < send when A at on x")) ≡ Err Shape
+a_word_after_a_condition : priority_in connector_named has_interaction atom_named place_named (words_of (codes "tick < send when A at on x")) ≡ Err Shape
 unfolding connector_named has_interaction atom_named place_named
-a_word_behind_a_condition = refl
+a_word_after_a_condition = refl
 
 an_unknown_place_before_a_word_left_over : priority_in connector_named has_interaction atom_named place_named (words_of (codes "tick < send when A at no x")) ≡ Err UnknownName
 unfolding connector_named has_interaction atom_named place_named
@@ -242,9 +242,9 @@ an_illegal_byte_in_a_place : priority_in connector_named has_interaction atom_na
 unfolding connector_named has_interaction atom_named place_named
 an_illegal_byte_in_a_place = refl
 
-an_illegal_byte_behind_an_unknown_atom : priority_in connector_named has_interaction atom_named place_named (words_of (codes "tick < send when C " ++ 228 ∷ [])) ≡ Err UnknownName
+an_illegal_byte_after_an_unknown_atom : priority_in connector_named has_interaction atom_named place_named (words_of (codes "tick < send when C " ++ 228 ∷ [])) ≡ Err UnknownName
 unfolding connector_named has_interaction atom_named place_named
-an_illegal_byte_behind_an_unknown_atom = refl
+an_illegal_byte_after_an_unknown_atom = refl
 
 a_maximal_connector_has_no_condition : maximal_in connector_named (words_of (codes "bc when A at on")) ≡ Err Shape
 unfolding connector_named
@@ -268,9 +268,9 @@ one_interaction_alone_is_not_maximal : maximal_in connector_named (words_of (cod
 unfolding connector_named
 one_interaction_alone_is_not_maximal = refl
 
-a_word_behind_a_maximal_connector : maximal_in connector_named (words_of (codes "bc x")) ≡ Err Shape
+a_word_after_a_maximal_connector : maximal_in connector_named (words_of (codes "bc x")) ≡ Err Shape
 unfolding connector_named
-a_word_behind_a_maximal_connector = refl
+a_word_after_a_maximal_connector = refl
 
 -- ---- limits
 

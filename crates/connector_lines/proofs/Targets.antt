@@ -30,11 +30,11 @@ targets_once_with_another transfers another once new =
     (list_any-map (is_same_export another.target) (λ t. t.target) transfers ∙ (λ i. list_any (λ t. same_both_ways another.target t.target i) transfers) ∙ new)
 
 -- the same, of transfers to which another one was added or not
-pub targets_once_behind : (added : Bool) (before : List Transfer) (another : Transfer) (after : List Transfer) →
+pub targets_once_after : (added : Bool) (before : List Transfer) (another : Transfer) (after : List Transfer) →
     after ≡ (if added then before ++ another ∷ [] else before) →
     has_targets_once (map transfer_of before) ≡ true → has_target (map transfer_of before) another.target ≡ false →
     has_targets_once (map transfer_of after) ≡ true
-targets_once_behind true before another after is once new =
+targets_once_after true before another after is once new =
     ap has_targets_once (ap (map transfer_of) is ∙ map-append transfer_of before (another ∷ [])) ∙
     targets_once_with_another (map transfer_of before) (transfer_of another) once new
-targets_once_behind false before another after is once new = ap (λ transfers. has_targets_once (map transfer_of transfers)) is ∙ once
+targets_once_after false before another after is once new = ap (λ transfers. has_targets_once (map transfer_of transfers)) is ∙ once

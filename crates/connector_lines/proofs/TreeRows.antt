@@ -50,9 +50,9 @@ a_trigger_in_a_bracket : read (codes "[ a.p' b.p ] c.p") ≡ Ok (Open ∷ trigge
 unfolding read synchron trigger
 a_trigger_in_a_bracket = refl
 
-the_quote_behind_a_bracket_marks_the_bracket : read (codes "[ a.p' b.p ]' c.p") ≡ Ok (Open ∷ trigger 0 ∷ synchron 1 ∷ Close true ∷ synchron 2 ∷ [])
+the_quote_after_a_bracket_marks_the_bracket : read (codes "[ a.p' b.p ]' c.p") ≡ Ok (Open ∷ trigger 0 ∷ synchron 1 ∷ Close true ∷ synchron 2 ∷ [])
 unfolding read synchron trigger
-the_quote_behind_a_bracket_marks_the_bracket = refl
+the_quote_after_a_bracket_marks_the_bracket = refl
 
 the_other_port : read (codes "c.q'") ≡ Ok (Leaf (record { atom = 2; port = 1 }) true ∷ [])
 unfolding read
@@ -117,17 +117,17 @@ an_illegal_byte_in_a_port : read (codes "a.p b." ++ 228 ∷ codes " B.q") ≡ Er
 unfolding read
 an_illegal_byte_in_a_port = refl
 
-an_illegal_byte_behind_an_unknown_name : read (codes "B.q " ++ 228 ∷ []) ≡ Err UnknownName
+an_illegal_byte_after_an_unknown_name : read (codes "B.q " ++ 228 ∷ []) ≡ Err UnknownName
 unfolding read
-an_illegal_byte_behind_an_unknown_name = refl
+an_illegal_byte_after_an_unknown_name = refl
 
 an_illegal_byte_in_an_open_bracket : read (codes "[ a.p ]" ++ 228 ∷ []) ≡ Err NotAscii
 unfolding read
 an_illegal_byte_in_an_open_bracket = refl
 
-an_illegal_byte_behind_an_end_without_its_begin : read (codes "a.p ] " ++ 228 ∷ []) ≡ Err Shape
+an_illegal_byte_after_an_end_without_its_begin : read (codes "a.p ] " ++ 228 ∷ []) ≡ Err Shape
 unfolding read
-an_illegal_byte_behind_an_end_without_its_begin = refl
+an_illegal_byte_after_an_end_without_its_begin = refl
 
 -- ---- faults of trees
 
@@ -140,13 +140,13 @@ seventeen_ports : read (codes "a.p b.p c.p d.p e.p f.p g.p h.p i.p j.p k.p l.p m
 unfolding read
 seventeen_ports = refl
 
-an_unknown_name_behind_sixteen_ports : read (codes "a.p b.p c.p d.p e.p f.p g.p h.p i.p j.p k.p l.p m.p n.p o.p p.p I.p") ≡ Err UnknownName
+an_unknown_name_after_sixteen_ports : read (codes "a.p b.p c.p d.p e.p f.p g.p h.p i.p j.p k.p l.p m.p n.p o.p p.p I.p") ≡ Err UnknownName
 unfolding read
-an_unknown_name_behind_sixteen_ports = refl
+an_unknown_name_after_sixteen_ports = refl
 
-an_illegal_byte_behind_seventeen_ports : read (codes "a.p b.p c.p d.p e.p f.p g.p h.p i.p j.p k.p l.p m.p n.p o.p p.p q.p " ++ 228 ∷ []) ≡ Err NotAscii
+an_illegal_byte_after_seventeen_ports : read (codes "a.p b.p c.p d.p e.p f.p g.p h.p i.p j.p k.p l.p m.p n.p o.p p.p q.p " ++ 228 ∷ []) ≡ Err NotAscii
 unfolding read
-an_illegal_byte_behind_seventeen_ports = refl
+an_illegal_byte_after_seventeen_ports = refl
 
 eight_levels : read (codes "[ [ [ [ [ [ [ a.p ] ] ] ] ] ] ]") ≡
     Ok (Open ∷ Open ∷ Open ∷ Open ∷ Open ∷ Open ∷ Open ∷ synchron 0

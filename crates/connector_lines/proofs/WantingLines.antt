@@ -1,4 +1,4 @@
--- Where memory may be wanting: behind words that have no fault.
+-- Where memory may be wanting: after words that have no fault.
 use Rattle.std.proofs.Common.{◌≡◌, ◌∙◌, refl, sym, ap, subst, ℕ, List, length, Result, Ok, Err}
 use Rattle.std.specs.Prelude.{nat_lt, IsOk}
 use Rattle.petri_atom.specs.Expression.{Tree}
@@ -24,14 +24,14 @@ left_behind (Ok (tree, words)) rest left =
     (tree, ap (λ w. Ok (tree, w)) same)
 left_behind (Err fault) rest left = absurd (cc)
 
--- a word behind an expression is the fault of all
+-- a word after an expression is the fault of all
 pub word_is_over : (r : Result (Tree Export × List (List ℕ)) ExpressionFault) (rest : List (List ℕ)) (fault : LineFault) → words_left r ≡ Ok rest → at_end rest ≡ Err fault →
     (on_line r >>= λ read. (at_end read.1 >>= λ _. Ok read.0)) ≡ Err fault
 word_is_over r rest fault left over =
     let found = left_behind r rest left in
     ap (λ s. on_line s >>= λ read. (at_end read.1 >>= λ _. Ok read.0)) found.1 ∙ ap (λ end. end >>= λ _. Ok found.0) over
 
--- an expression with no word behind it has no fault
+-- an expression with no word after it has no fault
 pub none_is_over : (r : Result (Tree Export × List (List ℕ)) ExpressionFault) (rest : List (List ℕ)) (u : Unit {0}) → words_left r ≡ Ok rest → at_end rest ≡ Ok u →
     IsOk (on_line r >>= λ read. (at_end read.1 >>= λ _. Ok read.0))
 none_is_over r rest u left ends =
@@ -39,7 +39,7 @@ none_is_over r rest u left ends =
     let whole = ap (λ s. on_line s >>= λ read. (at_end read.1 >>= λ _. Ok read.0)) found.1 ∙ ap (λ end. end >>= λ _. Ok found.0) ends in
     subst IsOk (sym whole) refl
 
--- a line has no fault where there is room and what it adds has none
+-- a line has no fault if there is room and what it adds has none
 pub guard_row_is_well : (named : Named) (words : List (List ℕ)) (w : WireDefinition) (u : Unit {0}) →
     check (nat_lt (length w.guards) MAX_GUARDS) Limit ≡ Ok u → IsOk (whole_expression named words) → IsOk (guard_added named words w)
 guard_row_is_well named words w u room well =

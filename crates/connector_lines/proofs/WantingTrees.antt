@@ -6,7 +6,7 @@ use Rattle.plant_words.specs.Splits.{PortParts, port_parts}
 use Rattle.connector_tree.specs.declared.tree.Port.{Port}
 use Rattle.connector_tree.specs.declared.faults.TreeFault.{TreeFault}
 use Rattle.connector_tree.specs.declared.token.Token.{Token}
-use Rattle.connector_tree.specs.Tokens.{level_behind}
+use Rattle.connector_tree.specs.Tokens.{level_after}
 use Rattle.connector_tree.specs.TokenFaults.{fault_in}
 use Rattle.connector_lines.specs.declared.tree_words_fault.TreeWordsFault.{TreeWordsFault}
 use Rattle.connector_lines.specs.declared.tree_words_fault.TreeWordsFault.TheVariants.{NotAscii, Memory, Shape}
@@ -41,9 +41,9 @@ level_wants_none : (token : Token) (level : Option ℕ) (read : ℕ → Reading)
 level_wants_none token None read none wants = absurd (cc)
 level_wants_none token (Some next) read none wants = led_wants_none token (read next) (none next) wants
 
-behind_wants_none : (said : Result Token TreeWordsFault) (level : ℕ) (read : ℕ → Reading) → said ≢ Err Memory → ((next : ℕ) → read next ≢ Err Memory) → behind said level read ≢ Err Memory
-behind_wants_none (Ok token) level read first none wants = level_wants_none token (level_behind token level) read none wants
-behind_wants_none (Err fault) level read first none wants =
+after_wants_none : (said : Result Token TreeWordsFault) (level : ℕ) (read : ℕ → Reading) → said ≢ Err Memory → ((next : ℕ) → read next ≢ Err Memory) → behind said level read ≢ Err Memory
+after_wants_none (Ok token) level read first none wants = level_wants_none token (level_after token level) read none wants
+after_wants_none (Err fault) level read first none wants =
     let same : fault ≡ Memory = cc in
     first (ap Err same)
 
@@ -54,7 +54,7 @@ end_wants_none false wants = absurd (cc)
 tokens_want_none : (named : Names) (level : ℕ) (words : List (List ℕ)) → tokens_in named level words ≢ Err Memory
 tokens_want_none named level [] = end_wants_none (level == 0)
 tokens_want_none named level (word ∷ words) =
-    behind_wants_none (token_in named word) level (λ next. tokens_in named next words) (word_wants_none named word) (λ next. tokens_want_none named next words)
+    after_wants_none (token_in named word) level (λ next. tokens_in named next words) (word_wants_none named word) (λ next. tokens_want_none named next words)
 
 unless_wants_none : (tokens : List Token) (fault : Option TreeFault) → unless tokens fault ≢ Err Memory
 unless_wants_none tokens None wants = absurd (cc)

@@ -1,4 +1,4 @@
--- Worked lines of the connector `link A.t B.u`, as computed facts. The words are those behind the line's first one.
+-- Worked lines of the connector `link A.t B.u`, as computed facts. The words are those after the line's first one.
 use Rattle.std.proofs.Common.{◌≡◌, ℕ, false, [], ◌∷◌, ◌++◌, List, codes, replicate, if◌then◌else◌, ◌&&◌, ◌==◌, refl, pos, Option, Some, None, Ok, Err}
 use Rattle.petri_atom.specs.Name.{is_same_text}
 use Rattle.petri_atom.specs.Expression.{Tree, number, variable, operation}
@@ -56,9 +56,9 @@ to_n = record { target = of_leaf 0 0; value = number (pos 1) }
 
 -- ---- guard clauses
 
-a_guard_behind_another : guard_row atom_named export_named (words_of (codes "< A.k 3")) (link (number (pos 1) ∷ []) []) ≡ Ok (link (number (pos 1) ∷ operation Less (variable (of_leaf 0 1)) (number (pos 3)) ∷ []) [])
+a_guard_after_another : guard_row atom_named export_named (words_of (codes "< A.k 3")) (link (number (pos 1) ∷ []) []) ≡ Ok (link (number (pos 1) ∷ operation Less (variable (of_leaf 0 1)) (number (pos 3)) ∷ []) [])
 unfolding atom_named export_named
-a_guard_behind_another = refl
+a_guard_after_another = refl
 
 a_guard_that_names_no_port : guard_row atom_named export_named (words_of (codes "1")) (link [] []) ≡ Ok (link (number (pos 1) ∷ []) [])
 unfolding atom_named export_named
@@ -88,18 +88,18 @@ a_number_past_the_largest : guard_row atom_named export_named (words_of (codes "
 unfolding atom_named export_named
 a_number_past_the_largest = refl
 
-a_word_behind_a_guard : guard_row atom_named export_named (words_of (codes "A.n B.m")) (link [] []) ≡ Err Shape
+a_word_after_a_guard : guard_row atom_named export_named (words_of (codes "A.n B.m")) (link [] []) ≡ Err Shape
 unfolding atom_named export_named
-a_word_behind_a_guard = refl
+a_word_after_a_guard = refl
 
 -- 228 is a byte that may not stand in a text
 an_illegal_byte_in_a_variable : guard_row atom_named export_named (words_of (codes "< A.n" ++ 228 ∷ codes " x")) (link [] []) ≡ Err NotAscii
 unfolding atom_named export_named
 an_illegal_byte_in_a_variable = refl
 
-an_illegal_byte_behind_a_guard : guard_row atom_named export_named (words_of (codes "A.n " ++ 228 ∷ [])) (link [] []) ≡ Err NotAscii
+an_illegal_byte_after_a_guard : guard_row atom_named export_named (words_of (codes "A.n " ++ 228 ∷ [])) (link [] []) ≡ Err NotAscii
 unfolding atom_named export_named
-an_illegal_byte_behind_a_guard = refl
+an_illegal_byte_after_a_guard = refl
 
 a_ninth_guard_with_an_illegal_byte : guard_row atom_named export_named ((228 ∷ []) ∷ []) (link (replicate 8 (number (pos 1))) []) ≡ Err Limit
 a_ninth_guard_with_an_illegal_byte = refl
@@ -117,9 +117,9 @@ a_transfer_to_the_second_leaf : transfer_row atom_named export_named (words_of (
 unfolding atom_named export_named
 a_transfer_to_the_second_leaf = refl
 
-a_transfer_behind_another : transfer_row atom_named export_named (words_of (codes "A.k := + B.m 1")) (link [] (to_n ∷ [])) ≡ Ok (link [] (to_n ∷ record { target = of_leaf 0 1; value = operation Add (variable (of_leaf 1 0)) (number (pos 1)) } ∷ []))
+a_transfer_after_another : transfer_row atom_named export_named (words_of (codes "A.k := + B.m 1")) (link [] (to_n ∷ [])) ≡ Ok (link [] (to_n ∷ record { target = of_leaf 0 1; value = operation Add (variable (of_leaf 1 0)) (number (pos 1)) } ∷ []))
 unfolding atom_named export_named
-a_transfer_behind_another = refl
+a_transfer_after_another = refl
 
 no_target : transfer_row atom_named export_named (words_of (codes "")) (link [] []) ≡ Err Shape
 unfolding atom_named export_named
@@ -149,21 +149,21 @@ an_illegal_byte_in_the_assignment : transfer_row atom_named export_named (words_
 unfolding atom_named export_named
 an_illegal_byte_in_the_assignment = refl
 
-an_illegal_byte_behind_a_target_twice : transfer_row atom_named export_named (words_of (codes "A.n " ++ 228 ∷ [])) (link [] (to_n ∷ [])) ≡ Err Twice
+an_illegal_byte_after_a_target_twice : transfer_row atom_named export_named (words_of (codes "A.n " ++ 228 ∷ [])) (link [] (to_n ∷ [])) ≡ Err Twice
 unfolding atom_named export_named
-an_illegal_byte_behind_a_target_twice = refl
+an_illegal_byte_after_a_target_twice = refl
 
-no_word_behind_the_target : transfer_row atom_named export_named (words_of (codes "B.m")) (link [] []) ≡ Err Shape
+no_word_after_the_target : transfer_row atom_named export_named (words_of (codes "B.m")) (link [] []) ≡ Err Shape
 unfolding atom_named export_named
-no_word_behind_the_target = refl
+no_word_after_the_target = refl
 
 no_value : transfer_row atom_named export_named (words_of (codes "B.m :=")) (link [] []) ≡ Err BadExpression
 unfolding atom_named export_named
 no_value = refl
 
-a_word_behind_the_value : transfer_row atom_named export_named (words_of (codes "B.m := 1 ; A.n := 1")) (link [] []) ≡ Err Shape
+a_word_after_the_value : transfer_row atom_named export_named (words_of (codes "B.m := 1 ; A.n := 1")) (link [] []) ≡ Err Shape
 unfolding atom_named export_named
-a_word_behind_the_value = refl
+a_word_after_the_value = refl
 
 a_transfer_too_many : transfer_row atom_named export_named [] (link [] (replicate 32 to_n)) ≡ Err Limit
 a_transfer_too_many = refl

@@ -27,14 +27,14 @@ condition_in atom_named place_named words = do
   _ ← at_end (drop 3 words)
   Ok (record { atom = atom; place = place })
 
--- the condition behind the word `when`
-abbrev pub condition_behind : AtomsNamed → PlacesNamed → List (List ℕ) → Result At LineFault
-condition_behind atom_named place_named words = do
+-- the condition after the word `when`
+abbrev pub condition_after : AtomsNamed → PlacesNamed → List (List ℕ) → Result At LineFault
+condition_after atom_named place_named words = do
   _ ← first_keyword (codes "when") words
   condition_in atom_named place_named (drop 1 words)
 
 -- the rule of two sides that ends with these words: without a condition where there are none
-abbrev pub rule_behind : AtomsNamed → PlacesNamed → Side → Side → List (List ℕ) → Result Rule LineFault
-rule_behind atom_named place_named left right [] = Ok (Under left right)
-rule_behind atom_named place_named left right (word ∷ words) =
-    condition_behind atom_named place_named (word ∷ words) >>= λ at. Ok (UnderAt left right at)
+abbrev pub rule_after : AtomsNamed → PlacesNamed → Side → Side → List (List ℕ) → Result Rule LineFault
+rule_after atom_named place_named left right [] = Ok (Under left right)
+rule_after atom_named place_named left right (word ∷ words) =
+    condition_after atom_named place_named (word ∷ words) >>= λ at. Ok (UnderAt left right at)

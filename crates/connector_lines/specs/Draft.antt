@@ -1,3 +1,4 @@
+-- The connector so far.
 use Rattle.std.specs.Prelude.{map}
 use Rattle.petri_atom.specs.Expression.{tree_of}
 use Rattle.connector_tree.specs.Tree as connectors
@@ -5,7 +6,7 @@ use Rattle.step_core.specs.Plant.{WireDefinition}
 use Rattle.step_core.specs.Wire.{transfer_of}
 use Rattle.connector_lines.specs.declared.draft.WireDraft.{WireDraft}
 
--- the connector as its lines have told it so far
+-- the connector as its lines have written it so far
 abbrev pub drafted : WireDraft → WireDefinition
 drafted d = record {
   name = d.name;

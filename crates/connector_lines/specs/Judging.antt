@@ -10,22 +10,22 @@ use Rattle.connector_tree.specs.TokenFaults.{deepest, begins_with_close, has_emp
 use Rattle.connector_lines.specs.declared.shape.Shape.{Shape}
 
 -- with ports of these atoms, there are too many
-abbrev pub is_too_wide_behind : Shape → List ℕ → Bool
-is_too_wide_behind shape more = shape.is_too_wide || nat_lt MAX_LEAVES (length (shape.atoms.items ++ more))
+abbrev pub is_too_wide_after : Shape → List ℕ → Bool
+is_too_wide_after shape more = shape.is_too_wide || nat_lt MAX_LEAVES (length (shape.atoms.items ++ more))
 
--- with these tokens behind so many open brackets, a token stands too deep
-abbrev pub is_too_deep_behind : Shape → ℕ → List Token → Bool
-is_too_deep_behind shape level tokens = shape.is_too_deep || nat_lt MAX_DEPTH (deepest (level + 1) tokens)
+-- with these tokens after so many open brackets, a token stands too deep
+abbrev pub is_too_deep_after : Shape → ℕ → List Token → Bool
+is_too_deep_after shape level tokens = shape.is_too_deep || nat_lt MAX_DEPTH (deepest (level + 1) tokens)
 
 -- with these tokens, a bracket is empty
-abbrev pub has_empty_behind : Shape → List Token → Bool
-has_empty_behind shape tokens = (shape.has_empty_bracket || (shape.is_behind_open && begins_with_close tokens)) || has_empty_bracket tokens
+abbrev pub has_empty_after : Shape → List Token → Bool
+has_empty_after shape tokens = (shape.has_empty_bracket || (shape.is_behind_open && begins_with_close tokens)) || has_empty_bracket tokens
 
--- the first fault, where these tokens are left behind so many open brackets
-abbrev pub fault_behind : Shape → ℕ → List Token → Option TreeFault
-fault_behind shape level tokens =
-    if is_too_wide_behind shape (atoms (ports_in tokens)) then Some TooManyLeaves
-    else (if is_too_deep_behind shape level tokens then Some TooDeep
+-- the first fault, where these tokens are left after so many open brackets
+abbrev pub fault_after : Shape → ℕ → List Token → Option TreeFault
+fault_after shape level tokens =
+    if is_too_wide_after shape (atoms (ports_in tokens)) then Some TooManyLeaves
+    else (if is_too_deep_after shape level tokens then Some TooDeep
     else (if has_repeat (shape.atoms.items ++ atoms (ports_in tokens)) then Some SameAtom
-    else (if has_empty_behind shape tokens then Some Empty
+    else (if has_empty_after shape tokens then Some Empty
     else None)))

@@ -1,4 +1,4 @@
--- What each line says of a connector, or the fault of its first word that is at fault. The words are those behind
+-- What each line says of a connector, or the fault of its first word that is at fault. The words are those after
 -- the line's first one. Where the connector has as many parts of the line's kind as it may, the line's first word
 -- is at fault, before all others.
 use Rattle.std.specs.Prelude.{ℕ, Bool, not, List, [], ◌∷◌, ◌++◌, length, drop, map, nat_lt, Option, Result, Ok, codes}
@@ -22,7 +22,7 @@ use Rattle.connector_lines.specs.Exports.{variable_in}
 abbrev pub Named : Type 0
 Named = List ℕ → Option Export
 
--- the expression that the words are, with no word behind it
+-- the expression that the words are, with no word after it
 abbrev pub whole_expression : Named → List (List ℕ) → Result (Tree Export) LineFault
 whole_expression named words = do
   read ← on_line (expression_in named words)
@@ -45,7 +45,7 @@ target_in named before words = do
   _ ← check (not (has_target before target)) Twice
   Ok target
 
--- `ATOM.VAR := EXPR`: a transfer behind these, to a variable that is no target yet
+-- `ATOM.VAR := EXPR`: a transfer after these, to a variable that is no target yet
 abbrev pub transfer_in : Named → List TransferDefinition → List (List ℕ) → Result TransferDefinition LineFault
 transfer_in named before words = do
   target ← target_in named before words
@@ -53,14 +53,14 @@ transfer_in named before words = do
   value ← whole_expression named (drop 1 (drop 1 words))
   Ok (record { target = target; value = value })
 
--- the guard clauses of a connector, and behind them the one that the words are
+-- the guard clauses of a connector, and after them the one that the words are
 abbrev pub guards_with : Named → List (List ℕ) → List (Tree Export) → Result (List (Tree Export)) LineFault
 guards_with named words guards = do
   _ ← check (nat_lt (length guards) MAX_GUARDS) Limit
   guard ← whole_expression named words
   Ok (guards ++ guard ∷ [])
 
--- the transfers of a connector, and behind them the one that the words are
+-- the transfers of a connector, and after them the one that the words are
 abbrev pub transfers_with : Named → List (List ℕ) → List TransferDefinition → Result (List TransferDefinition) LineFault
 transfers_with named words transfers = do
   _ ← check (nat_lt (length transfers) MAX_TRANSFERS) Limit

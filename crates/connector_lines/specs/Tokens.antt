@@ -7,7 +7,7 @@ use Rattle.plant_words.specs.Splits.{PortParts, port_parts}
 use Rattle.connector_tree.specs.declared.tree.Port.{Port}
 use Rattle.connector_tree.specs.declared.token.Token.{Token}
 use Rattle.connector_tree.specs.declared.token.Token.TheVariants.{Leaf, Open, Close}
-use Rattle.connector_tree.specs.Tokens.{level_behind}
+use Rattle.connector_tree.specs.Tokens.{level_after}
 use Rattle.connector_lines.specs.declared.tree_words_fault.TreeWordsFault.{TreeWordsFault}
 use Rattle.connector_lines.specs.declared.tree_words_fault.TreeWordsFault.TheVariants.{NotAscii, UnknownName, Shape}
 
@@ -45,18 +45,18 @@ token_in named word = if is_legal_line word then legal_token_in named word else 
 abbrev pub Reading : Type 0
 Reading = Result (List Token) TreeWordsFault
 
--- a token, and those that are read behind it
+-- a token, and those that are read after it
 abbrev pub led_by : Token → Reading → Reading
 led_by token (Ok tokens) = Ok (token ∷ tokens)
 led_by token (Err fault) = Err fault
 
--- what one word says, and what is read behind it with so many brackets open
+-- what one word says, and what is read after it with so many brackets open
 abbrev pub behind : Result Token TreeWordsFault → ℕ → (ℕ → Reading) → Reading
 behind (Err fault) level read = Err fault
-behind (Ok token) level read = option_map_or (λ next. led_by token (read next)) (level_behind token level) (Err Shape)
+behind (Ok token) level read = option_map_or (λ next. led_by token (read next)) (level_after token level) (Err Shape)
 
--- What each word says, where so many brackets are open before them: the first word from the left with a fault is told, and a
--- bracket that stays open is told behind all words.
+-- What each word says, where so many brackets are open before them: the first word from the left with a fault is the one at fault, and a
+-- bracket that stays open is a fault after all words.
 abbrev pub tokens_in : Names → ℕ → List (List ℕ) → Reading
 tokens_in named level [] = if level == 0 then Ok [] else Err Shape
 tokens_in named level (word ∷ words) = behind (token_in named word) level (λ next. tokens_in named next words)

@@ -1,4 +1,4 @@
--- What is told where words are no tree of a connector.
+-- The fault of words that are no tree of a connector.
 use Rattle.std.specs.Prelude.{ℕ, List}
 use Rattle.connector_tree.specs.Faults as connector
 use Rattle.plant_words.specs.LineFaults as of_line

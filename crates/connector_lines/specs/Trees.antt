@@ -19,13 +19,13 @@ abbrev pub judged : Reading → Reading
 judged (Ok tokens) = unless tokens (fault_in tokens)
 judged (Err fault) = Err fault
 
--- The tree that the words are, as its tokens, or why they are none. There is one word at least. The faults of the tree are told
--- only where no word has a fault.
+-- The tree that the words are, as its tokens, or why they are none. There is one word at least. The faults of the tree are found
+-- only if no word has a fault.
 abbrev pub tree_in : Names → List (List ℕ) → Reading
 tree_in named [] = Err Shape
 tree_in named (word ∷ words) = judged (tokens_in named 0 (word ∷ words))
 
--- the words are the tree with these tokens; where there was memory for them, they were made
+-- the words are the tree with these tokens; if there was memory for them, they were made
 pub record AreRead (named : Names) (words : List (List ℕ)) (made : Result (Vec Token Global) AllocError) : Type 0 where
   pub tokens : List Token
   pub says : tree_in named words ≡ Ok tokens

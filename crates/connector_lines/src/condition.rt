@@ -1,6 +1,6 @@
 //! The condition of a rule.
 ghost use Rattle.std.specs.Prelude.{◌≡◌};
-ghost use Rattle.connector_lines.specs.Conditions.{condition_in, condition_behind};
+ghost use Rattle.connector_lines.specs.Conditions.{condition_in, condition_after};
 
 use crate::places::Places;
 use plant_words::reading::{end, next_keyword, next_word};
@@ -9,7 +9,7 @@ use priority_filter::At;
 
 /// `when ATOM at PLACE`: the condition that the words are.
 pub(crate) fn read_condition<P: Places>(words: &mut Words<'_>, places: &P) -> Result<At, LineFault>
-    ensures { result ≡ condition_behind (P.atom_named places.now) (P.place_named places.now) words.old }
+    ensures { result ≡ condition_after (P.atom_named places.now) (P.place_named places.now) words.old }
 {
     next_keyword(words, b"when")?;
     read_place(words, places)

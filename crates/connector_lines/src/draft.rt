@@ -1,4 +1,4 @@
-//! The connector as its lines have told it so far.
+//! The connector as its lines have written it so far.
 ghost use Rattle.std.specs.Prelude.{◌≡◌, ◌≤◌, length, vec_len, map, Bool, true, false, IfOk, IfErr, OnOk, OnErr, Ok, []};
 ghost use Rattle.petri_atom.specs.Expression.{tree_of};
 ghost use Rattle.connector_tree.specs.Tree as connectors;
@@ -21,6 +21,8 @@ use std::alloc::{AllocError, Global};
 use step_core::{Export, MAX_GUARDS, MAX_TRANSFERS, Transfer, Wire};
 
 /// A connector to which lines add guard clauses and transfers.
+///
+/// The `ghost` lines are for contracts alone: `ports` are those of the connector's leaves, and the lists keep the rules of a connector.
 #[derive(Drop)]
 pub struct WireDraft {
     alloc: Global,
@@ -103,7 +105,7 @@ impl WireDraft {
         read_transfer(self.alloc, &self.transfers, words, &self.variables(names))
     }
 
-    /// Adds the guard clause of a line `guard EXPR`, by the words behind its first.
+    /// Adds the guard clause of a line `guard EXPR`, by the words after its first.
     pub fn add_guard<N: Exports>(&mut self, words: &mut Words, names: &N) -> Result<(), LineFault>
         ensures added { OnOk result (guard_row (N.atom_named names.now) (N.export_named names.now) words.old (drafted self.old) ≡ Ok (drafted self.new)) }
         ensures fault { IfErr result (IsFaultOf (guard_row (N.atom_named names.now) (N.export_named names.now) words.old (drafted self.old))) }
@@ -117,7 +119,7 @@ impl WireDraft {
         Ok(())
     }
 
-    /// Adds the transfer of a line `move ATOM.VAR := EXPR`, by the words behind its first.
+    /// Adds the transfer of a line `move ATOM.VAR := EXPR`, by the words after its first.
     pub fn add_transfer<N: Exports>(
         &mut self,
         words: &mut Words,

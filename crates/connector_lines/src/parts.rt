@@ -61,7 +61,7 @@ fn read_target<N: Variables<Export>>(
     Ok(target)
 }
 
-/// The transfer behind these that the words are, with none left over.
+/// The transfer after these that the words are, with none left over.
 pub(crate) fn read_transfer<N: Variables<Export>>(
     alloc: Global,
     transfers: &[Transfer],

@@ -1,6 +1,6 @@
-//! The lines that write a rule, by the words behind their first.
+//! The lines that write a rule, by the words after their first.
 ghost use Rattle.std.specs.Prelude.{◌≡◌};
-ghost use Rattle.connector_lines.specs.Conditions.{rule_behind};
+ghost use Rattle.connector_lines.specs.Conditions.{rule_after};
 ghost use Rattle.connector_lines.specs.Rules.{priority_in, maximal_in};
 
 use crate::condition::read_condition;
@@ -11,7 +11,7 @@ use plant_words::reading::{end, next_keyword, next_word};
 use plant_words::{LineFault, Words};
 use priority_filter::{Rule, Side};
 
-/// `prio SIDE < SIDE`, and behind it `when ATOM at PLACE` or nothing: each interaction of the left side is below each of the right
+/// `prio SIDE < SIDE`, and after it `when ATOM at PLACE` or nothing: each interaction of the left side is below each of the right
 /// side, while the place is marked or always. Which words stay is not said.
 pub fn read_priority<C: Connectors, P: Places>(
     words: &mut Words<'_>,
@@ -33,7 +33,7 @@ fn read_behind<P: Places>(
     words: &mut Words<'_>,
     places: &P,
 ) -> Result<Rule, LineFault>
-    ensures { result ≡ rule_behind (P.atom_named places.now) (P.place_named places.now) left right words.old }
+    ensures { result ≡ rule_after (P.atom_named places.now) (P.place_named places.now) left right words.old }
 {
     if words.peek().is_none() {
         return Ok(Rule::Under(left, right));

@@ -3,9 +3,9 @@ ghost use Rattle.std.specs.Prelude.{◌≡◌, ◌<◌, ◌≤◌, ℕ, [], ◌�
 ghost use Rattle.std.specs.List.{list_any};
 ghost use Rattle.connector_tree.specs.Faults.{has_repeat};
 ghost use Rattle.connector_tree.specs.declared.token.Token.{Token};
-ghost use Rattle.connector_tree.specs.Tokens.{level_behind};
+ghost use Rattle.connector_tree.specs.Tokens.{level_after};
 ghost use Rattle.connector_tree.specs.TokenFaults.{is_open, is_close, fault_in};
-ghost use Rattle.connector_lines.specs.Judging.{fault_behind, is_too_wide_behind};
+ghost use Rattle.connector_lines.specs.Judging.{fault_after, is_too_wide_after};
 
 use arrayvec::ArrayVec;
 use connector_tree::{MAX_DEPTH, MAX_LEAVES, Token, TreeFault};
@@ -19,7 +19,7 @@ pub(crate) struct Shape {
     is_too_wide: bool,
     /// A token stood deeper than a tree may have levels.
     is_too_deep: bool,
-    /// A bracket ended directly behind its begin.
+    /// A bracket ended directly after its begin.
     has_empty_bracket: bool,
     /// The last token began a bracket.
     is_behind_open: bool,
@@ -28,7 +28,7 @@ pub(crate) struct Shape {
 impl Shape {
     /// The shape before all tokens.
     pub(crate) fn new() -> Self
-        ensures { (token : Token) (tokens : List Token) → fault_behind result 0 (token ∷ tokens) ≡ fault_in (token ∷ tokens) }
+        ensures { (token : Token) (tokens : List Token) → fault_after result 0 (token ∷ tokens) ≡ fault_in (token ∷ tokens) }
     {
         Shape {
             atoms: ArrayVec::new(),
@@ -41,7 +41,7 @@ impl Shape {
 
     /// Takes the next token, before which so many brackets are open.
     pub(crate) fn add(&mut self, token: Token, level: usize)
-        ensures { (next : ℕ) → level_behind token level ≡ Some next → (tokens : List Token) → fault_behind self.old level (token ∷ tokens) ≡ fault_behind self.new next tokens }
+        ensures { (next : ℕ) → level_after token level ≡ Some next → (tokens : List Token) → fault_after self.old level (token ∷ tokens) ≡ fault_after self.new next tokens }
     {
         self.is_too_deep |= level >= MAX_DEPTH;
         self.has_empty_bracket |= self.is_behind_open & is_close(&token);
@@ -53,8 +53,8 @@ impl Shape {
 
     /// Takes the atom of a port.
     fn add_atom(&mut self, atom: u16)
-        ensures wide { (more : List ℕ) → is_too_wide_behind self.old (atom ∷ more) ≡ is_too_wide_behind self.new more }
-        ensures atoms { (more : List ℕ) → is_too_wide_behind self.new more ≡ false → self.old.atoms.items ++ atom ∷ more ≡ self.new.atoms.items ++ more }
+        ensures wide { (more : List ℕ) → is_too_wide_after self.old (atom ∷ more) ≡ is_too_wide_after self.new more }
+        ensures atoms { (more : List ℕ) → is_too_wide_after self.new more ≡ false → self.old.atoms.items ++ atom ∷ more ≡ self.new.atoms.items ++ more }
         ensures rest { self.new ≡ record self.old { atoms = self.new.atoms; is_too_wide = self.new.is_too_wide } }
     {
         if self.atoms.try_push(atom).is_err() {
@@ -62,9 +62,9 @@ impl Shape {
         }
     }
 
-    /// The first fault of the tree, in the order of their numbers, where no token is left; never `Memory`.
+    /// The first fault of the tree, in the order of their numbers, if no token is left; never `Memory`.
     pub(crate) fn fault(&self) -> Option<TreeFault>
-        ensures { result ≡ fault_behind self.now 0 [] }
+        ensures { result ≡ fault_after self.now 0 [] }
     {
         let atoms = self.atoms.as_slice();
         if self.is_too_wide {
@@ -93,7 +93,7 @@ fn is_close(token: &Token) -> bool
     matches!(token, Token::Close { .. })
 }
 
-/// Whether one of the atoms stands twice. This goes over the atoms behind each one, of which there are few.
+/// Whether one of the atoms stands twice. This goes over the atoms after each one, of which there are few.
 fn has_repeat(atoms: &[u16]) -> bool
     ensures { result ≡ has_repeat atoms.now }
 {

@@ -1,6 +1,6 @@
 //! What one word of a tree says.
 ghost use Rattle.std.specs.Prelude.{◌≡◌, ◌<◌};
-ghost use Rattle.connector_tree.specs.Tokens.{level_behind};
+ghost use Rattle.connector_tree.specs.Tokens.{level_after};
 ghost use Rattle.connector_lines.specs.Tokens.{bracket_in, token_in};
 
 use crate::tree_words_fault::TreeWordsFault;
@@ -14,7 +14,7 @@ pub trait Ports {
 
     ghost port_named: { Self → List ℕ → List ℕ → Option Port };
 
-    /// The port of an atom, by both names, or `None` where there is no such atom, or it has no such port.
+    /// The port of an atom, by both names, or `None` if there is no such atom, or it has no such port.
     fn find_port(&self, atom: &[u8], port: &[u8]) -> Option<Port>
         ensures { result ≡ port_named self.now atom.now port.now };
 }
@@ -54,11 +54,11 @@ fn bracket(word: &[u8]) -> Option<Token>
     }
 }
 
-/// How many brackets are open behind the token, where so many are open before it. `None` where it closes one and none
+/// How many brackets are open after the token, where so many are open before it. `None` where it closes one and none
 /// is open.
-pub(crate) fn level_behind(token: Token, level: usize) -> Option<usize>
+pub(crate) fn level_after(token: Token, level: usize) -> Option<usize>
     requires { level < usize.MAX }
-    ensures { result ≡ level_behind token level }
+    ensures { result ≡ level_after token level }
 {
     match token {
         Token::Leaf { .. } => Some(level),

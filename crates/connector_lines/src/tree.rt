@@ -6,14 +6,14 @@ ghost use Rattle.connector_tree.specs.Tokens.{tokens_of};
 ghost use Rattle.connector_lines.specs.Trees.{tree_in, AreRead};
 
 use crate::shape::Shape;
-use crate::token::{Ports, level_behind, read_word};
+use crate::token::{Ports, level_after, read_word};
 use crate::tree_words_fault::TreeWordsFault;
 use connector_tree::{Connector, Token, connector_of};
 use plant_words::Words;
 use std::alloc::{AllocError, Global};
 
-/// The tree that the words are, all of them; or the first fault from the left, and where no word has one the first
-/// fault of the tree. Want of memory is told only where there is no such fault. Of a fault it is not said which words
+/// The tree that the words are, all of them; or the first fault from the left, and if no word has one the first
+/// fault of the tree. Want of memory is answered only if there is no such fault. Of a fault it is not said which words
 /// stay.
 pub fn read_tree<N: Ports>(
     alloc: Global,
@@ -36,8 +36,8 @@ pub fn read_tree<N: Ports>(
     Ok(connector_of(alloc, &tokens?)?)
 }
 
-/// What each word says, as far as there is memory for it; or the first fault from the left, and where no word has one the
-/// first fault of the tree. Where memory is wanting the words are read on all the same, so that their fault is told.
+/// What each word says, as far as there is memory for it; or the first fault from the left, and if no word has one the
+/// first fault of the tree. If memory is wanting the words are read on all the same, so that their fault is found.
 fn read_tokens<N: Ports>(
     alloc: Global,
     words: &mut Words<'_>,
@@ -54,7 +54,7 @@ fn read_tokens<N: Ports>(
     let mut level = 0;
     while let Some(word) = words.next_word() {
         let token = read_word(word, names)?;
-        let next = level_behind(token, level).ok_or(TreeWordsFault::Shape)?;
+        let next = level_after(token, level).ok_or(TreeWordsFault::Shape)?;
         shape.add(token, level);
         tokens = with_token(tokens, token);
         level = next;
@@ -68,7 +68,7 @@ fn read_tokens<N: Ports>(
     }
 }
 
-/// The tokens with one more behind them, where there was memory for them.
+/// The tokens with one more after them, if there was memory for them.
 fn with_token(
     tokens: Result<Vec<Token>, AllocError>,
     token: Token,

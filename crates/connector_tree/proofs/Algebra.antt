@@ -8,7 +8,7 @@ use Rattle.std.proofs.lemmas.Nat.Bits.{bit_at_ones}
 use Rattle.std.proofs.lemmas.List.{map-append, append-nil}
 use Rattle.connector_tree.specs.declared.tree.Port.{Port}
 use Rattle.connector_tree.specs.Tree.{Tree, no_child, child, Branch, leaf, bracket, leaves, branch_leaves, has_empty_bracket, is_empty_inside, has_empty}
-use Rattle.connector_tree.specs.PortSets.{Sets, Part, same_set, one, unions, product, optional, sum_behind, fused, parts, branch_sets, port_sets, is_port_set}
+use Rattle.connector_tree.specs.PortSets.{Sets, Part, same_set, one, unions, product, optional, sum_after, fused, parts, branch_sets, port_sets, is_port_set}
 use Rattle.connector_tree.specs.Masks.{is_set, chosen, ports_of, IsInteraction}
 use Rattle.connector_tree.specs.Faults.{has_repeat, atoms}
 use Rattle.connector_tree.specs.Walk.{seen, seen_children, every_takes, every_may, some_leads}
@@ -28,7 +28,7 @@ all_sets tree = map (λ part. part.sets) (parts tree)
 
 -- the sets of synchrons are their product
 synchrons-product : (tree : Tree) → are_synchrons tree ≡ true → port_sets tree ≡ product (all_sets tree)
-synchrons-product tree h = ap (λ b. cond b (sum_behind [] (parts tree)) (product (all_sets tree))) (no_trigger tree h)
+synchrons-product tree h = ap (λ b. cond b (sum_after [] (parts tree)) (product (all_sets tree))) (no_trigger tree h)
 
 product_of_ports : (tree : Tree) → are_ports tree ≡ true → product (all_sets tree) ≡ leaves tree ∷ []
 product_of_ports no_child h = refl
@@ -122,7 +122,7 @@ full_led : (before : Tree) (trigger : Bool) (branch : Branch) (after : Tree) →
 full_led no_child trigger branch after h = among_unions (branch_leaves branch) (leaves after) (branch_sets branch) _ h.0 (full_optional after h.1)
 full_led (child t b before) trigger branch after h = among_unions (branch_leaves b) (leaves (beside before (child trigger branch after))) (one ++ branch_sets b) _ (inr h.0) (full_led before trigger branch after h.1)
 
-full_sum : (before after : Tree) → Each IsFull (beside before after) → list_any (λ part. part.trigger) (parts after) ≡ true → Among (leaves (beside before after)) (sum_behind (parts before) (parts after))
+full_sum : (before after : Tree) → Each IsFull (beside before after) → list_any (λ part. part.trigger) (parts after) ≡ true → Among (leaves (beside before after)) (sum_after (parts before) (parts after))
 full_sum before no_child h t = absurd (both_ways false refl t)
 full_sum before (child trigger branch after) h t = elim (cases_Bool trigger) [
   | inl e ↦ among_left _ _ _ (subst (λ b. Among (leaves whole) (cond b led [])) (sym e) (full_led before trigger branch after h))
@@ -130,8 +130,8 @@ full_sum before (child trigger branch after) h t = elim (cases_Bool trigger) [
       let shift = beside_assoc before after trigger branch in
       let later = elim (or_cases trigger _ t) as (λ _. list_any (λ part. part.trigger) (parts after) ≡ true) [ inl k ↦ absurd (both_ways trigger e k) | inr k ↦ k ] in
       let there = full_sum (beside before (child trigger branch no_child)) after (subst (Each IsFull) (sym shift) h) later in
-      let moved = subst (λ tree. Among (leaves tree) (sum_behind (parts (beside before (child trigger branch no_child))) (parts after))) shift there in
-      among_right _ (cond trigger led []) _ (subst (λ ps. Among (leaves whole) (sum_behind ps (parts after))) (parts-beside before (child trigger branch no_child)) moved)
+      let moved = subst (λ tree. Among (leaves tree) (sum_after (parts (beside before (child trigger branch no_child))) (parts after))) shift there in
+      among_right _ (cond trigger led []) _ (subst (λ ps. Among (leaves whole) (sum_after ps (parts after))) (parts-beside before (child trigger branch no_child)) moved)
 ]
   where
     whole : Tree
@@ -143,7 +143,7 @@ full_sum before (child trigger branch after) h t = elim (cases_Bool trigger) [
 full_fused : (tree : Tree) → Each IsFull tree → Among (leaves tree) (port_sets tree)
 full_fused tree h = by_trigger (list_any (λ part. part.trigger) (parts tree)) (full_sum no_child tree h)
   where
-    by_trigger : (b : Bool) → (b ≡ true → Among (leaves tree) (sum_behind [] (parts tree))) → Among (leaves tree) (cond b (sum_behind [] (parts tree)) (product (all_sets tree)))
+    by_trigger : (b : Bool) → (b ≡ true → Among (leaves tree) (sum_after [] (parts tree))) → Among (leaves tree) (cond b (sum_after [] (parts tree)) (product (all_sets tree)))
     by_trigger true f = f refl
     by_trigger false f = full_product tree h
 
@@ -256,11 +256,11 @@ lacks_if : (b : Bool) (xs : Sets) → LacksEmpty xs → LacksEmpty (cond b xs []
 lacks_if true xs h = h
 lacks_if false xs h = λ m. m
 
--- none of a branch's sets is empty, where no bracket of it is
+-- none of a branch's sets is empty, if no bracket of it is
 abbrev Lacks : Branch → Type 0
 Lacks branch = is_empty_inside branch ≡ false → LacksEmpty (branch_sets branch)
 
-lacks_sum : (before : List Part) (after : Tree) → Each Lacks after → has_empty_bracket after ≡ false → LacksEmpty (sum_behind before (parts after))
+lacks_sum : (before : List Part) (after : Tree) → Each Lacks after → has_empty_bracket after ≡ false → LacksEmpty (sum_after before (parts after))
 lacks_sum before no_child h e = λ m. m
 lacks_sum before (child trigger branch after) h e =
     let here = or_parts _ _ e in
@@ -272,7 +272,7 @@ lacks_fused : (tree : Tree) → Each Lacks tree → has_empty tree ≡ false →
 lacks_fused no_child h e = absurd (both_ways true e refl)
 lacks_fused (child trigger branch rest) h e = by_trigger (list_any (λ part. part.trigger) (parts (child trigger branch rest)))
   where
-    by_trigger : (b : Bool) → LacksEmpty (cond b (sum_behind [] (parts (child trigger branch rest))) (product (all_sets (child trigger branch rest))))
+    by_trigger : (b : Bool) → LacksEmpty (cond b (sum_after [] (parts (child trigger branch rest))) (product (all_sets (child trigger branch rest))))
     by_trigger true = lacks_sum [] (child trigger branch rest) h e
     by_trigger false = lacks_left (branch_sets branch) _ (h.0 (or_parts _ _ e).0)
 

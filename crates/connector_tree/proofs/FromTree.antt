@@ -81,7 +81,7 @@ mutual
   are_local (child trigger branch rest) = (is_local branch, are_local rest)
 
 -- ---- one child more
--- each child has one of its sets; where they may stay away, or none of its leaves
+-- each child has one of its sets, or none of its leaves if they may stay away
 abbrev pub every : Bool → (ℕ → Bool) → ℕ → List SeenChild → Bool
 every stay f at cs = cond stay (every_may f at cs) (every_takes f at cs)
 
@@ -183,7 +183,7 @@ candidates-push stay cs c locals local =
           leads-push (is_set mask) 0 cs c ∙ (λ i. old.leads i || (c.trigger && takes i)),
         )
 
--- a mask has no leaf behind those that it is over
+-- a mask has no leaf after those that it is over
 pub candidates_below : (stay : Bool) (cs : List SeenChild) → All (λ candidate. candidate.mask < 2 ^ count_all cs) (candidates stay cs)
 candidates_below stay cs = All-map (λ candidate. candidate.mask < 2 ^ count_all cs) (λ mask. record { mask = mask; leads = some_leads (is_set mask) 0 cs }) (masks_every stay cs)
     (passing_below (λ mask. every stay (is_set mask) 0 cs) (2 ^ count_all cs))

@@ -47,7 +47,7 @@ masks_taken-tagged triggers leads (n ∷ ns) = step (leads n || not triggers) (m
     step true rest = ap (λ xs. n ∷ xs) rest
     step false rest = rest
 
--- the numbers that pass, told by a test that answers alike where they do
+-- the numbers that pass, by a test that answers alike for them
 tagged_alike : (p leads other : ℕ → Bool) → ((n : ℕ) → p n ≡ true → leads n ≡ other n) → (ns : List ℕ) → tagged leads (filter p ns) ≡ tagged other (filter p ns)
 tagged_alike p leads other same [] = refl
 tagged_alike p leads other same (n ∷ ns) = step (p n) refl (tagged_alike p leads other same ns)
@@ -134,7 +134,7 @@ tagged-moved : (leads low : ℕ → Bool) (m : ℕ) (high : Bool) (ns : List ℕ
 tagged-moved leads low m high [] same = refl
 tagged-moved leads low m high (l ∷ ns) same = λ i. record { mask = m + l; leads = same.0 i } ∷ tagged-moved leads low m high ns same.1 i
 
--- where a test is a test of the low digits and one of the high, those that pass are joined of those of each
+-- if a test is a test of the low digits and one of the high, those that pass are joined of those of each
 pub tagged-joined : (p low high leads low_leads high_leads : ℕ → Bool) (at n : ℕ) → ((h l : ℕ) → h < n → l < 2 ^ at → (p (h * 2 ^ at + l) ≡ (low l && high h)) × (leads (h * 2 ^ at + l) ≡ (low_leads l || high_leads h))) → tagged leads (passing p (n * 2 ^ at)) ≡ joined (tagged low_leads (passing low (2 ^ at))) at (tagged high_leads (passing high n))
 tagged-joined p low high leads low_leads high_leads at zero both = ap (λ n. tagged leads (passing p n)) (zero-mul (2 ^ at))
 tagged-joined p low high leads low_leads high_leads at (suc n) both = ap (λ n. tagged leads (passing p n)) (suc-mul n size) ∙ step (high n) refl (tagged-joined p low high leads low_leads high_leads at n (λ h l k. both h l (omega arith)))

@@ -1,22 +1,22 @@
 pub mod Algebra
-pub mod Exact
+mod Exact
 pub mod Filtered
-pub mod FromTree
-pub mod Gives
+mod FromTree
+mod Gives
 mod Rows
-pub mod Joined
+mod Joined
 pub mod Sets
 pub mod Sound
-pub mod Trees
-pub mod Walks
-pub mod Walked
+mod Trees
+mod Walks
+mod NextChild
 pub mod Written
 pub mod OneTree
 pub mod Levels
 pub mod TokenLeaves
 pub mod TokenDepth
-pub mod TokenEmpties
+mod TokenEmpties
 pub mod TokenFaults
 pub mod TokenMeaning
-pub mod Drafting
+mod Drafting
 mod TokenRows

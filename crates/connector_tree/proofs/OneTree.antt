@@ -8,7 +8,7 @@ use Rattle.connector_tree.specs.declared.token.Token.TheVariants.{Leaf, Open, Cl
 use Rattle.connector_tree.specs.Tokens.{tokens_of, branch_tokens}
 use Rattle.connector_tree.proofs.Written.{bracket_before, child_before}
 
--- what may stand behind the children of the root or of a bracket: nothing, or the bracket's end
+-- what may stand after the children of the root or of a bracket: nothing, or the bracket's end
 ends : List Token → Bool
 ends [] = true
 ends (Leaf port trigger ∷ tokens) = false
@@ -26,9 +26,9 @@ goes_on (leaf atom port) trigger rest = refl
 goes_on (bracket tree) trigger rest = refl
 
 -- so nothing but children stands where a child does
-not_behind : (trigger : Bool) (branch : Branch) (tree : Tree) (behind after : List Token) → ends behind ≡ true → behind ≡ tokens_of (child trigger branch tree) ++ after → ⊥
-not_behind trigger branch tree behind after end same =
-    both_ways (ends behind) (ap ends (same ∙ child_before trigger branch tree after) ∙ goes_on branch trigger (tokens_of tree ++ after)) end
+not_after : (trigger : Bool) (branch : Branch) (tree : Tree) (later after : List Token) → ends later ≡ true → later ≡ tokens_of (child trigger branch tree) ++ after → ⊥
+not_after trigger branch tree later after end same =
+    both_ways (ends later) (ap ends (same ∙ child_before trigger branch tree after) ∙ goes_on branch trigger (tokens_of tree ++ after)) end
 
 same_tail : (one other : Token) (tokens others : List Token) → one ∷ tokens ≡ other ∷ others → tokens ≡ others
 same_tail one other tokens others same = cc
@@ -43,13 +43,13 @@ same_close : (trigger trigger' : Bool) (rest rest' : List Token) → Close trigg
 same_close trigger trigger' rest rest' same = (cc, cc)
 
 mutual
-  same_rows : (one other : Tree) (behind behind' : List Token) → ends behind ≡ true → ends behind' ≡ true → tokens_of one ++ behind ≡ tokens_of other ++ behind' → (one ≡ other) × (behind ≡ behind')
-  same_rows no_child no_child behind behind' e e' same = (refl, same)
-  same_rows no_child (child trigger branch tree) behind behind' e e' same = absurd (not_behind trigger branch tree behind behind' e same)
-  same_rows (child trigger branch tree) no_child behind behind' e e' same = absurd (not_behind trigger branch tree behind' behind e' (sym same))
-  same_rows (child trigger branch tree) (child trigger' branch' tree') behind behind' e e' same =
-      let first = same_branches branch branch' trigger trigger' (tokens_of tree ++ behind) (tokens_of tree' ++ behind') (sym (child_before trigger branch tree behind) ∙ same ∙ child_before trigger' branch' tree' behind') in
-      let others = same_rows tree tree' behind behind' e e' first.2 in
+  same_rows : (one other : Tree) (later later' : List Token) → ends later ≡ true → ends later' ≡ true → tokens_of one ++ later ≡ tokens_of other ++ later' → (one ≡ other) × (later ≡ later')
+  same_rows no_child no_child later later' e e' same = (refl, same)
+  same_rows no_child (child trigger branch tree) later later' e e' same = absurd (not_after trigger branch tree later later' e same)
+  same_rows (child trigger branch tree) no_child later later' e e' same = absurd (not_after trigger branch tree later' later e' (sym same))
+  same_rows (child trigger branch tree) (child trigger' branch' tree') later later' e e' same =
+      let first = same_branches branch branch' trigger trigger' (tokens_of tree ++ later) (tokens_of tree' ++ later') (sym (child_before trigger branch tree later) ∙ same ∙ child_before trigger' branch' tree' later') in
+      let others = same_rows tree tree' later later' e e' first.2 in
       ((λ i. child (first.1 i) (first.0 i) (others.0 i)), others.1)
 
   same_branches : (one other : Branch) (trigger trigger' : Bool) (rest rest' : List Token) → branch_tokens one trigger ++ rest ≡ branch_tokens other trigger' ++ rest' → (one ≡ other) × (trigger ≡ trigger') × (rest ≡ rest')

@@ -1,4 +1,4 @@
--- A bracket among the tokens of a connector is empty where one of the connector is.
+-- A bracket among the tokens of a connector is empty if one of the connector is.
 use Rattle.std.proofs.Common.{◌≡◌, Bool, true, false, ◌||◌, List, [], ◌∷◌, ◌++◌, refl, ap, sym, ◌∙◌, append-nil}
 use Rattle.connector_tree.specs.Tree as connectors
 use Rattle.connector_tree.specs.Tree.{Tree, no_child, child, Branch, leaf, bracket, is_empty_inside, has_empty}
@@ -13,14 +13,14 @@ begins : (branch : Branch) (trigger : Bool) (rest : List Token) → (begins_with
 begins (leaf atom port) trigger rest = (refl, refl)
 begins (bracket tree) trigger rest = (refl, refl)
 
--- a bracket ends directly behind its begin where it has no children
-close_behind : (tree : Tree) (trigger : Bool) (rest : List Token) → begins_with_close (tokens_of tree ++ Close trigger ∷ rest) ≡ connectors.is_empty tree
-close_behind no_child trigger rest = refl
-close_behind (child t branch tree) trigger rest =
+-- a bracket ends directly after its begin if it has no children
+close_after : (tree : Tree) (trigger : Bool) (rest : List Token) → begins_with_close (tokens_of tree ++ Close trigger ∷ rest) ≡ connectors.is_empty tree
+close_after no_child trigger rest = refl
+close_after (child t branch tree) trigger rest =
     ap begins_with_close (child_before t branch tree (Close trigger ∷ rest))
     ∙ (begins branch t (tokens_of tree ++ Close trigger ∷ rest)).0
 
--- a tree has no tokens where it has no children
+-- a tree has no tokens if it has no children
 is_empty-tokens : (tree : Tree) → is_empty (tokens_of tree) ≡ connectors.is_empty tree
 is_empty-tokens no_child = refl
 is_empty-tokens (child trigger branch tree) = (begins branch trigger (tokens_of tree)).1
@@ -43,7 +43,7 @@ mutual
   branch_empties (leaf atom port) trigger rest = refl
   branch_empties (bracket tree) trigger rest =
       ap has_empty_bracket (bracket_before tree trigger rest)
-      ∙ ap (λ b. b || has_empty_bracket (tokens_of tree ++ Close trigger ∷ rest)) (close_behind tree trigger rest)
+      ∙ ap (λ b. b || has_empty_bracket (tokens_of tree ++ Close trigger ∷ rest)) (close_after tree trigger rest)
       ∙ ap (λ b. connectors.is_empty tree || b) (empties_before tree (Close trigger ∷ rest))
       ∙ regroup (connectors.is_empty tree) (connectors.has_empty_bracket tree) (has_empty_bracket rest)
 

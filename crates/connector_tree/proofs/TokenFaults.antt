@@ -1,4 +1,4 @@
--- The fault that is told of the tokens of a connector is the connector's.
+-- The fault of the tokens of a connector is the connector's.
 use Rattle.std.proofs.Common.{◌≡◌, ℕ, Bool, nat_lt, ◌||◌, if◌then◌else◌, List, length, Option, Some, None, ap, ◌∙◌}
 use Rattle.connector_tree.specs.declared.tree.Port.{Port}
 use Rattle.connector_tree.specs.declared.tree.TheConstants.{MAX_LEAVES, MAX_DEPTH}

@@ -1,10 +1,10 @@
--- The walk down a tree tells its port sets, where no atom stands twice.
+-- The walk down a tree tells its port sets, if no atom stands twice.
 use Rattle.std.proofs.Common.{◌≡◌, ◌+◌, ℕ, Bool, true, false, ◌||◌, ◌&&◌, not, cond, List, [], ◌∷◌, ◌++◌, map, length, refl, ap, sym, ◌∙◌, subst, arith, append_assoc}
 use Rattle.std.specs.List.{list_any}
 use Rattle.std.proofs.lemmas.List.{length-append}
 use Rattle.connector_tree.specs.declared.tree.Port.{Port}
 use Rattle.connector_tree.specs.Tree.{Tree, no_child, child, Branch, leaf, bracket, leaves, branch_leaves}
-use Rattle.connector_tree.specs.PortSets.{Sets, one, unions, product, optional, sum_behind, parts, branch_sets, port_sets}
+use Rattle.connector_tree.specs.PortSets.{Sets, one, unions, product, optional, sum_after, parts, branch_sets, port_sets}
 use Rattle.connector_tree.specs.Faults.{has_repeat, atoms}
 use Rattle.connector_tree.specs.Walk.{Seen, SeenChild, seen, seen_children, count_all, some_all, every_takes, every_may, some_leads, takes_all}
 use Rattle.connector_tree.proofs.Sets.{distinct}
@@ -71,26 +71,26 @@ leads_tells : (before : Tree) (trigger : Bool) (branch : Branch) (after : Tree) 
 leads_tells no_child trigger branch after s h = more_tells branch after (branch_sets branch) _ (seen branch).takes (λ f at. every_may f at (seen_children after)) s.0 h s.0.takes (optional_tells after s.1)
 leads_tells (child t b before) trigger branch after s h = more_tells b (beside before (child trigger branch after)) (one ++ branch_sets b) _ (may (seen b)) (λ f at. leads f at (seen_children before) (seen branch) (seen_children after)) s.0 h (may_tells b s.0) (leads_tells before trigger branch after s.1)
 
--- some trigger behind `before` leads
-abbrev some_behind : (ℕ → Bool) → ℕ → List SeenChild → List SeenChild → Bool
-some_behind f at before [] = false
-some_behind f at before (c ∷ after) = (c.trigger && leads f at before c.seen after) || some_behind f at (before ++ (c ∷ [])) after
+-- some trigger after `before` leads
+abbrev some_after : (ℕ → Bool) → ℕ → List SeenChild → List SeenChild → Bool
+some_after f at before [] = false
+some_after f at before (c ∷ after) = (c.trigger && leads f at before c.seen after) || some_after f at (before ++ (c ∷ [])) after
 
 if_tells : (b : Bool) (sets : Sets) (ps : List Port) (takes : Test) → Tells sets ps takes → Tells (cond b sets []) ps (λ f at. b && takes f at)
 if_tells true sets ps takes t = t
 if_tells false sets ps takes t = tells_none ps
 
-sum_tells : (before after : Tree) → AreSeen (beside before after) → has_repeat (atoms (leaves (beside before after))) ≡ false → Tells (sum_behind (parts before) (parts after)) (leaves (beside before after)) (λ f at. some_behind f at (seen_children before) (seen_children after))
+sum_tells : (before after : Tree) → AreSeen (beside before after) → has_repeat (atoms (leaves (beside before after))) ≡ false → Tells (sum_after (parts before) (parts after)) (leaves (beside before after)) (λ f at. some_after f at (seen_children before) (seen_children after))
 sum_tells before no_child s h = tells_none (leaves (beside before no_child))
 sum_tells before (child trigger branch after) s h =
     let alone = child trigger branch no_child in
     let whole = beside before (child trigger branch after) in
     let shift = beside_assoc before after trigger branch in
     let later = sum_tells (beside before alone) after (subst AreSeen (sym shift) s) (subst (λ tree. has_repeat (atoms (leaves tree)) ≡ false) (sym shift) h) in
-    let moved = subst (λ tree. Tells (sum_behind (parts (beside before alone)) (parts after)) (leaves tree) (λ f at. some_behind f at (seen_children (beside before alone)) (seen_children after))) shift later in
-    let by_parts = subst (λ ps. Tells (sum_behind ps (parts after)) (leaves whole) (λ f at. some_behind f at (seen_children (beside before alone)) (seen_children after))) (parts-beside before alone) moved in
-    let by_walks = subst (λ ws. Tells (sum_behind (parts before ++ parts alone) (parts after)) (leaves whole) (λ f at. some_behind f at ws (seen_children after))) (seen-beside before alone) by_parts in
-    tells_sum _ _ (leaves whole) (λ f at. trigger && leads f at (seen_children before) (seen branch) (seen_children after)) (λ f at. some_behind f at (seen_children before ++ seen_children alone) (seen_children after))
+    let moved = subst (λ tree. Tells (sum_after (parts (beside before alone)) (parts after)) (leaves tree) (λ f at. some_after f at (seen_children (beside before alone)) (seen_children after))) shift later in
+    let by_parts = subst (λ ps. Tells (sum_after ps (parts after)) (leaves whole) (λ f at. some_after f at (seen_children (beside before alone)) (seen_children after))) (parts-beside before alone) moved in
+    let by_walks = subst (λ ws. Tells (sum_after (parts before ++ parts alone) (parts after)) (leaves whole) (λ f at. some_after f at ws (seen_children after))) (seen-beside before alone) by_parts in
+    tells_sum _ _ (leaves whole) (λ f at. trigger && leads f at (seen_children before) (seen branch) (seen_children after)) (λ f at. some_after f at (seen_children before ++ seen_children alone) (seen_children after))
     (if_tells trigger _ _ _ (leads_tells before trigger branch after s h)) by_walks
 
 -- ---- the walk's own way to the same answer
@@ -114,7 +114,7 @@ may-append f at (c ∷ xs) ys =
     ∙ and_assoc (may c.seen f at) (every_may f (at + c.seen.count) xs) (every_may f ((at + c.seen.count) + count_all xs) ys)
     ∙ ap (λ n. every_may f at (c ∷ xs) && every_may f n ys) e
 
--- one child leads where all before it may and it leads those from it on
+-- one child leads if all before it may and it leads those from it on
 abbrev leads_from : (ℕ → Bool) → ℕ → Seen → List SeenChild → Bool
 leads_from f at seen after = seen.takes f at && every_may f (at + seen.count) after
 
@@ -134,20 +134,20 @@ absorb true true false s after later = refl
 absorb true true true s true later = refl
 absorb true true true s false later = refl
 
--- some trigger leads where all may and some trigger has one of its sets
-some_behind_is : (f : ℕ → Bool) (at : ℕ) (before after : List SeenChild) → some_behind f at before after ≡ (every_may f at (before ++ after) && some_leads f (at + count_all before) after)
-some_behind_is f at before [] = sym (and_false (every_may f at (before ++ [])))
-some_behind_is f at before (c ∷ after) =
+-- some trigger leads if all may and some trigger has one of its sets
+some_after_is : (f : ℕ → Bool) (at : ℕ) (before after : List SeenChild) → some_after f at before after ≡ (every_may f at (before ++ after) && some_leads f (at + count_all before) after)
+some_after_is f at before [] = sym (and_false (every_may f at (before ++ [])))
+some_after_is f at before (c ∷ after) =
     let here = at + count_all before in
     let e : at + count_all (before ++ (c ∷ [])) ≡ here + c.seen.count = omega (arith, count_all-append before (c ∷ [])) in
     let later = some_leads f (here + c.seen.count) after in
     let tail = every_may f (here + c.seen.count) after in
     let all = may-append f at before (c ∷ after) in
-    let ih = some_behind_is f at (before ++ (c ∷ [])) after
+    let ih = some_after_is f at (before ++ (c ∷ [])) after
     ∙ ap (λ ws. every_may f at ws && some_leads f (at + count_all (before ++ (c ∷ []))) after) (append_assoc before (c ∷ []) after)
     ∙ ap (λ n. every_may f at (before ++ (c ∷ after)) && some_leads f n after) e
     ∙ ap (λ b. b && later) all in
-    ap (λ x. (c.trigger && x) || some_behind f at (before ++ (c ∷ [])) after) (leads_split f at before c.seen after)
+    ap (λ x. (c.trigger && x) || some_after f at (before ++ (c ∷ [])) after) (leads_split f at before c.seen after)
     ∙ ap (λ x. (c.trigger && (every_may f at before && leads_from f here c.seen after)) || x) ih
     ∙ absorb c.trigger (every_may f at before) (c.seen.takes f here) (c.seen.some f here) tail later
     ∙ ap (λ x. x && ((c.trigger && c.seen.takes f here) || later)) (sym all)
@@ -167,9 +167,9 @@ fused_tells tree s h =
     let b = list_any (λ part. part.trigger) (parts tree) in
     let led : Test = λ f at. every_may f at ws && some_leads f at ws in
     let every : Test = λ f at. every_takes f at ws in
-    let sum = tells_by _ (leaves tree) (λ f at. some_behind f at [] ws) led (λ f at. let e : at + 0 ≡ at = omega arith in some_behind_is f at [] ws ∙ ap (λ n. every_may f at ws && some_leads f n ws) e) (sum_tells no_child tree s h) in
+    let sum = tells_by _ (leaves tree) (λ f at. some_after f at [] ws) led (λ f at. let e : at + 0 ≡ at = omega arith in some_after_is f at [] ws ∙ ap (λ n. every_may f at ws && some_leads f n ws) e) (sum_tells no_child tree s h) in
     tells_by (port_sets tree) (leaves tree) (λ f at. cond b (led f at) (every f at)) (λ f at. takes_all f at ws) (λ f at. ap (λ t. cond t (led f at) (every f at)) (same_triggers tree))
-    (cond_tells b (sum_behind [] (parts tree)) _ (leaves tree) led every sum (product_tells tree s h))
+    (cond_tells b (sum_after [] (parts tree)) _ (leaves tree) led every sum (product_tells tree s h))
 
 -- the walk sees each branch as it is
 mutual

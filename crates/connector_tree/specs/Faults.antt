@@ -33,14 +33,14 @@ pub record IsSound (tree : Tree) : Type 0 where
   pub distinct_atoms : has_repeat (atoms (leaves tree)) ≡ false
   pub none_empty : has_empty tree ≡ false
 
--- the fault of the tree that a result tells; want of memory tells none
-abbrev pub fault_told : {X : Type 0} → Result X TreeFault → Option TreeFault
-fault_told (Ok x) = None
-fault_told (Err TooManyLeaves) = Some TooManyLeaves
-fault_told (Err TooDeep) = Some TooDeep
-fault_told (Err SameAtom) = Some SameAtom
-fault_told (Err Empty) = Some Empty
-fault_told (Err Memory) = None
+-- the fault of the tree that a result has; want of memory is none
+abbrev pub fault_of_result : {X : Type 0} → Result X TreeFault → Option TreeFault
+fault_of_result (Ok x) = None
+fault_of_result (Err TooManyLeaves) = Some TooManyLeaves
+fault_of_result (Err TooDeep) = Some TooDeep
+fault_of_result (Err SameAtom) = Some SameAtom
+fault_of_result (Err Empty) = Some Empty
+fault_of_result (Err Memory) = None
 
 -- what a fault says to a person
 abbrev pub message_of : TreeFault → List ℕ

@@ -1,5 +1,4 @@
--- The port sets of a connector, after S. Bliudze and J. Sifakis, "The Algebra of Connectors: Structuring
--- Interaction in BIP", 2008.
+-- The port sets of a connector, as in the algebra of connectors of BIP.
 --
 -- A port p means {{p}}. With no trigger among the children of a bracket the meaning is the product of
 -- theirs, which is all unions of one set from each. With triggers it is the sum, over each trigger i, of its
@@ -49,17 +48,17 @@ pub record Part : Type 0 where
 abbrev pub optional : Part → Sets
 optional part = one ++ part.sets
 
--- the sum over each trigger behind `before`: its sets, times the product over all other parts of (1 + |x|)
-abbrev pub sum_behind : List Part → List Part → Sets
-sum_behind before [] = []
-sum_behind before (part ∷ after) =
+-- the sum over each trigger after `before`: its sets, times the product over all other parts of (1 + |x|)
+abbrev pub sum_after : List Part → List Part → Sets
+sum_after before [] = []
+sum_after before (part ∷ after) =
     (if part.trigger then product (map optional before ++ (part.sets ∷ map optional after)) else [])
-    ++ sum_behind (before ++ (part ∷ [])) after
+    ++ sum_after (before ++ (part ∷ [])) after
 
 -- the sets of a fusion: with a trigger among its parts the sum over the triggers, else the product
 abbrev pub fused : List Part → Sets
 fused parts =
-    if list_any (λ part. part.trigger) parts then sum_behind [] parts
+    if list_any (λ part. part.trigger) parts then sum_after [] parts
     else product (map (λ part. part.sets) parts)
 
 -- |x| of a branch: {{p}} for a port p, and for a bracket the fusion of its children, each as a part

@@ -2,7 +2,7 @@
 use Rattle.std.specs.Prelude.{Bool, true, false, ◌&&◌, not}
 use Rattle.connector_tree.specs.Tree.{Tree, no_child, child, Branch, leaf, bracket}
 
--- the children of the one, and behind them those of the other
+-- the children of the one, and after them those of the other
 abbrev pub beside : Tree → Tree → Tree
 beside no_child other = other
 beside (child trigger branch rest) other = child trigger branch (beside rest other)

@@ -34,14 +34,14 @@ abbrev pub begins_with_close : List Token → Bool
 begins_with_close [] = false
 begins_with_close (token ∷ tokens) = is_close token
 
--- some bracket ends directly behind its begin
+-- some bracket ends directly after its begin
 abbrev pub has_empty_bracket : List Token → Bool
 has_empty_bracket [] = false
 has_empty_bracket (Leaf port trigger ∷ tokens) = has_empty_bracket tokens
 has_empty_bracket (Open ∷ tokens) = begins_with_close tokens || has_empty_bracket tokens
 has_empty_bracket (Close trigger ∷ tokens) = has_empty_bracket tokens
 
--- the first fault of the tree with these tokens, in the order in which a connector's faults are told; the root is level 1
+-- the first fault of the tree with these tokens, in the order of a connector's faults; the root is level 1
 abbrev pub fault_in : List Token → Option TreeFault
 fault_in tokens =
     if nat_lt MAX_LEAVES (length (ports_in tokens)) then Some TooManyLeaves

@@ -34,13 +34,13 @@ ports_in (Leaf port trigger ∷ tokens) = port ∷ ports_in tokens
 ports_in (Open ∷ tokens) = ports_in tokens
 ports_in (Close trigger ∷ tokens) = ports_in tokens
 
--- how many brackets are open behind a token, where so many are open before it; none where it closes one and none is open
-abbrev pub level_behind : Token → ℕ → Option ℕ
-level_behind (Leaf port trigger) level = Some level
-level_behind Open level = Some (level + 1)
-level_behind (Close trigger) level = if level == 0 then None else Some (level - 1)
+-- how many brackets are open after a token, if so many are open before it; none where it closes one and none is open
+abbrev pub level_after : Token → ℕ → Option ℕ
+level_after (Leaf port trigger) level = Some level
+level_after Open level = Some (level + 1)
+level_after (Close trigger) level = if level == 0 then None else Some (level - 1)
 
--- each bracket that ends is open, and all are closed at the end, where so many are open before these tokens
+-- each bracket that ends is open, and all are closed at the end, if so many are open before these tokens
 abbrev pub is_balanced : ℕ → List Token → Bool
 is_balanced level [] = level == 0
-is_balanced level (token ∷ tokens) = option_map_or (λ next. is_balanced next tokens) (level_behind token level) false
+is_balanced level (token ∷ tokens) = option_map_or (λ next. is_balanced next tokens) (level_after token level) false

@@ -9,7 +9,7 @@ use Rattle.connector_tree.specs.declared.token.Token.TheVariants.{Open}
 use Rattle.connector_tree.specs.declared.tree_draft.Draft.{Draft}
 use Rattle.connector_tree.specs.Tokens.{children_tokens}
 
--- the children so far of a bracket or the root, and the begin of a bracket behind them
+-- the children so far of a bracket or the root, and the begin of a bracket after them
 abbrev pub tokens_before : Vec Child Global → List Token
 tokens_before children = children_tokens children.items ++ Open ∷ []
 

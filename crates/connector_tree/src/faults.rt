@@ -1,3 +1,4 @@
+//! Why a tree is no connector.
 ghost use Rattle.std.specs.Prelude.{◌≡◌};
 
 use crate::tree::{MAX_DEPTH, MAX_LEAVES};

@@ -50,7 +50,7 @@ pub fn full_mask_is_an_interaction()
     ensures { (tree : Tree) → IsInteraction tree (2 ^ length (leaves tree) - 1) }
 {}
 
-/// Where no bracket is empty, some port takes part in each interaction.
+/// If no bracket is empty, some port takes part in each interaction.
 pub fn some_port_acts()
     ensures { (tree : Tree) → has_empty tree ≡ false → is_port_set tree [] ≡ false }
 {}
@@ -60,7 +60,7 @@ pub fn tokens_have_the_leaves()
     ensures { (tree : Tree) → ports_in (tokens_of tree) ≡ leaves tree }
 {}
 
-/// The fault that is told of the tokens is the connector's.
+/// The fault of the tokens is the connector's.
 pub fn tokens_have_the_fault()
     ensures { (tree : Tree) → fault_in (tokens_of tree) ≡ fault_of tree }
 {}

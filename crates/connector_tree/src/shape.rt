@@ -1,3 +1,4 @@
+//! The first fault of a tree: too many leaves or levels, an atom that stands twice, or a bracket with no children.
 ghost use Rattle.std.specs.Prelude.{◌≡◌, ◌+◌, ◌≤◌, ◌==◌, min, nat_lt, IfNone, length};
 ghost use Rattle.std.specs.List.{list_any};
 ghost use Rattle.connector_tree.specs.Tree.{tree_of, tree_in, branch_of, leaves, branch_leaves, depth, branch_depth, has_empty, is_empty_inside};

@@ -1,3 +1,5 @@
+//! A connector, as a tree of ports, and how large one may be.
+
 /// A set of leaves: bit j for leaf j.
 pub type Mask = u16;
 

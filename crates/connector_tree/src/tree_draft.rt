@@ -9,7 +9,7 @@ use crate::tree::{Child, Connector, Node, Port};
 use std::alloc::{AllocError, Global};
 use std::mem;
 
-/// The connector with these tokens. The brackets that are open stand in a vector, so no call nests here. But where a
+/// The connector with these tokens. The brackets that are open stand in a vector, so no call nests here. But if a
 /// connector is walked or dropped calls nest as deep as its brackets: so none is made of a tree with a fault.
 pub fn connector_of(alloc: Global, tokens: &[Token]) -> Result<Connector, AllocError>
     requires balanced { is_balanced 0 tokens.now ≡ true }
@@ -28,14 +28,14 @@ pub fn connector_of(alloc: Global, tokens: &[Token]) -> Result<Connector, AllocE
 struct Draft {
     /// The children so far of the root and of each open bracket but the innermost one.
     outer: Vec<Vec<Child>>,
-    /// The children so far of the innermost open bracket, or of the root where no bracket is open.
+    /// The children so far of the innermost open bracket, or of the root if no bracket is open.
     children: Vec<Child>,
 }
 
 impl Draft {
     ghost use Rattle.std.specs.Prelude.{◌+◌, ◌<◌, [], ◌∷◌, ◌++◌, OnOk, Some, IsSome};
     ghost use Rattle.connector_tree.specs.declared.token.Token.TheVariants.{Leaf, Open, Close};
-    ghost use Rattle.connector_tree.specs.Tokens.{level_behind};
+    ghost use Rattle.connector_tree.specs.Tokens.{level_after};
     ghost use Rattle.connector_tree.specs.TreeDrafts.{tokens_made, level_of};
 
     fn new(alloc: Global) -> Draft
@@ -50,9 +50,9 @@ impl Draft {
 
     /// Makes the next token.
     fn add(&mut self, alloc: Global, token: Token) -> Result<(), AllocError>
-        requires { IsSome (level_behind token (level_of self.old)) }
+        requires { IsSome (level_after token (level_of self.old)) }
         ensures tokens { OnOk result (tokens_made self.new ≡ tokens_made self.old ++ token ∷ []) }
-        ensures level { OnOk result (level_behind token (level_of self.old) ≡ Some (level_of self.new)) }
+        ensures level { OnOk result (level_after token (level_of self.old) ≡ Some (level_of self.new)) }
     {
         match token {
             Token::Leaf { port, trigger } => self.add_leaf(port, trigger),

@@ -1,9 +1,10 @@
+//! The interactions of a connector: the masks of its leaves that are port sets.
 ghost use Rattle.std.specs.Prelude.{◌≡◌, ◌↔◌, ℕ, ◌+◌, ◌-◌, ◌<◌, ◌≤◌, ◌^◌, ◌++◌, map, IfOk, OnOk, All, Contains};
 ghost use Rattle.std.specs.List.Sorted.{IsStrictlyIncreasing};
 ghost use Rattle.std.specs.List.{list_any};
 ghost use Rattle.connector_tree.specs.Tree.{tree_of, tree_in, branch_of};
 ghost use Rattle.connector_tree.specs.Masks.{interactions_of, IsInteraction};
-ghost use Rattle.connector_tree.specs.Faults.{fault_of, fault_told, IsSound};
+ghost use Rattle.connector_tree.specs.Faults.{fault_of, fault_of_result, IsSound};
 ghost use Rattle.connector_tree.specs.Walk.{seen, seen_children, seen_all, count_all};
 ghost use Rattle.connector_tree.specs.MaskLists.{masks_seen, choices, with_later, joined, masks_taken};
 ghost use Rattle.connector_tree.specs.declared.tree.TheConstants.{MAX_LEAVES};
@@ -15,11 +16,11 @@ use std::alloc::{AllocError, Global};
 
 /// The interactions of a connector, as masks of its leaves.
 pub fn interactions(alloc: Global, connector: &Connector) -> Result<Vec<Mask>, TreeFault>
-    ensures fault { fault_told result ≡ fault_of (tree_of connector.now) }
+    ensures fault { fault_of_result result ≡ fault_of (tree_of connector.now) }
     ensures sound { OnOk result (IsSound (tree_of connector.now)) }
     ensures list { IfOk result (λ masks. masks.items ≡ interactions_of (tree_of connector.now)) }
 
-    // What the list is, told of one mask.
+    // What the list is, mask by mask.
     ensures exact { IfOk result
         (λ masks. (mask : ℕ) → Contains masks.items mask ↔ IsInteraction (tree_of connector.now) mask) }
     ensures rising { IfOk result (λ masks. IsStrictlyIncreasing masks.items) }
@@ -76,7 +77,7 @@ fn has_trigger(children: &[Child]) -> bool
     children.iter().any(|child| child.trigger)
 }
 
-/// A mask that may be an interaction: each child has one of its masks, or stays away where it may.
+/// A mask that may be an interaction: each child has one of its masks, or stays away if it may.
 #[derive(Clone, Copy)]
 struct Candidate {
     mask: Mask,
@@ -84,7 +85,7 @@ struct Candidate {
     leads: bool,
 }
 
-/// The candidates of a child that has these masks. Where it may stay away, one of them has none of its leaves.
+/// The candidates of a child that has these masks. If it may stay away, one of them has none of its leaves.
 fn choices(
     alloc: Global,
     own: &[Mask],

@@ -12,7 +12,7 @@ pub err-has : {V E : Type 0} (r : Result V E) (P : Type 0) → is_err r ≡ true
 err-has (Ok v) P is holds = absurd (true≢false (sym is))
 err-has (Err e) P is holds = holds
 
--- a call that failed has still failed behind one that changed nothing
+-- a call that failed has still failed after one that changed nothing
 fails-still : (cut : Cut) (old mid new : DiskState) → IsUnchanged mid new → Fails cut old mid → Fails cut old new
 fails-still cut old mid new same (inl (is, unchanged)) = inl (is, unchanged_from old mid new unchanged same)
 fails-still cut old mid new same (inr (at, bytes, is, inl unchanged)) = inr (at, bytes, is, inl (unchanged_from old mid new unchanged same))
@@ -31,7 +31,7 @@ fails-still cut old mid new same (inr (at, bytes, is, inr (other, long, writes))
   ),
 )
 
--- so a device that was stopped is, behind a call that only reads
+-- so a device that was stopped is, after a call that only reads
 pub stopped-still : (number : ℕ) (cut : Cut) (old new : MemDisk) → IsUnchanged (state_of old) (state_of new) → AsksNoChange old new → IsStoppedAt number cut old → IsStoppedAt number cut new
 stopped-still number cut old new same rest was = record {
   asked = rest.changes ∙ was.asked;

@@ -11,7 +11,7 @@ use Rattle.step_core.specs.Runs.{IsRun, fold}
 use Rattle.step_core.specs.Step.{initial_states, next}
 use Rattle.step_core.proofs.OnRuns.{runs-cut}
 use Rattle.plant_core.proofs.EventRuns.{fold-append}
-use Rattle.crash_explorer.specs.Judging.{IsRunOf, state_behind}
+use Rattle.crash_explorer.specs.Judging.{IsRunOf, state_after}
 
 -- what is left of a list from a place on begins with the entry there
 pub left-at : {X Y : Type 0} (f : X → Y) (xs : List X) (i : ℕ) (x : X) → i < length xs → x ≡ get_or xs i x → drop i (map f xs) ≡ f x ∷ drop (i + 1) (map f xs)
@@ -42,7 +42,7 @@ one_more_same xs ys i x y inside within here there same so_far =
 pub all_same : {X : Type 0} (xs ys : List X) (i : ℕ) → length xs ≤ i → length ys ≤ i → take i xs ≡ take i ys → xs ≡ ys
 all_same xs ys i few fewer same = sym (take_all i xs few) ∙ same ∙ take_all i ys fewer
 
--- a front and a front of what is behind it
+-- a front and a front of what is after it
 pub front-of : {X : Type 0} (xs : List X) (a k : ℕ) → take a xs ++ take k (drop a xs) ≡ take (a + k) xs
 front-of {X} xs a k =
     let within : a ≤ a + k = omega arith in
@@ -60,21 +60,21 @@ asks-none old mid new first second = record {
 }
 
 module _ (plant : PlantDefinition) where
-  -- a run behind its front
+  -- a run after its front
   pub run-at : (cs rest : List ChoiceDefinition) (c : ChoiceDefinition) (states end : List Local) → cs ≡ c ∷ rest → IsRun plant states cs end → IsAllowed plant states c × IsRun plant (next plant states c) rest end
   run-at cs rest c states end is run = subst (λ l. IsRun plant states l end) is run
 
-  -- the acknowledged choices of a run are a run, and so is a front of the others behind them
-  pub acked-run : (acked tail : List ChoiceDefinition) → IsRunOf plant (acked ++ tail) → IsRun plant (initial_states plant) acked (state_behind plant acked)
-  acked-run acked tail run = (runs-cut plant acked tail (initial_states plant) (state_behind plant (acked ++ tail)) run).0
+  -- the acknowledged choices of a run are a run, and so is a front of the others after them
+  pub acked-run : (acked tail : List ChoiceDefinition) → IsRunOf plant (acked ++ tail) → IsRun plant (initial_states plant) acked (state_after plant acked)
+  acked-run acked tail run = (runs-cut plant acked tail (initial_states plant) (state_after plant (acked ++ tail)) run).0
 
-  pub front-run : (acked tail : List ChoiceDefinition) (k : ℕ) → IsRunOf plant (acked ++ tail) → IsRun plant (state_behind plant acked) (take k tail) (fold plant (state_behind plant acked) (take k tail))
+  pub front-run : (acked tail : List ChoiceDefinition) (k : ℕ) → IsRunOf plant (acked ++ tail) → IsRun plant (state_after plant acked) (take k tail) (fold plant (state_after plant acked) (take k tail))
   front-run acked tail k run =
-      let whole : IsRun plant (state_behind plant acked) tail (state_behind plant (acked ++ tail)) = (runs-cut plant acked tail (initial_states plant) (state_behind plant (acked ++ tail)) run).1 in
-      let parts : IsRun plant (state_behind plant acked) (take k tail ++ drop k tail) (state_behind plant (acked ++ tail)) =
-      subst (λ (l : List ChoiceDefinition). IsRun plant (state_behind plant acked) l (state_behind plant (acked ++ tail))) (sym (take-append-drop k tail)) whole in
-      (runs-cut plant (take k tail) (drop k tail) (state_behind plant acked) (state_behind plant (acked ++ tail)) parts).0
+      let whole : IsRun plant (state_after plant acked) tail (state_after plant (acked ++ tail)) = (runs-cut plant acked tail (initial_states plant) (state_after plant (acked ++ tail)) run).1 in
+      let parts : IsRun plant (state_after plant acked) (take k tail ++ drop k tail) (state_after plant (acked ++ tail)) =
+      subst (λ (l : List ChoiceDefinition). IsRun plant (state_after plant acked) l (state_after plant (acked ++ tail))) (sym (take-append-drop k tail)) whole in
+      (runs-cut plant (take k tail) (drop k tail) (state_after plant acked) (state_after plant (acked ++ tail)) parts).0
 
   -- where they lead
-  pub front-leads : (acked tail : List ChoiceDefinition) (k : ℕ) → fold plant (state_behind plant acked) (take k tail) ≡ state_behind plant (acked ++ take k tail)
+  pub front-leads : (acked tail : List ChoiceDefinition) (k : ℕ) → fold plant (state_after plant acked) (take k tail) ≡ state_after plant (acked ++ take k tail)
   front-leads acked tail k = sym (fold-append plant acked (take k tail) (initial_states plant))

@@ -15,7 +15,7 @@ use Rattle.plant_image.specs.declared.fault.ImageFault.TheVariants.{NotFormatted
 use Rattle.recovery.specs.Booting.{IsBooted}
 use Rattle.step_core.specs.Choice.{ChoiceDefinition}
 use Rattle.step_core.specs.Plant.{PlantDefinition}
-use Rattle.crash_explorer.specs.Judging.{IsRight, IsRightStop, IsRunOf, state_behind}
+use Rattle.crash_explorer.specs.Judging.{IsRight, IsRightStop, IsRunOf, state_after}
 use Rattle.crash_explorer.specs.Outcomes.{IsNextOf, IsRightNext}
 use Rattle.crash_explorer.specs.Verdicts.{IsFound, IsOpened, found_in}
 use Rattle.crash_explorer.specs.declared.booting.Found.{Found}
@@ -40,11 +40,11 @@ module _ (plant : PlantDefinition) (digest : List ℕ) where
   pub front-is-run : (number : ℕ) (fired : List ChoiceDefinition) → IsRunOf plant fired → IsRunOf plant (take number fired)
   front-is-run number fired run = acked-run plant (take number fired) (drop number fired) (subst (λ (cs : List ChoiceDefinition). IsRunOf plant cs) (sym (take-append-drop number fired)) run)
 
-  -- cells that are right and hold so many choices stand for the state behind the first so many
+  -- cells that are right and hold so many choices stand for the state after the first so many
   pub right-stands : (bytes number acked : ℕ) (fired : List ChoiceDefinition) (formatting : Bool) (cells : List Cell) → acked ≤ length fired
       → fault_of plant digest bytes cells ≡ None → number ≡ last_number (contents_of (length plant.atoms) cells)
       → IsRightStop plant digest bytes (take acked fired) (drop acked fired) formatting cells
-      → StandsFor plant digest bytes cells (state_behind plant (take number fired)) (length (take number fired))
+      → StandsFor plant digest bytes cells (state_after plant (take number fired)) (length (take number fired))
   right-stands bytes number acked fired formatting cells within sound last right = ⊎_elim
       (λ is.
       let k : ℕ = is.0 in
@@ -56,13 +56,13 @@ module _ (plant : PlantDefinition) (digest : List ℕ) where
       let many : length (take number fired) ≡ number = length-take-le number fired all in
       record {
         sound = is.2.sound;
-        states_are = is.2.states_are ∙ ap (λ (cs : List ChoiceDefinition). state_behind plant cs) front;
+        states_are = is.2.states_are ∙ ap (λ (cs : List ChoiceDefinition). state_after plant cs) front;
         number_is = sym last ∙ sym many;
       })
       (λ wrong. absurd (none-some NotFormatted (sym sound ∙ wrong.1)))
       right
 
-  -- what was opened is told as what its cells boot to
+  -- what was opened is found as what its cells boot to
   pub found-opened : (s : DiskState) (o : Opened) → IsOpened plant digest s o → IsFound plant digest (size_of s) (seen_cells (BODY + 1) s) (found_in o)
   found-opened s (opened.Plant p) is =
       let none : length (view_of p).tail ≡ 0 = ap (λ (cs : List ChoiceDefinition). length cs) is.3.tail in

@@ -1,5 +1,5 @@
-pub mod Fronts
-pub mod GoneOn
-pub mod Judged
-pub mod Stopped
-pub mod FirstFailures
+mod Fronts
+mod GoneOn
+mod Judged
+mod Stopped
+mod FirstFailures

@@ -27,7 +27,7 @@ use Rattle.step_core.specs.Plant.{PlantDefinition}
 use Rattle.step_core.specs.Runs.{IsRun, fold}
 use Rattle.step_core.specs.Step.{initial_states}
 use Rattle.step_core.proofs.OnRuns.{run-folds, runs-join}
-use Rattle.crash_explorer.specs.Judging.{IsRight, IsRightStop, IsRunOf, state_behind}
+use Rattle.crash_explorer.specs.Judging.{IsRight, IsRightStop, IsRunOf, state_after}
 use Rattle.step_core.specs.Chosen.{choice_of}
 use Rattle.step_core.specs.declared.choice.Choice.{Choice}
 use Rattle.crash_explorer.specs.Running.{IsAt, IsEnded, IsFirstBoot, IsLived, IsMadeUntil, device_in, fired_in, is_formatting}
@@ -104,7 +104,7 @@ module _ (plant : PlantDefinition) (digest : List ℕ) where
 
   -- the plant that is booted is where its device stands
   pub booted-at : (bytes : ℕ) (behind : List ChoiceDefinition) (cells : List Cell) (v : View) → IsRunOf plant behind → IsBooted plant digest bytes cells v
-      → StandsFor plant digest bytes cells (state_behind plant behind) (length behind) → IsAt plant behind v
+      → StandsFor plant digest bytes cells (state_after plant behind) (length behind) → IsAt plant behind v
   booted-at bytes behind cells v run booted stands = record {
     run = run;
     acked = booted.acked ∙ stands.states_are;
@@ -134,23 +134,23 @@ module _ (plant : PlantDefinition) (digest : List ℕ) where
     -- what was fired is a run
     pub is-run : IsRunOf plant fired
     is-run =
-        let more : IsRun plant (state_behind plant behind) (all_fired hs) w.present = subst (λ (s : List Local). IsRun plant s (all_fired hs) w.present) at.present (events-run plant hs v w run) in
-        let whole : IsRun plant (initial_states plant) fired w.present = runs-join plant behind (all_fired hs) (initial_states plant) (state_behind plant behind) w.present at.run more in
+        let more : IsRun plant (state_after plant behind) (all_fired hs) w.present = subst (λ (s : List Local). IsRun plant s (all_fired hs) w.present) at.present (events-run plant hs v w run) in
+        let whole : IsRun plant (initial_states plant) fired w.present = runs-join plant behind (all_fired hs) (initial_states plant) (state_after plant behind) w.present at.run more in
         subst (λ (s : List Local). IsRun plant (initial_states plant) fired s) (sym (run-folds plant fired (initial_states plant) w.present whole)) whole
 
     -- of which no more is acknowledged
     pub within : w.number ≤ length fired
     within = omega (arith, acked.within, grown, length-append behind (all_fired hs), ap (λ (cs : List ChoiceDefinition). length cs) all-of)
 
-    acked-is : w.acked ≡ state_behind plant (take w.number fired)
+    acked-is : w.acked ≡ state_after plant (take w.number fired)
     acked-is =
         let n : ℕ = w.number - v.number in
         acked.acked
         ∙ ap (λ (cs : List ChoiceDefinition). fold plant v.acked (take n cs)) all-of
         ∙ ap (λ (s : List Local). fold plant s (take n (all_fired hs))) at.acked
         ∙ sym (fold-append plant behind (take n (all_fired hs)) (initial_states plant))
-        ∙ ap (λ (cs : List ChoiceDefinition). state_behind plant cs) (sym (take-append-add behind (all_fired hs) n))
-        ∙ ap (λ (m : ℕ). state_behind plant (take m fired)) grown
+        ∙ ap (λ (cs : List ChoiceDefinition). state_after plant cs) (sym (take-append-add behind (all_fired hs) n))
+        ∙ ap (λ (m : ℕ). state_after plant (take m fired)) grown
 
     tail-is : w.tail ≡ drop w.number fired
     tail-is =
@@ -165,9 +165,9 @@ module _ (plant : PlantDefinition) (digest : List ℕ) where
     running-right cells stands =
         let k : ℕ = stands.0 in
         let long : length (take w.number fired) ≡ w.number = length-take-le w.number fired within in
-        let states : fold plant w.acked (take k w.tail) ≡ state_behind plant (take w.number fired ++ take k (drop w.number fired)) =
+        let states : fold plant w.acked (take k w.tail) ≡ state_after plant (take w.number fired ++ take k (drop w.number fired)) =
         ap (λ (s : List Local). fold plant s (take k w.tail)) acked-is
-        ∙ ap (λ (cs : List ChoiceDefinition). fold plant (state_behind plant (take w.number fired)) (take k cs)) tail-is
+        ∙ ap (λ (cs : List ChoiceDefinition). fold plant (state_after plant (take w.number fired)) (take k cs)) tail-is
         ∙ sym (fold-append plant (take w.number fired) (take k (drop w.number fired)) (initial_states plant)) in (
           k,
           subst (λ (cs : List ChoiceDefinition). k ≤ length cs) tail-is stands.1,

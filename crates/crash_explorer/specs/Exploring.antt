@@ -1,4 +1,4 @@
--- What an explorer shows, and what it tells of a stop.
+-- What an explorer shows, and what it answers of a stop.
 use Rattle.std.specs.Prelude.{◌≡◌, ◌↔◌, ℕ, ◌+◌, ◌-◌, ◌*◌, ◌≤◌, IsTrue, List, [], Some, drop, length, slice_get, take}
 use Rattle.disk_model.specs.Cells.{Cell, MayBe, cells_of}
 use Rattle.disk_model.specs.DiskState.{moment_of, size_of}
@@ -28,7 +28,7 @@ pub record IsExplorerOf (system : System) (ring : ℕ) (events : List Event) (e 
   pub of_ring : e.ring ≡ ring
   pub of_events : e.events.now ≡ events
 
--- how many writes and syncs the run makes, as the explorer tells it
+-- how many writes and syncs the run makes, as the explorer answers
 abbrev pub stops_of : Explorer → ℕ
 stops_of e = e.stops
 
@@ -51,7 +51,7 @@ pub record IsWholeRun (plant : PlantDefinition) (digest : List ℕ) (ring : ℕ)
 abbrev pub trials_left : Explorer → ℕ
 trials_left e = length TEARS * (e.stops - e.stop) - e.tear
 
--- A trial is that of a run of these events which was stopped at its write or sync with this number, and torn so. It tells what that call was, how many choices
+-- A trial is that of a run of these events which was stopped at its write or sync with this number, and torn so. It says what that call was, how many choices
 -- were fired and how many of these were acknowledged, what the device boots to by the bytes that the stop left, how the plant then goes on, and whether both
 -- are right; and they are, as is whatever else the stop might have left of the device.
 pub record IsTrial (plant : PlantDefinition) (digest : List ℕ) (ring : ℕ) (events : List Event) (stop : ℕ) (tear : Tear) (t : Trial) : Type 0 where

@@ -15,18 +15,18 @@ use Rattle.plant_image.specs.Standing.{StandsFor}
 use Rattle.plant_image.specs.declared.fault.ImageFault.TheVariants.{NotFormatted}
 
 -- the state that choices lead to from the first state of the plant
-abbrev pub state_behind : PlantDefinition → List ChoiceDefinition → List Local
-state_behind plant cs = fold plant (initial_states plant) cs
+abbrev pub state_after : PlantDefinition → List ChoiceDefinition → List Local
+state_after plant cs = fold plant (initial_states plant) cs
 
 -- the choices are a run of the plant from its first state
 abbrev pub IsRunOf : PlantDefinition → List ChoiceDefinition → Type 0
-IsRunOf plant cs = IsRun plant (initial_states plant) cs (state_behind plant cs)
+IsRunOf plant cs = IsRun plant (initial_states plant) cs (state_after plant cs)
 
--- Cells of a device of so many bytes are right where these choices were acknowledged and those were fired behind them: they stand for the state behind
+-- Cells of a device of so many bytes are right where these choices were acknowledged and those were fired after them: they stand for the state after
 -- all that was acknowledged and some front of the others, and for the number of all of these.
 abbrev pub IsRight : PlantDefinition → List ℕ → ℕ → List ChoiceDefinition → List ChoiceDefinition → List Cell → Type 0
 IsRight plant digest bytes acked tail cells =
-    (k : ℕ) × (k ≤ length tail) × StandsFor plant digest bytes cells (state_behind plant (acked ++ take k tail)) (length acked + k)
+    (k : ℕ) × (k ≤ length tail) × StandsFor plant digest bytes cells (state_after plant (acked ++ take k tail)) (length acked + k)
 
 -- The same of cells that a stop left: while the device was formatted it may also be one that was never formatted.
 abbrev pub IsRightStop : PlantDefinition → List ℕ → ℕ → List ChoiceDefinition → List ChoiceDefinition → Bool → List Cell → Type 0

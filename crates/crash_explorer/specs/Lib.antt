@@ -1,3 +1,4 @@
+pub mod Seen
 pub mod Watching
 pub mod Judging
 pub mod Verdicts

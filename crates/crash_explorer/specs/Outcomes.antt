@@ -26,8 +26,8 @@ pub record IsTorn (tear : Tear) (device : MemDisk) (left : List ℕ) : Type 0 wh
   pub each : (i : ℕ) → i < size_of (state_of device) → slice_index left i
       ≡ byte_left tear (BODY + 1) (is_pending (state_of device).now i) i (slice_index (state_of device).now.seen i) (slice_index (synced_of device) i)
 
--- A plant that was opened with this view, behind these choices, goes on: it is asked to fire its first choice and to flush, and then the power is cut again. All
--- that it has fired is acknowledged. It is told how many choices more these are, what the device boots to by the bytes that the stop left, and whether they are
+-- A plant that was opened with this view, after these choices, goes on: it is asked to fire its first choice and to flush, and then the power is cut again. All
+-- that it has fired is acknowledged. The answer says how many choices more these are, what the device boots to by the bytes that the stop left, and whether they are
 -- right; and they are, as is whatever else a stop might have left of the device.
 pub record IsNext (plant : PlantDefinition) (digest : List ℕ) (bytes : ℕ) (tear : Tear) (opened : View) (behind : List ChoiceDefinition) (n : Next) : Type 0 where
   pub fired : List ChoiceDefinition
@@ -42,7 +42,7 @@ pub record IsNext (plant : PlantDefinition) (digest : List ℕ) (bytes : ℕ) (t
   pub right_where : IsTrue n.right ↔ IsRight plant digest bytes fired [] (cells_of (BODY + 1) left)
   pub right_is : IsTrue n.right
 
--- The plant goes on where it was booted from these cells, behind as many of these choices as they hold; and no plant does where none was booted.
+-- The plant goes on where it was booted from these cells, after as many of these choices as they hold; and no plant does where none was booted.
 abbrev pub IsNextOf : PlantDefinition → List ℕ → ℕ → Tear → List ChoiceDefinition → List Cell → Found → Option Next → Type 0
 IsNextOf plant digest bytes tear fired cells (Booted number) next =
     (opened : View) × IsBooted plant digest bytes cells opened

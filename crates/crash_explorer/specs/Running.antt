@@ -16,7 +16,7 @@ use Rattle.plant_core.specs.View.{View}
 use Rattle.plant_core.specs.declared.events.Event.{Event}
 use Rattle.plant_core.specs.declared.events.Happened.{Happened}
 use Rattle.recovery.specs.Booting.{IsBooted}
-use Rattle.crash_explorer.specs.Judging.{IsRightStop, IsRunOf, state_behind}
+use Rattle.crash_explorer.specs.Judging.{IsRightStop, IsRunOf, state_after}
 use Rattle.crash_explorer.specs.declared.running.Ended.{Ended}
 use Rattle.crash_explorer.specs.declared.running.Stage.{Stage}
 use Rattle.crash_explorer.specs.declared.running.Stage.TheVariants.{Formatting, Booting, Running}
@@ -52,12 +52,12 @@ pub record IsEnded (plant : PlantDefinition) (digest : List ℕ) (bytes : ℕ) (
 -- The plant has fired and acknowledged these choices, a run from its first state, and nothing more.
 pub record IsAt (plant : PlantDefinition) (behind : List ChoiceDefinition) (v : View) : Type 0 where
   pub run : IsRunOf plant behind
-  pub acked : v.acked ≡ state_behind plant behind
-  pub present : v.present ≡ state_behind plant behind
+  pub acked : v.acked ≡ state_after plant behind
+  pub present : v.present ≡ state_after plant behind
   pub tail : v.tail ≡ []
   pub number : v.number ≡ length behind
 
--- A plant that was opened with this view, behind these choices, was asked for the events, from empty hands on, and its device is this then. So it has fired
+-- A plant that was opened with this view, after these choices, was asked for the events, from empty hands on, and its device is this then. So it has fired
 -- these choices in all, and so many of them are acknowledged.
 pub record IsLived (plant : PlantDefinition) (digest : List ℕ) (events : List Event) (opened : View) (behind fired : List ChoiceDefinition) (acked : ℕ) (device : DiskState) : Type 0 where
   pub happened : List Happened

@@ -18,7 +18,7 @@ use Rattle.crash_explorer.specs.declared.booting.Opened.TheVariants as opened
 use Rattle.crash_explorer.specs.declared.judging.Verdict.{Verdict}
 use Rattle.crash_explorer.specs.declared.judging.Verdict.TheVariants.{Stands, Faulty}
 
--- These cells stand for a state and this number, and it is told whether they are right; or this is wrong with them.
+-- These cells stand for a state and this number, and the answer says whether they are right; or this is wrong with them.
 abbrev pub IsVerdict : PlantDefinition → List ℕ → ℕ → List ChoiceDefinition → List ChoiceDefinition → List Cell → Verdict → Type 0
 IsVerdict plant digest bytes acked tail cells (Stands number right) =
     (fault_of plant digest bytes cells ≡ None) × (number ≡ last_number (contents_of (length plant.atoms) cells))
@@ -38,7 +38,7 @@ IsOpened plant digest s (opened.Plant p) =
     × IsBooted plant digest (size_of s) (seen_cells (BODY + 1) s) (view_of p)
 IsOpened plant digest s (opened.Refused fault) = fault_of plant digest (size_of s) (seen_cells (BODY + 1) s) ≡ Some fault
 
--- what is told of it without the plant
+-- what is found of it, without the plant
 abbrev pub found_in : Opened → Found
 found_in (opened.Plant p) = Booted (fired_number (view_of p))
 found_in (opened.Refused fault) = Refused fault

@@ -1,11 +1,6 @@
-// What a device boots to.
+//! What a device boots to.
 ghost use Rattle.std.specs.Prelude.{◌≡◌, ◌+◌, IfOk};
-ghost use Rattle.disk_model.specs.Cells.{seen_cells};
-ghost use Rattle.disk_model.specs.DiskState.{size_of};
-ghost use Rattle.disk_model.specs.MemDisk.{cell_of, state_of};
-ghost use Rattle.disk_model.specs.declared.cells.TheConstants.{BODY};
-ghost use Rattle.plant_core.specs.Plants.{definition_of, text_digest};
-ghost use Rattle.step_core.specs.System.{digest_of, plant_of};
+ghost use Rattle.crash_explorer.specs.Seen.{plant_of, digest_of, definition_of, text_digest, BODY, size_of, seen_cells, cell_of, state_of};
 ghost use Rattle.crash_explorer.specs.Watching.{IsCountable, IsWhole};
 ghost use Rattle.crash_explorer.specs.Verdicts.{IsFound, IsOpened, found_in};
 
@@ -35,7 +30,7 @@ pub(crate) enum Opened<'s> {
 }
 
 impl Opened<'_> {
-    /// What it is, told without the plant.
+    /// What it is, without the plant.
     pub(crate) fn found(&self) -> Found
         ensures { result ≡ found_in self.now }
     {

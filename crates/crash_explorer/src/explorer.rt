@@ -1,12 +1,8 @@
 //! All trials of a run.
 ghost use Rattle.std.specs.Prelude.{◌≡◌, ◌+◌, ◌*◌, ◌^◌, ◌≤◌, ◌<◌, replicate, length, slice_get, IfOk, OnErr, MatchOption, Some};
-ghost use Rattle.disk_model.specs.MemDisk.{cell_of, fresh, state_of};
-ghost use Rattle.disk_model.specs.declared.cells.TheConstants.{BODY};
 ghost use Rattle.disk_model.specs.declared.change.Tear.{Tear};
-ghost use Rattle.record_codec.specs.declared.layout.TheConstants.{LEAST_RING, MOST_RING};
 ghost use Rattle.record_codec.specs.Ring.{device_cells};
-ghost use Rattle.recovery.specs.Formatting.{formatted_size};
-ghost use Rattle.step_core.specs.System.{plant_of};
+ghost use Rattle.crash_explorer.specs.Seen.{plant_of, digest_of, LEAST_RING, MOST_RING, formatted_size, BODY, cell_of, fresh, state_of};
 ghost use Rattle.crash_explorer.specs.Watching.{IsCountable, IsWhole};
 ghost use Rattle.crash_explorer.specs.declared.explorer.TheConstants.{MOST_STOPS, TEARS};
 
@@ -72,7 +68,6 @@ pub struct Explorer<'a> {
 
 impl<'a> Explorer<'a> {
     ghost use Rattle.crash_explorer.specs.Exploring.{IsExplorerOf, IsNextTrial, IsTrial, IsWholeRun, stops_of, trials_left};
-    ghost use Rattle.step_core.specs.System.{digest_of};
 
     /// The explorer of the run that formats a device with a ring of so many records, boots the plant, and makes these events.
     pub fn new(

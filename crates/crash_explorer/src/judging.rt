@@ -1,12 +1,6 @@
 //! When a device is right.
 ghost use Rattle.std.specs.Prelude.{◌≡◌, ◌+◌, ◌++◌, ◌↔◌, IsTrue, IfOk, map};
-ghost use Rattle.disk_model.specs.Cells.{seen_cells};
-ghost use Rattle.disk_model.specs.DiskState.{size_of};
-ghost use Rattle.disk_model.specs.MemDisk.{fuse_of, state_of};
-ghost use Rattle.disk_model.specs.declared.cells.TheConstants.{BODY};
-ghost use Rattle.disk_model.specs.declared.fuse.Fuse.TheVariants.{Off};
-ghost use Rattle.step_core.specs.Chosen.{choice_of};
-ghost use Rattle.step_core.specs.System.{digest_of, plant_of};
+ghost use Rattle.crash_explorer.specs.Seen.{plant_of, digest_of, choice_of, BODY, size_of, seen_cells, fuse_of, state_of, Off};
 ghost use Rattle.crash_explorer.specs.Judging.{IsKept, IsRight, IsRunOf};
 ghost use Rattle.crash_explorer.specs.Verdicts.{IsVerdict};
 
@@ -27,7 +21,7 @@ pub(crate) enum Verdict {
     Faulty(ImageFault),
 }
 
-/// Whether what the device reads stands for the state of the plant behind all of the acknowledged choices and some front of the tail, and for how
+/// Whether what the device reads stands for the state of the plant after all of the acknowledged choices and some front of the tail, and for how
 /// many choices that is.
 pub fn judge(
     alloc: Global,

@@ -1,21 +1,14 @@
-// The cells of a device in memory, as a read gives them. Its calls are made at its own type: no contract of any device says that a call succeeds,
-// and this one's does while no fuse is set.
+//! The cells of a device in memory, as a read gives them. Its calls are made at its own type: no contract of any device says that a call succeeds,
+//! and this one's does while no fuse is set.
 ghost use Rattle.std.specs.Prelude.{◌≡◌, ◌+◌, ◌<◌, ◌≤◌, length, take, drop, IfOk};
-ghost use Rattle.disk_model.specs.Cells.{cell, cell_count, seen_cells};
-ghost use Rattle.disk_model.specs.DiskState.{size_of};
-ghost use Rattle.disk_model.specs.MemDisk.{fuse_of, state_of};
-ghost use Rattle.disk_model.specs.declared.cells.TheConstants.{BODY};
-ghost use Rattle.disk_model.specs.declared.fuse.Fuse.TheVariants.{Off};
+ghost use Rattle.crash_explorer.specs.Seen.{BODY, size_of, cell, cell_count, seen_cells, fuse_of, state_of, Off};
 ghost use Rattle.crash_explorer.specs.Judging.{IsKept};
 
-use disk_model::{BODY, CELL, Disk, MemDisk};
+use disk_model::{BODY, CELL, CELL_LEN, Disk, MemDisk};
 use std::alloc::{AllocError, Global};
 
 /// The gate of a full cell.
 const OPEN: u8 = 0xA5;
-
-/// The bytes of a cell: its gate and its body.
-const WHOLE: usize = BODY + 1;
 
 /// All cells.
 pub(crate) fn load(alloc: Global, disk: &mut MemDisk) -> Result<Vec<Option<[u8; BODY]>>, AllocError>
@@ -52,7 +45,7 @@ fn load_cell(disk: &mut MemDisk, k: u64) -> Option<[u8; BODY]>
     ensures cell { result ≡ cell (seen_cells (BODY + 1) (state_of disk.old)) k }
     ensures kept { IsKept disk.old disk.new }
 {
-    let mut whole = [0; WHOLE];
+    let mut whole = [0; CELL_LEN];
     read(disk, CELL * k, &mut whole);
     if whole[0] != OPEN {
         return None;

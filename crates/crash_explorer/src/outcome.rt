@@ -1,16 +1,7 @@
 //! What becomes of a device that a stop left.
 ghost use Rattle.std.specs.Prelude.{◌≡◌, ◌+◌, ◌≤◌, ◌↔◌, ℕ, List, IsTrue, true, IfOk, length, map};
-ghost use Rattle.disk_model.specs.Cells.{Cell, seen_cells};
-ghost use Rattle.disk_model.specs.DiskState.{size_of};
-ghost use Rattle.disk_model.specs.MemDisk.{cell_of, fuse_of, state_of};
-ghost use Rattle.disk_model.specs.declared.cells.TheConstants.{BODY};
-ghost use Rattle.disk_model.specs.declared.fuse.Fuse.TheVariants.{Off};
-ghost use Rattle.plant_core.specs.Plants.{definition_of, device_of, text_digest, view_of};
 ghost use Rattle.plant_image.specs.declared.fault.ImageFault.TheVariants.{NotFormatted};
-ghost use Rattle.step_core.specs.Choice.{ChoiceDefinition};
-ghost use Rattle.step_core.specs.Chosen.{choice_of};
-ghost use Rattle.step_core.specs.Plant.{PlantDefinition};
-ghost use Rattle.step_core.specs.System.{digest_of, plant_of};
+ghost use Rattle.crash_explorer.specs.Seen.{plant_of, digest_of, PlantDefinition, ChoiceDefinition, choice_of, definition_of, device_of, text_digest, view_of, BODY, size_of, Cell, seen_cells, cell_of, fuse_of, state_of, Off};
 ghost use Rattle.crash_explorer.specs.Judging.{IsRightStop, IsRunOf};
 ghost use Rattle.crash_explorer.specs.Outcomes.{IsNext, IsOutcome};
 ghost use Rattle.crash_explorer.specs.Running.{IsAt, is_formatting};
@@ -28,10 +19,10 @@ use plant_image::ImageFault;
 use std::alloc::Global;
 use step_core::{Choice, System};
 
-/// What a plant that was booted behind a stop is asked for.
+/// What a plant that was booted after a stop is asked for.
 pub const NEXT: [Event; 2] = [Event::Fire(0), Event::Flush];
 
-/// How a plant goes on that was booted behind a stop: it fires its first choice, if it has one and room for it, and flushes. Then the power is cut again,
+/// How a plant goes on that was booted after a stop: it fires its first choice, if it has one and room for it, and flushes. Then the power is cut again,
 /// and tears as before.
 #[derive(Clone, Copy, Debug, PartialEq, Eq)]
 pub struct Next {

@@ -1,8 +1,7 @@
 //! What was found of a run in all.
 ghost use Rattle.std.specs.Prelude.{◌≡◌, ◌*◌, ◌≤◌, IfOk};
-ghost use Rattle.record_codec.specs.declared.layout.TheConstants.{LEAST_RING, MOST_RING};
-ghost use Rattle.step_core.specs.System.{digest_of, plant_of};
 ghost use Rattle.crash_explorer.specs.Exploring.{IsWholeRun};
+ghost use Rattle.crash_explorer.specs.Seen.{plant_of, digest_of, LEAST_RING, MOST_RING};
 
 use crate::explorer::Explorer;
 use crate::fault::ExploreFault;

@@ -1,17 +1,9 @@
-// One run: a device is formatted, the plant booted from it, and some events made.
+//! One run: a device is formatted, the plant booted from it, and some events made.
 ghost use Rattle.std.specs.Prelude.{◌≡◌, ◌+◌, ◌++◌, ◌≤◌, [], List, IfOk, map, replicate};
-ghost use Rattle.disk_model.specs.Cells.{Cell, MayBe};
-ghost use Rattle.disk_model.specs.DiskState.{size_of};
-ghost use Rattle.disk_model.specs.MemDisk.{cell_of, fresh, state_of};
-ghost use Rattle.disk_model.specs.declared.cells.TheConstants.{BODY};
 ghost use Rattle.plant_core.specs.Events.{all_fired};
-ghost use Rattle.plant_core.specs.Plants.{definition_of, device_of, text_digest, view_of};
 ghost use Rattle.plant_image.specs.Standing.{StandsFor};
-ghost use Rattle.record_codec.specs.declared.layout.TheConstants.{LEAST_RING, MOST_RING};
-ghost use Rattle.recovery.specs.Formatting.{formatted_size};
-ghost use Rattle.step_core.specs.Chosen.{choice_of};
 ghost use Rattle.step_core.specs.Step.{initial_states};
-ghost use Rattle.step_core.specs.System.{digest_of, plant_of};
+ghost use Rattle.crash_explorer.specs.Seen.{plant_of, digest_of, choice_of, definition_of, device_of, text_digest, view_of, LEAST_RING, MOST_RING, formatted_size, BODY, size_of, Cell, MayBe, cell_of, fresh, state_of};
 ghost use Rattle.crash_explorer.specs.declared.running.Stage.TheVariants.{Running};
 ghost use Rattle.crash_explorer.specs.Watching.{IsCountable, IsWhole};
 ghost use Rattle.crash_explorer.specs.Running.{IsAt, IsEnded, IsLived, IsMadeUntil, device_in, fired_in};
@@ -146,7 +138,7 @@ pub(crate) fn run_booted(
     })
 }
 
-/// These choices, and behind them those that were fired.
+/// These choices, and after them those that were fired.
 fn fired_behind(behind: Vec<Choice>, answers: &[Happened]) -> Result<Vec<Choice>, AllocError>
     ensures { IfOk result (λ fired. map choice_of fired.items ≡ map choice_of behind.items ++ all_fired answers.now) }
 {

@@ -1,16 +1,15 @@
-// The state of a plant behind some choices.
+//! The state of a plant after some choices.
 ghost use Rattle.std.specs.Prelude.{◌≡◌, ◌+◌, ◌≤◌, ◌↔◌, ◌++◌, ℕ, IsTrue, IfOk, length, map, take};
-ghost use Rattle.step_core.specs.Chosen.{choice_of};
 ghost use Rattle.step_core.specs.Running.{plant_in, states_in};
 ghost use Rattle.step_core.specs.Runs.{IsRun, fold};
-ghost use Rattle.step_core.specs.System.{plant_of};
 ghost use Rattle.step_core.specs.declared.limits.TheConstants.{MAX_ATOMS};
-ghost use Rattle.crash_explorer.specs.Judging.{IsRunOf, state_behind};
+ghost use Rattle.crash_explorer.specs.Seen.{plant_of, choice_of};
+ghost use Rattle.crash_explorer.specs.Judging.{IsRunOf, state_after};
 
 use std::alloc::{AllocError, Global};
 use step_core::{Choice, PlantState, Stepper, System};
 
-/// Whether these are the states behind all of the acknowledged choices and a front of the tail, and `number` is how many choices that is.
+/// Whether these are the states after all of the acknowledged choices and a front of the tail, and `number` is how many choices that is.
 pub(crate) fn are_behind_front(
     alloc: Global,
     system: &System,
@@ -21,7 +20,7 @@ pub(crate) fn are_behind_front(
 ) -> Result<bool, AllocError>
     requires { IsRunOf (plant_of system.now) (map choice_of acked.now ++ map choice_of tail.now) }
     ensures { IfOk result (λ are. IsTrue are ↔ ((k : ℕ) × (k ≤ length (map choice_of tail.now))
-        × (states.now ≡ state_behind (plant_of system.now) (map choice_of acked.now ++ take k (map choice_of tail.now)))
+        × (states.now ≡ state_after (plant_of system.now) (map choice_of acked.now ++ take k (map choice_of tail.now)))
         × (number ≡ length (map choice_of acked.now) + k))) }
 {
     let least = acked.len() as u64;

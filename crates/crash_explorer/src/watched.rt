@@ -1,8 +1,6 @@
-// A device in memory, at the engine's cells, that remembers which of its writes and syncs was the first to fail.
+//! A device in memory, at the engine's cells, that remembers which of its writes and syncs was the first to fail.
 ghost use Rattle.std.specs.Prelude.{◌≡◌, ◌+◌, ◌-◌, ◌^◌, ◌<◌, ◌≤◌, MatchOption, None, Some};
-ghost use Rattle.disk_model.specs.DiskState.{size_of};
-ghost use Rattle.disk_model.specs.MemDisk.{cell_of, changes_of, state_of};
-ghost use Rattle.disk_model.specs.declared.cells.TheConstants.{BODY};
+ghost use Rattle.crash_explorer.specs.Seen.{BODY, size_of, cell_of, changes_of, state_of};
 ghost use Rattle.crash_explorer.specs.Watching.{IsCountable, IsStoppedAt, IsWhole, cut_of};
 ghost use Rattle.crash_explorer.specs.declared.watched.Cut.{Cut};
 

@@ -1,3 +1,3 @@
-pub mod FiveCells
-pub mod AppendThenMove
-pub mod NewDevice
+mod FiveCells
+mod AppendThenMove
+mod NewDevice

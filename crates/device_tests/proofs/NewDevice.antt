@@ -1,5 +1,5 @@
 -- A new device has no full cell. With base 1 written into cell 1, it is ready for a journal without records.
-use Rattle.std.proofs.Common.{◌≡◌, ◌≢◌, inl, inr, ℕ, zero, suc, ◌+◌, ◌*◌, ◌==◌, if◌then◌else◌, List, [], ◌∷◌, length, map, replicate, get_or, Some, None, refl, ◌∙◌, ap, arith}
+use Rattle.std.proofs.Common.{◌≡◌, ◌≢◌, inl, inr, ℕ, zero, suc, ◌+◌, ◌*◌, ◌==◌, if◌then◌else◌, true, List, [], ◌∷◌, length, map, replicate, get_or, Some, None, refl, ◌∙◌, ap, arith}
 use Rattle.std.specs.List.{range_with_len}
 use Rattle.std.specs.Option.{some_prefix}
 use Rattle.std.proofs.lemmas.Bool.{cases_lt}
@@ -35,7 +35,7 @@ no_cell size n k =
     ]
 
 -- A new device has none, whether what stands on it is synced or not.
-pub none_is_full : (n : ℕ) (old new : DiskState) → old ≡ fresh (replicate n 0) → Settles (BODY + 1) old new → (k : ℕ) → cell (seen_cells (BODY + 1) new) k ≡ None
+none_is_full : (n : ℕ) (old new : DiskState) → old ≡ fresh (replicate n 0) → Settles (BODY + 1) old new → (k : ℕ) → cell (seen_cells (BODY + 1) new) k ≡ None
 none_is_full n old new is settles k =
     ap (λ (l : List Cell). cell l k) settles.same ∙ ap (λ (s : DiskState). cell (seen_cells (BODY + 1) s) k) is ∙ no_cell (BODY + 1) n k
 
@@ -59,9 +59,18 @@ module _ (old new : DiskState) (none : (k : ℕ) → cell (seen_cells (BODY + 1)
   pub whole : IsWhole empty_journal (seen_cells (BODY + 1) new)
   whole = ap (λ (c : Cell). 1 + length (some_prefix (record_in 1 c ∷ map (λ n. record_in n (cell (seen_cells (BODY + 1) new) (place empty_journal n))) (range_with_len 2 7)))) (no_other 8 (omega arith))
 
-  pub ready : IsReady empty_journal new
+  ready : IsReady empty_journal new
   ready = record { settled = replaced.settled; whole = whole; ahead = λ n later. no_other (place empty_journal n) (λ same. omega (arith, same)) }
 
   -- its cells read for the journal
-  pub read : IsReadFor empty_journal (seen_cells (BODY + 1) new)
+  read : IsReadFor empty_journal (seen_cells (BODY + 1) new)
   read = record { based = based; whole = whole }
+
+-- a new device that was synced, and got this base 1 into cell 1
+pub new_device : (start old new : DiskState) (body : List ℕ) → start ≡ fresh (replicate 15360 0) → (start.keeps ≡ true → Settles (BODY + 1) start old) → old.keeps ≡ start.keeps → base_in body ≡ Some 1
+    → (old.keeps ≡ true → Replaced (BODY + 1) 1 body old new) → IsReady empty_journal new × IsReadFor empty_journal (seen_cells (BODY + 1) new)
+new_device start old new body is settles same holds replaced =
+    let keeps : start.keeps ≡ true = ap (λ (s : DiskState). s.keeps) is in
+    let none : (k : ℕ) → cell (seen_cells (BODY + 1) old) k ≡ None = none_is_full 15360 start old is (settles keeps) in
+    let done : Replaced (BODY + 1) 1 body old new = replaced (same ∙ keeps) in
+    (ready old new none body holds done, read old new none body holds done)

@@ -1,10 +1,10 @@
-pub mod Overwrites
+mod Overwrites
 pub mod CellBytes
-pub mod Steps
+mod Steps
 pub mod CallLemmas
 pub mod RunLemmas
-pub mod Replay
-pub mod MemoryLemmas
-pub mod LawLemmas
+mod Replay
+mod MemoryLemmas
+mod LawLemmas
 pub mod Replacing
 mod Rows

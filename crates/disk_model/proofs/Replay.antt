@@ -1,9 +1,11 @@
 -- One change more in a record, and what it makes of the present moment.
-use Rattle.std.proofs.Common.{◌≡◌, ℕ, suc, ◌+◌, Bool, List, [], ◌∷◌, ◌++◌, length, take, drop, refl, ◌∙◌, ap}
+use Rattle.std.proofs.Common.{◌≡◌, ℕ, suc, ◌+◌, Bool, List, [], ◌∷◌, ◌++◌, length, take, drop, refl, ◌∙◌, ap, subst}
 use Rattle.std.proofs.lemmas.List.{take_at}
 use Rattle.disk_model.specs.declared.change.Change.{Change}
 use Rattle.disk_model.specs.DiskState.{Moment, overwritten}
-use Rattle.disk_model.specs.Recording.{moment_after, last_moment, moments_before}
+use Rattle.disk_model.specs.declared.recorded.Recorded.TheInside.{Inside}
+use Rattle.disk_model.specs.Recorded.{recording_of, IsSound}
+use Rattle.disk_model.specs.Recording.{Recording, at_rest, moment_after, last_moment, moments_before}
 
 last_push : (m : Moment) (changes : List Change) (change : Change) → last_moment m (changes ++ change ∷ []) ≡ moment_after (last_moment m changes) change
 last_push m [] change = refl
@@ -22,6 +24,11 @@ replayed_more first present next changes later change was is goes =
 pub before_more : (first present : Moment) (changes later : List Change) (change : Change) → last_moment first changes ≡ present → later ≡ changes ++ change ∷ [] → moments_before first later ≡ moments_before first changes ++ present ∷ []
 before_more first present changes later change was is =
     ap (λ (l : List Change). moments_before first l) is ∙ before_push first changes change ∙ ap (λ (m : Moment). moments_before first changes ++ m ∷ []) was
+
+-- a change that is recorded has the moment that was present among those before
+pub past_more : (r : Inside) (recording : Recording) (later : List Change) (change : Change) → IsSound r → recording_of r ≡ recording → later ≡ r.changes.items ++ change ∷ [] → moments_before (at_rest r.first.items) later ≡ recording.past ++ recording.present ∷ []
+past_more r recording later change sound is more =
+    subst (λ (s : Recording). moments_before (at_rest r.first.items) later ≡ s.past ++ s.present ∷ []) is (before_more (at_rest r.first.items) (record { seen = r.bytes.items; pending = r.marks.items }) r.changes.items later change sound.replayed more)
 
 -- what the record keeps of a write is what was written
 pub kept_part : (part rest : List ℕ) (n : ℕ) → length part ≡ n → take n (overwritten 0 part rest) ≡ part

@@ -1,9 +1,10 @@
 -- Worked examples of the definitions, as computed facts.
-use Rattle.std.proofs.Common.{◌≡◌, ◌⊎◌, inl, inr, ℕ, zero, suc, ◌*◌, ◌<◌, true, false, List, [], ◌∷◌, slice_index, slice_index_or, Some, None, refl, arith}
+use Rattle.std.proofs.Common.{◌≡◌, ◌⊎◌, inl, inr, ℕ, zero, suc, ◌*◌, ◌<◌, true, false, List, [], ◌∷◌, map, slice_index, slice_index_or, Some, None, refl, arith}
 use Rattle.disk_model.specs.declared.cells.TheConstants.{BODY}
 use Rattle.disk_model.specs.declared.calls.TheConstants.{OPEN, CLOSED}
 use Rattle.disk_model.specs.declared.change.TheConstants.{LONGEST}
 use Rattle.disk_model.specs.declared.cells.TheConstants.{FIRST_CELL}
+use Rattle.disk_model.specs.declared.change.Tear.{Tear}
 use Rattle.disk_model.specs.declared.change.Tear.TheVariants.{Old, New, Gates, Mixed}
 use Rattle.disk_model.specs.declared.fuse.Fuse.TheVariants.{Once, Dead, Change}
 use Rattle.disk_model.specs.DiskState.{Moment, DiskState, MayLeave, LeftSince, counted, counted_times, overwritten, is_within, moment_of}
@@ -143,21 +144,13 @@ and_may_leave_the_new_one = record { count = refl; each = each; others = others 
 the_ninth_cell : 512 * 9 ≡ 4608
 the_ninth_cell = refl
 
--- byte 2 of cells of two bytes is in cell 1
-old_is_what_was_synced : byte_left Old 2 true 2 0x22 0x11 ≡ 0x11
-old_is_what_was_synced = refl
+-- a pending byte that was synced as 0x11 and is read as 0x22, after a stop of each pattern: byte 2 of cells of two bytes is in
+-- cell 1, byte 1 in cell 0
+what_a_stop_leaves_in_an_odd_cell : map (λ (tear : Tear). byte_left tear 2 true 2 0x22 0x11) (Old ∷ New ∷ Gates ∷ Mixed ∷ []) ≡ 0x11 ∷ 0x22 ∷ 0xA5 ∷ 0x22 ∷ []
+what_a_stop_leaves_in_an_odd_cell = refl
 
-new_is_what_was_read : byte_left New 2 true 2 0x22 0x11 ≡ 0x22
-new_is_what_was_read = refl
-
-gates_come_open : byte_left Gates 2 true 2 0x22 0x11 ≡ 0xA5
-gates_come_open = refl
-
-mixed_is_new_in_odd_cells : byte_left Mixed 2 true 2 0x22 0x11 ≡ 0x22
-mixed_is_new_in_odd_cells = refl
-
-mixed_is_old_in_even_cells : byte_left Mixed 2 true 1 0x22 0x11 ≡ 0x11
-mixed_is_old_in_even_cells = refl
+and_in_an_even_one : map (λ (tear : Tear). byte_left tear 2 true 1 0x22 0x11) (Old ∷ New ∷ Gates ∷ Mixed ∷ []) ≡ 0x11 ∷ 0x22 ∷ 0xA5 ∷ 0x11 ∷ []
+and_in_an_even_one = refl
 
 what_is_not_pending_stays : byte_left Gates 2 false 2 0x22 0x11 ≡ 0x22
 what_is_not_pending_stays = refl

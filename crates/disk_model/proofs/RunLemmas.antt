@@ -82,14 +82,14 @@ module _ (size : ℕ) where
       last : (h i : ℕ) → h < i + 1 → i ≤ h → h ≡ i
       last h i lt le = omega arith
 
-  -- the cells behind those that are emptied still read full
-  pub full_behind : (mid new : DiskState) (ks : List ℕ) (i k : ℕ) → AllDiffer ks → i < length ks → k ≡ get_or ks i 0 → ((h : ℕ) → i ≤ h → h < length ks → cell (seen_cells size mid) (get_or ks h 0) ≢ None)
+  -- the cells after those that are emptied still read full
+  pub full_after : (mid new : DiskState) (ks : List ℕ) (i k : ℕ) → AllDiffer ks → i < length ks → k ≡ get_or ks i 0 → ((h : ℕ) → i ≤ h → h < length ks → cell (seen_cells size mid) (get_or ks h 0) ≢ None)
       → ChangesOne k IsEmptied (seen_cells size mid) (seen_cells size new) → (h : ℕ) → i + 1 ≤ h → h < length ks → cell (seen_cells size new) (get_or ks h 0) ≢ None
-  full_behind mid new ks i k differ lt is full ch h behind h_lt none =
-      full h (omega (arith, behind)) h_lt (sym (ch.others (get_or ks h 0) (λ same. later h behind (differ i h lt h_lt (sym is ∙ sym same)))) ∙ none)
+  full_after mid new ks i k differ lt is full ch h beyond h_lt none =
+      full h (omega (arith, beyond)) h_lt (sym (ch.others (get_or ks h 0) (λ same. later h beyond (differ i h lt h_lt (sym is ∙ sym same)))) ∙ none)
     where
       later : (h : ℕ) → i + 1 ≤ h → i ≡ h → ⊥
-      later h behind same = omega arith
+      later h beyond same = omega arith
 
   -- after the sync
   pub erased : (old mid new : DiskState) (ks : List ℕ) → SeenEmptied size (length ks) ks old mid → Syncs mid new → Erased size ks old new
@@ -192,6 +192,13 @@ module _ (size : ℕ) where
 
   pub closed_after : (old mid : DiskState) (ks : List ℕ) → AreClosed size old ks → Leaves size (MayBe size old) old mid → AreClosed size mid ks
   closed_after old mid ks closed run i lt = stays_closed old mid (get_or ks i 0) run (closed i lt)
+
+  -- the run of a fill up to its last sync: bodies, a sync, gates
+  pub leaves_filling : (old staged settled opened : DiskState) (ks : List ℕ) (bodies : List (List ℕ)) → 0 < size → AreClosed size old ks → Leaves size (MayBe size old) old staged → SeenStaged size (length ks) ks bodies old staged → Syncs staged settled
+      → (AreFirm size settled ks bodies → AreClosed size settled ks → Leaves size (EmptyOrNew size settled ks bodies) settled opened) → Leaves size (EmptyOrNew size old ks bodies) old opened
+  leaves_filling old staged settled opened ks bodies some closed run seen synced gates =
+      let synced_run : Leaves size (MayBe size old) old settled = leaves_sync (MayBe size old) old staged settled some run synced in
+      leaves_opened old settled opened ks bodies closed synced_run (gates (firm_bodies old staged settled ks bodies seen synced) (closed_after old settled ks closed synced_run))
 
   pub filled : (old staged settled opened new : DiskState) (ks : List ℕ) (bodies : List (List ℕ)) → SeenStaged size (length ks) ks bodies old staged → Syncs staged settled → SeenOpened size (length ks) ks settled opened → Syncs opened new → Filled size ks bodies old new
   filled old staged settled opened new ks bodies seen first gates last = record {

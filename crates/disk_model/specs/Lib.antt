@@ -5,6 +5,7 @@ pub mod Moments
 pub mod Reading
 pub mod Counting
 pub mod Steps
+pub mod Runs
 pub mod Recording
 pub mod Fuse
 pub mod Recorded

@@ -1,9 +1,10 @@
 -- What a `MemDisk` shows.
-use Rattle.std.specs.Prelude.{◌≡◌, ℕ, ◌+◌, ◌/◌, Bool, true, ◌||◌, ◌==◌, nat_lt, if◌then◌else◌, List, [], ◌∷◌, ◌++◌, length, take}
+use Rattle.std.specs.Prelude.{◌≡◌, ℕ, ◌+◌, ◌/◌, Bool, true, false, ◌||◌, ◌==◌, nat_lt, if◌then◌else◌, List, [], ◌∷◌, ◌++◌, length, take}
 use Rattle.disk_model.specs.declared.fuse.Fuse.{Fuse}
 use Rattle.disk_model.specs.declared.memory.MemDisk.{MemDisk}
 use Rattle.disk_model.specs.DiskState.{DiskState, counted, overwritten, is_pending, is_within}
 use Rattle.disk_model.specs.declared.change.TheConstants.{LONGEST}
+use Rattle.disk_model.specs.Fuse.{burns, fuse_after}
 use Rattle.disk_model.specs.Recording.{at_rest}
 
 -- the device that it is: it always keeps the disk model
@@ -38,6 +39,12 @@ pub record AsksNoChange (old new : MemDisk) : Type 0 where
   pub cell : cell_of new ≡ cell_of old
   pub changes : changes_of new ≡ changes_of old
   pub synced : synced_of new ≡ synced_of old
+
+-- a read was asked for: it failed if the fuse said so, and changed nothing
+pub record IsRead (failed : Bool) (old new : MemDisk) : Type 0 where
+  pub fails : failed ≡ burns (fuse_of old) false
+  pub fuse : fuse_of new ≡ fuse_after (fuse_of old) false
+  pub rest : AsksNoChange old new
 
 -- a change that the record has no place for
 abbrev pub is_refused : MemDisk → ℕ → Bool

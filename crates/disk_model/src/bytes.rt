@@ -1,4 +1,4 @@
-// Writes over a part of a slice, and what a stop makes of marked bytes.
+//! Writes over a part of a slice, and what a stop makes of marked bytes.
 ghost use Rattle.std.specs.Prelude.{◌≡◌, ℕ, ◌+◌, ◌<◌, ◌≤◌, true, false, length, replicate, slice_index, slice_index_or};
 ghost use Rattle.disk_model.specs.DiskState.{overwritten};
 ghost use Rattle.disk_model.specs.Recording.{byte_left};

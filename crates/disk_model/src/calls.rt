@@ -1,4 +1,4 @@
-// The device calls on one cell. Only these functions and their proofs speak of bytes.
+//! The device calls on one cell. Only these functions and their proofs speak of bytes.
 ghost use Rattle.std.specs.Prelude.{◌≡◌, ◌≢◌, ◌+◌, ◌*◌, ◌<◌, ◌==◌, ℕ, List, true, false, if◌then◌else◌, length, slice_index, is_err, IfOk, OnOk, Some, None};
 ghost use Rattle.disk_model.specs.DiskState.{Counts, IsUnchanged};
 ghost use Rattle.disk_model.specs.Cells.{cell_count, body_at, cell, seen_cells, IsClosed};
@@ -21,7 +21,7 @@ pub(crate) enum Known {
     Full,
 }
 
-/// Whether the gate of cell `k` is open. It is read only where that is not known.
+/// Whether the gate of cell `k` is open. It is read only if that is not known.
 fn gate_is_open<D: Disk, const B: usize>(
     disk: &mut D,
     k: u64,
@@ -86,7 +86,7 @@ pub(crate) fn write_body<D: Disk, const B: usize>(
     disk.write_at((B as u64 + 1) * k + 1, body)
 }
 
-/// Closes the gate of cell `k` where it is open. The gate of a closed cell is not written: torn, it could come open
+/// Closes the gate of cell `k` if it is open. The gate of a closed cell is not written: torn, it could come open
 /// over whatever body stands there.
 pub(crate) fn close_gate<D: Disk, const B: usize>(
     disk: &mut D,

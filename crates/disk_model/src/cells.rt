@@ -1,3 +1,4 @@
+//! A device as cells, which are read, emptied and filled.
 ghost use Rattle.std.specs.Prelude.{◌≡◌, ℕ, ◌+◌, ◌<◌, ◌∷◌, [], true, false, if◌then◌else◌, length, is_ok, is_err, IfOk, OnOk, MatchResult, Some, None};
 ghost use Rattle.disk_model.specs.DiskState.{DiskState, Counts, CountsTwo, CountsUpTo, IsSettled, IsUnchanged, Reads, Syncs, size_of};
 ghost use Rattle.disk_model.specs.Cells.{cell_count, cell, seen_cells, IsClosed, MayBe, Leaves, Settles, OldOrEmpty, EmptyOrNew, Erased, Filled, OldOrEmptyAt, OldEmptyOrNewAt, Replaced};
@@ -13,16 +14,19 @@ use std::slice;
 pub const BODY: usize = 1023;
 
 /// The bytes of a cell: its gate and its body.
-pub const CELL: u64 = BODY as u64 + 1;
+pub const CELL: u64 = CELL_LEN as u64;
 
 /// The same, as the length of an array.
-const WHOLE: usize = BODY + 1;
+pub const CELL_LEN: usize = BODY + 1;
 
 /// The bytes of a body of the first layout.
 pub const FIRST_BODY: usize = 511;
 
 /// The bytes of a cell of the first layout.
-pub const FIRST_CELL: u64 = FIRST_BODY as u64 + 1;
+pub const FIRST_CELL: u64 = FIRST_CELL_LEN as u64;
+
+/// The same, as the length of an array.
+pub(crate) const FIRST_CELL_LEN: usize = FIRST_BODY + 1;
 
 /// A device as cells of one gate and a body of [`BODY`] bytes. A cell is full or empty. Cells of the first layout are
 /// [`FirstCells`](crate::FirstCells).
@@ -31,7 +35,7 @@ pub const FIRST_CELL: u64 = FIRST_BODY as u64 + 1;
 // have to show that the whole struct fits in memory, which no bound on the device gives.
 #[derive(Drop)]
 pub struct Cells<D: Disk> {
-    disk: D,
+    pub(crate) disk: D,
 }
 
 // Clauses see the device's state.
@@ -67,7 +71,7 @@ impl<D: Disk> Cells<D> {
         self.disk.size()
     }
 
-    /// Makes all that was written last.
+    /// Puts everything written so far onto the disk.
     pub fn sync(&mut self) -> Result<(), DiskFault>
         ensures counts { Counts (is_err result) (is_ok result) self.old self.new }
         ensures leaves { self.old.keeps ≡ true
@@ -86,11 +90,11 @@ impl<D: Disk> Cells<D> {
             (λ full. cell (seen_cells (BODY + 1) self.old) k ≡ (if full then Some body.new else None)) }
         ensures reads { Reads (is_err result) self.old self.new }
     {
-        let mut whole = [0; WHOLE];
+        let mut whole = [0; CELL_LEN];
         read_full(&mut self.disk, k, body, &mut whole)
     }
 
-    /// Empties cell `k`. Where it reads empty nothing is written, and the call only syncs.
+    /// Empties cell `k`. If it reads empty nothing is written, and the call only syncs.
     pub fn erase(&mut self, k: u64) -> Result<(), DiskFault>
         requires inside { k < cell_count (BODY + 1) self.old }
         ensures counts { Counts (is_err result) (is_ok result) self.old self.new }
@@ -115,7 +119,7 @@ impl<D: Disk> Cells<D> {
         self.set_run(&[k], slice::from_ref(body))
     }
 
-    /// Empties cell `k` where it is full. No sync is made where it is empty.
+    /// Empties cell `k` if it is full, and makes no sync if it is empty.
     fn empty(&mut self, k: u64) -> Result<(), DiskFault>
         requires inside { k < cell_count (BODY + 1) self.old }
         requires settled { self.old.keeps ≡ true → IsSettled self.old.now }
@@ -126,12 +130,12 @@ impl<D: Disk> Cells<D> {
     {
         let mut body = [0; BODY];
         if self.read_cell(k, &mut body)? {
-            self.erase(k)?;
+            self.erase_full_run(&[k])?;
         }
         Ok(())
     }
 
-    /// Fills cell `k` with the body, whatever it held: it is emptied first where it is full, by two syncs or three.
+    /// Fills cell `k` with the body, whatever it held, by two syncs. If it is full it is emptied first, by a third.
     pub fn replace(&mut self, k: u64, body: &[u8; BODY]) -> Result<(), DiskFault>
         requires inside { k < cell_count (BODY + 1) self.old }
         requires settled { self.old.keeps ≡ true → IsSettled self.old.now }

@@ -1,3 +1,4 @@
+//! One change of a device in memory, and what a stop makes of the pending bytes.
 /// The most bytes that one write to a `MemDisk` may have.
 pub const LONGEST: usize = 1024;
 
@@ -10,6 +11,7 @@ pub(crate) struct Piece {
     pub(crate) bytes: [u8; LONGEST],
 }
 
+/// What one call changed: a write, whole or cut short by a fuse, or a sync.
 #[derive(Clone, Copy)]
 pub(crate) enum Change {
     Write(Piece),

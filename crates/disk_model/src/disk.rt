@@ -1,3 +1,4 @@
+//! The trait of a block device, and what each of its calls may change.
 ghost use Rattle.std.specs.Prelude.{◌≡◌, ◌+◌, ◌^◌, ◌<◌, ◌≤◌, false, true, length, take, drop, is_ok, is_err, IfOk, OnOk, OnErr, Some, codes};
 ghost use Rattle.disk_model.specs.DiskState.{DiskState, size_of, Counts, IsUnchanged, Writes, FailsToWrite, Syncs};
 
@@ -44,7 +45,7 @@ pub trait Disk {
             (FailsToWrite at from.now (state self.old) (state self.new)) }
         ensures counts { Counts (is_err result) false (state self.old) (state self.new) };
 
-    /// Makes all that was written last.
+    /// Puts everything written so far onto the disk.
     fn sync(&mut self) -> Result<(), DiskFault>
         ensures ok { (state self.old).keeps ≡ true → OnOk result
             (Syncs (state self.old) (state self.new)) }

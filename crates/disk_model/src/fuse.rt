@@ -1,3 +1,4 @@
+//! Which calls of a device in memory fail.
 ghost use Rattle.std.specs.Prelude.{◌≡◌};
 ghost use Rattle.disk_model.specs.Fuse.{burns, fuse_after};
 

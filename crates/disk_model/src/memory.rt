@@ -1,5 +1,6 @@
+//! A device in memory, for tests: when its calls fail is chosen, and what a stop leaves of it.
 ghost use Rattle.std.specs.Prelude.{◌≡◌, ℕ, ◌+◌, ◌^◌, ◌<◌, ◌≤◌, ◌||◌, not, if◌then◌else◌, true, false, slice_index, length, take, drop, replicate, max, is_ok, is_err, IfOk, OnOk, OnErr};
-ghost use Rattle.disk_model.specs.DiskState.{MayLeave, size_of, moment_of, is_pending, Counts, IsUnchanged, Writes, FailsToWrite, Syncs};
+ghost use Rattle.disk_model.specs.DiskState.{MayLeave, size_of, moment_of, is_pending, Counts, IsUnchanged, Reads, Writes, FailsToWrite, Syncs};
 ghost use Rattle.disk_model.specs.Recording.{byte_left};
 
 use crate::cells::FIRST_CELL;
@@ -9,9 +10,9 @@ use crate::recorded::Recorded;
 use crate::{Disk, DiskFault};
 use std::alloc::{AllocError, Global};
 
-/// A device in memory that always keeps the disk model, for tests. It fails where a fuse says so, and a stop tears what
+/// A device in memory that always keeps the disk model, for tests. Its calls fail as a fuse says, and a stop tears what
 /// is pending by one of four patterns. Once it is made its calls take no memory: it keeps a record of its changes in a
-/// room of fixed size, and past that, or longer than `LONGEST`, a change fails and changes nothing.
+/// room of fixed size. A change that has no room there, or is longer than `LONGEST`, fails and changes nothing.
 #[derive(Drop)]
 pub struct MemDisk {
     recorded: Recorded,
@@ -26,7 +27,7 @@ pub struct MemDisk {
 
 impl MemDisk {
     ghost use Rattle.disk_model.specs.declared.fuse.Fuse.TheVariants.{Off, Once, Dead, Change};
-    ghost use Rattle.disk_model.specs.MemDisk.{state_of, fuse_of, room_of, cell_of, changes_of, synced_of, fresh, AsksNoChange};
+    ghost use Rattle.disk_model.specs.MemDisk.{state_of, fuse_of, room_of, cell_of, changes_of, synced_of, fresh, IsRead, AsksNoChange};
 
     /// All zeros, with room for so many changes, at cells of the first layout, which have 512 bytes.
     pub fn new(alloc: Global, size: u64, room: usize) -> Result<MemDisk, AllocError>
@@ -91,6 +92,18 @@ impl MemDisk {
         self.fuse = Fuse::Change(k);
     }
 
+    /// A call that only reads fails if the fuse says so.
+    fn burn_for_read(&mut self) -> Result<(), DiskFault>
+        ensures reads { Reads (is_err result) (state_of self.old) (state_of self.new) }
+        ensures asked { IsRead (is_err result) self.old self.new }
+    {
+        if self.fuse.burn(false) {
+            self.failures = self.failures.saturating_add(1);
+            return Err(DiskFault);
+        }
+        Ok(())
+    }
+
     /// How many writes and syncs were asked for since it was made.
     pub fn changes(&self) -> u64
         ensures { result ≡ changes_of self.now }
@@ -123,7 +136,7 @@ impl MemDisk {
 
 impl Disk for MemDisk {
     ghost use Rattle.disk_model.specs.Fuse.{burns, fuse_after};
-    ghost use Rattle.disk_model.specs.MemDisk.{state_of, fuse_of, room_of, synced_of, is_refused, AsksNoChange, AsksChange, WritesHalf};
+    ghost use Rattle.disk_model.specs.MemDisk.{state_of, fuse_of, room_of, synced_of, is_refused, IsRead, AsksChange, WritesHalf};
 
     ghost state = { state_of };
 
@@ -134,14 +147,9 @@ impl Disk for MemDisk {
         ensures counts { Counts (is_err result) false (state_of self.old) (state_of self.new) }
         ensures same { (state_of self.old).keeps ≡ true → IsUnchanged (state_of self.old) (state_of self.new) }
 
-        ensures fails { is_err result ≡ burns (fuse_of self.old) false }
-        ensures fuse { fuse_of self.new ≡ fuse_after (fuse_of self.old) false }
-        ensures rest { AsksNoChange self.old self.new }
+        ensures asked { IsRead (is_err result) self.old self.new }
     {
-        if self.fuse.burn(false) {
-            self.failures = self.failures.saturating_add(1);
-            return Err(DiskFault);
-        }
+        self.burn_for_read()?;
         Ok(self.recorded.bytes().len() as u64)
     }
 
@@ -152,14 +160,9 @@ impl Disk for MemDisk {
         ensures counts { Counts (is_err result) false (state_of self.old) (state_of self.new) }
         ensures same { (state_of self.old).keeps ≡ true → IsUnchanged (state_of self.old) (state_of self.new) }
 
-        ensures fails { is_err result ≡ burns (fuse_of self.old) false }
-        ensures fuse { fuse_of self.new ≡ fuse_after (fuse_of self.old) false }
-        ensures rest { AsksNoChange self.old self.new }
+        ensures asked { IsRead (is_err result) self.old self.new }
     {
-        if self.fuse.burn(false) {
-            self.failures = self.failures.saturating_add(1);
-            return Err(DiskFault);
-        }
+        self.burn_for_read()?;
         let start = at as usize;
         into.copy_from_slice(&self.recorded.bytes()[start..start + into.len()]);
         Ok(())

@@ -1,4 +1,4 @@
-// A device in memory that keeps a record of its changes.
+//! The bytes of a device in memory, with a record of their changes.
 ghost use Rattle.std.specs.Prelude.{◌≡◌, ℕ, ◌+◌, ◌<◌, ◌≤◌, ◌++◌, ◌∷◌, [], ◌↔◌, IsTrue, IfOk, false, true, length, take, replicate, slice_index, slice_index_or};
 ghost use Rattle.disk_model.specs.DiskState.{Moment, overwritten, is_pending};
 ghost use Rattle.disk_model.specs.Recording.{Recording, at_rest, byte_left};
@@ -9,14 +9,23 @@ use std::alloc::{AllocError, Global};
 use std::marker::Model;
 use std::vec;
 
+/// The bytes of a device as they are and as they were: each earlier moment follows from the first bytes and the changes.
+//
+// No call reads `first` or what the changes hold. They are there for the contracts, which say by them what a stop may have left
+// at an earlier moment.
 #[derive(Drop)]
 pub(crate) struct Recorded {
     /// What stood there before the first change.
     first: Vec<u8>,
+    /// What a read gives.
     bytes: Vec<u8>,
+    /// What stood there at the last successful sync.
     synced: Vec<u8>,
+    /// Whether each byte is pending.
     marks: Vec<bool>,
+    /// What was written and synced since, the earliest first.
     changes: Vec<Change>,
+    /// How many changes have room.
     room: usize,
 }
 

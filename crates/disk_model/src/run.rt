@@ -1,14 +1,14 @@
-// Several cells at once. A stop inside a run leaves each of its cells by itself as the call says.
+//! Several cells at once. A stop inside a run leaves each of its cells by itself as the call says.
 ghost use Rattle.std.specs.Prelude.{◌≡◌, ℕ, ◌+◌, ◌<◌, ◌∷◌, [], List, true, false, length, is_ok, is_err, OnOk, MatchResult};
 ghost use Rattle.disk_model.specs.DiskState.{Counts, CountsTwo, IsUnchanged, Syncs};
 ghost use Rattle.disk_model.specs.Cells.{cell_count, MayBe, Leaves, Settles, OldOrEmpty, EmptyOrNew, Erased, Filled};
-ghost use Rattle.disk_model.specs.Steps.{AreInside, ReadEmpty, ReadFull, AreClosed, AllDiffer, AreFirm, SeenEmptied, SeenStaged, SeenOpened};
-ghost use Rattle.disk_model.specs.declared.calls.Known.TheVariants.{Full};
+ghost use Rattle.disk_model.specs.Steps.{AreInside, ReadEmpty, AreClosed, AllDiffer, AreFirm, SeenEmptied, SeenStaged, SeenOpened};
+ghost use Rattle.disk_model.specs.Runs.{MayBeEmptied, MayBeFilled};
 
 use crate::calls::{Known, close_gate, open_gate, write_body};
 use crate::{Disk, DiskFault};
 
-/// Makes all that was written last.
+/// Puts everything written so far onto the disk.
 pub(crate) fn sync_all<D: Disk, const B: usize>(disk: &mut D) -> Result<(), DiskFault>
     ensures counts { Counts (is_err result) (is_ok result) (D.state disk.old) (D.state disk.new) }
     ensures leaves { (D.state disk.old).keeps ≡ true
@@ -26,9 +26,7 @@ fn close_gates<D: Disk, const B: usize>(
     ks: &[u64],
     known: Known,
 ) -> Result<(), DiskFault>
-    requires differ { known ≡ Full → AllDiffer ks.now }
-    requires inside { AreInside (B + 1) (D.state disk.old) ks.now }
-    requires full { (D.state disk.old).keeps ≡ true → known ≡ Full → ReadFull (B + 1) (D.state disk.old) ks.now }
+    requires { MayBeEmptied (B + 1) known (D.state disk.old) ks.now }
     ensures counts { Counts (is_err result) false (D.state disk.old) (D.state disk.new) }
     ensures leaves { (D.state disk.old).keeps ≡ true
         → Leaves (B + 1) (OldOrEmpty (B + 1) (D.state disk.old) ks.now) (D.state disk.old) (D.state disk.new) }
@@ -49,9 +47,7 @@ pub(crate) fn erase_all<D: Disk, const B: usize>(
     ks: &[u64],
     known: Known,
 ) -> Result<(), DiskFault>
-    requires differ { known ≡ Full → AllDiffer ks.now }
-    requires inside { AreInside (B + 1) (D.state disk.old) ks.now }
-    requires full { (D.state disk.old).keeps ≡ true → known ≡ Full → ReadFull (B + 1) (D.state disk.old) ks.now }
+    requires { MayBeEmptied (B + 1) known (D.state disk.old) ks.now }
     ensures counts { Counts (is_err result) (is_ok result) (D.state disk.old) (D.state disk.new) }
     ensures leaves { (D.state disk.old).keeps ≡ true
         → Leaves (B + 1) (OldOrEmpty (B + 1) (D.state disk.old) ks.now) (D.state disk.old) (D.state disk.new) }
@@ -70,10 +66,7 @@ fn write_bodies<D: Disk, const B: usize>(
     ks: &[u64],
     bodies: &[[u8; B]],
 ) -> Result<(), DiskFault>
-    requires differ { AllDiffer ks.now }
-    requires as_many { length bodies.now ≡ length ks.now }
-    requires inside { AreInside (B + 1) (D.state disk.old) ks.now }
-    requires closed { (D.state disk.old).keeps ≡ true → AreClosed (B + 1) (D.state disk.old) ks.now }
+    requires { MayBeFilled (B + 1) (D.state disk.old) ks.now bodies.now }
     ensures counts { Counts (is_err result) false (D.state disk.old) (D.state disk.new) }
     ensures leaves { (D.state disk.old).keeps ≡ true
         → Leaves (B + 1) (MayBe (B + 1) (D.state disk.old)) (D.state disk.old) (D.state disk.new) }
@@ -108,10 +101,7 @@ pub(crate) fn set_all<D: Disk, const B: usize>(
     ks: &[u64],
     bodies: &[[u8; B]],
 ) -> Result<(), DiskFault>
-    requires differ { AllDiffer ks.now }
-    requires as_many { length bodies.now ≡ length ks.now }
-    requires inside { AreInside (B + 1) (D.state disk.old) ks.now }
-    requires closed { (D.state disk.old).keeps ≡ true → AreClosed (B + 1) (D.state disk.old) ks.now }
+    requires { MayBeFilled (B + 1) (D.state disk.old) ks.now bodies.now }
     ensures counts { CountsTwo (is_ok result) (D.state disk.old) (D.state disk.new) }
     ensures leaves { (D.state disk.old).keeps ≡ true
         → Leaves (B + 1) (EmptyOrNew (B + 1) (D.state disk.old) ks.now bodies.now) (D.state disk.old) (D.state disk.new) }

@@ -11,7 +11,7 @@ use std::time::{Duration, Instant};
 use std::{fs, io};
 use step_core::System;
 
-/// How long a boot took, and how far the plant was behind it.
+/// How long a boot took, and how far the plant was after it.
 #[derive(Clone, Copy)]
 pub(crate) struct Boot {
     pub(crate) time: Duration,
@@ -50,7 +50,7 @@ pub(crate) fn time_boot<R: Clock + Files<File = File> + Threads + Sync + AllocGl
     }
 }
 
-/// How long ago it was, if the clock told it then and tells it now.
+/// How long ago it was, if the clock gave the time then and gives it now.
 fn time_since<R: Clock>(rt: &R, start: io::Result<Instant>) -> Option<Duration> {
     start.ok()?.elapsed(rt).ok()
 }

@@ -15,7 +15,7 @@ fn is_nearly_full(front: Front) -> bool {
 pub(crate) fn fire_alone<D: Disk>(plant: &mut Plant<'_, D>, picks: &[u64]) -> u64 {
     let mut fired = 0u64;
     for pick in picks {
-        if plant.fire(*pick).is_err() {
+        if plant.fire(u128::from(*pick)).is_err() {
             break;
         }
         fired = fired.saturating_add(1);
@@ -59,7 +59,7 @@ pub(crate) fn fire_seated<D: Disk, N: Naming>(
 ) -> u64 {
     let mut fired = 0u64;
     for pick in picks {
-        if host.fire(rt, seat, *pick).is_err() {
+        if host.fire(rt, seat, u128::from(*pick)).is_err() {
             break;
         }
         fired = fired.saturating_add(1);

@@ -64,8 +64,8 @@ fn fire_in_way<D: Disk, N: Naming>(
     pick: u64,
 ) -> Result<FiredAs, Refused> {
     match way {
-        Way::Fire => host.fire(rt, seat, pick),
-        Way::Work => host.work(rt, seat, pick, &Open),
+        Way::Fire => host.fire(rt, seat, u128::from(pick)),
+        Way::Work => host.work(rt, seat, u128::from(pick), &Open),
     }
 }
 

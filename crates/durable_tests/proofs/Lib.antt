@@ -1,1 +1,1 @@
-pub mod Captured
+mod Captured

@@ -1,4 +1,4 @@
--- A journal of the tests on its device, of which contracts are told nothing but the size and the counts.
+-- A journal of the tests on its device, of which contracts say nothing but the size and the counts.
 use Rattle.std.specs.Prelude.{◌≡◌, ◌+◌, ◌≤◌, false}
 use Rattle.disk_model.specs.declared.cells.TheConstants.{BODY}
 use Rattle.disk_model.specs.DiskState.{DiskState}

@@ -1,7 +1,7 @@
-pub mod Events
-pub mod Histories
-pub mod Kept
-pub mod Telling
+mod Events
+mod Histories
+mod Kept
+mod Telling
 pub mod Captured
 pub mod Crossing
 mod Working

@@ -2,7 +2,7 @@
 use front_word::Fronted;
 use plant_core::{Front, Happened};
 
-/// What happened to the plant, and how far it was behind it.
+/// What happened to the plant, and how far it was after it.
 #[derive(Drop)]
 pub struct Entry {
     /// What was asked of the plant, together with its answer.

@@ -32,7 +32,7 @@ pub struct Host<'s, D: Disk, N: Naming> {
 impl<'s, D: Disk, N: Naming> Host<'s, D, N> {
     /// Fires the choice at the place of the pick, as `Plant::fire` does, in one hold of the lock. Where it fired the seat's share rises by
     /// one. A host over which `MOST_FIRED` choices were fired answers Spent, and makes no event.
-    pub fn fire(&self, rt: &impl Wait, seat: &mut Seat<N>, pick: u64) -> Result<FiredAs, Refused>
+    pub fn fire(&self, rt: &impl Wait, seat: &mut Seat<N>, pick: u128) -> Result<FiredAs, Refused>
         ensures watch { HasFired N.plant N.view seat.old.watch pick result seat.new.watch }
         ensures amount { seat.new.share.amount ≡ seat.old.share.amount + (if is_ok result then 1 else 0) }
     {
@@ -83,7 +83,7 @@ impl<'s, D: Disk, N: Naming> Host<'s, D, N> {
         &self,
         rt: &impl Wait,
         seat: &mut Seat<N>,
-        pick: u64,
+        pick: u128,
         gate: &impl Gate,
     ) -> Result<FiredAs, Refused>
         ensures watch { HasWorked N.plant N.view seat.old.watch pick result seat.new.watch }
@@ -119,7 +119,7 @@ impl<'s, D: Disk, N: Naming> Host<'s, D, N> {
         self.lock.lock(rt).tell(&self.word, watch)
     }
 
-    /// How far the plant is, by the word: a front that was published, behind all that the watch has read or was told. It takes no lock and
+    /// How far the plant is, by the word: a front that was published, after all that the watch has read or was told. It takes no lock and
     /// waits for nobody.
     pub fn front(&self, watch: &mut Watch<Entry, N>) -> Front
         ensures grows { IsPrefix watch.old watch.new }

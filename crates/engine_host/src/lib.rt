@@ -6,7 +6,8 @@
 //! it.
 //!
 //! - `naming`, `opening`: a host is named ([`name`]) and then opened under its name ([`open`]), so that types say whose a seat or a watch is.
-//! - `locked`: what lies under the lock ([`Locked`]). `making`: how an event is added to the history.
+//! - `locked`: what lies under the lock ([`Locked`]). `entry`: what an entry of the history has ([`Entry`]). `making`: how an event is added to
+//!   the history.
 //! - `host`: the calls of a host. `seat`: what a thread holds. `gate`: where a host works outside its lock.
 //! - `closing`: all seats come back, and the plant with them.
 #![tactic(auto)]

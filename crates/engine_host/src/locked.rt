@@ -93,7 +93,7 @@ impl<'s, D: Disk, N: Naming> Locked<'s, D, N> {
     }
 
     /// What the plant keeps by its type, it keeps here. Whatever a stop leaves now stands for the acknowledged state where the device has
-    /// not failed, and else for the state behind some front of the tail; and the tail is a run from the acknowledged state to the present
+    /// not failed, and else for the state after some front of the tail; and the tail is a run from the acknowledged state to the present
     /// one. It makes no call.
     pub fn stands(&self)
         ensures acked { self.now.device.keeps ≡ true → self.now.view.broken ≡ false → (cells : List Cell) → MayBe (BODY + 1) self.now.device cells
@@ -145,7 +145,7 @@ impl<'s, D: Disk, N: Naming> Locked<'s, D, N> {
         &mut self,
         word: &FrontWord<Entry, N>,
         share: &mut Share<N>,
-        pick: u64,
+        pick: u128,
     ) -> Result<FiredAs, Refused>
         requires part { 0 < share.old.parts }
         ensures made { is_used_up N.view self.old.view ≡ false → IsMade N.plant self.old (Fire pick result) self.new }
@@ -177,7 +177,7 @@ impl<'s, D: Disk, N: Naming> Locked<'s, D, N> {
         &mut self,
         word: &FrontWord<Entry, N>,
         share: &mut Share<N>,
-        pick: u64,
+        pick: u128,
         jobs: &mut Jobs<'s>,
     ) -> Result<FiredAs, Refused>
         requires part { 0 < share.old.parts }
@@ -313,12 +313,12 @@ impl<'s, D: Disk, N: Naming> Locked<'s, D, N> {
         self.publisher.tell(word, watch)
     }
 
-    /// Fires for a seat, whose watch is told before and behind.
+    /// Fires for a seat, whose watch is told before and after.
     pub(crate) fn fire_for(
         &mut self,
         word: &FrontWord<Entry, N>,
         seat: &mut Seat<N>,
-        pick: u64,
+        pick: u128,
     ) -> Result<FiredAs, Refused>
         ensures watch { HasFired N.plant N.view seat.old.watch pick result seat.new.watch }
         ensures amount { seat.new.share.amount ≡ seat.old.share.amount + (if is_ok result then 1 else 0) }
@@ -329,12 +329,12 @@ impl<'s, D: Disk, N: Naming> Locked<'s, D, N> {
         answer
     }
 
-    /// Begins for a seat, whose watch is told before and behind.
+    /// Begins for a seat, whose watch is told before and after.
     pub(crate) fn begin_for(
         &mut self,
         word: &FrontWord<Entry, N>,
         seat: &mut Seat<N>,
-        pick: u64,
+        pick: u128,
         jobs: &mut Jobs<'s>,
     ) -> Result<FiredAs, Refused>
         requires empty { jobs_of jobs.old ≡ [] }

@@ -1,10 +1,10 @@
--- Which faults tell why a file did not become a device.
+-- Which faults say why a file did not become a device.
 use Rattle.std.specs.Prelude.{◌≡◌, ◌<◌, ◌≤◌, ℕ, Bool, true}
 use Rattle.file_disk.specs.declared.marks.TheConstants.{LARGEST_IMAGE}
 use Rattle.file_disk.specs.declared.fault.FileFault.{FileFault}
 use Rattle.file_disk.specs.declared.fault.FileFault.TheVariants.{TooLarge, AlreadyThere, NotThere, NotAllowed, NotAFile, Unopened, InUse, Unlocked, Unmade, Unsynced}
 
--- the fault is told where the system does not open a file; that a name is taken only where the file is to be new
+-- a fault if the system does not open a file; that a name is taken is one only if the file is to be new
 abbrev pub IsOfSystem : Bool → FileFault → Type 0
 IsOfSystem is_new AlreadyThere = is_new ≡ true
 IsOfSystem is_new NotThere = Unit {0}
@@ -13,24 +13,24 @@ IsOfSystem is_new NotAFile = Unit {0}
 IsOfSystem is_new Unopened = Unit {0}
 IsOfSystem is_new fault = ⊥
 
--- the fault is told where a file is not locked
+-- a fault if a file is not locked
 abbrev pub IsOfLock : FileFault → Type 0
 IsOfLock InUse = Unit {0}
 IsOfLock Unlocked = Unit {0}
 IsOfLock fault = ⊥
 
--- the fault is told where a new file, once it is open, is not made
+-- a fault if a new file, once it is open, is not made
 abbrev pub IsOfMaking : FileFault → Type 0
 IsOfMaking Unmade = Unit {0}
 IsOfMaking fault = IsOfLock fault
 
--- The fault may be told where a file of so many bytes is to be created: that it is too large only where it is, and nothing else then.
+-- A fault that a file of so many bytes may have when it is created: that it is too large exactly if it is.
 abbrev pub StopsCreating : ℕ → FileFault → Type 0
 StopsCreating bytes TooLarge = LARGEST_IMAGE < bytes
 StopsCreating bytes Unsynced = ⊥
 StopsCreating bytes fault = bytes ≤ LARGEST_IMAGE
 
--- The fault may be told where a file is to be opened: none that only a new file has.
+-- A fault that a file may have when it is opened: none that only a new file has.
 abbrev pub StopsOpening : FileFault → Type 0
 StopsOpening TooLarge = ⊥
 StopsOpening AlreadyThere = ⊥

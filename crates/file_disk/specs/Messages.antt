@@ -5,7 +5,7 @@ use Rattle.file_disk.specs.declared.marks.TheConstants.{LARGEST_IMAGE}
 use Rattle.file_disk.specs.declared.fault.FileFault.{FileFault}
 use Rattle.file_disk.specs.declared.fault.FileFault.TheVariants.{TooLarge, AlreadyThere, NotThere, NotAllowed, NotAFile, Unopened, InUse, Unlocked, Unmade, Unsynced}
 
--- what a fault says to a person, behind the name of the file
+-- what a fault says to a person, after the name of the file
 abbrev pub message_of : FileFault → List ℕ
 message_of TooLarge = codes "an image has at most " ++ decimal LARGEST_IMAGE ++ codes " bytes"
 message_of AlreadyThere = codes "the name is taken: choose another one"

@@ -9,8 +9,8 @@ use std::fs::{File, OpenFile};
 use std::io;
 use std::os::unix::fs::FileExt;
 
-/// A device over an open file. It fails where the file does, and each write to a file of more than `LARGEST_IMAGE` bytes
-/// fails, of which nothing is written.
+/// A device over an open file. A call fails if the file's does. A write to a file of more than `LARGEST_IMAGE` bytes fails and
+/// writes nothing.
 #[derive(Drop)]
 pub struct FileDisk<F = File> {
     file: F,
@@ -53,7 +53,7 @@ impl<F: FileExt + OpenFile> FileDisk<F> {
         Ok(())
     }
 
-    /// Makes last what was written, and before that writes it again where the last sync failed.
+    /// Puts what was written onto the disk. If the last sync failed it is all written again first.
     fn settle(&self) -> io::Result<()> {
         if self.sync_failed {
             self.marks.write_again(&self.file, self.size)?;

@@ -22,9 +22,9 @@ pub enum FileFault {
     InUse,
     /// It could not be asked whether it is in use.
     Unlocked,
-    /// To create: it could not be filled with zeros and made to last. It was removed again, where that was possible.
+    /// To create: it could not be filled with zeros and put onto the disk. It was removed again, if that was possible.
     Unmade,
-    /// To open: what was written to it before could not be made to last.
+    /// To open: what was written to it before could not be put onto the disk.
     Unsynced,
 }
 

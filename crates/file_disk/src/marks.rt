@@ -17,10 +17,10 @@ const PARTS: u64 = 2 * (LARGEST_IMAGE / BLOCK);
 const WORDS: usize = PARTS as usize / 64 + 1;
 
 /// Marks on the parts of an image of which a byte was written. A block's first byte is one part, of even number, and the
-/// bytes behind it are the other.
+/// bytes after it are the other.
 //
 // A part that is written again must hold no byte that is not pending, since a stop may then leave any byte of it. A cell
-// starts with a block, has its gate in the first byte, and all bytes behind the gate are written together. So a part is
+// starts with a block, has its gate in the first byte, and all bytes after the gate are written together. So a part is
 // written whole or not at all, and one mark for it is exact. Under other writes a mark may say too much.
 #[derive(Drop)]
 pub(crate) struct Marks {

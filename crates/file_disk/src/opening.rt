@@ -19,7 +19,8 @@ use std::rt::Files;
 const ZEROS: usize = 4_096;
 
 impl FileDisk {
-    /// Makes a file of so many bytes, all zero, at a path where nothing is, and opens it. After Ok it and its name last.
+    /// Makes a file of so many bytes, all zero, at a path where nothing is, and opens it. After Ok the file and its name are on the
+    /// disk.
     //
     // The zeros are written, and not left out as they may be: so the disk has the room, and no later write asks for it.
     pub fn create<R: Files<File = File>>(
@@ -37,7 +38,7 @@ impl FileDisk {
         let file = open_file(files, path, true)?;
         if let Err(fault) = make(files, path, &file, bytes) {
             if fault != FileFault::InUse {
-                // What can't be removed stays, and the first fault is told.
+                // What can't be removed stays, and the first fault is answered.
                 let _ = fs::remove_file(files, path);
             }
             return Err(fault);
@@ -82,7 +83,7 @@ fn open_file<R: Files<File = File>>(files: &R, path: &str, is_new: bool) -> Resu
     }
 }
 
-/// What is told where the system does not open a file.
+/// The fault if the system does not open a file.
 fn fault_of(kind: ErrorKind, is_new: bool) -> FileFault
     ensures { IsOfSystem is_new result }
 {
@@ -131,7 +132,7 @@ fn make<R: Files<File = File>>(
     }
 }
 
-/// Fills a new file with zeros, and makes it and its name last.
+/// Fills a new file with zeros, and puts it and its name onto the disk.
 fn fill<R: Files<File = File>>(files: &R, path: &str, file: &File, bytes: u64) -> io::Result<()> {
     let zeros = [0; ZEROS];
     for part in 0..bytes.div_ceil(ZEROS as u64) {

@@ -1,5 +1,5 @@
-pub mod Prefixes
-pub mod Fronts
-pub mod Reading
-pub mod Publishing
-pub mod Steps
+mod Prefixes
+mod Fronts
+mod Reading
+mod Publishing
+mod Steps

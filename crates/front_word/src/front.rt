@@ -1,9 +1,9 @@
-//! An entry of a history, with the front behind it.
+//! An entry of a history, with the front after it.
 ghost use Rattle.std.specs.Prelude.{◌≡◌};
 
 use plant_core::Front;
 
-/// The most choices that may be fired behind the front where a history opens: the word has 44 bits for their number. At a million a
+/// The most choices that may be fired after the front where a history opens: the word has 44 bits for their number. At a million a
 /// second they last for 100 days.
 pub const MOST_FIRED: u64 = 1 << 43;
 

@@ -1,6 +1,6 @@
 //! How far a plant is, in one word that threads read without waiting.
 //!
-//! A history is a list of entries, each with the front behind it. One pass publishes: it adds an entry, and stores the front behind it in the
+//! A history is a list of entries, each with the front after it. One pass publishes: it adds an entry, and stores the front after it in the
 //! word. Other passes watch: a read gives a front that was published, of a history that begins with all that the pass has read or was told.
 //!
 //! - `passes`: the pass that publishes, and those that watch. `word`: the word and its four kinds of step. `packing`: a front as one number.

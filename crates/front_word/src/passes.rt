@@ -56,7 +56,7 @@ impl<E: Fronted, N: WordNaming> Publisher<E, N> {
         self.last
     }
 
-    /// Adds an entry to the history, and stores the front behind it in the word. Each watch that reads from then on sees it.
+    /// Adds an entry to the history, and stores the front after it in the word. Each watch that reads from then on sees it.
     pub fn publish(&mut self, word: &FrontWord<E, N>, entry: &E)
         requires within { IsWithin N.opening (E.front entry.now) }
         requires rises { IsNotBelow (last_of N.opening (map E.front self.old)) (E.front entry.now) }
@@ -125,7 +125,7 @@ impl<E: Fronted, N: WordNaming> Model for Watch<E, N> {
 }
 
 impl<E: Fronted, N: WordNaming> Watch<E, N> {
-    /// The front that the word holds. It was published, behind all that the watch had read or was told: no part of it is below what the
+    /// The front that the word holds. It was published, after all that the watch had read or was told: no part of it is below what the
     /// watch knew. Others may have been published since.
     pub fn front(&mut self, word: &FrontWord<E, N>) -> Front
         ensures front { result ≡ last_of N.opening (map E.front self.new) }

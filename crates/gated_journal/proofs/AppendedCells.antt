@@ -1,4 +1,4 @@
--- What appending leaves: behind the live records a front of the new ones.
+-- What appending leaves: after the live records a front of the new ones.
 use Rattle.std.proofs.Common.{◌≡◌, ◌⊎◌, inl, inr, ⊎_elim, ℕ, zero, suc, ◌+◌, ◌-◌, ◌<◌, ◌≤◌, List, [], ◌∷◌, ◌++◌, length, take, get_or, if◌then◌else◌, Some, None, refl, sym, ◌∙◌, ap, subst, arith}
 use Rattle.std.specs.Option.{option_and_then}
 use Rattle.std.proofs.lemmas.Bool.{cases_lt, eq-eqb}
@@ -14,8 +14,8 @@ use Rattle.gated_journal.specs.Live.{if_numbered, record_in, place, live, AreRec
 use Rattle.gated_journal.specs.Rings.{IsRing, IsAhead, IsWhole}
 use Rattle.gated_journal.specs.Stops.{IsReady, IsBeside, HasAppended, HasAppendedAll}
 use Rattle.gated_journal.proofs.Fronts.{front, first_is, front_stops, front_splits}
-use Rattle.gated_journal.proofs.BaseCells.{place_behind, based_same}
-use Rattle.gated_journal.proofs.Places.{places, places_length, places_at, none_of_places, before_places, behind_places}
+use Rattle.gated_journal.proofs.BaseCells.{place_after, based_same}
+use Rattle.gated_journal.proofs.Places.{places, places_length, places_at, none_of_places, before_places, after_places}
 
 -- record n in the cell that holds its body
 record_there : (n : ℕ) (c : Cell) (body : List ℕ) (r : FiredFields) → c ≡ Some body → fired_in body ≡ Some r → r.number ≡ n → record_in n c ≡ Some r
@@ -29,7 +29,7 @@ records_rest first body bodies r records are = record {
   numbered = let numbered = are.numbered in cc;
 }
 
--- A front of these records is live, and the cell behind it is empty.
+-- A front of these records is live, and the cell after it is empty.
 pub record Batch (cells : ℕ → Cell) (records : List FiredFields) (first room : ℕ) : Type 0 where
   pub count : ℕ
   pub within : count ≤ length records
@@ -52,7 +52,7 @@ batch_more cells r records first room here b = record {
   behind = λ some. subst (λ (k : ℕ). cells k ≡ None) (omega arith) (b.behind (omega (arith, some)));
 }
 
--- Where each cell of a row is empty or has its body, and the one behind them is empty.
+-- Where each cell of a row is empty or has its body, and the one after them is empty.
 pub batch : (cells : ℕ → Cell) (bodies : List (List ℕ)) (records : List FiredFields) (first room : ℕ) → AreRecords first bodies records → length bodies ≤ room
     → ((i : ℕ) → i < length bodies → (cells (first + i) ≡ None) ⊎ (cells (first + i) ≡ Some (get_or bodies i [])))
     → (length bodies < room → cells (first + length bodies) ≡ None)
@@ -97,7 +97,7 @@ module _ (j : Ring) (ring : IsRing j) (before : List Cell) (whole : IsWhole j be
         subst (λ (k : ℕ). (cell cells k ≡ None) ⊎ (cell cells k ≡ Some (get_or bodies i []))) (places_at j (j.last + 1) (length bodies) i (j.last + 1 + i) inside refl) (left.each i inside))
         (λ some.
         let n : ℕ = j.last + 1 + length bodies in
-        left.others (place j n) (behind_places j (j.last + 1) (length bodies) n (omega arith) (omega (arith, to_end, some, ring.base_to)))
+        left.others (place j n) (after_places j (j.last + 1) (length bodies) n (omega arith) (omega (arith, to_end, some, ring.base_to)))
         ∙ ahead n (record { from = omega arith; to = omega (arith, to_end, some) }))
 
     goes_on : (room : ℕ) → j.last + 1 + room ≡ j.base + j.ring → live j cells ≡ live j before ++ front (λ n. record_in n (cell cells (place j n))) (j.last + 1) room
@@ -111,7 +111,7 @@ module _ (j : Ring) (ring : IsRing j) (before : List Cell) (whole : IsWhole j be
         let b : Batch (λ n. cell cells (place j n)) news (j.last + 1) room = batch_of room to_end in
         record {
           size = left.count;
-          based = based_same j before cells ring (λ k low. left.others k (beside_places k (λ n from to. place_behind j n k low)));
+          based = based_same j before cells ring (λ k low. left.others k (beside_places k (λ n from to. place_after j n k low)));
           count = b.count;
           within = b.within;
           reads = goes_on room to_end ∙ ap (λ (l : List FiredFields). live j before ++ l) b.reads;
@@ -140,10 +140,10 @@ has_appended_all j bodies news old new ring ready are fits same f =
         settled = f.settled;
         whole = omega (arith, ap (λ (l : List FiredFields). length l) reads, length-append (live j before) news, ready.whole);
         ahead = λ n later.
-            f.others (place j n) (behind_places j (j.last + 1) (length bodies) n (omega (arith, later.from, as_many)) (omega (arith, later.to, ring.base_to)))
+            f.others (place j n) (after_places j (j.last + 1) (length bodies) n (omega (arith, later.from, as_many)) (omega (arith, later.to, ring.base_to)))
             ∙ ready.ahead n (record { from = omega (arith, later.from); to = later.to });
       };
-      based = based_same j before cells ring (λ k low. f.others k (beside_places j ring before ready.whole ready.ahead bodies news are fits k (λ n from to. place_behind j n k low)));
+      based = based_same j before cells ring (λ k low. f.others k (beside_places j ring before ready.whole ready.ahead bodies news are fits k (λ n from to. place_after j n k low)));
       reads = reads;
       others = λ k beside. f.others k (beside_places j ring before ready.whole ready.ahead bodies news are fits k beside);
     }

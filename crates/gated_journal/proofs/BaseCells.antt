@@ -49,8 +49,8 @@ based_still j before cells ring b same other =
     (one_or_two j ring)) held
 
 -- no record stands in a base cell
-pub place_behind : (j : Ring) (n k : ℕ) → k ≤ base_cell 1 → place j n ≢ k
-place_behind j n k low = λ same. omega (arith, same)
+pub place_after : (j : Ring) (n k : ℕ) → k ≤ base_cell 1 → place j n ≢ k
+place_after j n k low = λ same. omega (arith, same)
 
 -- Where both base cells are as they were, the same base counts.
 pub based_same : (j : Ring) (before cells : List Cell) → IsRing j → ((k : ℕ) → k ≤ base_cell 1 → cell cells k ≡ cell before k) → IsBased j before → IsBased j cells

@@ -1,4 +1,4 @@
--- What emptying the cells behind the end leaves: the same live records.
+-- What emptying the cells after the end leaves: the same live records.
 use Rattle.std.proofs.Common.{◌≡◌, ⊎_elim, ℕ, ◌+◌, ◌-◌, ◌<◌, ◌≤◌, Bool, true, false, List, length, get_or, is_some, Some, None, refl, sym, ◌∙◌, ap, subst, arith}
 use Rattle.std.specs.List.{filter}
 use Rattle.disk_model.specs.declared.cells.TheConstants.{BODY}
@@ -11,7 +11,7 @@ use Rattle.gated_journal.specs.declared.ring.Ring.{Ring}
 use Rattle.gated_journal.specs.Live.{record_in, place, live}
 use Rattle.gated_journal.specs.Rings.{IsRing, IsAhead, IsWhole, IsFoundFor, is_full_in}
 use Rattle.gated_journal.specs.Stops.{IsReady, HasCleaned}
-use Rattle.gated_journal.proofs.BaseCells.{place_behind, based_same}
+use Rattle.gated_journal.proofs.BaseCells.{place_after, based_same}
 use Rattle.gated_journal.proofs.Fronts.{front_length, front_same, front_ends}
 use Rattle.gated_journal.proofs.KeptCells.{kept, kept_passes, all_erased}
 use Rattle.gated_journal.proofs.Places.{places, places_length, places_at, places_within, none_of_places, before_places}
@@ -25,7 +25,7 @@ same_live j before cells whole same next = front_same (λ n. record_in n (cell c
     (λ n from to. ap (record_in n) (same n from (omega (arith, to))))
     (λ some. next (record { from = omega arith; to = some }))
 
--- behind the live records no record of the next number stands
+-- after the live records no record of the next number stands
 pub next_is_none : (j : Ring) (cells : List Cell) → IsWhole j cells → IsAhead j (j.last + 1) → record_in (j.last + 1) (cell cells (place j (j.last + 1))) ≡ None
 next_is_none j cells whole next = front_ends (λ n. record_in n (cell cells (place j n))) j.base j.ring (length (live j cells)) (j.last + 1) refl (omega (arith, whole, next.to)) whole
 
@@ -37,7 +37,7 @@ module _ (j : Ring) (ring : IsRing j) (count : ℕ) (to_end : j.last + 1 + count
   pub has_cleaned : (before cells : List Cell) → IsWhole j before → OldOrEmptyAt (places j (j.last + 1) count) before cells → HasCleaned j before cells
   has_cleaned before cells whole left = record {
     size = left.count;
-    based = based_same j before cells ring (λ k low. left.others k (none_of_places j (j.last + 1) count k (λ n from to. place_behind j n k low)));
+    based = based_same j before cells ring (λ k low. left.others k (none_of_places j (j.last + 1) count k (λ n from to. place_after j n k low)));
     reads = same_live j before cells whole (λ n from to. left.others (place j n) (live_kept n from to))
         (λ next. ⊎_elim (λ same. ap (record_in (j.last + 1)) same ∙ next_is_none j before whole next) (λ empty. ap (record_in (j.last + 1)) empty) (left.each (place j (j.last + 1))));
     each = left.each;

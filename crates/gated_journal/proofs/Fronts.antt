@@ -26,7 +26,7 @@ pub front_stops : {X : Type 0} (h : ℕ → Option X) (b n : ℕ) → (0 < n →
 front_stops h b zero none = refl
 front_stops h b (suc n) none = first_is h b n None (none (omega arith))
 
--- Where g agrees with h along the front of h, of c numbers, its own front goes on behind it.
+-- Where g agrees with h along the front of h, of c numbers, its own front goes on after it.
 pub front_splits : {X : Type 0} (g h : ℕ → Option X) (b n p c e m : ℕ) → length (front h b n) ≡ c → b + c ≡ e → p ≡ c + m → ((i : ℕ) → b ≤ i → i < e → g i ≡ h i) → front g b p ≡ front h b n ++ front g e m
 front_splits g h b zero p c e m long end rest agrees =
     let here : b ≡ e = omega arith in
@@ -48,7 +48,7 @@ front_splits {X} g h b (suc n) p c e m long end rest agrees =
           ap (front g b) p_is ∙ first_is g b q (Some x) same ∙ ap (λ (xs : List X). x ∷ xs) (front_splits g h (b + 1) n q l e m refl e_is refl (λ i from to. agrees i (omega (arith, from)) to))
     ] refl long
 
--- Where g also has no value behind it, the two fronts are one.
+-- Where g also has no value after it, the two fronts are one.
 pub front_same : {X : Type 0} (g h : ℕ → Option X) (b n p c e : ℕ) → length (front h b n) ≡ c → c ≤ p → b + c ≡ e → ((i : ℕ) → b ≤ i → i < e → g i ≡ h i) → (e < b + p → g e ≡ None) → front g b p ≡ front h b n
 front_same {X} g h b n p c e long short end agrees none =
     let m : ℕ = p - c in
@@ -83,7 +83,7 @@ front_some {X} h b (suc n) (suc i) e within at =
       | Some x ↦ λ shorter. front_some h (b + 1) n i e (omega (arith, shorter)) (omega (arith, at))
     ] within
 
--- and the one behind it has none
+-- and the one after it has none
 pub front_ends : {X : Type 0} (h : ℕ → Option X) (b n c e : ℕ) → length (front h b n) ≡ c → c < n → b + c ≡ e → h e ≡ None
 front_ends h b zero c e long short at = absurd (omega arith)
 front_ends h b (suc n) c e long short at =

@@ -1,8 +1,8 @@
 pub mod Fronts
-pub mod Places
-pub mod AppendedCells
-pub mod KeptCells
-pub mod CleanedCells
-pub mod BaseCells
-pub mod MovedCells
+mod Places
+mod AppendedCells
+mod KeptCells
+mod CleanedCells
+mod BaseCells
+mod MovedCells
 mod Rows

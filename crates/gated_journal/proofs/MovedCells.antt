@@ -54,7 +54,7 @@ module _ (j : Ring) (ring : IsRing j) (base : ℕ) (above : j.base < base) (with
   }
 
   module _ (cells : List Cell) (each : (k : ℕ) → k ≢ other_cell j → (cell cells k ≡ cell before k) ⊎ (cell cells k ≡ None)) (others : (k : ℕ) → k ≢ other_cell j → IsKept base j k → cell cells k ≡ cell before k) where
-    -- the cell behind the last record, where the ring was full
+    -- the cell after the last record, where the ring was full
     behind : j.last + 1 ≡ j.base + j.ring → (cell cells (place j (j.last + 1)) ≡ None) ⊎ ((r : FiredFields) × (held_in (cell cells (place j (j.last + 1))) ≡ Some r) × (r.number < base))
     behind round = ⊎_elim
         (λ same.

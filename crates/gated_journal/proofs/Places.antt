@@ -35,12 +35,12 @@ none_of_places j first count k none i within = λ same.
     let long : length (places j first count) ≡ count = places_length j first count in
     none (first + i) (omega arith) (omega (arith, within, long)) (sym (places_at j first count i (first + i) within refl) ∙ same)
 
--- The cells of records behind and before a row, less than a round away, are none of the row's.
+-- The cells of records after and before a row, less than a round away, are none of the row's.
 pub before_places : (j : Ring) (first count n : ℕ) → n < first → first + count ≤ n + j.ring → IsNoneOf (places j first count) (place j n)
 before_places j first count n below near = none_of_places j first count (place j n) (λ m from to same. places_differ j n m (omega (arith, below, from)) (omega (arith, near, to)) (sym same))
 
-pub behind_places : (j : Ring) (first count n : ℕ) → first + count ≤ n → n < first + j.ring → IsNoneOf (places j first count) (place j n)
-behind_places j first count n behind near = none_of_places j first count (place j n) (λ m from to same. places_differ j m n (omega (arith, behind, to)) (omega (arith, near, from)) same)
+pub after_places : (j : Ring) (first count n : ℕ) → first + count ≤ n → n < first + j.ring → IsNoneOf (places j first count) (place j n)
+after_places j first count n behind near = none_of_places j first count (place j n) (λ m from to same. places_differ j m n (omega (arith, behind, to)) (omega (arith, near, from)) same)
 
 -- The cells of a row that is no longer than a round all differ.
 pub places_all_differ : (j : Ring) (first count : ℕ) → count ≤ j.ring → AllDiffer (places j first count)

@@ -1,4 +1,4 @@
--- Cells of a ring of eight records behind two atoms, worked out by hand. The bodies are short: a definition takes a body of any length.
+-- Cells of a ring of eight records after two atoms, worked out by hand. The bodies are short: a definition takes a body of any length.
 use Rattle.std.proofs.Common.{◌≡◌, ℕ, List, [], ◌∷◌, Some, None, refl}
 use Rattle.disk_model.specs.Cells.{Cell}
 use Rattle.record_codec.specs.Bytes.{one_byte, two_bytes, eight_bytes, one_byte_number, two_byte_number, eight_byte_number, padded, zeros}

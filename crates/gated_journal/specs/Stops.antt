@@ -20,7 +20,7 @@ pub record IsReady (j : Ring) (s : DiskState) : Type 0 where
 abbrev pub IsBeside : Ring → ℕ → ℕ → Type 0
 IsBeside j count k = (n : ℕ) → j.last < n → n ≤ j.last + count → place j n ≢ k
 
--- Behind the records that were live there are live now the first ones of the new, behind these is an empty cell, and each
+-- After the records that were live there are live now the first ones of the new, after these is an empty cell, and each
 -- cell of no new record is as it was, the base among them.
 pub record HasAppended (j : Ring) (news : List FiredFields) (before cells : List Cell) : Type 0 where
   pub size : length cells ≡ length before
@@ -31,7 +31,7 @@ pub record HasAppended (j : Ring) (news : List FiredFields) (before cells : List
   pub behind : IsAhead (appended count j) (j.last + count + 1) → cell cells (place j (j.last + count + 1)) ≡ None
   pub others : (k : ℕ) → IsBeside j (length news) k → cell cells k ≡ cell before k
 
--- All of the new records are live behind those that were, the journal with them can be appended to, and each cell of no new
+-- All of the new records are live after those that were, the journal with them can be appended to, and each cell of no new
 -- record is as it was, the base among them.
 pub record HasAppendedAll (j : Ring) (news : List FiredFields) (old new : DiskState) : Type 0 where
   pub ready : IsReady (appended (length news) j) new
@@ -65,7 +65,7 @@ pub record IsUnmoved (j : Ring) (before cells : List Cell) : Type 0 where
   pub others : (k : ℕ) → k ≢ other_cell j → cell cells k ≡ cell before k
 
 -- The base is the new one, in the other cell, and the live records are the old ones without those before it. Each cell of a
--- dropped record is as it was or empty, and every other as it was. Where the ring was full, the cell behind the last record is
+-- dropped record is as it was or empty, and every other as it was. Where the ring was full, the cell after the last record is
 -- that of a dropped one.
 pub record IsMoved (base : ℕ) (j : Ring) (before cells : List Cell) : Type 0 where
   pub size : length cells ≡ length before

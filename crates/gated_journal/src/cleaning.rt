@@ -32,7 +32,7 @@ fn keep_full(found: &[Option<[u8; BODY]>], places: &mut [u64]) -> usize
     count
 }
 
-/// Empties the cell of each record that is not live, where it was found full. In `room` it writes down their cells.
+/// Empties the cell of each record that is not live, if it was found full. In `room` it writes down their cells.
 pub(crate) fn clean<D: Disk>(
     cells: &mut Cells<D>,
     ring: Ring,
@@ -52,6 +52,6 @@ pub(crate) fn clean<D: Disk>(
 {
     write_places(ring, ring.last + 1, room);
     let count = keep_full(found, room);
-    // No cell of a live record is among these, and the one behind the last ends the list whether it is emptied or not.
+    // No cell of a live record is among these, and the one after the last ends the list whether it is emptied or not.
     cells.erase_full_run(&room[..count])
 }

@@ -68,7 +68,7 @@ impl Journal {
         Ok(Journal { ring, room })
     }
 
-    /// The number of the first live record, or of the next where none is live.
+    /// The number of the first live record, or of the next if none is live.
     pub fn base(&self) -> u64
         ensures number { result ≡ self.now.base }
         ensures in_range { IsRing self.now }
@@ -76,7 +76,7 @@ impl Journal {
         self.ring.base
     }
 
-    /// The number of the last live record, or base - 1 where none is live.
+    /// The number of the last live record, or base - 1 if none is live.
     pub fn last(&self) -> u64
         ensures number { result ≡ self.now.last }
         ensures in_range { IsRing self.now }
@@ -92,7 +92,7 @@ impl Journal {
         self.ring.ring
     }
 
-    /// Record `n`, where its cell holds it, whether it is live or not.
+    /// Record `n`, if its cell holds it, whether it is live or not.
     pub fn read_record<D: Disk>(
         &self,
         cells: &mut Cells<D>,
@@ -113,7 +113,7 @@ impl Journal {
         }
     }
 
-    /// Makes the records that the bodies hold live behind the last, by two syncs.
+    /// Makes the records that the bodies hold live after the last, by two syncs.
     pub fn append_run<D: Disk>(
         &mut self,
         cells: &mut Cells<D>,
@@ -136,8 +136,8 @@ impl Journal {
         Ok(())
     }
 
-    /// Empties each record cell that is not live, by one sync. Which of them are full `found` tells, the bodies of the cells as
-    /// they were loaded, so that none is read again.
+    /// Empties each record cell that is not live, by one sync. `found` has the bodies of the cells as they were
+    /// loaded and so says which of them are full: none is read again.
     pub fn clean<D: Disk>(
         &mut self,
         cells: &mut Cells<D>,

@@ -6,14 +6,15 @@
 //! say by cells and records what a call leaves and what a stop inside of it leaves (`specs/Stops.antt`).
 //!
 //! - Appending writes all bodies behind closed gates, syncs, opens all gates, and syncs. A stop leaves the old list followed by a
-//!   front of the new records. Behind such a front open cells may stand.
+//!   front of the new records. Open cells may stand after such a front.
 //! - Cleaning empties each record cell that is not live, so that no such cell is ever read as a later record's.
 //! - Moving the base fills the other base cell, and then empties the cells of the records that are dropped.
 //!
 //! After a failure of the device the journal is made again, from what the cells read for. Only `Journal::of` takes memory.
 //!
-//! - `ring`: where records stand. `journal`: the calls. `appending`, `cleaning`, `moving`: what they do to the cells.
-//!   `laws`: what the definitions say of one another.
+//! - `ring`: a [`Ring`], and the cell of each record. `journal`: the [`Journal`] and its calls.
+//! - `appending`, `cleaning`, `moving`: what each of these calls does to the cells, and why a stop inside of it is harmless.
+//! - `laws`: what the definitions say of one another.
 #![tactic(auto)]
 
 mod appending;

@@ -16,7 +16,7 @@ pub struct Ring {
     pub base_cell: u64,
     /// The number of the first live record.
     pub base: u64,
-    /// The number of the last live record, or base - 1 where none is live.
+    /// The number of the last live record, or base - 1 if none is live.
     pub last: u64,
 }
 

@@ -12,7 +12,7 @@ appended_and_kept (Some xs) None c text appended kept = absurd appended
 appended_and_kept (Some xs) (Some ys) None text appended kept = absurd kept
 appended_and_kept (Some xs) (Some ys) (Some zs) text appended kept = kept ∙ appended
 
--- where a plant stands that was appended stays so, told of the same plant
+-- where a plant stands that was appended stays so, for the same plant by another name
 pub standing_and_kept : (a b c : Option (List ℕ)) (p q : PlantDefinition) (v : View) → p ≡ q → Appends a b (standing_text p v) → Keeps b c →
     Appends a c (standing_text q v)
 standing_and_kept a b c p q v same appended kept =

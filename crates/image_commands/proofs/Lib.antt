@@ -1,5 +1,5 @@
-pub mod Told
+mod Refused
 pub mod Appending
-pub mod Standing
-pub mod Trials
-pub mod Migrated
+mod Standing
+mod Trials
+mod Migrated

@@ -1,9 +1,12 @@
 -- Whatever a stop leaves of a plant's device stands for what is acknowledged.
-use Rattle.std.proofs.Common.{◌≡◌, ◌∙◌, sym, subst, ℕ, Bool, true, false, List, Option}
-use Rattle.std.specs.Prelude.{◌+◌, length}
+use Rattle.std.proofs.Common.{◌≡◌, ◌∙◌, ap, sym, subst, ℕ, Bool, true, false, List, Option}
+use Rattle.std.proofs.lemmas.List.{length-map}
+use Rattle.std.specs.Prelude.{◌+◌, length, map}
 use Rattle.disk_model.specs.DiskState.{DiskState, size_of}
 use Rattle.disk_model.specs.Cells.{seen_cells}
 use Rattle.disk_model.specs.declared.cells.TheConstants.{BODY}
+use Rattle.petri_atom.specs.Atom.{definition_of}
+use Rattle.petri_atom.specs.declared.atom.Atom.{Atom}
 use Rattle.step_core.specs.Plant.{PlantDefinition}
 use Rattle.plant_image.specs.Contents.{contents_of, last_number}
 use Rattle.plant_image.specs.Standing.{StandsFor}
@@ -37,17 +40,17 @@ recovered_stands p q d e old mid new v same_plant same_digest same_device kept b
     stands_as_read q e old new v (booted keeps)
     (stands_by_name p q d e mid new v same_plant same_digest same_device (stands (kept ∙ keeps) (booted keeps).broken))
 
--- a run from empty hands, told of the same plant and text by other names
+-- a run from the empty hands of a plant's atoms, with the same plant and text by other names
 pub ran_on : (r q : PlantDefinition) (d e : List ℕ) (old began image : DiskState) (events : List Event) (failed : Bool) (before after : View) (hands hands_after : HandFields)
-    (from to : Option (List ℕ)) → r ≡ q → d ≡ e → IsBootedFrom q e old before → began.keeps ≡ old.keeps → hands ≡ empty_hands (length q.atoms) →
+    (from to : Option (List ℕ)) (atoms : List Atom) → r ≡ q → d ≡ e → IsBootedFrom q e old before → began.keeps ≡ old.keeps → map definition_of atoms ≡ q.atoms → hands ≡ empty_hands (length atoms) →
     IsRunOf r d before began hands events failed after image hands_after from to → IsRunOn q e old events failed after image from to
-ran_on r q d e old began image events failed before after hands hands_after from to same_plant same_digest booted kept empty ran = record {
+ran_on r q d e old began image events failed before after hands hands_after from to atoms same_plant same_digest booted kept of_plant empty ran = record {
   before = before;
   began = began;
   hands = hands_after;
   booted = booted;
   kept = kept;
-  ran = subst (λ held. IsRunOf q e before began held events failed after image hands_after from to) empty
+  ran = subst (λ held. IsRunOf q e before began held events failed after image hands_after from to) (empty ∙ ap empty_hands (sym (length-map atoms definition_of) ∙ ap length of_plant))
       (subst (λ (text : List ℕ). IsRunOf q text before began hands events failed after image hands_after from to) same_digest
       (subst (λ plant. IsRunOf plant d before began hands events failed after image hands_after from to) same_plant ran));
 }

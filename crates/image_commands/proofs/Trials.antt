@@ -16,7 +16,7 @@ use Rattle.crash_explorer.specs.declared.explorer.TheConstants.{TEARS}
 use Rattle.crash_explorer.specs.declared.explorer.Trial.{Trial}
 use Rattle.image_commands.specs.Trials.{AreTrialsFrom, IsTrialAt, listed_line, wrong_of}
 
--- one more trial behind those that were made
+-- one more trial after those that were made
 pub trials_and_next : (plant : PlantDefinition) (digest : List ℕ) (ring : ℕ) (events : List Event) (number : ℕ) (trials : List Trial) (t : Trial) →
     AreTrialsFrom plant digest ring events number trials → IsTrialAt plant digest ring events (number + length trials) t → AreTrialsFrom plant digest ring events number (trials ++ t ∷ [])
 trials_and_next plant digest ring events number [] t made next =
@@ -47,7 +47,7 @@ next_is_at system ring events e number t is left more next =
       subst (λ (n : ℕ). IsTrial (plant_of system) (digest_of system) ring events (n + 1) torn t) stop by_events,
     )
 
--- the line of one more trial behind those that were printed
+-- the line of one more trial after those that were printed
 pub lines_and_next : (a b c : Option (List ℕ)) (list : Bool) (trials : List Trial) (t : Trial) →
     Appends a b (flat_map (listed_line list) trials) → Appends b c (listed_line list t) → Appends a c (flat_map (listed_line list) (trials ++ t ∷ []))
 lines_and_next a b c list trials t printed next =

@@ -1,3 +1,4 @@
+pub mod Seen
 pub mod Refusals
 pub mod Endings
 pub mod Printed

@@ -7,12 +7,13 @@ use Rattle.disk_model.specs.declared.cells.TheConstants.{BODY, FIRST_BODY}
 use Rattle.plant_image.specs.Contents.{Contents, last_number, states_of}
 use Rattle.plant_image.specs.Standing.{StandsFor}
 use Rattle.plant_image.specs.declared.fault.ImageFault.{ImageFault}
+use Rattle.plant_image.specs.declared.fault.ImageFault.TheVariants as image
 use Rattle.recovery.specs.OldImage.{old_contents, old_fault_of}
 use Rattle.recovery.specs.declared.fault.MigrateFault.{MigrateFault}
 use Rattle.recovery.specs.declared.fault.MigrateFault.TheVariants as migrate
 use Rattle.image_commands.specs.Refusals.{IsRefusedBy, advice_for, is_failure, of_boot, refusal_line}
 use Rattle.image_commands.specs.declared.refusal.ImageRefusal.{ImageRefusal}
-use Rattle.image_commands.specs.declared.refusal.ImageRefusal.TheVariants.{OtherVersion, Memory}
+use Rattle.image_commands.specs.declared.refusal.ImageRefusal.TheVariants as refusal
 use Rattle.image_commands.specs.declared.migrate_ending.MigrateRefusal.{MigrateRefusal}
 use Rattle.image_commands.specs.declared.migrate_ending.MigrateRefusal.TheVariants.{Image, NewSize, NewDisk}
 use Rattle.image_commands.specs.declared.migrate_ending.MigrateEnding.{MigrateEnding}
@@ -32,8 +33,8 @@ migrate_line NewDisk = codes "new: refusal 3 NewDisk"
 
 -- what the refusal of an old image means, and what an operator can do
 abbrev pub old_advice : ImageRefusal → List ℕ
-old_advice OtherVersion = codes "the old image is of no earlier version: go on with it as it is, or with the later version that formatted it"
-old_advice refusal = advice_for refusal
+old_advice (refusal.Image image.OtherVersion) = codes "the old image is of no earlier version: go on with it as it is, or with the later version that formatted it"
+old_advice other = advice_for other
 
 -- the same of any refusal
 abbrev pub migrate_advice : MigrateRefusal → List ℕ
@@ -55,19 +56,19 @@ abbrev pub of_migrate : MigrateFault → MigrateRefusal
 of_migrate (migrate.Old fault) = Image (of_boot fault)
 of_migrate migrate.NewSize = NewSize
 of_migrate migrate.NewDisk = NewDisk
-of_migrate migrate.Memory = Image Memory
+of_migrate migrate.Memory = Image (refusal.Image image.Memory)
 
 -- the refusal where the new image is not booted: its device does not give back what was written, or memory ran out
 abbrev pub of_new : ImageRefusal → MigrateRefusal
-of_new Memory = Image Memory
-of_new refusal = NewDisk
+of_new (refusal.Image image.Memory) = Image (refusal.Image image.Memory)
+of_new other = NewDisk
 
 -- An ending: the old image is refused by what is wrong with it, and nothing is wrong with it at any other.
-abbrev pub IsToldOfMigrate : Option ImageFault → MigrateEnding → Type 0
-IsToldOfMigrate found (Refused (Image refusal)) = IsRefusedBy found refusal
-IsToldOfMigrate found (Refused NewSize) = found ≡ None
-IsToldOfMigrate found (Refused NewDisk) = found ≡ None
-IsToldOfMigrate found Unwritten = found ≡ None
+abbrev pub IsEndingOfMigrate : Option ImageFault → MigrateEnding → Type 0
+IsEndingOfMigrate found (Refused (Image refusal)) = IsRefusedBy found refusal
+IsEndingOfMigrate found (Refused NewSize) = found ≡ None
+IsEndingOfMigrate found (Refused NewDisk) = found ≡ None
+IsEndingOfMigrate found Unwritten = found ≡ None
 
 -- ---- the images
 

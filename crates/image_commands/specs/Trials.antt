@@ -1,4 +1,4 @@
--- What is told of a run that is stopped at each of its writes and syncs.
+-- What is printed of a run that is stopped at each of its writes and syncs.
 use Rattle.std.specs.Prelude.{◌≡◌, ℕ, ◌+◌, ◌*◌, ◌/◌, ◌%◌, Bool, true, false, List, [], ◌∷◌, ◌++◌, codes, decimal, if◌then◌else◌, flat_map, length, slice_get, sum_by, Option, None, Some}
 use Rattle.std.specs.Io.KnownBytes.{Appends}
 use Rattle.disk_model.specs.declared.change.Tear.{Tear}
@@ -15,7 +15,8 @@ use Rattle.crash_explorer.specs.declared.explorer.Trial.{Trial}
 use Rattle.crash_explorer.specs.declared.outcome.Next.{Next}
 use Rattle.crash_explorer.specs.declared.watched.Cut.{Cut}
 use Rattle.crash_explorer.specs.declared.watched.Cut.TheVariants.{Gate, Body, Sync}
-use Rattle.image_commands.specs.Refusals.{of_image, refusal_line}
+use Rattle.image_commands.specs.Refusals.{refusal_line}
+use Rattle.image_commands.specs.declared.refusal.ImageRefusal.TheVariants.{Image}
 
 -- the call of the device that a stop fell in
 abbrev pub cut_text : Cut → List ℕ
@@ -40,7 +41,7 @@ abbrev pub found_text : Found → List ℕ
 found_text (Booted fired) = codes "boots to " ++ decimal fired
 found_text (Refused fault) =
     if is_unformatted fault then codes "reads as never formatted"
-    else codes "does not boot (" ++ refusal_line (of_image fault) ++ codes ")"
+    else codes "does not boot (" ++ refusal_line (Image fault) ++ codes ")"
 
 -- what stands in front of the line of a trial that is not right
 abbrev pub mark_text : Bool → List ℕ

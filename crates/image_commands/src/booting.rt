@@ -1,12 +1,7 @@
 //! How a plant comes to be on a device.
-ghost use Rattle.std.specs.Prelude.{◌≡◌, ◌+◌, true, IfErr, IfOk};
-ghost use Rattle.disk_model.specs.DiskState.{size_of};
-ghost use Rattle.disk_model.specs.Cells.{seen_cells};
-ghost use Rattle.disk_model.specs.declared.cells.TheConstants.{BODY};
-ghost use Rattle.step_core.specs.System.{digest_of, plant_of};
-ghost use Rattle.plant_image.specs.Faults.{fault_of};
-ghost use Rattle.plant_core.specs.Plants.{definition_of, device_of, text_digest, view_of};
-ghost use Rattle.image_commands.specs.Runs.{IsBootedFrom};
+ghost use Rattle.std.specs.Prelude.{◌≡◌, true, IfErr, IfOk};
+ghost use Rattle.image_commands.specs.Seen.{plant_of, digest_of, definition_of, device_of, text_digest, view_of};
+ghost use Rattle.image_commands.specs.Runs.{IsBootedFrom, fault_on};
 ghost use Rattle.image_commands.specs.Refusals.{IsRefusedBy};
 
 use crate::refusal::ImageRefusal;
@@ -21,7 +16,7 @@ use step_core::System;
 const WORKERS: usize = 4;
 
 /// The plant that the device stands for, or why there is none. Then the device is let go.
-#[tactic(auto, using(crate::proofs::Told::refused_as_told))]
+#[tactic(auto, using(crate::proofs::Refused::refused_by_boot))]
 pub fn booted<'s, D: Disk + Drop, R: Threads + Sync>(
     rt: &R,
     alloc: Global,
@@ -32,8 +27,7 @@ pub fn booted<'s, D: Disk + Drop, R: Threads + Sync>(
     ensures digest { IfOk result (λ p. text_digest p ≡ digest_of system.now) }
     ensures booted { IfOk result (λ p. IsBootedFrom (plant_of system.now) (digest_of system.now) (D.state disk) (view_of p)) }
     ensures keeps { IfOk result (λ p. (device_of p).keeps ≡ (D.state disk).keeps) }
-    ensures refused { (D.state disk).keeps ≡ true → IfErr result (IsRefusedBy (fault_of (plant_of system.now) (digest_of system.now)
-        (size_of (D.state disk)) (seen_cells (BODY + 1) (D.state disk)))) }
+    ensures refused { (D.state disk).keeps ≡ true → IfErr result (IsRefusedBy (fault_on (plant_of system.now) (digest_of system.now) (D.state disk))) }
 {
     match boot_par(rt, alloc, disk, system, WORKERS, &Quiet) {
         Ok(plant) => Ok(plant),

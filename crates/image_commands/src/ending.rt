@@ -7,7 +7,7 @@ use text_io::WriteFault;
 pub enum ImageEnding {
     /// The image is refused, or the device or the memory failed. No event was asked of a plant, and nothing was printed.
     Refused(ImageRefusal),
-    /// The device failed in some call of a run, which went on to its end. The answers that were printed tell it.
+    /// The device failed in some call of a run, which went on to its end. The answers that were printed say so.
     Failed,
     /// The output could not be written.
     Unwritten,

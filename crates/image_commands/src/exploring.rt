@@ -1,20 +1,18 @@
 //! Telling what a stop at each moment of a run leaves.
 ghost use Rattle.std.specs.Prelude.{◌≡◌, ◌+◌, ◌≤◌, ◌<◌, ◌^◌, IfOk, OnOk};
 ghost use Rattle.std.specs.Io.KnownBytes.{Appends};
-ghost use Rattle.record_codec.specs.declared.layout.TheConstants.{LEAST_RING, MOST_RING};
-ghost use Rattle.step_core.specs.System.{digest_of, plant_of};
+ghost use Rattle.image_commands.specs.Seen.{plant_of, digest_of, LEAST_RING, MOST_RING};
 ghost use Rattle.image_commands.specs.Trials.{IsExplored, listed_line, wrong_of};
 
-use crate::printing::hand_on;
 use crate::trial_line::{print_explored, print_trial};
 use crash_explorer::{ExploreFault, Explorer, Trial};
 use plant_core::Event;
 use std::alloc::Global;
 use std::io::Write;
 use step_core::System;
-use text_io::WriteFault;
+use text_io::{WriteFault, hand_on};
 
-/// Who is told how far an exploration is.
+/// Who learns how far an exploration is.
 pub trait Progress {
     /// How many writes and syncs the run makes. Nothing was tried yet.
     fn begin(&mut self, stops: u64);

@@ -1,23 +1,19 @@
 //! Making an image.
 ghost use Rattle.std.specs.Prelude.{◌≡◌, ◌≤◌, true, IfErr, IfOk, OnOk, Err};
 ghost use Rattle.std.specs.Io.KnownBytes.{Appends};
-ghost use Rattle.disk_model.specs.DiskState.{size_of};
-ghost use Rattle.record_codec.specs.declared.layout.TheConstants.{LEAST_RING, MOST_RING};
-ghost use Rattle.step_core.specs.System.{digest_of, plant_of};
-ghost use Rattle.recovery.specs.Formatting.{HasFormatted, formatted_size};
+ghost use Rattle.image_commands.specs.Seen.{plant_of, digest_of, LEAST_RING, MOST_RING, HasFormatted, formatted_size, size_of};
 ghost use Rattle.image_commands.specs.Printed.{formatted_line, image_cells};
-ghost use Rattle.image_commands.specs.Endings.{IsToldOfFormat};
+ghost use Rattle.image_commands.specs.Endings.{IsEndingOfFormat};
 ghost use Rattle.image_commands.specs.declared.refusal.ImageRefusal.{ImageRefusal};
 ghost use Rattle.image_commands.specs.declared.ending.ImageEnding.TheVariants.{Refused};
 
 use crate::ending::ImageEnding;
-use crate::printing::hand_on;
 use disk_model::{CELL, Disk};
 use record_codec::ring::device_cells;
 use std::alloc::Global;
 use std::io::Write;
 use step_core::System;
-use text_io::{WriteFault, end_line, print_number, print_text};
+use text_io::{WriteFault, end_line, hand_on, print_number, print_text};
 
 /// How many cells the image of a plant has that has room for so many records.
 fn image_cells(system: &System, ring: u32) -> u64
@@ -50,7 +46,7 @@ pub fn format_image<D: Disk + Drop, W: Write>(
     ensures sized { IfOk result (λ _. size_of (D.state disk) ≡ formatted_size (plant_of system.now) ring) }
     ensures formatted { (D.state disk).keeps ≡ true → IfOk result
         (λ image. HasFormatted (plant_of system.now) (digest_of system.now) ring (D.state image)) }
-    ensures told { IfErr result (IsToldOfFormat (size_of (D.state disk)) (formatted_size (plant_of system.now) ring)) }
+    ensures ending { IfErr result (IsEndingOfFormat (size_of (D.state disk)) (formatted_size (plant_of system.now) ring)) }
     ensures nothing_printed { (refusal : ImageRefusal) → result ≡ Err (Refused refusal) → output.new ≡ output.old }
 {
     let image = match recovery::format(alloc, disk, system, ring) {

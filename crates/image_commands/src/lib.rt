@@ -1,15 +1,16 @@
 //! The commands on images, over any device and any writer.
 //!
 //! An image is a device that stands for a state of a plant. [`format_image`] makes one, [`run_image`] runs a plant on it by the events of a
-//! script, and [`recover_image`] tells where the plant stands. [`migrate_image`] brings an image of the first layout over to a new one. Each
-//! prints what it did, and gives the device back where it ends well; where not, an [`ImageEnding`], or a [`MigrateEnding`], says why, and
-//! the exit status that a program ends with then.
+//! script, and [`recover_image`] prints where the plant stands. [`migrate_image`] brings an image of the first layout over to a new one. Each
+//! prints what it did, and gives the device back if it ends well; if not, an [`ImageEnding`], or a [`MigrateEnding`], says why, and
+//! the exit status that a program ends with then. [`explore_plant`] needs no image: it makes each trial of a run in memory, as `crash_explorer`
+//! does, and prints what each stop leaves.
 //!
 //! What is printed are definitions of `specs/`, and the contracts say that exactly these bytes were appended to a writer whose type says
-//! which bytes it took. Where the device keeps the disk model they are told of the state that the image stands for. No file is opened here.
+//! which bytes it took. If the device keeps the disk model they also say which state the image stands for. No file is opened here.
 //!
-//! - `formatting`, `running`, `recovering`, `migrating`: the four commands, each in a file. `booting`: how a plant comes to be on a device.
-//!   `printing`: when what is printed is handed on.
+//! - `formatting`, `running`, `recovering`, `migrating`, `exploring`: the five commands, each in a file. `booting`: how a plant comes to be on a
+//!   device. `trial_line`: the lines of an exploration.
 //! - `refusal`: why an image is refused, its line, and what an operator can do. `ending`: why a command ends early.
 //!   `migrate_ending`: both where an image is brought over.
 #![tactic(auto)]
@@ -20,7 +21,6 @@ mod exploring;
 mod formatting;
 mod migrate_ending;
 mod migrating;
-mod printing;
 mod recovering;
 mod refusal;
 mod running;
@@ -32,7 +32,6 @@ pub use exploring::{ExploreEnding, Progress, explore_plant};
 pub use formatting::{format_image, image_bytes};
 pub use migrate_ending::{MigrateEnding, MigrateRefusal};
 pub use migrating::migrate_image;
-pub use printing::hand_on;
 pub use recovering::recover_image;
 pub use refusal::ImageRefusal;
 pub use running::run_image;

@@ -1,5 +1,6 @@
 //! Why no image of the first layout is brought over to a new one.
 use crate::refusal::ImageRefusal;
+use plant_image::ImageFault;
 use recovery::MigrateFault;
 use std::fmt;
 use text_io::WriteFault;
@@ -25,7 +26,7 @@ impl MigrateRefusal {
         ensures { result.now ≡ migrate_advice self.now }
     {
         match self {
-            MigrateRefusal::Image(ImageRefusal::OtherVersion) => {
+            MigrateRefusal::Image(ImageRefusal::Image(ImageFault::OtherVersion)) => {
                 "the old image is of no earlier version: go on with it as it is, or with the later version that formatted it"
             }
             MigrateRefusal::Image(refusal) => refusal.advice(),
@@ -43,7 +44,7 @@ impl MigrateRefusal {
         ensures { result ≡ of_new refusal }
     {
         match refusal {
-            ImageRefusal::Memory => MigrateRefusal::Image(ImageRefusal::Memory),
+            ImageRefusal::Image(ImageFault::Memory) => MigrateRefusal::Image(refusal),
             _ => MigrateRefusal::NewDisk,
         }
     }
@@ -75,7 +76,7 @@ impl From<MigrateFault> for MigrateRefusal {
             MigrateFault::Old(fault) => MigrateRefusal::Image(fault.into()),
             MigrateFault::NewSize => MigrateRefusal::NewSize,
             MigrateFault::NewDisk => MigrateRefusal::NewDisk,
-            MigrateFault::Memory => MigrateRefusal::Image(ImageRefusal::Memory),
+            MigrateFault::Memory => MigrateRefusal::Image(ImageRefusal::Image(ImageFault::Memory)),
         }
     }
 }

@@ -1,28 +1,22 @@
 //! Bringing an image of the first layout over to a new one.
 ghost use Rattle.std.specs.Prelude.{◌≡◌, ◌≢◌, ◌+◌, ◌≤◌, ℕ, true, IfErr, IfOk, OnOk, Err, None};
 ghost use Rattle.std.specs.Io.KnownBytes.{Appends};
-ghost use Rattle.disk_model.specs.DiskState.{size_of};
-ghost use Rattle.disk_model.specs.Cells.{seen_cells};
-ghost use Rattle.disk_model.specs.declared.cells.TheConstants.{FIRST_BODY};
-ghost use Rattle.record_codec.specs.declared.layout.TheConstants.{LEAST_RING, MOST_RING};
-ghost use Rattle.step_core.specs.System.{digest_of, plant_of};
 ghost use Rattle.plant_image.specs.Contents.{last_number};
-ghost use Rattle.recovery.specs.Formatting.{formatted_size};
-ghost use Rattle.image_commands.specs.Migrations.{IsToldOfMigrate, StandsForContents, fault_of_old, held_by_old, migrated_line};
+ghost use Rattle.image_commands.specs.Seen.{plant_of, digest_of, LEAST_RING, MOST_RING, formatted_size, size_of, seen_cells, FIRST_BODY};
+ghost use Rattle.image_commands.specs.Migrations.{IsEndingOfMigrate, StandsForContents, fault_of_old, held_by_old, migrated_line};
 ghost use Rattle.image_commands.specs.declared.migrate_ending.MigrateRefusal.{MigrateRefusal};
 ghost use Rattle.image_commands.specs.declared.migrate_ending.MigrateRefusal.TheVariants.{NewSize};
 ghost use Rattle.image_commands.specs.declared.migrate_ending.MigrateEnding.TheVariants.{Refused};
 
 use crate::booting::booted;
 use crate::migrate_ending::{MigrateEnding, MigrateRefusal};
-use crate::printing::hand_on;
 use disk_model::Disk;
 use recovery::migrate;
 use std::alloc::Global;
 use std::io::Write;
 use std::thread::Threads;
 use step_core::System;
-use text_io::{WriteFault, end_line, print_number, print_text};
+use text_io::{WriteFault, end_line, hand_on, print_number, print_text};
 
 /// Brings the image of the first layout that the old device holds over to the new one, with room for so many records, boots the plant from
 /// it, and prints the number of the last record. The old device is only read; whatever the new one held is gone then.
@@ -45,7 +39,7 @@ pub fn migrate_image<R: Threads + Sync, D1: Disk + Drop, D2: Disk + Drop, W: Wri
     ensures stands { (D1.state old).keeps ≡ true → (D2.state new).keeps ≡ true → IfOk result (λ pair. StandsForContents (plant_of system.now)
         (digest_of system.now) (held_by_old (plant_of system.now) (D1.state old)) (D2.state pair.1)) }
     ensures old_same { (D1.state old).keeps ≡ true → IfOk result (λ pair. seen_cells (FIRST_BODY + 1) (D1.state pair.0) ≡ seen_cells (FIRST_BODY + 1) (D1.state old)) }
-    ensures told { (D1.state old).keeps ≡ true → IfErr result (IsToldOfMigrate (fault_of_old (plant_of system.now) (digest_of system.now) (D1.state old))) }
+    ensures ending { (D1.state old).keeps ≡ true → IfErr result (IsEndingOfMigrate (fault_of_old (plant_of system.now) (digest_of system.now) (D1.state old))) }
     ensures new_size { result ≡ Err (Refused NewSize) → size_of (D2.state new) ≢ formatted_size (plant_of system.now) ring }
     ensures nothing_printed { (refusal : MigrateRefusal) → result ≡ Err (Refused refusal) → output.new ≡ output.old }
 {

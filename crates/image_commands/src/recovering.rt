@@ -1,28 +1,23 @@
 //! Telling where a plant stands by its image.
 ghost use Rattle.std.specs.Prelude.{◌≡◌, ◌+◌, true, IfErr, IfOk, OnOk, Err};
 ghost use Rattle.std.specs.Io.KnownBytes.{Appends};
-ghost use Rattle.disk_model.specs.DiskState.{size_of};
-ghost use Rattle.disk_model.specs.Cells.{seen_cells};
-ghost use Rattle.disk_model.specs.declared.cells.TheConstants.{BODY};
-ghost use Rattle.step_core.specs.System.{digest_of, plant_of};
-ghost use Rattle.plant_core.specs.View.{View};
-ghost use Rattle.plant_image.specs.Faults.{fault_of};
 ghost use Rattle.script_lines.specs.Answers.{standing_text};
+ghost use Rattle.image_commands.specs.Seen.{plant_of, digest_of, View, seen_cells, BODY};
 ghost use Rattle.image_commands.specs.Printed.{recovered_text};
-ghost use Rattle.image_commands.specs.Runs.{StandsAsRead};
-ghost use Rattle.image_commands.specs.Endings.{IsOfNoRun, IsToldOf};
+ghost use Rattle.image_commands.specs.Runs.{StandsAsRead, fault_on};
+ghost use Rattle.image_commands.specs.Endings.{IsOfNoRun, IsEndingOf};
 ghost use Rattle.image_commands.specs.declared.refusal.ImageRefusal.{ImageRefusal};
 ghost use Rattle.image_commands.specs.declared.ending.ImageEnding.TheVariants.{Refused};
 
 use crate::booting::booted;
 use crate::ending::ImageEnding;
-use crate::printing::hand_on;
 use disk_model::Disk;
 use script_lines::print_standing;
 use std::alloc::Global;
 use std::io::Write;
 use std::thread::Threads;
 use step_core::System;
+use text_io::hand_on;
 
 /// Boots the plant of the system from the device, after any stop, and prints where it stands: the state of each atom, and how far it is.
 pub fn recover_image<R: Threads + Sync, D: Disk + Drop, W: Write>(
@@ -36,8 +31,7 @@ pub fn recover_image<R: Threads + Sync, D: Disk + Drop, W: Write>(
         (recovered_text (plant_of system.now) (seen_cells (BODY + 1) (D.state disk)))) }
     ensures shape { OnOk result ((v : View) × Appends (W.contents output.old) (W.contents output.new) (standing_text (plant_of system.now) v)) }
     ensures stands { (D.state disk).keeps ≡ true → IfOk result (λ image. StandsAsRead (plant_of system.now) (digest_of system.now) (D.state disk) (D.state image)) }
-    ensures told { (D.state disk).keeps ≡ true → IfErr result (IsToldOf (fault_of (plant_of system.now) (digest_of system.now)
-        (size_of (D.state disk)) (seen_cells (BODY + 1) (D.state disk)))) }
+    ensures ending { (D.state disk).keeps ≡ true → IfErr result (IsEndingOf (fault_on (plant_of system.now) (digest_of system.now) (D.state disk))) }
     ensures no_run { IfErr result IsOfNoRun }
     ensures nothing_printed { (refusal : ImageRefusal) → result ≡ Err (Refused refusal) → output.new ≡ output.old }
 {

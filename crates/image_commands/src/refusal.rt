@@ -7,24 +7,10 @@ use thiserror::Error;
 /// Why an image is refused, or what failed before a command on it began.
 #[derive(Clone, Copy, Debug, PartialEq, Eq, Error)]
 pub enum ImageRefusal {
-    /// The first cell is empty, or no identity begins in it.
-    NotFormatted,
-    /// It has another version of the layout.
-    OtherVersion,
-    /// It was formatted for another plant text.
-    OtherSystem,
-    /// It has not the size that the plant and the ring ask for.
-    WrongSize,
-    /// The cell with this number holds what may not stand there, or is empty where something must stand.
-    Damaged(u64),
-    /// Firings of the atom with this number are missing.
-    Gap(u16),
-    /// The record with the first number fires what the state of the atom with the second number does not offer.
-    NotEnabled(u64, u16),
+    /// The image stands for no state of the plant, has not the size that the plant and the ring ask for, or memory ran out.
+    Image(ImageFault),
     /// The device failed.
     Disk,
-    /// Memory ran out.
-    Memory,
 }
 
 impl ImageRefusal {
@@ -35,7 +21,10 @@ impl ImageRefusal {
     pub fn is_failure(&self) -> bool
         ensures { result ≡ is_failure self.now }
     {
-        matches!(self, ImageRefusal::Disk | ImageRefusal::Memory)
+        matches!(
+            self,
+            ImageRefusal::Disk | ImageRefusal::Image(ImageFault::Memory)
+        )
     }
 
     /// What the refusal means, and what an operator can do.
@@ -43,29 +32,29 @@ impl ImageRefusal {
         ensures { result.now ≡ advice_for self.now }
     {
         match self {
-            ImageRefusal::NotFormatted => {
-                "the file was never formatted, or formatting it was cut short: format it, or name the right file"
+            ImageRefusal::Image(ImageFault::NotFormatted) => {
+                "no whole image begins in the file: keep a copy of it, and name the right file; to format it destroys what it holds"
             }
-            ImageRefusal::OtherVersion => {
+            ImageRefusal::Image(ImageFault::OtherVersion) => {
                 "if an earlier version of this program formatted the image, bring it over to a new one by 'bip_run migrate'; if a later one did, go on with that version"
             }
-            ImageRefusal::OtherSystem => {
+            ImageRefusal::Image(ImageFault::OtherSystem) => {
                 "the image was formatted for another plant text: use that very text, byte for byte, or another image"
             }
-            ImageRefusal::WrongSize => {
+            ImageRefusal::Image(ImageFault::WrongSize) => {
                 "the file has not the size of this image: it was cut short, or is for another plant or another --ring; use another file"
             }
-            ImageRefusal::Damaged(_) => {
+            ImageRefusal::Image(ImageFault::Damaged(_)) => {
                 "a cell does not hold what was written to it: keep the file, bring the real plant to its first state, and format another image"
             }
-            ImageRefusal::Gap(_) => {
+            ImageRefusal::Image(ImageFault::Gap(_)) => {
                 "firings of an atom are missing: keep the file, bring the real plant to its first state, and format another image"
             }
-            ImageRefusal::NotEnabled(_, _) => {
+            ImageRefusal::Image(ImageFault::NotEnabled(_, _)) => {
                 "a record fires what its atom could not do: keep the file, bring the real plant to its first state, and format another image"
             }
             ImageRefusal::Disk => "the disk failed: see to it, and give the command again",
-            ImageRefusal::Memory => {
+            ImageRefusal::Image(ImageFault::Memory) => {
                 "the system has too little memory left: end other programs, and give the command again"
             }
         }
@@ -80,37 +69,26 @@ impl fmt::Display for ImageRefusal {
 
     fn fmt<W: fmt::Write>(&self, f: &mut fmt::Formatter<W>) -> fmt::Result {
         match self {
-            ImageRefusal::NotFormatted => f.write_str("image: refusal 1 NotFormatted"),
-            ImageRefusal::OtherVersion => f.write_str("image: refusal 2 OtherVersion"),
-            ImageRefusal::OtherSystem => f.write_str("image: refusal 3 OtherSystem"),
-            ImageRefusal::WrongSize => f.write_str("image: refusal 4 WrongSize"),
-            ImageRefusal::Damaged(cell) => write!(f, "image: refusal 5 Damaged({cell})"),
-            ImageRefusal::Gap(atom) => write!(f, "image: refusal 6 Gap({atom})"),
-            ImageRefusal::NotEnabled(number, atom) => {
+            ImageRefusal::Image(ImageFault::NotFormatted) => f.write_str(
+                "image: refusal 1 NotFormatted",
+            ),
+            ImageRefusal::Image(ImageFault::OtherVersion) => f.write_str(
+                "image: refusal 2 OtherVersion",
+            ),
+            ImageRefusal::Image(ImageFault::OtherSystem) => f.write_str(
+                "image: refusal 3 OtherSystem",
+            ),
+            ImageRefusal::Image(ImageFault::WrongSize) => f.write_str("image: refusal 4 WrongSize"),
+            ImageRefusal::Image(ImageFault::Damaged(cell)) => write!(
+                f,
+                "image: refusal 5 Damaged({cell})"
+            ),
+            ImageRefusal::Image(ImageFault::Gap(atom)) => write!(f, "image: refusal 6 Gap({atom})"),
+            ImageRefusal::Image(ImageFault::NotEnabled(number, atom)) => {
                 write!(f, "image: refusal 7 NotEnabled({number}, {atom})")
             }
             ImageRefusal::Disk => f.write_str("image: refusal 8 Disk"),
-            ImageRefusal::Memory => f.write_str("image: refusal 9 Memory"),
-        }
-    }
-}
-
-impl From<ImageFault> for ImageRefusal {
-    ghost use Rattle.std.specs.Prelude.{◌≡◌};
-    ghost use Rattle.image_commands.specs.Refusals.{of_image};
-
-    ghost from_gives = { λ fault refusal. refusal ≡ of_image fault };
-
-    fn from(fault: ImageFault) -> Self {
-        match fault {
-            ImageFault::NotFormatted => ImageRefusal::NotFormatted,
-            ImageFault::OtherVersion => ImageRefusal::OtherVersion,
-            ImageFault::OtherSystem => ImageRefusal::OtherSystem,
-            ImageFault::WrongSize => ImageRefusal::WrongSize,
-            ImageFault::Damaged(cell) => ImageRefusal::Damaged(cell),
-            ImageFault::Gap(atom) => ImageRefusal::Gap(atom),
-            ImageFault::NotEnabled(number, atom) => ImageRefusal::NotEnabled(number, atom),
-            ImageFault::Memory => ImageRefusal::Memory,
+            ImageRefusal::Image(ImageFault::Memory) => f.write_str("image: refusal 9 Memory"),
         }
     }
 }
@@ -123,7 +101,7 @@ impl From<BootFault> for ImageRefusal {
 
     fn from(fault: BootFault) -> Self {
         match fault {
-            BootFault::Image(fault) => fault.into(),
+            BootFault::Image(fault) => ImageRefusal::Image(fault),
             BootFault::Disk => ImageRefusal::Disk,
         }
     }
@@ -137,9 +115,9 @@ impl From<FormatFault> for ImageRefusal {
 
     fn from(fault: FormatFault) -> Self {
         match fault {
-            FormatFault::WrongSize => ImageRefusal::WrongSize,
+            FormatFault::WrongSize => ImageRefusal::Image(ImageFault::WrongSize),
             FormatFault::Disk => ImageRefusal::Disk,
-            FormatFault::Memory => ImageRefusal::Memory,
+            FormatFault::Memory => ImageRefusal::Image(ImageFault::Memory),
         }
     }
 }

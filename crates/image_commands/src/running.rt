@@ -1,13 +1,8 @@
 //! Running a plant on its image.
-ghost use Rattle.std.specs.Prelude.{◌≡◌, ◌+◌, true, IfErr, IfOk, Err};
-ghost use Rattle.disk_model.specs.DiskState.{DiskState, size_of};
-ghost use Rattle.disk_model.specs.Cells.{seen_cells};
-ghost use Rattle.disk_model.specs.declared.cells.TheConstants.{BODY};
-ghost use Rattle.step_core.specs.System.{digest_of, plant_of};
-ghost use Rattle.plant_image.specs.Faults.{fault_of};
-ghost use Rattle.plant_core.specs.View.{View};
-ghost use Rattle.image_commands.specs.Runs.{HasRunOn, IsRunOn};
-ghost use Rattle.image_commands.specs.Endings.{IsToldOf};
+ghost use Rattle.std.specs.Prelude.{◌≡◌, true, IfErr, IfOk, Err};
+ghost use Rattle.image_commands.specs.Seen.{plant_of, digest_of, View, DiskState};
+ghost use Rattle.image_commands.specs.Runs.{HasRunOn, IsRunOn, fault_on};
+ghost use Rattle.image_commands.specs.Endings.{IsEndingOf};
 ghost use Rattle.image_commands.specs.declared.refusal.ImageRefusal.{ImageRefusal};
 ghost use Rattle.image_commands.specs.declared.ending.ImageEnding.TheVariants.{Failed, Refused};
 
@@ -16,14 +11,15 @@ use crate::ending::ImageEnding;
 use crate::refusal::ImageRefusal;
 use disk_model::Disk;
 use plant_core::{Event, Hands};
+use plant_image::ImageFault;
 use script_lines::run_script;
 use std::alloc::Global;
 use std::io::Write;
 use std::thread::Threads;
 use step_core::System;
 
-/// Boots the plant of the system from the device, after any stop, asks the events of it, one after another, and prints the answer of each; behind
-/// them, where the plant then stands. What was printed is handed on before each event that makes calls of the device, behind the answer,
+/// Boots the plant of the system from the device, after any stop, asks the events of it, one after another, and prints the answer of each; after
+/// them, where the plant then stands. What was printed is handed on before each event that makes calls of the device, after the answer,
 /// and at the end. The hands of the atoms are empty at first; they are made before the device is asked for anything.
 pub fn run_image<R: Threads + Sync, D: Disk + Drop, W: Write>(
     rt: &R,
@@ -35,13 +31,12 @@ pub fn run_image<R: Threads + Sync, D: Disk + Drop, W: Write>(
 ) -> Result<D, ImageEnding>
     ensures ran { IfOk result (λ image. HasRunOn (plant_of system.now) (digest_of system.now) (D.state disk) events.now (D.state image) (W.contents output.old) (W.contents output.new)) }
     ensures failed { result ≡ Err Failed → (after : View) × ((image : DiskState) × IsRunOn (plant_of system.now) (digest_of system.now) (D.state disk) events.now true after image (W.contents output.old) (W.contents output.new)) }
-    ensures told { (D.state disk).keeps ≡ true → IfErr result (IsToldOf (fault_of (plant_of system.now) (digest_of system.now)
-        (size_of (D.state disk)) (seen_cells (BODY + 1) (D.state disk)))) }
+    ensures ending { (D.state disk).keeps ≡ true → IfErr result (IsEndingOf (fault_on (plant_of system.now) (digest_of system.now) (D.state disk))) }
     ensures nothing_printed { (refusal : ImageRefusal) → result ≡ Err (Refused refusal) → output.new ≡ output.old }
 {
     let mut hands = match Hands::new(alloc, system.atoms().len()) {
         Ok(hands) => hands,
-        Err(_) => return Err(ImageEnding::Refused(ImageRefusal::Memory)),
+        Err(_) => return Err(ImageEnding::Refused(ImageRefusal::Image(ImageFault::Memory))),
     };
     let mut plant = match booted(rt, alloc, system, disk) {
         Ok(plant) => plant,

@@ -73,7 +73,7 @@ fn print_found<W: Write>(found: Found, output: &mut W) -> Result<(), WriteFault>
             print_text(output, b"reads as never formatted")
         }
         Found::Refused(fault) => {
-            write!(output, "does not boot ({})", ImageRefusal::from(fault))?;
+            write!(output, "does not boot ({})", ImageRefusal::Image(fault))?;
             Ok(())
         }
     }

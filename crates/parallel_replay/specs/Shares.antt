@@ -4,8 +4,8 @@ use Rattle.std.specs.declared.alloc.AllocError.{AllocError}
 use Rattle.petri_atom.specs.Definition.{AtomDefinition, Fits}
 use Rattle.step_core.specs.Plant.{PlantDefinition}
 use Rattle.plant_image.specs.Contents.{Contents, replayed}
-use Rattle.plant_image.specs.Faults.{replay_told}
-use Rattle.plant_image.specs.Reading.{IsTold}
+use Rattle.plant_image.specs.Faults.{fault_of_replay}
+use Rattle.plant_image.specs.Reading.{IsFault}
 use Rattle.plant_image.specs.declared.fault.ImageFault.{ImageFault}
 use Rattle.plant_image.specs.declared.replaying.Reached.{Reached}
 use Rattle.parallel_replay.specs.declared.share.Share.{Share}
@@ -13,7 +13,7 @@ use Rattle.parallel_replay.specs.declared.share.Share.{Share}
 -- What was found of an atom is what its replay gives: the place where the records bring it, or why they bring it nowhere.
 abbrev pub IsFoundOf : Contents → ℕ → AtomDefinition → Result Reached ImageFault → Type 0
 IsFoundOf c n a (Ok reached) = (replayed c n a ≡ Ok (record { state = reached.state; count = reached.count })) × Fits a reached.state
-IsFoundOf c n a (Err fault) = IsTold (replay_told n (replayed c n a)) fault
+IsFoundOf c n a (Err fault) = IsFault (fault_of_replay n (replayed c n a)) fault
 
 -- the place of an atom has what was found of it
 abbrev pub IsPlaced : Contents → ℕ → AtomDefinition → Option (Result Reached ImageFault) → Type 0

@@ -1,30 +1,30 @@
 //! What comes of all shares.
 ghost use Rattle.std.specs.Prelude.{◌≡◌, ◌≤◌};
-ghost use Rattle.step_core.specs.Rules.{first_told};
+ghost use Rattle.step_core.specs.Rules.{first_fault_in};
 ghost use Rattle.step_core.specs.System.{plant_of};
 ghost use Rattle.plant_image.specs.Faults.{replay_fault};
-ghost use Rattle.plant_image.specs.Reading.{AreEnds, IsSound, Tells, contents_in};
+ghost use Rattle.plant_image.specs.Reading.{IsLed, IsSound, Tells, contents_in};
 ghost use Rattle.parallel_replay.specs.Shares.{AreShares};
 
 use crate::share::Share;
-use plant_image::{Ends, Held, ImageFault};
+use plant_image::{Held, ImageFault, Standing};
 use std::alloc::{AllocError, Global};
 use step_core::{MAX_ATOMS, PlantState, System};
 
-/// Puts together what the workers found, in the order of the atoms. So the fault that is told is that of the least atom, whichever a worker
+/// Puts what the workers found together with what was read, in the order of the atoms. So the fault that is answered is that of the least atom, whichever a worker
 /// met first.
 pub(crate) fn gather(
     alloc: Global,
     system: &System,
-    held: &Held,
+    held: Held,
     workers: usize,
     shares: &[Result<Share, AllocError>],
-) -> Result<Ends, ImageFault>
+) -> Result<Standing, ImageFault>
     requires some { 1 ≤ workers }
-    requires sound { IsSound (plant_of system.now) (contents_in held.now) }
-    requires shares { AreShares (plant_of system.now) (contents_in held.now) workers shares.now }
-    ensures { Tells (first_told (replay_fault (contents_in held.now)) 0 (plant_of system.now).atoms)
-        (AreEnds (plant_of system.now) (contents_in held.now)) result }
+    requires sound { IsSound (plant_of system.now) (contents_in held) }
+    requires shares { AreShares (plant_of system.now) (contents_in held) workers shares.now }
+    ensures { Tells (first_fault_in (replay_fault (contents_in held)) 0 (plant_of system.now).atoms)
+        (IsLed (plant_of system.now) (contents_in held)) result }
 {
     system.keeps_its_rules();
     let mut states = PlantState::init(alloc, system)?;
@@ -45,5 +45,9 @@ pub(crate) fn gather(
             Err(fault) => return Err(*fault),
         }
     }
-    Ok(Ends { states, counts })
+    Ok(Standing {
+        held,
+        states,
+        counts,
+    })
 }

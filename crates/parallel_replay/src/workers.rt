@@ -10,7 +10,7 @@ use crate::gathering::gather;
 use crate::share::{Share, replay_share};
 use crate::turn::Turn;
 use disk_model::BODY;
-use plant_image::{Held, ImageFault, Standing, read_cells, stand};
+use plant_image::{Held, ImageFault, Standing, judge_standing, read_cells};
 use std::alloc::{AllocError, Global};
 use std::thread;
 use std::thread::Threads;
@@ -53,8 +53,8 @@ fn lead_by<R: Threads + Sync, T: Turn>(
     ensures { Tells (leading_fault (plant_of system.now) (contents_in held)) (IsLed (plant_of system.now) (contents_in held)) result }
 {
     let shares = replay_shares(rt, alloc, system, &held, workers, turn)?;
-    let ends = gather(alloc, system, &held, workers, &shares)?;
-    stand(system, held, ends)
+    let standing = gather(alloc, system, held, workers, &shares)?;
+    judge_standing(system, standing)
 }
 
 /// The shares of all workers, by the workers' numbers.

@@ -1,3 +1,3 @@
-pub mod Passing
-pub mod Seeking
+mod Passing
+mod Seeking
 mod Rows

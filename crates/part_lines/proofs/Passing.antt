@@ -3,7 +3,7 @@ use Rattle.std.proofs.Common.{◌≡◌, ◌∙◌, ap, sym, ℕ, List, [], ◌�
 use Rattle.part_lines.specs.Table.{entry_of, next_number, entries_from}
 use Rattle.part_lines.specs.declared.table.PartLine.{PartLine}
 
--- the entry of the next line is behind those before it, and the entries of the lines behind it are left
+-- the entry of the next line is after those before it, and the entries of the lines after it are left
 pub line-passed : (entries next : List PartLine) (number after : ℕ) (lines rest : List (List ℕ)) (line : List ℕ) (all : List PartLine)
     → lines ≡ line ∷ rest → next ≡ entries ++ entry_of number line → after ≡ next_number number
     → entries ++ entries_from number lines ≡ all → next ++ entries_from after rest ≡ all

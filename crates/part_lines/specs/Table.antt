@@ -1,18 +1,18 @@
--- The table of a text: an entry for each line that tells a part.
+-- The table of a text: an entry for each line that adds a part.
 use Rattle.std.specs.Prelude.{ℕ, ◌+◌, min, List, [], ◌∷◌, ◌++◌, Option, None}
 use Rattle.std.specs.Option.{option_map_or}
+use Rattle.plant_words.specs.LineKinds.{kind_in}
 use Rattle.plant_words.specs.Lines.{lines_of}
 use Rattle.plant_words.specs.Words.{words_of}
-use Rattle.part_lines.specs.Kind.{kind_in}
-use Rattle.part_lines.specs.declared.kind.PartKind.{PartKind}
+use Rattle.plant_words.specs.declared.line_kind.LineKind.{LineKind}
 use Rattle.part_lines.specs.declared.table.PartLine.{PartLine}
 
--- the kind of part that the words of a line tell, by the first of them
-abbrev pub kind_of_words : List (List ℕ) → Option PartKind
+-- the kind of part that the words of a line add, by the first of them
+abbrev pub kind_of_words : List (List ℕ) → Option LineKind
 kind_of_words [] = None
 kind_of_words (word ∷ words) = kind_in word
 
--- the entry of the line with a number, where it tells a part
+-- the entry of the line with a number, if it adds a part
 abbrev pub entry_of : ℕ → List ℕ → List PartLine
 entry_of number line =
     option_map_or (λ kind. record { kind = kind; line = number } ∷ []) (kind_of_words (words_of line)) []

@@ -1,24 +1,24 @@
-//! The table of a text: an entry for each line that tells a part.
+//! The table of a text: an entry for each line that adds a part.
 ghost use Rattle.std.specs.Prelude.{◌≡◌, ◌++◌, IfOk, OnOk};
 ghost use Rattle.plant_words.specs.Words.{words_of};
 ghost use Rattle.part_lines.specs.Table.{entry_of, kind_of_words, part_lines};
 ghost use Rattle.part_lines.specs.Lookup.{rule_lines};
 
-use crate::kind::PartKind;
-use plant_words::{Lines, Words};
+use crate::kind::is_same_kind;
+use plant_words::{LineKind, Lines, RuleKind, Words};
 use std::alloc::{AllocError, Global};
 use std::marker::Model;
 
-/// A line that tells a part: the kind of the part, and the number of the line, from 1.
+/// A line that adds a part: the kind of the part, and the number of the line, from 1.
 #[derive(Clone, Copy, Debug, PartialEq, Eq)]
 pub struct PartLine {
     /// The kind of the part.
-    pub kind: PartKind,
+    pub kind: LineKind,
     /// The number of the line, from 1; 4,294,967,295 for each line past it, which no plant text has.
     pub line: u32,
 }
 
-/// Where the parts of a plant stand in its text. In a contract it is the list of the lines that tell parts.
+/// Where the parts of a plant stand in its text. In a contract it is the list of the lines that add parts.
 #[derive(Drop)]
 pub struct PartLines {
     pub(crate) entries: Vec<PartLine>,
@@ -50,7 +50,7 @@ pub fn rule_lines(alloc: Global, text: &[u8]) -> Result<Vec<u32>, AllocError>
 {
     entries_of(alloc, text)?
         .iter()
-        .filter(|entry| entry.kind.is(PartKind::Rule))
+        .filter(|entry| is_same_kind(entry.kind, LineKind::Rule(RuleKind::Priority)))
         .map(|entry| entry.line)
         .collect(alloc)
 }
@@ -69,7 +69,7 @@ fn entries_of(alloc: Global, text: &[u8]) -> Result<Vec<PartLine>, AllocError>
     Ok(entries)
 }
 
-/// Puts an entry for the line behind the others, where it tells a part.
+/// Puts an entry for the line after the others, if it adds a part.
 fn push_line(entries: &mut Vec<PartLine>, number: u32, line: &[u8]) -> Result<(), AllocError>
     ensures { OnOk result (entries.new.items ≡ entries.old.items ++ entry_of number line.now) }
 {
@@ -79,12 +79,12 @@ fn push_line(entries: &mut Vec<PartLine>, number: u32, line: &[u8]) -> Result<()
     Ok(())
 }
 
-/// The kind of part that the line tells, if it tells one.
-fn kind_of(line: &[u8]) -> Option<PartKind>
+/// The kind of part that the line adds, if it adds one.
+fn kind_of(line: &[u8]) -> Option<LineKind>
     ensures { result ≡ kind_of_words (words_of line.now) }
 {
     match Words::new(line).next_word() {
-        Some(word) => PartKind::of(word),
+        Some(word) => LineKind::of(word),
         None => None,
     }
 }

@@ -1,3 +1,3 @@
-pub mod Seeking
-pub mod Telling
+mod Seeking
+pub mod TokenTexts
 mod Rows

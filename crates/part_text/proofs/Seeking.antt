@@ -7,12 +7,12 @@ use Rattle.connector_tree.specs.declared.tree.Child.{Child}
 use Rattle.connector_tree.specs.declared.tree.Port.{Port}
 use Rattle.part_text.specs.Sought.{sought, found}
 use Rattle.part_text.specs.declared.leaf.Sought.{Sought}
-use Rattle.part_text.specs.declared.leaf.Sought.TheVariants.{Found, Behind}
+use Rattle.part_text.specs.declared.leaf.Sought.TheVariants.{Found, After}
 
 -- what is sought further is sought among these
 abbrev pub further : Sought → List Port → Sought
 further (Found port) ports = Found port
-further (Behind number) ports = sought number ports
+further (After number) ports = sought number ports
 
 -- among two lists a leaf is sought in the first and then in the second
 pub sought-further : (number : ℕ) (xs ys : List Port) → sought number (xs ++ ys) ≡ further (sought number xs) ys

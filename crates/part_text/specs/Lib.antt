@@ -1,3 +1,4 @@
+pub mod Seen
 pub mod Expression
 pub mod Sought
 pub mod Export

@@ -18,7 +18,7 @@ side_word plant (One connector mask) = wire_name plant connector ++ codes ":" ++
 abbrev pub sides_text : PlantDefinition → Side → Side → List ℕ
 sides_text plant left right = side_word plant left ++ codes " < " ++ side_word plant right
 
--- the name of the atom with a number, and of a place of it; empty where it is not there
+-- the name of the atom with a number, and of a place of it; empty if it is not there
 abbrev pub atom_name : List AtomDefinition → ℕ → List ℕ
 atom_name atoms atom = option_map_or (λ a. a.name) (slice_get atoms atom) []
 

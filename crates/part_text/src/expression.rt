@@ -1,7 +1,7 @@
 //! Expressions as the plant text writes them.
-ghost use Rattle.std.specs.Prelude.{◌≡◌, OnOk};
-ghost use Rattle.std.specs.Io.KnownBytes.{Appends};
-ghost use Rattle.petri_atom.specs.Expression.{tree_of};
+ghost use Rattle.std.specs.Prelude.{◌≡◌};
+ghost use Rattle.text_io.specs.Printing.{Prints};
+ghost use Rattle.part_text.specs.Seen.{tree_of};
 ghost use Rattle.part_text.specs.Expression.{expression_text, is_one, operator_word};
 
 use crate::names::Names;
@@ -15,8 +15,7 @@ pub fn print_expression<V, N: Names<V>, W: Write>(
     names: &N,
     output: &mut W,
 ) -> Result<(), WriteFault>
-    ensures { OnOk result (Appends (W.contents output.old) (W.contents output.new)
-        (expression_text (N.name_of names.now) (tree_of expression.now))) }
+    ensures { Prints result (W.contents output.old) (W.contents output.new) (expression_text (N.name_of names.now) (tree_of expression.now)) }
 {
     match expression {
         Expression::Number(number) => print_signed(output, *number),

@@ -10,17 +10,17 @@ use connector_tree::{Child, Connector, Node, Port};
 pub(crate) enum Sought {
     /// It is found.
     Found(Port),
-    /// It stands further behind, and has this number there.
-    Behind(usize),
+    /// It stands further on, and has this number there.
+    After(usize),
 }
 
-/// The leaf of the connector with this number; `None` where it is not there.
+/// The leaf of the connector with this number; `None` if it is not there.
 pub fn leaf_at(connector: &Connector, number: usize) -> Option<Port>
     ensures { result ≡ slice_get (leaves (tree_of connector.now)) number }
 {
     match seek(&connector.root, number) {
         Sought::Found(port) => Some(port),
-        Sought::Behind(_) => None,
+        Sought::After(_) => None,
     }
 }
 
@@ -33,10 +33,10 @@ fn seek(children: &[Child], number: usize) -> Sought
     for child in children {
         match seek_in(&child.node, left) {
             Sought::Found(port) => return Sought::Found(port),
-            Sought::Behind(later) => left = later,
+            Sought::After(later) => left = later,
         }
     }
-    Sought::Behind(left)
+    Sought::After(left)
 }
 
 /// Seeks a leaf among those of a node of a tree.
@@ -51,7 +51,7 @@ fn seek_in(node: &Node, number: usize) -> Sought
                 port: *port,
             };
             match number.checked_sub(1) {
-                Some(later) => Sought::Behind(later),
+                Some(later) => Sought::After(later),
                 None => Sought::Found(port),
             }
         }

@@ -1,7 +1,7 @@
 //! How the variables of expressions are named.
-ghost use Rattle.std.specs.Prelude.{◌≡◌, ◌++◌, List, ℕ, codes, length, OnOk, map};
-ghost use Rattle.std.specs.Io.KnownBytes.{Appends};
-ghost use Rattle.petri_atom.specs.Atom.{definition_of};
+ghost use Rattle.std.specs.Prelude.{◌≡◌, ◌++◌, List, ℕ, codes, length, map};
+ghost use Rattle.text_io.specs.Printing.{Prints};
+ghost use Rattle.part_text.specs.Seen.{definition_of};
 ghost use Rattle.part_text.specs.Export.{exported_name, variable_of_port};
 
 use crate::leaf::leaf_at;
@@ -17,7 +17,7 @@ pub trait Names<V> {
 
     /// Prints the name of one variable.
     fn print_name<W: Write>(&self, variable: &V, output: &mut W) -> Result<(), WriteFault>
-        ensures { OnOk result (Appends (W.contents output.old) (W.contents output.new) (name_of self.now variable.now)) };
+        ensures { Prints result (W.contents output.old) (W.contents output.new) (name_of self.now variable.now) };
 
     /// How many bytes the name of one variable has.
     fn name_length(&self, variable: &V) -> usize
@@ -78,15 +78,14 @@ impl Names<Export> for Exports<'_> {
     }
 }
 
-/// Prints a variable that a port exports behind the name of its atom; nothing where the atom is not there.
+/// Prints a variable that a port exports after the name of its atom; nothing if the atom is not there.
 fn print_variable_of_port<W: Write>(
     atoms: &[Atom],
     port: Port,
     export: u8,
     output: &mut W,
 ) -> Result<(), WriteFault>
-    ensures { OnOk result (Appends (W.contents output.old) (W.contents output.new)
-        (variable_of_port (map definition_of atoms.now) port export)) }
+    ensures { Prints result (W.contents output.old) (W.contents output.new) (variable_of_port (map definition_of atoms.now) port export) }
 {
     match atoms.get(usize::from(port.atom)) {
         Some(atom) => print_variable_of_atom(atom, port.port, export, output),
@@ -94,22 +93,21 @@ fn print_variable_of_port<W: Write>(
     }
 }
 
-/// Prints a variable that a port of the atom exports behind the name of the atom.
+/// Prints a variable that a port of the atom exports after the name of the atom.
 fn print_variable_of_atom<W: Write>(
     atom: &Atom,
     port: u16,
     export: u8,
     output: &mut W,
 ) -> Result<(), WriteFault>
-    ensures { OnOk result (Appends (W.contents output.old) (W.contents output.new)
-        ((definition_of atom.now).name ++ codes "." ++ exported_name (definition_of atom.now) port export)) }
+    ensures { Prints result (W.contents output.old) (W.contents output.new) ((definition_of atom.now).name ++ codes "." ++ exported_name (definition_of atom.now) port export) }
 {
     print_text(output, atom.name().as_bytes())?;
     print_text(output, b".")?;
     print_text(output, exported_name(atom, port, export))
 }
 
-/// How many bytes the name of a variable that a port exports has, behind that of its atom; 0 where the atom is not there.
+/// How many bytes the name of a variable that a port exports has, after that of its atom; 0 if the atom is not there.
 fn length_of_port(atoms: &[Atom], port: Port, export: u8) -> usize
     ensures { result ≡ length (variable_of_port (map definition_of atoms.now) port export) }
 {
@@ -129,7 +127,7 @@ pub(crate) fn length_of_both(first: &[u8], second: &[u8]) -> usize
     first.len() + 1 + second.len()
 }
 
-/// The name of a variable that a port exports, by its place among those; empty where it exports no such one.
+/// The name of a variable that a port exports, by its place among those; empty if it exports no such one.
 fn exported_name(atom: &Atom, port: u16, export: u8) -> &[u8]
     ensures { result.now ≡ exported_name (definition_of atom.now) port export }
 {

@@ -1,10 +1,9 @@
 //! Priority rules as the plant text writes them.
-ghost use Rattle.std.specs.Prelude.{◌++◌, codes, OnOk};
-ghost use Rattle.std.specs.Io.KnownBytes.{Appends};
+ghost use Rattle.std.specs.Prelude.{◌++◌, codes};
 ghost use Rattle.step_core.specs.Plant.{wire_name};
-ghost use Rattle.step_core.specs.System.{plant_of};
 ghost use Rattle.std.specs.Prelude.{◌≡◌, map};
-ghost use Rattle.petri_atom.specs.Atom.{definition_of};
+ghost use Rattle.text_io.specs.Printing.{Prints};
+ghost use Rattle.part_text.specs.Seen.{definition_of, plant_of};
 ghost use Rattle.part_text.specs.Rule.{atom_name, condition_text, name_of_place, place_name, rule_text, side_word, sides_text};
 
 use petri_atom::Atom;
@@ -13,11 +12,10 @@ use std::io::Write;
 use step_core::System;
 use text_io::{WriteFault, print_number, print_text};
 
-/// Prints a rule as the words of its line: `prio LEFT < RIGHT`, with ` when ATOM at PLACE` where it has a condition, or `maximal NAME`,
+/// Prints a rule as the words of its line: `prio LEFT < RIGHT`, with ` when ATOM at PLACE` if it has a condition, or `maximal NAME`,
 /// with no end of the line.
 pub fn print_rule<W: Write>(system: &System, rule: Rule, output: &mut W) -> Result<(), WriteFault>
-    ensures { OnOk result (Appends (W.contents output.old) (W.contents output.new)
-        (rule_text (plant_of system.now) rule)) }
+    ensures { Prints result (W.contents output.old) (W.contents output.new) (rule_text (plant_of system.now) rule) }
 {
     match rule {
         Rule::Under(left, right) => print_under(system, left, right, output),
@@ -36,8 +34,7 @@ fn print_under<W: Write>(
     right: Side,
     output: &mut W,
 ) -> Result<(), WriteFault>
-    ensures { OnOk result (Appends (W.contents output.old) (W.contents output.new)
-        (codes "prio " ++ sides_text (plant_of system.now) left right)) }
+    ensures { Prints result (W.contents output.old) (W.contents output.new) (codes "prio " ++ sides_text (plant_of system.now) left right) }
 {
     print_text(output, b"prio ")?;
     print_sides(system, left, right, output)
@@ -49,8 +46,7 @@ fn print_maximal<W: Write>(
     connector: u16,
     output: &mut W,
 ) -> Result<(), WriteFault>
-    ensures { OnOk result (Appends (W.contents output.old) (W.contents output.new)
-        (codes "maximal " ++ wire_name (plant_of system.now) connector)) }
+    ensures { Prints result (W.contents output.old) (W.contents output.new) (codes "maximal " ++ wire_name (plant_of system.now) connector) }
 {
     print_text(output, b"maximal ")?;
     print_text(output, system.wire_name(connector))
@@ -63,8 +59,7 @@ pub fn print_sides<W: Write>(
     right: Side,
     output: &mut W,
 ) -> Result<(), WriteFault>
-    ensures { OnOk result (Appends (W.contents output.old) (W.contents output.new)
-        (sides_text (plant_of system.now) left right)) }
+    ensures { Prints result (W.contents output.old) (W.contents output.new) (sides_text (plant_of system.now) left right) }
 {
     print_side(system, left, output)?;
     print_text(output, b" < ")?;
@@ -73,8 +68,7 @@ pub fn print_sides<W: Write>(
 
 /// Prints the condition of a rule: ` when ATOM at PLACE`.
 pub fn print_condition<W: Write>(system: &System, at: At, output: &mut W) -> Result<(), WriteFault>
-    ensures { OnOk result (Appends (W.contents output.old) (W.contents output.new)
-        (condition_text (plant_of system.now) at)) }
+    ensures { Prints result (W.contents output.old) (W.contents output.new) (condition_text (plant_of system.now) at) }
 {
     print_text(output, b" when ")?;
     print_text(output, atom_name(system.atoms(), at.atom))?;
@@ -82,7 +76,7 @@ pub fn print_condition<W: Write>(system: &System, at: At, output: &mut W) -> Res
     print_text(output, name_of_place(system.atoms(), at.atom, at.place))
 }
 
-/// The name of the atom with this number; empty where it is not there.
+/// The name of the atom with this number; empty if it is not there.
 fn atom_name(atoms: &[Atom], atom: u16) -> &[u8]
     ensures { result.now ≡ atom_name (map definition_of atoms.now) atom }
 {
@@ -92,7 +86,7 @@ fn atom_name(atoms: &[Atom], atom: u16) -> &[u8]
     }
 }
 
-/// The name of a place of the atom with this number; empty where the atom or the place is not there.
+/// The name of a place of the atom with this number; empty if the atom or the place is not there.
 fn name_of_place(atoms: &[Atom], atom: u16, place: u16) -> &[u8]
     ensures { result.now ≡ name_of_place (map definition_of atoms.now) atom place }
 {
@@ -102,7 +96,7 @@ fn name_of_place(atoms: &[Atom], atom: u16, place: u16) -> &[u8]
     }
 }
 
-/// The name of the place of the atom with this number; empty where it is not there.
+/// The name of the place of the atom with this number; empty if it is not there.
 pub fn place_name(atom: &Atom, place: u16) -> &[u8]
     ensures { result.now ≡ place_name (definition_of atom.now) place }
 {
@@ -114,8 +108,7 @@ pub fn place_name(atom: &Atom, place: u16) -> &[u8]
 
 /// Prints a side as the plant text writes it: `NAME` or `NAME:MASK`.
 fn print_side<W: Write>(system: &System, side: Side, output: &mut W) -> Result<(), WriteFault>
-    ensures { OnOk result (Appends (W.contents output.old) (W.contents output.new)
-        (side_word (plant_of system.now) side)) }
+    ensures { Prints result (W.contents output.old) (W.contents output.new) (side_word (plant_of system.now) side) }
 {
     match side {
         Side::Whole(connector) => print_text(output, system.wire_name(connector)),

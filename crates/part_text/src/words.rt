@@ -1,9 +1,9 @@
 //! The words of a connector's tree, as the plant text writes them.
-ghost use Rattle.std.specs.Prelude.{◌≡◌, ◌++◌, codes, length, OnOk, flat_map, map};
-ghost use Rattle.std.specs.Io.KnownBytes.{Appends};
-ghost use Rattle.petri_atom.specs.Atom.{definition_of};
+ghost use Rattle.std.specs.Prelude.{◌≡◌, ◌++◌, codes, length, flat_map, map};
 ghost use Rattle.petri_atom.specs.Definition.{port_name};
 ghost use Rattle.connector_tree.specs.Tokens.{children_tokens, node_tokens};
+ghost use Rattle.text_io.specs.Printing.{Prints};
+ghost use Rattle.part_text.specs.Seen.{definition_of};
 ghost use Rattle.part_text.specs.Words.{leaf_word, spaced_word, trigger_mark};
 
 use crate::names::length_of_both;
@@ -19,8 +19,7 @@ pub fn print_words<W: Write>(
     children: &[Child],
     output: &mut W,
 ) -> Result<(), WriteFault>
-    ensures { OnOk result (Appends (W.contents output.old) (W.contents output.new)
-        (flat_map (spaced_word (map definition_of atoms.now)) (children_tokens children.now))) }
+    ensures { Prints result (W.contents output.old) (W.contents output.new) (flat_map (spaced_word (map definition_of atoms.now)) (children_tokens children.now)) }
 {
     for child in children {
         print_node_words(atoms, &child.node, child.trigger, output)?;
@@ -36,8 +35,7 @@ fn print_node_words<W: Write>(
     trigger: bool,
     output: &mut W,
 ) -> Result<(), WriteFault>
-    ensures { OnOk result (Appends (W.contents output.old) (W.contents output.new)
-        (flat_map (spaced_word (map definition_of atoms.now)) (node_tokens node.now trigger))) }
+    ensures { Prints result (W.contents output.old) (W.contents output.new) (flat_map (spaced_word (map definition_of atoms.now)) (node_tokens node.now trigger)) }
 {
     match node {
         Node::Leaf { atom, port } => {
@@ -57,8 +55,7 @@ fn print_node_words<W: Write>(
 
 /// Prints the end of a bracket, with a space before it.
 fn print_close<W: Write>(trigger: bool, output: &mut W) -> Result<(), WriteFault>
-    ensures { OnOk result (Appends (W.contents output.old) (W.contents output.new)
-        (codes " ]" ++ trigger_mark trigger)) }
+    ensures { Prints result (W.contents output.old) (W.contents output.new) (codes " ]" ++ trigger_mark trigger) }
 {
     print_text(output, b" ]")?;
     print_mark(trigger, output)
@@ -71,18 +68,16 @@ fn print_leaf<W: Write>(
     trigger: bool,
     output: &mut W,
 ) -> Result<(), WriteFault>
-    ensures { OnOk result (Appends (W.contents output.old) (W.contents output.new)
-        (codes " " ++ leaf_word (map definition_of atoms.now) port ++ trigger_mark trigger)) }
+    ensures { Prints result (W.contents output.old) (W.contents output.new) (codes " " ++ leaf_word (map definition_of atoms.now) port ++ trigger_mark trigger) }
 {
     print_text(output, b" ")?;
     print_port(atoms, port, output)?;
     print_mark(trigger, output)
 }
 
-/// Prints a port by the names of its atom and its own; nothing where the atom is not there.
+/// Prints a port by the names of its atom and its own; nothing if the atom is not there.
 pub fn print_port<W: Write>(atoms: &[Atom], port: Port, output: &mut W) -> Result<(), WriteFault>
-    ensures { OnOk result (Appends (W.contents output.old) (W.contents output.new)
-        (leaf_word (map definition_of atoms.now) port)) }
+    ensures { Prints result (W.contents output.old) (W.contents output.new) (leaf_word (map definition_of atoms.now) port) }
 {
     match atoms.get(usize::from(port.atom)) {
         Some(atom) => print_port_of(atom, port.port, output),
@@ -90,7 +85,7 @@ pub fn print_port<W: Write>(atoms: &[Atom], port: Port, output: &mut W) -> Resul
     }
 }
 
-/// How many bytes a port has by the names of its atom and its own; 0 where the atom is not there.
+/// How many bytes a port has by the names of its atom and its own; 0 if the atom is not there.
 pub fn port_length(atoms: &[Atom], port: Port) -> usize
     ensures { result ≡ length (leaf_word (map definition_of atoms.now) port) }
 {
@@ -102,8 +97,7 @@ pub fn port_length(atoms: &[Atom], port: Port) -> usize
 
 /// Prints the name of an atom and that of its port.
 fn print_port_of<W: Write>(atom: &Atom, port: u16, output: &mut W) -> Result<(), WriteFault>
-    ensures { OnOk result (Appends (W.contents output.old) (W.contents output.new)
-        ((definition_of atom.now).name ++ codes "." ++ port_name (definition_of atom.now) port)) }
+    ensures { Prints result (W.contents output.old) (W.contents output.new) ((definition_of atom.now).name ++ codes "." ++ port_name (definition_of atom.now) port) }
 {
     print_text(output, atom.name().as_bytes())?;
     print_text(output, b".")?;
@@ -112,8 +106,7 @@ fn print_port_of<W: Write>(atom: &Atom, port: u16, output: &mut W) -> Result<(),
 
 /// Prints the mark of a trigger; nothing for a synchron.
 fn print_mark<W: Write>(trigger: bool, output: &mut W) -> Result<(), WriteFault>
-    ensures { OnOk result (Appends (W.contents output.old) (W.contents output.new)
-        (trigger_mark trigger)) }
+    ensures { Prints result (W.contents output.old) (W.contents output.new) (trigger_mark trigger) }
 {
     if trigger {
         print_text(output, b"'")

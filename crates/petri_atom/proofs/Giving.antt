@@ -123,7 +123,7 @@ module _ (row : Row) (e : ℕ) (v : ℤ) (four : length row ≡ 4) where
     pub given-four : length (given e v row) ≡ 4
     given-four = ap length (sym set_is) ∙ length-set row e (Some v) ∙ four
 
--- the mask and the values that are kept behind a value for a number that had none
+-- the mask and the values that are kept after a value for a number that had none
 module _ (mask : ℕ) (values : List ℤ) (own : AreOfRow mask values) (e : ℕ) (v : ℤ) (low : e < 4) (fresh : has mask e ≡ false) where
   abbrev row : Row
   row = row_in mask values

@@ -25,7 +25,7 @@ use Rattle.petri_atom.proofs.Sets.{has-and, has-or, has-not, has-above, same_set
 
 -- ---- one transition
 
--- a marking suits what a transition asks exactly where it lets it move
+-- a marking suits what a transition asks exactly if it lets it move
 pub suits-can_move : (t : Transition) (m : ℕ) → m < 2 ^ 64 → suits m t.source_word t.blocking_word ≡ can_move m (transition_of t)
 suits-can_move t m small =
     let sources = ap (λ w. eqb (bit_and m w) w) t.source_bits ∙ all_marked-word m t.sources.items small t.sources_are_places in
@@ -58,7 +58,7 @@ swapped true b c = refl
 swapped false true c = sym (or-true c)
 swapped false false c = sym (or-false c)
 
--- where one element of a list passes a test in one case more, so does the list
+-- if one element of a list passes a test in one case more, so does the list
 list_any-set : {X : Type 0} (test : X → Bool) (xs : List X) (i : ℕ) (y d : X) (more : Bool) → i < length xs → test y ≡ (test (get_or xs i d) || more) → list_any test (set xs i y) ≡ (list_any test xs || more)
 list_any-set test [] i y d more within passes = absurd (omega arith)
 list_any-set test (x ∷ xs) zero y d more within passes =
@@ -138,7 +138,7 @@ movable-passed groups i set m g d within here unsuited so_far n =
     so_far n ∙
     sym (list_any_more (λ h. suits m h.sources h.blocking && has h.members n) groups i d within ∙ ap (λ h. is_movable (take i groups) m n || suits m h.sources h.blocking && has h.members n) (sym here) ∙ ap (λ b. is_movable (take i groups) m n || b && has g.members n) unsuited ∙ or-false _)
 
--- and behind the last one these are all
+-- and after the last one these are all
 pub movable-all : (groups : List Group) (i set m : ℕ) → length groups ≤ i → set < 2 ^ 128 → ((n : ℕ) → has set n ≡ is_movable (take i groups) m n) → set ≡ set_below 128 (is_movable groups m)
 movable-all groups i set m past small so_far =
     set_below-is 128 set (is_movable groups m) small
@@ -183,7 +183,7 @@ module _ (passes : ℕ → Bool) (set done left : ℕ) (some : 0 < left) (small 
   rest-within within n inside =
       within n (and_parts (has left n) (not (eqb n lowest)) (sym (others left some small n) ∙ inside)).0
 
--- where none is left, those that did pass are all
+-- if none is left, those that did pass are all
 pub passing-all : (passes : ℕ → Bool) (set done left : ℕ) → left ≡ 0 → done < 2 ^ 128 → ((n : ℕ) → (has done n || has left n && passes n) ≡ (has set n && passes n)) → done ≡ set_below 128 (λ n. has set n && passes n)
 passing-all passes set done left none small so_far =
     set_below-is 128 done (λ n. has set n && passes n) small
@@ -191,13 +191,13 @@ passing-all passes set done left none small so_far =
 
 -- ---- the offered transitions
 
--- a set of numbers below a bound, where a longer word has no others
+-- a set of numbers below a bound, if a longer word has no others
 pub set_below-within : (n m w : ℕ) (f : ℕ → Bool) → n ≤ m → w < 2 ^ m → ((k : ℕ) → k < n → has w k ≡ f k) → ((k : ℕ) → n ≤ k → k < m → has w k ≡ false) → w ≡ set_below n f
 set_below-within n m w f fits small same none =
     same_set m w (set_below n f) small (omega (arith, set_below-lt n f, pow_mono fits))
     (λ k below. ⊎_elim (λ h. same k h ∙ sym (has-set_below n f k h)) (λ past. none k past below ∙ sym (has-above (set_below n f) n k (set_below-lt n f) past)) (cases_lt k n))
 
--- where a set has the numbers of the transitions that a marking lets move, a transition is in it that is there
+-- if a set has the numbers of the transitions that a marking lets move, a transition is in it that is there
 pub movable-within : (ts : List TransitionDefinition) (m n : ℕ) → can_move_number ts m n ≡ true → n < length ts
 movable-within ts m n movable =
     ⊎_elim (λ h. h) (λ past. absurd (false≢true (sym (ap (λ o. option_map_or (can_move m) o false) (slice_get_past ts n past)) ∙ movable))) (cases_lt n (length ts))

@@ -1,13 +1,14 @@
-pub mod States
+mod States
 pub mod Sets
 pub mod Markings
-pub mod Within
+mod Within
 pub mod Lists
-pub mod Numbers
+mod Numbers
 pub mod Fitting
-pub mod Sameness
-pub mod Rows
-pub mod PortSets
-pub mod Members
-pub mod Giving
-pub mod Grouping
+mod Sameness
+mod Rows
+mod PortSets
+mod Members
+mod Giving
+mod Grouping
+pub mod Positions

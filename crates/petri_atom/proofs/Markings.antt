@@ -8,7 +8,7 @@ use Rattle.std.proofs.lemmas.Nat.{or_lt, pow_pos}
 use Rattle.petri_atom.specs.Local.{has, is_in, set_below, are_places, all_marked, is_blocked, moved}
 use Rattle.petri_atom.proofs.Sets.{has-and, has-or, has-not, has-above, same_set, set_below-lt, has-set_below, set_below-is}
 
--- two tests are the same where each follows from the other
+-- two tests are the same if each follows from the other
 pub same_answer : (a b : Bool) → (a ≡ true → b ≡ true) → (b ≡ true → a ≡ true) → a ≡ b
 same_answer true b forth back = sym (forth refl)
 same_answer false true forth back = back refl
@@ -20,7 +20,7 @@ and_absorbed true y implied = refl
 and_absorbed false true implied = implied refl
 and_absorbed false false implied = refl
 
--- three tests of which the outer two fail together where the middle one holds
+-- three tests of which the outer two fail together if the middle one holds
 and_fails : (a b c : Bool) → (b ≡ true → not (a && c) ≡ true) → (a && (b && c)) ≡ false
 and_fails false b c fails = refl
 and_fails true false c fails = refl
@@ -46,7 +46,7 @@ list_all-from f (j ∷ ks) each =
     and_from (f j) (list_all f ks) (each j (or_left (eqb j j) (is_in ks j) (eq-eqb j j refl)))
     (list_all-from f ks (λ k inside. each k (or_right (eqb j k) (is_in ks k) inside)))
 
--- none passes where each fails
+-- none passes if each fails
 not-list_any : (f : ℕ → Bool) (ks : List ℕ) → not (list_any f ks) ≡ list_all (λ k. not (f k)) ks
 not-list_any f [] = refl
 not-list_any f (k ∷ ks) = elim (f k) as (λ b. not (b || list_any f ks) ≡ (not b && list_all (λ j. not (f j)) ks)) [ true ↦ refl | false ↦ not-list_any f ks ]

@@ -19,7 +19,7 @@ filter-agree f g a (suc n) same =
     ap (λ b. cond b (a ∷ filter f (range_with_len (a + 1) n)) (filter f (range_with_len (a + 1) n))) (same a (omega arith) (omega arith)) ∙
     ap (λ r. cond (g a) (a ∷ r) r) (filter-agree f g (a + 1) n (λ k low high. same k (omega arith) (omega arith)))
 
--- where the first m numbers of a range fail a test, the others alone may pass it
+-- if the first m numbers of a range fail a test, the others alone may pass it
 filter-skip : (f : ℕ → Bool) (a m n : ℕ) → ((k : ℕ) → a ≤ k → k < a + m → f k ≡ false) → filter f (range_with_len a (m + n)) ≡ filter f (range_with_len (a + m) n)
 filter-skip f a zero n none =
     let e : 0 + n ≡ n = omega arith in
@@ -27,13 +27,13 @@ filter-skip f a zero n none =
     ap (λ k. filter f (range_with_len a k)) e ∙ ap (λ k. filter f (range_with_len k n)) here
 filter-skip f a (suc m) n none =
     let longer : suc m + n ≡ suc (m + n) = omega arith in
-    let behind : a + 1 + m ≡ a + suc m = omega arith in
+    let moved : a + 1 + m ≡ a + suc m = omega arith in
     ap (λ k. filter f (range_with_len a k)) longer ∙
     ap (λ b. cond b (a ∷ filter f (range_with_len (a + 1) (m + n))) (filter f (range_with_len (a + 1) (m + n)))) (none a (omega arith) (omega arith)) ∙
     filter-skip f (a + 1) m n (λ k low high. none k (omega arith) (omega arith)) ∙
-    ap (λ k. filter f (range_with_len k n)) behind
+    ap (λ k. filter f (range_with_len k n)) moved
 
--- where all numbers past the first n of a range fail a test, more of them make no difference
+-- if all numbers past the first n of a range fail a test, more of them make no difference
 filter-stop : (f : ℕ → Bool) (a n m : ℕ) → ((k : ℕ) → a + n ≤ k → f k ≡ false) → filter f (range_with_len a (n + m)) ≡ filter f (range_with_len a n)
 filter-stop f a zero m none =
     let e : 0 + m ≡ m + 0 = omega arith in
@@ -160,7 +160,7 @@ module _ (w : ℕ) (some : 0 < w) (small : w < 2 ^ 128) where
   pub nth-later : (k : ℕ) → slice_get (numbers_below 128 w) (suc k) ≡ slice_get (numbers_below 128 rest) k
   nth-later k = ap (λ xs. slice_get xs (suc k)) numbers_below-first
 
-  -- and the first number that passes a test is the lowest where that does, and else the first of the others
+  -- and the first number that passes a test is the lowest if that does, and else the first of the others
   pub find-lowest : (p : ℕ → Bool) → p t ≡ true → find p (numbers_below 128 w) ≡ Some t
   find-lowest p passes = ap (find p) numbers_below-first ∙ ap (λ b. cond b (Some t) (find p (numbers_below 128 rest))) passes
 

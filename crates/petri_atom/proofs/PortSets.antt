@@ -13,14 +13,14 @@ use Rattle.petri_atom.specs.Parts.{is_of_port, set_of_port}
 use Rattle.petri_atom.proofs.Sets.{has-and, has-set_below, set_below-lt, set_below-is}
 use Rattle.petri_atom.proofs.Numbers.{numbers-none}
 
--- a longer range has one more number behind
+-- a longer range has one more number at its end
 range-more : (a n : ℕ) → range_with_len a (suc n) ≡ range_with_len a n ++ (a + n) ∷ []
 range-more a zero = let e : a ≡ a + 0 = omega arith in ap (λ k. k ∷ []) e
 range-more a (suc n) =
     let e : a + 1 + n ≡ a + suc n = omega arith in
     ap (λ xs. a ∷ xs) (range-more (a + 1) n ∙ ap (λ k. range_with_len (a + 1) n ++ k ∷ []) e)
 
--- the transitions of a port are those of all numbers that a test passes, where the test passes those of the port
+-- the transitions of a port are those of all numbers that a test passes, if the test passes those of the port
 numbers-filter : (test : ℕ → Bool) (n port : ℕ) (ts : List TransitionDefinition) → ((i : ℕ) → test (n + i) ≡ is_of_port port ts i) → numbers_from n port ts ≡ filter test (range_with_len n (length ts))
 numbers-filter test n port [] same = refl
 numbers-filter test n port (t ∷ ts) same =
@@ -44,7 +44,7 @@ filter-filter p q (x ∷ xs) =
       | false ↦ elim (p x) as (λ b. filter p (filter q xs) ≡ cond (b && false) (x ∷ filter (λ y. p y && q y) xs) (filter (λ y. p y && q y) xs)) [ true ↦ rest | false ↦ rest ]
     ]
 
--- some pass a test exactly where it keeps some
+-- some pass a test exactly if it keeps some
 any-kept : {X : Type 0} (p : X → Bool) (xs : List X) → list_any p xs ≡ not (eqb (length (filter p xs)) 0)
 any-kept p [] = refl
 any-kept p (x ∷ xs) =
@@ -88,7 +88,7 @@ set_below-both n f g =
     set_below-is n _ (λ k. f k && g k) (and_lt n _ _ (set_below-lt n f) (set_below-lt n g))
     (λ k h. has-and _ _ k ∙ ap (λ b. b && has (set_below n g) k) (has-set_below n f k h) ∙ ap (λ b. f k && b) (has-set_below n g k h))
 
--- a set is empty exactly where it has no bits
+-- a set is empty exactly if it has no bits
 empty-ones : (w : ℕ) → eqb w 0 ≡ eqb (ones w) 0
 empty-ones w =
     ⊎_elim (λ none. ap (λ k. eqb k 0) none ∙ sym (ap (λ k. eqb (ones k) 0) none ∙ ap (λ k. eqb k 0) ones-none))
@@ -112,7 +112,7 @@ module _ (f : ℕ → Bool) (port : ℕ) (ts : List TransitionDefinition) where
       ap ones (set_below-both (length ts) f (is_of_port port ts)) ∙ ones-set_below (length ts) (λ k. f k && is_of_port port ts k) ∙
       ap length (sym (ap (filter f) (numbers-set port ts) ∙ filter-filter f (is_of_port port ts) (range_with_len 0 (length ts))))
 
-  -- and are none exactly where none of those passes
+  -- and are none exactly if none of those passes
   pub any-of_port : not (eqb (bit_and (set_below (length ts) f) (set_of_port port ts)) 0) ≡ list_any f (numbers_of port ts)
   any-of_port =
       ap not (empty-ones _ ∙ ap (λ k. eqb k 0) ones-of_port) ∙ sym (any-kept f (numbers_of port ts))

@@ -4,7 +4,7 @@ use Rattle.std.specs.Int.{int_wrap}
 use Rattle.petri_atom.specs.Expression.{Tree, number, variable, negation, operation, operated, value_of, word_count}
 use Rattle.petri_atom.specs.Local.{set_below, moved, value_in, has, Row, mask_of, row_in, given}
 use Rattle.petri_atom.specs.Name.{is_name}
-use Rattle.petri_atom.specs.Definition.{TransitionDefinition, AtomDefinition, can_move, offers, offers_port, offered_set, enabled, fired_by, delivered_to, fault_of, numbers_of, first_from}
+use Rattle.petri_atom.specs.Definition.{TransitionDefinition, UpdateDefinition, AtomDefinition, can_move, offers, offers_port, offered_set, enabled, fired_by, delivered_to, fault_of, numbers_of, first_from}
 use Rattle.petri_atom.specs.declared.expression.Operator.TheVariants.{Add, Subtract, Multiply, Min, Max, Less, LessOrEqual, Equal, NotEqual, And, Or}
 use Rattle.petri_atom.specs.declared.fault.AtomFault.TheVariants.{Limit, Twice, Unknown, NoPlace}
 use Rattle.petri_atom.specs.declared.state.TheConstants.{MAX_PLACES, MAX_VARIABLES, MAX_EXPORTS}
@@ -82,25 +82,23 @@ negations = (refl, refl, refl, refl)
 nothing : Row
 nothing = replicate 4 None
 
+-- a transition of a port from one place to one other, with a number for its guard
+abbrev between : ℕ → ℕ → ℕ → ℤ → List UpdateDefinition → TransitionDefinition
+between source target port guard updates = record {
+  port = port;
+  sources = source ∷ [];
+  targets = target ∷ [];
+  guard = number guard;
+  updates = updates;
+}
+
 -- a transition that stays at its place and counts: `trans t from s to s do n := + n 1`
 count : TransitionDefinition
-count = record {
-  port = 0;
-  sources = 0 ∷ [];
-  targets = 0 ∷ [];
-  guard = number (pos 1);
-  updates = record { variable = 0; value = operation Add (variable 0) (number (pos 1)) } ∷ [];
-}
+count = between 0 0 0 (pos 1) (record { variable = 0; value = operation Add (variable 0) (number (pos 1)) } ∷ [])
 
 -- a transition from place 0 to place 1
 move : TransitionDefinition
-move = record {
-  port = 0;
-  sources = 0 ∷ [];
-  targets = 1 ∷ [];
-  guard = number (pos 1);
-  updates = [];
-}
+move = between 0 1 0 (pos 1) []
 
 a_place_that_is_source_and_target_stays : offers (record { marking = 1; values = pos 0 ∷ [] }) count ≡ true
 unfolding count
@@ -146,13 +144,7 @@ numbers_by_port = refl
 
 -- a transition of a port that stays at its place, with a number for its guard
 abbrev staying : ℕ → ℤ → TransitionDefinition
-staying port guard = record {
-  port = port;
-  sources = 0 ∷ [];
-  targets = 0 ∷ [];
-  guard = number guard;
-  updates = [];
-}
+staying port guard = between 0 0 port guard []
 
 -- an atom A with the place p, the variable a, and the ports t, which exports it, and u
 abbrev atom_of : List TransitionDefinition → AtomDefinition
@@ -185,7 +177,7 @@ other_ports_of_four : map (offers_port four (record { marking = 1; values = pos 
 unfolding four
 other_ports_of_four = refl
 
--- where the place is not marked nothing is offered
+-- if the place is not marked nothing is offered
 none_of_four : offers_port four (record { marking = 0; values = pos 0 ∷ [] }) 0 ≡ false
 unfolding four
 none_of_four = refl

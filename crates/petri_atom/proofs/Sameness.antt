@@ -91,15 +91,10 @@ same_update a b =
     (λ e. (ap (λ x. x.variable) e, ap (λ x. x.value) e))
     (Decides-and _ _ (Decides-eqb a.variable b.variable) (same_tree (tree_of a.value) (tree_of b.value)))
 
--- a transition made of its parts
-abbrev parts : ℕ → List ℕ → List ℕ → Tree ℕ → List UpdateDefinition → TransitionDefinition
-parts port sources targets guard updates = record {
-  port = port;
-  sources = sources;
-  targets = targets;
-  guard = guard;
-  updates = updates;
-}
+-- what is made of five parts is the same where each part is
+pub same_of_five : {A B C D E X : Type 0} (make : A → B → C → D → E → X) {a a' : A} {b b' : B} {c c' : C} {d d' : D} {e e' : E} → a ≡ a' → b ≡ b' → c ≡ c' → d ≡ d' → e ≡ e' → make a b c d e ≡ make a' b' c' d' e'
+same_of_five make {a' = a'} {b = b} {b' = b'} {c = c} {c' = c'} {d = d} {d' = d'} {e = e} pa pb pc pd pe =
+    ap (λ x. make x b c d e) pa ∙ ap (λ x. make a' x c d e) pb ∙ ap (λ x. make a' b' x d e) pc ∙ ap (λ x. make a' b' c' x e) pd ∙ ap (make a' b' c' d') pe
 
 -- the test of two lists, item by item, tells whether what a function makes of them is the same
 pub same_list : {X D : Type 0} (E : X → X → Bool) (f : X → D) → ((x y : X) → Decides (E x y) (f x ≡ f y)) → (xs ys : List X) → Decides (pointwise E xs ys) (map f xs ≡ map f ys)
@@ -117,9 +112,12 @@ same_list E f each (x ∷ xs) (y ∷ ys) =
     tail_same : {D : Type 0} (a b : D) (xs ys : List D) → a ∷ xs ≡ b ∷ ys → xs ≡ ys
     tail_same a b xs ys e = cc
 
+abbrev make : ℕ → List ℕ → List ℕ → Tree ℕ → List UpdateDefinition → TransitionDefinition
+make port sources targets guard updates = record { port = port; sources = sources; targets = targets; guard = guard; updates = updates }
+
 same_transition : (a b : Transition) → Decides (is_same_transition a b) (transition_of a ≡ transition_of b)
 same_transition a b =
-    Decides-like _ (λ same. made same.0.0.0.0 same.0.0.0.1 same.0.0.1 same.0.1 same.1)
+    Decides-like _ (λ same. same_of_five make same.0.0.0.0 same.0.0.0.1 same.0.0.1 same.0.1 same.1)
     (λ e. ((((ap (λ x. x.port) e, ap (λ x. x.sources) e), ap (λ x. x.targets) e), ap (λ x. x.guard) e), ap (λ x. x.updates) e))
     (Decides-and _ _
     (Decides-and _ _
@@ -127,10 +125,6 @@ same_transition a b =
     (same_numbers a.targets.items b.targets.items))
     (same_tree (tree_of a.guard) (tree_of b.guard)))
     (same_list is_same_update update_of same_update a.updates.items b.updates.items))
-  where
-    made : {p q : ℕ} {ss ts us vs : List ℕ} {g h : Tree ℕ} {ms ns : List UpdateDefinition} → p ≡ q → ss ≡ ts → us ≡ vs → g ≡ h → ms ≡ ns → parts p ss us g ms ≡ parts q ts vs h ns
-    made {p = p} {q = q} {ss = ss} {ts = ts} {us = us} {vs = vs} {g = g} {h = h} {ms = ms} {ns = ns} ep es eu eg em =
-        ap (λ x. parts x ss us g ms) ep ∙ ap (λ x. parts q x us g ms) es ∙ ap (λ x. parts q ts x g ms) eu ∙ ap (λ x. parts q ts vs x ms) eg ∙ ap (λ x. parts q ts vs h x) em
 
 -- lists of places, variables, ports and transitions
 pub same_places : (xs ys : List Place) → Decides (pointwise is_same_place xs ys) (xs ≡ ys)
@@ -147,4 +141,4 @@ same_transitions xs ys = same_list is_same_transition transition_of same_transit
 
 -- a test of two lists that are equal to two others
 pub at_lists : {X : Type 0} (E : X → X → Bool) (r : Bool) (xs ys us vs : List X) → r ≡ pointwise E xs ys → xs ≡ us → ys ≡ vs → r ≡ pointwise E us vs
-at_lists E r xs ys us vs told p q = told ∙ ap (λ x. pointwise E x ys) p ∙ ap (pointwise E us) q
+at_lists E r xs ys us vs answer p q = answer ∙ ap (λ x. pointwise E x ys) p ∙ ap (pointwise E us) q

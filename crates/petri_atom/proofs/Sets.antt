@@ -11,28 +11,19 @@ use Rattle.std.proofs.Math.Nat.{sub_self}
 use Rattle.std.proofs.lemmas.Nat.Bits.{bit_at-lt, bit_at_cat_low, bit_at_cat_high, bit_at_above, bit_at_and, bit_at_or, bit_at_not, bit_at_set_same, bit_at_set_other, same_from_bits_below}
 use Rattle.petri_atom.specs.Local.{has, is_in, set_below}
 
--- the tests of two bits, of either and of a bit turned round
-both_bits : (x y : ℕ) → x < 2 → y < 2 → eqb (min x y) 1 ≡ (eqb x 1 && eqb y 1)
-both_bits x y p q = grind (arith, nat_tests)
-
-either_bit : (x y : ℕ) → x < 2 → y < 2 → eqb (max x y) 1 ≡ (eqb x 1 || eqb y 1)
-either_bit x y p q = grind (arith, nat_tests)
-
-other_bit : (x : ℕ) → x < 2 → eqb (1 - x) 1 ≡ not (eqb x 1)
-other_bit x p = grind (arith, nat_tests)
-
+-- two bits that answer alike are the same
 same_bit : (x y : ℕ) → x < 2 → y < 2 → eqb x 1 ≡ eqb y 1 → x ≡ y
 same_bit x y p q e = grind (arith, nat_tests)
 
 -- a number is in both of two sets, in one of them, or not in a set
 pub has-and : (a b k : ℕ) → has (bit_and a b) k ≡ (has a k && has b k)
-has-and a b k = ap (λ x. eqb x 1) (bit_at_and a b k) ∙ both_bits _ _ (bit_at-lt a k) (bit_at-lt b k)
+has-and a b k = grind (arith, nat_tests, bit_at_and a b k, bit_at-lt a k, bit_at-lt b k)
 
 pub has-or : (a b k : ℕ) → has (bit_or a b) k ≡ (has a k || has b k)
-has-or a b k = ap (λ x. eqb x 1) (bit_at_or a b k) ∙ either_bit _ _ (bit_at-lt a k) (bit_at-lt b k)
+has-or a b k = grind (arith, nat_tests, bit_at_or a b k, bit_at-lt a k, bit_at-lt b k)
 
 pub has-not : (w : Width) (a k : ℕ) → a < 2 ^ bits w → k < bits w → has (bit_not w a) k ≡ not (has a k)
-has-not w a k p q = ap (λ x. eqb x 1) (bit_at_not w a k p q) ∙ other_bit _ (bit_at-lt a k)
+has-not w a k p q = grind (arith, nat_tests, bit_at_not w a k p q, bit_at-lt a k)
 
 -- a number of n bits has no number from n on
 pub has-above : (a n k : ℕ) → a < 2 ^ n → n ≤ k → has a k ≡ false

@@ -10,7 +10,7 @@ use Rattle.petri_atom.specs.declared.expression.Operator.{Operator}
 abbrev Mark : Type 0
 Mark = (ℤ ⊎ ℕ) ⊎ (Unit {0} ⊎ Operator)
 
--- the marks of an expression, each behind its parts
+-- the marks of an expression, each after its parts
 marks : Tree ℕ → List Mark
 marks (number n) = inl (inl n) ∷ []
 marks (variable v) = inl (inr v) ∷ []

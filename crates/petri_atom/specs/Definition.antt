@@ -39,11 +39,11 @@ pub record AtomDefinition : Type 0 where
   pub ports : List PortDefinition
   pub transitions : List TransitionDefinition
 
--- the name of the variable with a number; empty where it is not there
+-- the name of the variable with a number; empty if it is not there
 abbrev pub variable_name : AtomDefinition → ℕ → List ℕ
 variable_name a variable = option_map_or (λ v. v.name) (slice_get a.variables variable) []
 
--- the name of the port with a number; empty where it is not there
+-- the name of the port with a number; empty if it is not there
 abbrev pub port_name : AtomDefinition → ℕ → List ℕ
 port_name a port = option_map_or (λ p. p.name) (slice_get a.ports port) []
 
@@ -104,7 +104,7 @@ updated (u ∷ us) values = updated us (slice_set values u.variable (value_of (v
 abbrev pub exports_of : AtomDefinition → ℕ → List ℕ
 exports_of a port = option_map_or (λ p. p.exports) (slice_get a.ports port) []
 
--- the value of a variable that a port exports; 0 where it exports no such one
+-- the value of a variable that a port exports; 0 if it exports no such one
 abbrev pub exported_value : AtomDefinition → Local → ℕ → ℕ → ℤ
 exported_value a state port export =
     option_map_or (value_in state.values) (slice_get (exports_of a port) export) (pos 0)
@@ -221,7 +221,7 @@ fault_of a =
 abbrev pub is_well_formed : AtomDefinition → Bool
 is_well_formed a = is_within_limits a && has_each_once a && has_known_numbers a && has_sources_and_targets a
 
--- why parts made no atom: the rule that they break first, or, where they break none, want of memory
+-- why parts made no atom: the rule that they break first, or, if they break none, want of memory
 abbrev pub IsFaultOf : AtomFault → Option AtomFault → Type 0
 IsFaultOf fault (Some broken) = fault ≡ broken
 IsFaultOf fault None = fault ≡ Memory

@@ -42,7 +42,7 @@ operated NotEqual x y = truth (not (int_eq x y))
 operated And x y = truth (is_true x && is_true y)
 operated Or x y = truth (is_true x || is_true y)
 
--- the value of an expression whose variables have the values that `at` tells
+-- the value of an expression whose variables have the values that `at` gives
 abbrev pub value_of : {V : Type 0} → (V → ℤ) → Tree V → ℤ
 value_of at (number n) = n
 value_of at (variable v) = at v

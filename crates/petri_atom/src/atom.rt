@@ -129,7 +129,7 @@ impl Atom {
         &self.ports
     }
 
-    /// The name of the variable with this number; empty where it is not there.
+    /// The name of the variable with this number; empty if it is not there.
     pub fn variable_name(&self, variable: u8) -> &[u8]
         ensures { result.now ≡ variable_name (definition_of self.now) variable }
     {
@@ -139,7 +139,7 @@ impl Atom {
         }
     }
 
-    /// The name of the port with this number; empty where it is not there.
+    /// The name of the port with this number; empty if it is not there.
     pub fn port_name(&self, port: u16) -> &[u8]
         ensures { result.now ≡ port_name (definition_of self.now) port }
     {

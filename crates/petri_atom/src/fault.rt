@@ -42,7 +42,7 @@ impl fmt::Display for AtomFault {
 impl From<AllocError> for AtomFault {
     ghost use Rattle.petri_atom.specs.declared.fault.AtomFault.TheVariants as fault;
 
-    ghost from_gives = { λ _ told. told ≡ fault.Memory };
+    ghost from_gives = { λ _ made. made ≡ fault.Memory };
 
     fn from(_: AllocError) -> Self {
         AtomFault::Memory

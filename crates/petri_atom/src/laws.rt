@@ -4,7 +4,7 @@ ghost use Rattle.petri_atom.specs.Definition.{AtomDefinition, TransitionDefiniti
 ghost use Rattle.petri_atom.specs.Local.{Local, Row, has, is_in};
 ghost use Rattle.petri_atom.specs.declared.state.TheConstants.{MAX_PLACES};
 
-/// After a firing a place is marked exactly where it is a target of the transition, or was marked and is no source.
+/// After a firing a place is marked exactly if it is a target of the transition, or was marked and is no source.
 pub fn a_firing_moves_the_marking()
     ensures { (a : AtomDefinition) (n : ℕ) (t : TransitionDefinition) (row : Row) (state : Local) (p : ℕ) → slice_get a.transitions n ≡ Some t → p < MAX_PLACES → has (fired a n row state).marking p ≡ ((has state.marking p && not (is_in t.sources p)) || is_in t.targets p) }
 {}

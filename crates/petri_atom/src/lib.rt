@@ -5,20 +5,22 @@
 //! (`specs/Definition.antt`), and contracts read it by `definition_of`.
 //!
 //! An [`AtomState`] is a local state: contracts see it as a set of marked places and a list of values
-//! (`specs/Local.antt`). A state offers a transition where its sources are marked, no target that is no
+//! (`specs/Local.antt`). A state offers a transition if its sources are marked, no target that is no
 //! source is, and its guard is not 0. Firing one assigns the values that are delivered to its port's
 //! exported variables, runs its updates in order, and moves the marking.
 //!
-//! - `atom`: what an atom answers of a state: [`Atom::offers`], [`Atom::first_enabled`], [`Atom::apply`]; its parts, and the names of
-//!   variables and ports by their numbers.
-//! - `expression`: expressions over any kind of variable, and their values.
+//! - `atom`: an atom, made of its parts; its first state, what its ports export, and what firing a transition leaves
+//!   ([`Atom::apply`]).
 //! - `name`, `parts`, `transition`: what an atom is made of. A transition keeps its places as machine words
 //!   too, so that a test of a marking is two operations; that they are those sets is kept by its type.
-//! - `offered`: the offered transitions of a state as one set, which is then counted and picked from, by one port or by all.
+//! - `expression`: expressions over any kind of variable, and their values.
+//! - `state`: local states, and what is delivered to one.
+//! - `offered`: the offered transitions of a state as one set, which is then counted and picked from, by one port or by all
+//!   ([`Atom::offered`], [`Atom::first_enabled`]).
 //! - `groups`: the transitions that ask the same of a marking, so that it is tested once for all of them.
 //! - `marking`: lists of places as machine words.
 //! - `rules`: the rules that the parts keep, as tests. `fault`: which kind of rule is broken.
-//! - `state`: local states, and what is delivered to one. `same`: whether two parts are the same.
+//! - `same`: whether two parts are the same.
 //! - `laws`: what the definitions say of one another.
 //!
 //! After an atom is made, nothing here takes memory, and nothing can fail.
@@ -41,7 +43,7 @@ mod transition;
 pub use atom::Atom;
 pub use expression::{Expression, Operator, Valuation, VariableTest};
 pub use fault::AtomFault;
-pub use name::{MAX_NAME, Name, is_name};
+pub use name::{MAX_NAME, Name, is_name, is_reserved};
 pub use offered::TransitionSet;
 pub use parts::{MAX_PORTS, MAX_TRANSITIONS, MAX_UPDATES, MAX_WORDS, Place, Port, Variable};
 pub use state::{AtomState, Delivered, MAX_EXPORTS, MAX_PLACES, MAX_VARIABLES};

@@ -28,7 +28,7 @@ impl Model for Name {
 }
 
 impl Name {
-    /// The name with these bytes, or `None` where they are no name.
+    /// The name with these bytes, or `None` if they are no name.
     pub fn new(text: &[u8]) -> Option<Self>
         ensures valid { is_some result ≡ is_name text.now }
         ensures value { IfSome result (λ name. name ≡ text.now) }
@@ -85,7 +85,7 @@ fn is_letter_or_digit(byte: u8) -> bool
 }
 
 /// Whether the text is a reserved word of the plant text.
-fn is_reserved(text: &[u8]) -> bool
+pub fn is_reserved(text: &[u8]) -> bool
     ensures { result ≡ is_reserved text.now }
 {
     text == b"from".as_slice()

@@ -38,7 +38,7 @@ impl Model for AtomState {
 
 /// What a firing delivers to an atom: for each exported variable of its port, in their order, a value or none.
 ///
-/// It is kept as a mask, bit k for exported variable k, and as the values, 0 where there is none, so that equal deliveries are
+/// It is kept as a mask, bit k for exported variable k, and as the values, 0 if there is none, so that equal deliveries are
 /// equal values.
 #[derive(Clone, Copy, Debug, PartialEq, Eq)]
 pub struct Delivered {
@@ -225,7 +225,7 @@ fn delivered_mask(values: &[Option<i64>; MAX_EXPORTS]) -> u8
     mask
 }
 
-/// The values, 0 where there is none.
+/// The values, 0 if there is none.
 fn delivered_values(values: &[Option<i64>; MAX_EXPORTS]) -> [i64; MAX_EXPORTS]
     ensures values { result ≡ values_of values.now }
     ensures four { length values.now ≡ MAX_EXPORTS }
@@ -238,7 +238,7 @@ fn delivered_values(values: &[Option<i64>; MAX_EXPORTS]) -> [i64; MAX_EXPORTS]
 }
 
 impl Delivered {
-    /// What is delivered where each exported variable gets a value or none.
+    /// What is delivered if each exported variable gets a value or none.
     pub fn of(values: [Option<i64>; MAX_EXPORTS]) -> Self
         ensures { result ≡ values }
     {

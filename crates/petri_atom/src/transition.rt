@@ -94,7 +94,7 @@ impl Transition {
         &self.targets
     }
 
-    /// The guard: the transition is offered only where its value is not 0.
+    /// The guard: the transition is offered only if its value is not 0.
     pub fn guard(&self) -> &Expression<u8>
         ensures { tree_of result.now ≡ (transition_of self.now).guard }
     {

@@ -1,4 +1,4 @@
--- What a stop leaves of a durable plant, and that its device is at rest behind a flush.
+-- What a stop leaves of a durable plant, and that its device is at rest after a flush.
 use Rattle.std.proofs.Common.{◌≡◌, ◌+◌, ◌-◌, ◌≤◌, ℕ, refl, sym, ◌∙◌, ap, subst, List, [], ◌∷◌, ◌++◌, length, map, take, arith, true, Bool, false, None}
 use Rattle.std.specs.List.{list_all}
 use Rattle.std.proofs.lemmas.Bool.{and_from}
@@ -19,7 +19,7 @@ use Rattle.step_core.specs.Rules.{fault_of}
 use Rattle.step_core.specs.Runs.{IsRun, fold}
 use Rattle.step_core.specs.Step.{next}
 use Rattle.record_replay.specs.OfPlant.{is_record_of}
-use Rattle.record_replay.specs.Records.{counts_after, counts_behind, record_by, records_of}
+use Rattle.record_replay.specs.Records.{counts_after, counts_after_all, record_by, records_of}
 use Rattle.record_replay.proofs.OfPlants.{record-of-plant}
 use Rattle.record_replay.proofs.OnRuns.{length-records}
 use Rattle.plant_image.specs.Contents.{Contents, contents_of, last_number, ring_in}
@@ -29,7 +29,7 @@ use Rattle.plant_image.proofs.AppendedImages.{appended_none, appended_reads}
 use Rattle.plant_image.proofs.KeptCells.{sound_of}
 use Rattle.plant_image.proofs.OnContents.{run_leads}
 use Rattle.plant_image.proofs.Standings.{leads_stands}
-use Rattle.plant_core.specs.Kept.{IsAtRest, IsFrontOf}
+use Rattle.plant_core.specs.Invariant.{IsAtRest, IsFrontOf}
 use Rattle.plant_core.specs.Snapshots.{known_of}
 use Rattle.plant_core.specs.Stops.{StandsForAcked, StandsForFront, number_held}
 use Rattle.trimmer.specs.declared.saved.SavedAt.{SavedAt}
@@ -59,7 +59,7 @@ all-appended j news old new same all = record {
     live-before : List FiredFields
     live-before = live j (seen_cells (BODY + 1) old)
 
--- What stands for the state behind a front of the tail says itself how long that front is, and the other way round.
+-- What stands for the state after a front of the tail says itself how long that front is, and the other way round.
 pub front-of : (plant : PlantDefinition) (digest : List ℕ) (bytes : ℕ) (v : View) (cells : List Cell) → StandsForFront plant digest bytes v cells → IsFrontOf plant digest bytes v cells
 front-of plant digest bytes v cells stands =
     let k : ℕ = stands.0 in
@@ -84,7 +84,7 @@ of-front plant digest bytes v cells front =
 pub acked-front : (plant : PlantDefinition) (digest : List ℕ) (bytes : ℕ) (v : View) (cells : List Cell) → StandsForAcked plant digest bytes v cells → StandsForFront plant digest bytes v cells
 acked-front plant digest bytes v cells stands = (0, omega arith, subst (λ (n : ℕ). StandsFor plant digest bytes cells v.acked n) (omega arith) stands)
 
--- what a stop leaves behind a call is among what one since its start leaves
+-- what a stop leaves after a call is among what one since its start leaves
 pub acked-now : (plant : PlantDefinition) (digest : List ℕ) (v : View) (old new : DiskState) → (old.keeps ≡ true → v.broken ≡ false → Leaves (BODY + 1) (StandsForAcked plant digest (size_of old) v) old new)
     → old.keeps ≡ true → v.broken ≡ false → (cells : List Cell) → MayBe (BODY + 1) new cells → StandsForAcked plant digest (size_of old) v cells
 acked-now plant digest v old new stops keeps whole = leaves_now (BODY + 1) (StandsForAcked plant digest (size_of old) v) old new (stops keeps whole)
@@ -93,7 +93,7 @@ acked-now plant digest v old new stops keeps whole = leaves_now (BODY + 1) (Stan
 pub front-now : (plant : PlantDefinition) (digest : List ℕ) (v : View) (s : DiskState) → ((cells : List Cell) → MayBe (BODY + 1) s cells → IsFrontOf plant digest (size_of s) v cells) → Leaves (BODY + 1) (StandsForFront plant digest (size_of s) v) s s
 front-now plant digest v s front = leaves_start (BODY + 1) (StandsForFront plant digest (size_of s) v) s (λ cells may. of-front plant digest (size_of s) v cells (front cells may))
 
--- Where a state is handed in to be stored the device is left as it was, or whatever a stop leaves stands for the acknowledged state.
+-- If a state is handed in to be stored the device is left as it was, or whatever a stop leaves stands for the acknowledged state.
 pub put-front : (plant : PlantDefinition) (digest : List ℕ) (v : View) (old new : DiskState) → ((cells : List Cell) → MayBe (BODY + 1) old cells → IsFrontOf plant digest (size_of old) v cells) → (v.broken ≡ true → new ≡ old)
     → (v.broken ≡ false → Leaves (BODY + 1) (StandsForAcked plant digest (size_of old) v) old new) → Leaves (BODY + 1) (StandsForFront plant digest (size_of old) v) old new
 put-front plant digest v old new front same stops = by v.broken refl
@@ -121,7 +121,7 @@ module _ (plant : PlantDefinition) (digest : List ℕ) (j : Ring) (acked : List 
       subst (λ cells. StandsFor plant digest (size_of old) cells acked number) same
       (leads_stands plant digest (size_of old) (seen_cells (BODY + 1) old) acked number counts rest.sound rest.leads)
 
-  -- which is behind no choice of any tail
+  -- which is after no choice of any tail
   pub rest-front : (v : View) → v.acked ≡ acked → v.number ≡ number → (cells : List Cell) → MayBe (BODY + 1) old cells → IsFrontOf plant digest (size_of old) v cells
   rest-front v its_state its_number cells may = front-of plant digest (size_of old) v cells (
     0,
@@ -141,12 +141,12 @@ module _ (plant : PlantDefinition) (digest : List ℕ) (j : Ring) (acked : List 
     fit = subst (λ cs. list_all (is_record_of plant) (records_of plant acked counts number cs) ≡ true) (take_all (length tail) tail (omega arith))
         (records-of-plant plant valid (take (length tail) tail) acked (fold plant acked (take (length tail) tail)) counts number (runs (length tail)))
 
-    -- a front of the new records leads to the state behind as many choices
-    front-leads : (k : ℕ) → k ≤ length tail → Leads plant (with_records (take k news) (contents_of (length plant.atoms) (seen_cells (BODY + 1) old))) (fold plant acked (take k tail)) (counts_behind (take k tail) counts) (number + k)
+    -- a front of the new records leads to the state after as many choices
+    front-leads : (k : ℕ) → k ≤ length tail → Leads plant (with_records (take k news) (contents_of (length plant.atoms) (seen_cells (BODY + 1) old))) (fold plant acked (take k tail)) (counts_after_all (take k tail) counts) (number + k)
     front-leads k within =
         let long : length (take k tail) ≡ k = omega (arith, length-take k tail) in
-        subst (λ (n : ℕ). Leads plant (with_records (take k news) (contents_of (length plant.atoms) (seen_cells (BODY + 1) old))) (fold plant acked (take k tail)) (counts_behind (take k tail) counts) (number + n)) long
-        (subst (λ rs. Leads plant (with_records rs (contents_of (length plant.atoms) (seen_cells (BODY + 1) old))) (fold plant acked (take k tail)) (counts_behind (take k tail) counts) (number + length (take k tail))) (sym (records-front plant k tail acked counts number))
+        subst (λ (n : ℕ). Leads plant (with_records (take k news) (contents_of (length plant.atoms) (seen_cells (BODY + 1) old))) (fold plant acked (take k tail)) (counts_after_all (take k tail) counts) (number + n)) long
+        (subst (λ rs. Leads plant (with_records rs (contents_of (length plant.atoms) (seen_cells (BODY + 1) old))) (fold plant acked (take k tail)) (counts_after_all (take k tail) counts) (number + length (take k tail))) (sym (records-front plant k tail acked counts number))
         (run_leads plant (contents_of (length plant.atoms) (seen_cells (BODY + 1) old)) acked counts number rest.leads (fold plant acked (take k tail)) (take k tail) (runs k)))
 
     module _ (cells : List Cell) (left : HasAppended j news (seen_cells (BODY + 1) old) cells) where
@@ -162,13 +162,13 @@ module _ (plant : PlantDefinition) (digest : List ℕ) (j : Ring) (acked : List 
       reads : contents_of (length plant.atoms) cells ≡ with_records (take in-ring.count news) (contents_of (length plant.atoms) (seen_cells (BODY + 1) old))
       reads = appended_reads plant digest (size_of old) news (seen_cells (BODY + 1) old) cells (sound_of plant digest (size_of old) (seen_cells (BODY + 1) old) rest.sound) fit in-ring
 
-      -- so what stands there stands for the state behind a front of the tail
+      -- so what stands there stands for the state after a front of the tail
       pub stop-stands : (k : ℕ) × (k ≤ length tail) × StandsFor plant digest (size_of old) cells (fold plant acked (take k tail)) (number + k)
       stop-stands = (
         in-ring.count,
         within,
-        leads_stands plant digest (size_of old) cells (fold plant acked (take in-ring.count tail)) (number + in-ring.count) (counts_behind (take in-ring.count tail) counts) sound
-            (subst (λ c. Leads plant c (fold plant acked (take in-ring.count tail)) (counts_behind (take in-ring.count tail) counts) (number + in-ring.count)) (sym reads) (front-leads in-ring.count within)),
+        leads_stands plant digest (size_of old) cells (fold plant acked (take in-ring.count tail)) (number + in-ring.count) (counts_after_all (take in-ring.count tail) counts) sound
+            (subst (λ c. Leads plant c (fold plant acked (take in-ring.count tail)) (counts_after_all (take in-ring.count tail) counts) (number + in-ring.count)) (sym reads) (front-leads in-ring.count within)),
       )
 
     -- whenever it comes
@@ -187,7 +187,7 @@ module _ (plant : PlantDefinition) (digest : List ℕ) (j : Ring) (acked : List 
 
     -- and the device is at rest again
     pub rest-again : (after : Ring) (new : DiskState) → HasAppendedAll j news old new → size_of new ≡ size_of old → after ≡ appended (length news) j
-        → IsAtRest plant digest after (fold plant acked tail) (counts_behind tail counts) (number + length tail) saved new
+        → IsAtRest plant digest after (fold plant acked tail) (counts_after_all tail counts) (number + length tail) saved new
     unfolding all-appended
     rest-again after new all same more =
         let before : Contents = contents_of (length plant.atoms) (seen_cells (BODY + 1) old) in
@@ -198,12 +198,12 @@ module _ (plant : PlantDefinition) (digest : List ℕ) (j : Ring) (acked : List 
         let reads : contents_of (length plant.atoms) (seen_cells (BODY + 1) new) ≡ with_records news before = again-reads new all same in
         let long : length (before.records ++ news) ≡ length before.records + length news = length-append before.records news in
         let last : last_number before + length news ≡ before.base + length (before.records ++ news) - 1 = omega (arith, long, rest.leads.last) in
-        subst (λ r. IsAtRest plant digest r (fold plant acked tail) (counts_behind tail counts) (number + length tail) saved new) (sym more) (record {
+        subst (λ r. IsAtRest plant digest r (fold plant acked tail) (counts_after_all tail counts) (number + length tail) saved new) (sym more) (record {
           ready = all.ready;
           sound = subst (λ (bytes : ℕ). cells_fault plant digest bytes (seen_cells (BODY + 1) new) ≡ None) (sym same)
               (appended_none plant digest (size_of old) news (seen_cells (BODY + 1) old) (seen_cells (BODY + 1) new) judged fit left);
           journal = ap (appended (length news)) rest.journal ∙ ap (λ (n : ℕ). record ring { last = n }) last ∙ ap (ring_in (length plant.atoms)) (sym reads);
-          leads = subst (λ c. Leads plant c (fold plant acked tail) (counts_behind tail counts) (number + length tail)) (sym reads)
+          leads = subst (λ c. Leads plant c (fold plant acked tail) (counts_after_all tail counts) (number + length tail)) (sym reads)
               (run_leads plant before acked counts number rest.leads (fold plant acked tail) tail run);
           slots = rest.slots ∙ ap (λ (c : Contents). map known_of c.slots) (sym reads);
         })

@@ -11,7 +11,7 @@ use Rattle.step_core.specs.Step.{next}
 use Rattle.step_core.specs.declared.choice.Move.{Move}
 use Rattle.step_core.proofs.Membership.{in-entry}
 use Rattle.record_replay.proofs.OfPlants.{any-of}
-use Rattle.plant_core.specs.Kept.{are_same_moves, is_run_from, is_same_choice, is_same_move}
+use Rattle.plant_core.specs.Invariant.{are_same_moves, is_run_from, is_same_choice, is_same_move}
 
 -- a choice is the same as itself
 same-moves : (ms : List Move) → are_same_moves ms ms ≡ true

@@ -1,5 +1,5 @@
 -- The copies that a durable plant keeps are on the way of their atoms' replay, whatever it does.
-use Rattle.std.proofs.Common.{◌≡◌, ◌≢◌, inl, inr, ℕ, zero, suc, ◌+◌, ◌-◌, ◌<◌, ◌≤◌, refl, sym, ◌∙◌, ap, subst, ⊎_elim, List, [], ◌∷◌, ◌++◌, length, slice_get, take, set, arith, Option, None, Some, Ok, get_or-set_same, get_or-set_other, length-set}
+use Rattle.std.proofs.Common.{◌≡◌, ◌≢◌, inl, inr, ℕ, zero, suc, ◌+◌, ◌-◌, ◌<◌, ◌≤◌, refl, sym, ◌∙◌, ap, subst, ⊎_elim, List, [], ◌∷◌, ◌++◌, length, get_or, slice_get, take, set, arith, Option, None, Some, Ok, get_or-set_same, get_or-set_other, length-set}
 use Rattle.std.specs.Prelude.{IfSome}
 use Rattle.std.specs.Option.{option_map}
 use Rattle.std.proofs.Math.Seq.{take-append-add}
@@ -15,7 +15,7 @@ use Rattle.snapshot_writer.specs.Parcels.{local_in, saved_by}
 use Rattle.step_core.specs.Choice.{ChoiceDefinition}
 use Rattle.step_core.specs.Plant.{PlantDefinition}
 use Rattle.step_core.specs.Runs.{IsRun, fold}
-use Rattle.record_replay.specs.Records.{count_of, counts_behind, records_of}
+use Rattle.record_replay.specs.Records.{count_of, counts_after_all, records_of}
 use Rattle.record_replay.specs.Replay.{Position, ok_then, replay, replay_from}
 use Rattle.record_replay.proofs.OnRuns.{length-records, records-append}
 use Rattle.record_replay.proofs.OverRecords.{replay-alike, replay-append, replay-grows, replay-passed, same_Ok}
@@ -24,7 +24,7 @@ use Rattle.plant_image.specs.Standing.{IsOnTheWay, Leads, with_records, with_sav
 use Rattle.plant_image.proofs.ByAtoms.{element_at}
 use Rattle.plant_image.proofs.OnContents.{run_leads}
 use Rattle.plant_core.specs.Events.{copy_in}
-use Rattle.plant_core.specs.Kept.{AreOnTheWay, FitsTogether}
+use Rattle.plant_core.specs.Invariant.{AreOnTheWay, FitsTogether}
 use Rattle.plant_core.specs.Snapshots.{AreOwn, held_at}
 use Rattle.plant_core.specs.View.{View, fired_number, with_all_acked, with_asked, with_fired, with_stored}
 use Rattle.plant_core.proofs.Flushing.{front-runs}
@@ -41,11 +41,11 @@ one_more_copied xs ys i x inside within there so_far =
 
 -- ---- what is held
 
--- a state that is put in its atom's place is there, and every other as before
-pub held-other : (held : List (Option SavedFields)) (atom i : ℕ) (o : Option SavedFields) → i ≢ atom → held_at (set held atom o) i ≡ held_at held i
+-- what is put in an atom's place is there, and every other as before
+pub held-other : {X : Type 0} (held : List (Option X)) (atom i : ℕ) (o : Option X) → i ≢ atom → get_or (set held atom o) i None ≡ get_or held i None
 held-other held atom i o other = get_or-set_other held atom i o None other
 
-pub held-own : (held : List (Option SavedFields)) (atom : ℕ) (o : Option SavedFields) → atom < length held → held_at (set held atom o) atom ≡ o
+pub held-own : {X : Type 0} (held : List (Option X)) (atom : ℕ) (o : Option X) → atom < length held → get_or (set held atom o) atom None ≡ o
 held-own held atom o within = get_or-set_same held atom o None within
 
 -- past the end nothing is put, and nothing is there
@@ -55,11 +55,11 @@ held-none held atom = ⊎_elim
     (λ past. let none : Option SavedFields = None in get_or_past (set held atom none) atom none (omega (arith, length-set held atom none, past)))
     (cases_lt atom (length held))
 
--- what is found where a state was put is that state
-pub put-there : (held : List (Option SavedFields)) (atom : ℕ) (saved other : SavedFields) → held_at (set held atom (Some saved)) atom ≡ Some other → saved ≡ other
-put-there held atom saved other there = ⊎_elim
-    (λ within. same_Some saved other (sym (held-own held atom (Some saved) within) ∙ there))
-    (λ past. let some : Option SavedFields = Some saved in absurd (none-some other (sym (get_or_past (set held atom some) atom None (omega (arith, length-set held atom some, past))) ∙ there)))
+-- what is found where something was put is just that
+pub put-there : {X : Type 0} (held : List (Option X)) (atom : ℕ) (x other : X) → get_or (set held atom (Some x)) atom None ≡ Some other → x ≡ other
+put-there {X} held atom x other there = ⊎_elim
+    (λ within. same_Some x other (sym (held-own held atom (Some x) within) ∙ there))
+    (λ past. let some : Option X = Some x in absurd (none-some other (sym (get_or_past (set held atom some) atom None (omega (arith, length-set held atom some, past))) ∙ there)))
     (cases_lt atom (length held))
 
 -- each is one of its own atom
@@ -67,7 +67,7 @@ pub own-held : (held : List (Option SavedFields)) (atom : ℕ) (found : Option S
 own-held held atom None own is = tt
 own-held held atom (Some saved) own is = own atom saved (sym is)
 
--- there is a place where one is held
+-- there is a place for one that is held
 pub held-within : (held : List (Option SavedFields)) (atom : ℕ) (saved : SavedFields) → held_at held atom ≡ Some saved → atom < length held
 held-within held atom saved there = ⊎_elim
     (λ within. within)
@@ -82,7 +82,7 @@ held-again (o ∷ os) (suc atom) saved there = ap (λ (xs : List (Option SavedFi
 
 -- ---- on the way
 
--- more records behind those that lead to the copy change nothing
+-- more records after those that lead to the copy change nothing
 pub way-longer : (c : Contents) (a : AtomDefinition) (saved : SavedFields) (more : List FiredFields) → saved.at + 1 - c.base ≤ length c.records → IsOnTheWay c a saved → IsOnTheWay (with_records more c) a saved
 way-longer c a saved more short way = record {
   from = way.from;
@@ -90,7 +90,7 @@ way-longer c a saved more short way = record {
   reached = ap (replay_from a saved.atom (saved_position c saved.atom)) (take-append-le (saved.at + 1 - c.base) c.records more short) ∙ way.reached;
 }
 
--- contents with the same records behind one another
+-- contents with the same records after one another
 joined : (c : Contents) (xs ys : List FiredFields) → with_records ys (with_records xs c) ≡ with_records (xs ++ ys) c
 joined c xs ys = ap (λ rs. record c { records = rs }) (append_assoc c.records xs ys)
 
@@ -125,12 +125,12 @@ module _ (plant : PlantDefinition) (v : View) (bodies : List (List ℕ)) (kept :
     pub way-fired : (choice : ChoiceDefinition) (a : AtomDefinition) (saved : SavedFields) → saved.at ≤ fired_number v → IsOnTheWay (with_records news c) a saved
         → IsOnTheWay (with_records (records_of plant v.acked v.acked_counts v.number (v.tail ++ choice ∷ [])) c) a saved
     way-fired choice a saved last way =
-        let more : List FiredFields = records_of plant (fold plant v.acked v.tail) (counts_behind v.tail v.acked_counts) (v.number + length v.tail) (choice ∷ []) in
+        let more : List FiredFields = records_of plant (fold plant v.acked v.tail) (counts_after_all v.tail v.acked_counts) (v.number + length v.tail) (choice ∷ []) in
         subst (λ rs. IsOnTheWay (with_records rs c) a saved) (sym (records-append plant v.tail (choice ∷ []) v.acked v.acked_counts v.number))
         (subst (λ d. IsOnTheWay d a saved) (joined c news more) (way-longer (with_records news c) a saved more (short saved last) way))
 
     -- it copies the present state of an atom
-    led : Leads plant (with_records news c) (fold plant v.acked v.tail) (counts_behind v.tail v.acked_counts) (v.number + length v.tail)
+    led : Leads plant (with_records news c) (fold plant v.acked v.tail) (counts_after_all v.tail v.acked_counts) (v.number + length v.tail)
     led = run_leads plant c v.acked v.acked_counts v.number leads (fold plant v.acked v.tail) v.tail
         (subst (λ cs. IsRun plant v.acked cs (fold plant v.acked cs)) (take_all (length v.tail) v.tail (omega arith)) (front-runs plant v bodies kept (length v.tail)))
 
@@ -148,7 +148,7 @@ module _ (plant : PlantDefinition) (v : View) (bodies : List (List ℕ)) (kept :
             let k : ℕ = fired_number v + 1 - c.base in
             let e : Position = record { state = s; count = count_of v.counts atom } in
             let long : length (c.records ++ news) ≤ k = omega (arith, leads.last, many, length-append c.records news) in
-            let whole : replayed d atom a ≡ Ok (record { state = s; count = count_of (counts_behind v.tail v.acked_counts) atom }) = led.each atom a s own (subst (λ (states : List Local). slice_get states atom ≡ Some s) kept.leads there) in
+            let whole : replayed d atom a ≡ Ok (record { state = s; count = count_of (counts_after_all v.tail v.acked_counts) atom }) = led.each atom a s own (subst (λ (states : List Local). slice_get states atom ≡ Some s) kept.leads there) in
             let reached : replayed d atom a ≡ Ok e = whole ∙ ap (λ (counts : List ℕ). Ok (record { state = s; count = count_of counts atom })) (sym kept.counted) in
             record {
               from = omega (arith, leads.last);
@@ -156,7 +156,7 @@ module _ (plant : PlantDefinition) (v : View) (bodies : List (List ℕ)) (kept :
               reached = ap (replay_from a atom p) (take_all k (c.records ++ news) long) ∙ reached;
             }
 
-    -- a copy that is behind acknowledged firings alone is on the way over the records on the device
+    -- a copy that includes acknowledged firings alone is on the way over the records on the device
     pub way-acked : (a : AtomDefinition) (saved : SavedFields) → slice_get plant.atoms saved.atom ≡ Some a → saved.count ≤ count_of v.acked_counts saved.atom → IsOnTheWay (with_records news c) a saved → IsOnTheWay c a saved
     way-acked a saved at behind way = record { from = way.from; later = way.later; reached = ⊎_elim in-front past (cases_lt (length c.records) (saved.at + 1 - c.base)) }
       where

@@ -1,4 +1,4 @@
--- A durable plant may go to another thread where its device may. Its executor reaches expressions and trees, which hold themselves, so the
+-- A durable plant may go to another thread if its device may. Its executor reaches expressions and trees, which hold themselves, so the
 -- proof cites that of an executor; a struct that holds a plant, and a lock of one, cite this.
 use denote.RattleType.{RattleType}
 use denote.Ref.{NamedLft}

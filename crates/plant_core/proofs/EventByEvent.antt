@@ -18,7 +18,7 @@ use Rattle.record_codec.specs.declared.layout.TheConstants.{LAST_NUMBER}
 use Rattle.step_core.specs.Choice.{ChoiceDefinition}
 use Rattle.step_core.specs.Plant.{PlantDefinition}
 use Rattle.step_core.specs.Runs.{fold}
-use Rattle.plant_core.specs.Events.{AreHandsBehind, IsAckedOf, IsBack, IsBegin, IsEvent, IsEventRun, IsFire, IsFlush, IsHandedIn, IsHandedRun, all_fired, asked_in, fired_by, first_refusal, has_failed, has_none, is_any_away, is_call, is_disk, is_in_memory, may_call, refused_where}
+use Rattle.plant_core.specs.Events.{AreHandsAfter, IsAckedOf, IsBack, IsBegin, IsEvent, IsEventRun, IsFire, IsFlush, IsHandedIn, IsHandedRun, all_fired, asked_in, fired_by, first_refusal, has_failed, has_none, is_any_away, is_call, is_disk, is_in_memory, may_call, refused_where}
 use Rattle.plant_core.specs.Driven.{IsDriven}
 use Rattle.plant_core.specs.Hands.{HandFields}
 use Rattle.step_core.specs.Job.{JobDefinition}
@@ -71,7 +71,7 @@ back-never-fails v w job (Err Broken) did = refl
 back-never-fails v w job (Err Stranger) did = refl
 back-never-fails v w job (Err other) did = absurd did
 
--- and where it fails in an event, the plant was not broken and is
+-- and if it fails in an event, the plant was not broken and is
 failing-breaks : (plant : PlantDefinition) (v w : View) (h : Happened) → IsEvent plant v h w → has_failed h ≡ true → (v.broken ≢ true) × (w.broken ≡ true)
 failing-breaks plant v w (Fire pick answer) did failed = absurd (false≢true (sym (fire-never-fails plant v w pick answer did) ∙ failed))
 failing-breaks plant v w (Flush (Ok number)) did failed = absurd (false≢true failed)
@@ -100,7 +100,7 @@ failing-breaks plant v w (Begin pick answer) did failed = absurd (false≢true (
 failing-breaks plant v w (Back returned answer) did failed = absurd (false≢true (sym (back-never-fails v w did.0 answer did.2) ∙ failed))
 failing-breaks plant v w (Idle atom) did failed = absurd (false≢true failed)
 
--- where it does not fail, nothing breaks
+-- if it does not fail, nothing breaks
 event-sound : (plant : PlantDefinition) (v w : View) (h : Happened) → IsEvent plant v h w → has_failed h ≡ false → w.broken ≡ v.broken
 event-sound plant v w (Fire pick (Ok fired)) did sound = ap (λ (x : View). x.broken) did.3
 event-sound plant v w (Fire pick (Err refused)) did sound = ap (λ (x : View). x.broken) did.1
@@ -134,7 +134,7 @@ event-sound plant v w (Back returned (Err Stranger)) did sound = ap (λ (x : Vie
 event-sound plant v w (Back returned (Err other)) did sound = absurd did.2
 event-sound plant v w (Idle atom) did sound = ap (λ (x : View). x.broken) did
 
--- neither of two is so where one of them is not
+-- neither of two is so if one of them is not
 neither : (a b : Bool) → (a || b) ≡ false → (a ≡ false) × (b ≡ false)
 neither false b none = (refl, none)
 neither true b none = absurd (false≢true (sym none))
@@ -200,7 +200,7 @@ not-true false none = refl
 -- ---- what a stop leaves
 
 module _ (plant : PlantDefinition) (digest : List ℕ) (bytes : ℕ) (v : View) where
-  -- a front of what was fired is one of what was fired with more behind it
+  -- a front of what was fired is one of what was fired with more after it
   front-since-more : (fired more : List ChoiceDefinition) (cells : List Cell) → StandsForFrontSince plant digest bytes v fired cells → StandsForFrontSince plant digest bytes v (fired ++ more) cells
   front-since-more fired more cells stands =
       let k : ℕ = stands.0 in
@@ -225,7 +225,7 @@ handed-join plant (h ∷ hs) behind v u w hands held after first second =
 
 -- ---- two runs, one after the other
 
--- a front of the tail, where nothing more was fired
+-- a front of the tail, if nothing more was fired
 since-now : (plant : PlantDefinition) (digest : List ℕ) (bytes : ℕ) (v : View) (cells : List Cell) → StandsForFront plant digest bytes v cells → StandsForFrontSince plant digest bytes v [] cells
 since-now plant digest bytes v cells stands =
     subst (λ cs. (n : ℕ) × (n ≤ length cs) × StandsFor plant digest bytes cells (fold plant v.acked (take n cs)) (v.number + n)) (sym (append-nil v.tail)) stands
@@ -337,10 +337,10 @@ module _ (plant : PlantDefinition) (digest : List ℕ) (v : View) (s : DiskState
     keeps = refl;
   }
 
-  -- behind one, by what the call that met it says
+  -- after one, by what the call that met it says
   pub driven-one : (h : Happened) (w : View) (m : DiskState) (after : HandFields) → IsEvent plant v h w → (e : Event) → asked_in h ≡ e
       → (s.keeps ≡ true → Leaves (BODY + 1) (StandsForFront plant digest (size_of s) v) s m) → m.failures ≡ counted (has_failed h) s.failures
-      → (is_in_memory e ≡ true → m ≡ s) → (may_call h ≡ false → m ≡ s) → size_of m ≡ size_of s → m.keeps ≡ s.keeps → IsHandedIn plant hands h → AreHandsBehind plant v hands h after
+      → (is_in_memory e ≡ true → m ≡ s) → (may_call h ≡ false → m ≡ s) → size_of m ≡ size_of s → m.keeps ≡ s.keeps → IsHandedIn plant hands h → AreHandsAfter plant v hands h after
       → IsDriven plant digest v s hands (e ∷ []) (h ∷ []) w m after
   driven-one h w m after event e asked stops cause idle untouched size keeps handed behind = record {
     asked = ap (λ x. x ∷ []) asked;

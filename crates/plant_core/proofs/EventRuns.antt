@@ -11,8 +11,8 @@ use Rattle.step_core.specs.Plant.{PlantDefinition}
 use Rattle.step_core.specs.Runs.{IsRun, fold}
 use Rattle.step_core.specs.Step.{next}
 use Rattle.step_core.proofs.Membership.{entry-in}
-use Rattle.step_core.proofs.Surely.{sure-allowed}
-use Rattle.step_executor.specs.Outstanding.{is_out, jobs_behind}
+use Rattle.step_core.proofs.SureAllowed.{sure-allowed}
+use Rattle.step_executor.specs.Outstanding.{is_out, jobs_after}
 use Rattle.plant_core.specs.Events.{IsAckedOf, IsEvent, IsEventRun, all_fired, fired_by}
 use Rattle.record_codec.specs.Saved.{SavedFields}
 use Rattle.trimmer.specs.Covered.{MarkFields}
@@ -60,7 +60,7 @@ module _ (plant : PlantDefinition) where
   event-cases v w (Trim (Err other)) P stays fires acks notes breaks did = absurd did
   event-cases v w (Begin pick (Err refused)) P stays fires acks notes breaks did = subst (P []) (sym did.1) stays
   event-cases v w (Begin pick (Ok fired)) P stays fires acks notes breaks did =
-      subst (P (choice_of fired.choice ∷ [])) (sym did.3) (fires (choice_of fired.choice) (jobs_behind plant v.present v.counts (choice_of fired.choice) fired.choice.moves v.away) (entry-allowed v (pick % length (sure_in plant v)) (choice_of fired.choice) did.2))
+      subst (P (choice_of fired.choice ∷ [])) (sym did.3) (fires (choice_of fired.choice) (jobs_after plant v.present v.counts (choice_of fired.choice) fired.choice.moves v.away) (entry-allowed v (pick % length (sure_in plant v)) (choice_of fired.choice) did.2))
   event-cases v w (Back returned (Ok done)) P stays fires acks notes breaks did =
       let job : JobDefinition = did.0 in
       subst (P []) (sym did.2.2) (notes v.base v.marks v.saved v.kept (slice_set v.away job.atom None))
@@ -86,7 +86,7 @@ module _ (plant : PlantDefinition) where
       (λ rest. rest)
       run.1 (events-run hs run.0 w run.2)
 
-  -- the tail leads to the present state behind an event where it did before, and so behind each run of events
+  -- the tail leads to the present state after an event if it did before, and so after each run of events
   pub event-leads : (h : Happened) (v w : View) → v.present ≡ fold plant v.acked v.tail → IsEvent plant v h w → w.present ≡ fold plant w.acked w.tail
   event-leads h v w leads event = event-cases v w h
       (λ cs x. x.present ≡ fold plant x.acked x.tail)
@@ -101,7 +101,7 @@ module _ (plant : PlantDefinition) where
   events-lead [] v w leads run = subst (λ (x : View). x.present ≡ fold plant x.acked x.tail) (sym run) leads
   events-lead (h ∷ hs) v w leads run = events-lead hs run.0 w (event-leads h v run.0 leads run.1) run.2
 
-  -- the state behind choices and then more
+  -- the state after choices and then more
   pub fold-append : (xs ys : List ChoiceDefinition) (states : List Local) → fold plant states (xs ++ ys) ≡ fold plant (fold plant states xs) ys
   fold-append [] ys states = refl
   fold-append (x ∷ xs) ys states = fold-append xs ys (next plant states x)
@@ -110,7 +110,7 @@ module _ (plant : PlantDefinition) where
   abbrev Acked : List Local → ℕ → List ChoiceDefinition → View → Type 0
   Acked acked number cs w = (k : ℕ) × (w.number ≡ number + k) × (k ≤ length cs) × (w.acked ≡ fold plant acked (take k cs)) × (w.tail ≡ drop k cs)
 
-  -- where all of the tail is acknowledged, these are so many more
+  -- if all of the tail is acknowledged, these are so many more
   acked-more : (acked : List Local) (number : ℕ) (tail rest : List ChoiceDefinition) (w : View) → Acked (fold plant acked tail) (number + length tail) rest w → Acked acked number (tail ++ rest) w
   acked-more acked number tail rest w more =
       let k : ℕ = more.0 in

@@ -1,5 +1,5 @@
 -- What a durable plant keeps, it keeps when it fires a choice.
-use Rattle.std.proofs.Common.{◌≡◌, ◌+◌, ◌-◌, ◌<◌, ◌≤◌, ℕ, suc, refl, sym, ◌∙◌, ap, subst, List, [], ◌∷◌, ◌++◌, length, map, arith, ⊎_elim, All, Bool, true, Option, Some, None}
+use Rattle.std.proofs.Common.{◌≡◌, ◌+◌, ◌-◌, ◌<◌, ◌≤◌, ℕ, suc, refl, sym, ◌∙◌, ap, subst, List, [], ◌∷◌, ◌++◌, length, drop, map, arith, ⊎_elim, All, Bool, true, Option, Some, None}
 use Rattle.std.specs.List.{list_all}
 use Rattle.std.proofs.lemmas.Bool.{cases_lt}
 use Rattle.std.proofs.lemmas.List.{get_or_past, length-append, length-map, map-append}
@@ -12,14 +12,14 @@ use Rattle.record_codec.specs.Fired.{FiredFields, IsFired, fired_in}
 use Rattle.record_codec.specs.declared.layout.TheConstants.{LAST_NUMBER}
 use Rattle.step_core.specs.Choice.{ChoiceDefinition, IsAllowed}
 use Rattle.step_core.specs.Chosen.{choice_of}
-use Rattle.step_core.specs.Delivery.{IsTold}
+use Rattle.step_core.specs.Delivery.{IsDelivered}
 use Rattle.step_core.specs.Job.{JobDefinition}
 use Rattle.step_core.specs.Plant.{PlantDefinition}
 use Rattle.step_core.specs.Rules.{fault_of}
 use Rattle.step_core.specs.Step.{next}
 use Rattle.step_core.specs.declared.choice.Choice.{Choice}
 use Rattle.step_core.specs.declared.choice.Move.{Move}
-use Rattle.record_replay.specs.Records.{count_of, counts_after, counts_behind, record_by, records_of}
+use Rattle.record_replay.specs.Records.{count_of, counts_after, counts_after_all, record_by, records_of}
 use Rattle.record_replay.proofs.Counting.{behind-append, behind-within}
 use Rattle.record_replay.proofs.OfPlants.{record-in-range}
 use Rattle.record_replay.proofs.OnRuns.{length-records, records-append}
@@ -27,8 +27,8 @@ use Rattle.record_codec.specs.Saved.{SavedFields}
 use Rattle.trimmer.specs.Covered.{MarkFields}
 use Rattle.trimmer.specs.declared.saved.SavedAt.{SavedAt}
 use Rattle.disk_model.specs.Cells.{Cell}
-use Rattle.plant_core.specs.Kept.{FitsTogether, IsCopy, IsFrontOf, SnapshotsFit}
-use Rattle.plant_core.specs.Marks.{mark_of}
+use Rattle.plant_core.specs.Invariant.{FitsTogether, IsCopy, IsFrontOf, SnapshotsFit}
+use Rattle.plant_core.specs.Marks.{mark_of, marks_of}
 use Rattle.plant_core.specs.Snapshots.{SnapshotFields}
 use Rattle.plant_core.specs.View.{View, fired_number, view_by, with_away, with_fired}
 use Rattle.plant_core.specs.declared.limits.TheConstants.{MOST_TAIL}
@@ -47,14 +47,14 @@ each-within counts n atom all = ⊎_elim
     (cases_lt atom (length counts))
 
 -- there is a row for each move whose row is told
-pub told-many : (delivered : ℕ → Row) (moves : List Move) (rows : List Row) → IsTold moves delivered rows → length moves ≤ length rows
+pub told-many : (delivered : ℕ → Row) (moves : List Move) (rows : List Row) → IsDelivered moves delivered rows → length moves ≤ length rows
 told-many delivered [] rows told = omega arith
 told-many delivered (m ∷ ms) [] told = absurd (none-some (delivered m.atom) (told 0 m refl))
 told-many delivered (m ∷ ms) (row ∷ rows) told =
     let fewer : length ms ≤ length rows = told-many delivered ms rows (λ place k there. told (suc place) k there) in
     omega arith
 
--- what is known of saved states fits where more was acknowledged and fired since
+-- what is known of saved states fits if more was acknowledged and fired since
 pub snapshots-later : (plant : PlantDefinition) (known : List SavedAt) (held : List (Option SavedFields)) (counts later : List ℕ) (fired last : ℕ) → ((atom : ℕ) → count_of counts atom ≤ count_of later atom) → fired ≤ last
     → SnapshotsFit plant known held counts fired → SnapshotsFit plant known held later last
 snapshots-later plant known held counts later fired last grown more fit = record {
@@ -124,7 +124,7 @@ module _ (plant : PlantDefinition) (v : View) (bodies : List (List ℕ)) (kept :
         all-records : records_of plant v.acked v.acked_counts v.number (v.tail ++ c ∷ []) ≡ records ++ record_by plant v.present v.counts (fired_number v + 1) c ∷ []
         all-records =
             records-append plant v.tail (c ∷ []) v.acked v.acked_counts v.number ∙
-            ap (λ states. records ++ record_by plant states (counts_behind v.tail v.acked_counts) (fired_number v + 1) c ∷ []) (sym kept.leads) ∙
+            ap (λ states. records ++ record_by plant states (counts_after_all v.tail v.acked_counts) (fired_number v + 1) c ∷ []) (sym kept.leads) ∙
             ap (λ counts. records ++ record_by plant v.present counts (fired_number v + 1) c ∷ []) (sym kept.counted)
 
         all-held : map fired_in (bodies ++ body ∷ []) ≡ told (records_of plant v.acked v.acked_counts v.number (v.tail ++ c ∷ []))
@@ -135,7 +135,7 @@ module _ (plant : PlantDefinition) (v : View) (bodies : List (List ℕ)) (kept :
             sym (map-append (λ (r : FiredFields). Some r) records (record_by plant v.present v.counts (fired_number v + 1) c ∷ [])) ∙
             ap told (sym all-records)
 
--- the view behind a fired choice, as it is kept, where these jobs are given out then
+-- the view after a fired choice, as it is kept, if these jobs are given out then
 pub view-of-fired : (plant : PlantDefinition) (acked still present after : List Local) (acked_counts counts counts_then : List ℕ) (number : ℕ) (tail longer : List Choice) (choice : Choice) (j : Ring) (marks marked : List MarkFields) (s : SnapshotFields) (away out jobs : List (Option JobDefinition)) (broken : Bool)
     → still ≡ acked → longer ≡ tail ++ choice ∷ [] → after ≡ next plant present (choice_of choice) → counts_then ≡ counts_after (choice_of choice) counts
     → marked ≡ marks ++ mark_of (record_by plant present counts (number + length (map choice_of tail) + 1) (choice_of choice)) ∷ [] → out ≡ jobs
@@ -149,9 +149,12 @@ view-of-fired plant acked still present after acked_counts counts counts_then nu
     ap (λ js. view_by acked acked_counts number (tail ++ choice ∷ []) (next plant present (choice_of choice)) (counts_after (choice_of choice) counts) j (marks ++ mark_of (record_by plant present counts (number + length (map choice_of tail) + 1) (choice_of choice)) ∷ []) s js broken) given ∙
     ap (λ (cs : List ChoiceDefinition). record (with_fired plant (choice_of choice) (view_by acked acked_counts number tail present counts j marks s away broken)) { tail = cs; away = jobs }) (map-append choice_of tail (choice ∷ []))
 
--- which atoms are away says nothing of the rest
-pub away-fits : (plant : PlantDefinition) (v : View) (bodies : List (List ℕ)) (jobs : List (Option JobDefinition)) → FitsTogether plant v bodies → FitsTogether plant (with_away jobs v) bodies
-away-fits plant v bodies jobs kept = record {
+-- Which records are kept, what is known of saved states, which atoms are away and whether the device has failed say nothing of the rest.
+pub changed-fits : (plant : PlantDefinition) (v : View) (bodies : List (List ℕ)) → FitsTogether plant v bodies
+    → (base : ℕ) (marks : List MarkFields) (saved : List SavedAt) (held : List (Option SavedFields)) (away : List (Option JobDefinition)) (broken : Bool) → 1 ≤ base → base ≤ v.number + 1
+    → fired_number v < base + v.ring → base + length marks ≡ fired_number v + 1 → drop (v.number + 1 - base) marks ≡ marks_of (records_of plant v.acked v.acked_counts v.number v.tail) → SnapshotsFit plant saved held v.acked_counts (fired_number v)
+    → FitsTogether plant (record v { base = base; marks = marks; saved = saved; kept = held; away = away; broken = broken }) bodies
+changed-fits plant v bodies kept base marks saved held away broken from to room many of_tail snapshots = record {
   of_plant = kept.of_plant;
   fits = kept.fits;
   run = kept.run;
@@ -161,14 +164,19 @@ away-fits plant v bodies jobs kept = record {
   counts_within = kept.counts_within;
   held = kept.held;
   short = kept.short;
-  base_from = kept.base_from;
-  base_to = kept.base_to;
-  room = kept.room;
+  base_from = from;
+  base_to = to;
+  room = room;
   last_to = kept.last_to;
-  marks_many = kept.marks_many;
-  marks_of_tail = kept.marks_of_tail;
-  snapshots = kept.snapshots;
+  marks_many = many;
+  marks_of_tail = of_tail;
+  snapshots = snapshots;
 }
+
+-- so it is if other atoms are away
+pub away-fits : (plant : PlantDefinition) (v : View) (bodies : List (List ℕ)) (jobs : List (Option JobDefinition)) → FitsTogether plant v bodies → FitsTogether plant (with_away jobs v) bodies
+away-fits plant v bodies jobs kept =
+    changed-fits plant v bodies kept v.base v.marks v.saved v.kept jobs v.broken kept.base_from kept.base_to kept.room kept.marks_many kept.marks_of_tail kept.snapshots
 
 pub away-front : (plant : PlantDefinition) (digest : List ℕ) (bytes : ℕ) (v : View) (jobs : List (Option JobDefinition)) (image : List Cell) → IsFrontOf plant digest bytes v image → IsFrontOf plant digest bytes (with_away jobs v) image
 away-front plant digest bytes v jobs image front = record { from = front.from; to = front.to; stands = front.stands }

@@ -1,5 +1,5 @@
 -- What a durable plant keeps, it keeps when all that was fired is acknowledged.
-use Rattle.std.proofs.Common.{◌≡◌, ◌+◌, ◌-◌, ◌≤◌, ℕ, zero, suc, refl, sym, ◌∙◌, ap, subst, ⊎_elim, List, [], ◌∷◌, length, replicate, take, drop, arith, Bool, false, Option, None}
+use Rattle.std.proofs.Common.{◌≡◌, ◌+◌, ◌-◌, ◌≤◌, ℕ, zero, suc, refl, sym, ◌∙◌, ap, subst, ⊎_elim, List, [], ◌∷◌, length, get_or, replicate, take, drop, arith, Bool, false, Option, None}
 use Rattle.std.specs.List.{range_with_len}
 use Rattle.std.proofs.lemmas.Bool.{cases_lt}
 use Rattle.std.proofs.lemmas.List.{get_or_past, length-replicate, drop_all, take-append-drop}
@@ -21,16 +21,16 @@ use Rattle.step_core.specs.declared.choice.Choice.{Choice}
 use Rattle.step_core.specs.declared.limits.TheConstants.{MAX_ATOMS}
 use Rattle.step_core.proofs.OnRuns.{runs-cut}
 use Rattle.record_codec.specs.Saved.{SavedFields}
-use Rattle.record_replay.specs.Records.{count_of, counted_by, counts_after, counts_behind, record_by, records_of}
+use Rattle.record_replay.specs.Records.{count_of, counted_by, counts_after, counts_after_all, record_by, records_of}
 use Rattle.record_replay.proofs.Counting.{counted-entry, counted-grows, length-behind}
 use Rattle.record_replay.proofs.OnRuns.{length-records, numbers-of}
 use Rattle.trimmer.specs.Covered.{MarkFields, saved_count}
 use Rattle.trimmer.specs.declared.saved.SavedAt.{SavedAt}
-use Rattle.plant_core.specs.Kept.{FitsTogether, IsJournalOf, SnapshotsFit}
+use Rattle.plant_core.specs.Invariant.{FitsTogether, IsJournalOf, SnapshotsFit}
 use Rattle.plant_core.specs.Snapshots.{SnapshotFields, held_at}
 use Rattle.plant_core.specs.View.{View, fired_number, view_by, with_all_acked}
 use Rattle.plant_core.proofs.Chosen.{run-from}
-use Rattle.plant_core.proofs.Firing.{count-so-far, snapshots-later}
+use Rattle.plant_core.proofs.Firing.{changed-fits, count-so-far, snapshots-later}
 
 -- a front of the records of choices is the records of a front of the choices
 pub records-front : (plant : PlantDefinition) (k : ℕ) (cs : List ChoiceDefinition) (states : List Local) (counts : List ℕ) (n : ℕ) → take k (records_of plant states counts n cs) ≡ records_of plant states counts n (take k cs)
@@ -39,7 +39,7 @@ records-front plant (suc k) [] states counts n = refl
 records-front plant (suc k) (c ∷ cs) states counts n = ap (λ rs. record_by plant states counts (n + 1) c ∷ rs) (records-front plant k cs (next plant states c) (counts_after c counts) (n + 1))
 
 -- no choice makes an atom count back
-pub counts-grow : (cs : List ChoiceDefinition) (counts : List ℕ) (atom : ℕ) → count_of counts atom ≤ count_of (counts_behind cs counts) atom
+pub counts-grow : (cs : List ChoiceDefinition) (counts : List ℕ) (atom : ℕ) → count_of counts atom ≤ count_of (counts_after_all cs counts) atom
 counts-grow [] counts atom = omega arith
 counts-grow (c ∷ cs) counts atom = ⊎_elim
     (λ within.
@@ -50,8 +50,8 @@ counts-grow (c ∷ cs) counts atom = ⊎_elim
     omega arith)
     (cases_lt atom (length counts))
 
--- where none is held, none is found
-pub none-held : (many atom : ℕ) → held_at (replicate many None) atom ≡ None
+-- if nothing is held, nothing is found
+pub none-held : {X : Type 0} (many atom : ℕ) → get_or {A = Option X} (replicate many None) atom None ≡ None
 none-held zero atom = refl
 none-held (suc many) zero = refl
 none-held (suc many) (suc atom) = none-held many atom
@@ -97,7 +97,7 @@ module _ (plant : PlantDefinition) (v : View) (bodies : List (List ℕ)) (kept :
     snapshots = snapshots-later plant v.saved v.kept v.acked_counts v.counts (fired_number v) (fired_number v + 0) counts-grown (omega arith) kept.snapshots;
   }
 
--- the view behind a flush, as it is kept
+-- the view after a flush, as it is kept
 pub view-of-flushed : (acked present then : List Local) (counts : List ℕ) (number sum : ℕ) (tail : List Choice) (j after : Ring) (count : ℕ) (marks : List MarkFields) (s : SnapshotFields) (away jobs : List (Option JobDefinition)) (whole broken : Bool)
     → acked ≡ present → then ≡ present → jobs ≡ away → number ≡ sum → tail ≡ [] → after ≡ appended count j → whole ≡ broken
     → view_by acked counts number tail then counts after marks s jobs whole ≡ view_by present counts sum [] present counts j marks s away broken
@@ -110,7 +110,7 @@ view-of-flushed acked present then counts number sum tail j after count marks s 
     ap (λ (r : Ring). view_by present counts sum [] present counts r marks s away whole) more ∙
     ap (λ (b : Bool). view_by present counts sum [] present counts j marks s away b) is
 
--- the journal behind a flush is that of the plant
+-- the journal after a flush is that of the plant
 pub journal-of-flushed : (plant : PlantDefinition) (number count : ℕ) (j after : Ring) (old new : DiskState) → after ≡ appended count j → size_of new ≡ size_of old → IsJournalOf plant number j old → IsJournalOf plant (number + count) after new
 journal-of-flushed plant number count j after old new more same is = subst (λ r. IsJournalOf plant (number + count) r new) (sym more) (record {
   atoms = is.atoms;
@@ -121,26 +121,10 @@ journal-of-flushed plant number count j after old new more same is = subst (λ r
 -- what is known of saved states, and whether the device has failed, says nothing of the rest
 pub noted-fits : (plant : PlantDefinition) (v : View) (bodies : List (List ℕ)) (saved : List SavedAt) (held : List (Option SavedFields)) (broken : Bool) → SnapshotsFit plant saved held v.acked_counts (fired_number v)
     → FitsTogether plant v bodies → FitsTogether plant (record v { saved = saved; kept = held; broken = broken }) bodies
-noted-fits plant v bodies saved held broken fit kept = record {
-  of_plant = kept.of_plant;
-  fits = kept.fits;
-  run = kept.run;
-  leads = kept.leads;
-  counted = kept.counted;
-  counts_length = kept.counts_length;
-  counts_within = kept.counts_within;
-  held = kept.held;
-  short = kept.short;
-  base_from = kept.base_from;
-  base_to = kept.base_to;
-  room = kept.room;
-  last_to = kept.last_to;
-  marks_many = kept.marks_many;
-  marks_of_tail = kept.marks_of_tail;
-  snapshots = fit;
-}
+noted-fits plant v bodies saved held broken fit kept =
+    changed-fits plant v bodies kept v.base v.marks saved held v.away broken kept.base_from kept.base_to kept.room kept.marks_many kept.marks_of_tail fit
 
--- and so is that behind one that failed
+-- and so is that after one that failed
 pub journal-of-failed : (plant : PlantDefinition) (number : ℕ) (j after : Ring) (old new : DiskState) → after ≡ j → size_of new ≡ size_of old → IsJournalOf plant number j old → IsJournalOf plant number after new
 journal-of-failed plant number j after old new kept same is = subst (λ r. IsJournalOf plant number r new) (sym kept) (record {
   atoms = is.atoms;
@@ -148,7 +132,7 @@ journal-of-failed plant number j after old new kept same is = subst (λ r. IsJou
   inside = subst (λ (bytes : ℕ). cells_of_ring j ≤ cells_in (BODY + 1) bytes) (sym same) is.inside;
 })
 
--- where nothing was fired since the last flush, what is kept fits together
+-- if nothing was fired since the last flush, what is kept fits together
 pub nothing-fired : (plant : PlantDefinition) (states : List Local) (counts : List ℕ) (number : ℕ) (j : Ring) → IsOf plant states → AllFit plant states → length counts ≡ MAX_ATOMS
     → ((atom : ℕ) → count_of counts atom ≤ number) → IsRing j → j.last ≡ number → (marks : List MarkFields) → j.base + length marks ≡ number + 1 → (s : SnapshotFields) → (away : List (Option JobDefinition)) → length s.saved ≡ length plant.atoms
     → ((atom : ℕ) → saved_count s.saved atom ≤ count_of counts atom) → s.kept ≡ replicate (length s.saved) None → FitsTogether plant (view_by states counts number [] states counts j marks s away false) []

@@ -1,8 +1,8 @@
--- There are as many hands behind an event as before.
+-- There are as many hands after an event as before.
 use Rattle.std.proofs.Common.{◌≡◌, ℕ, refl, sym, ◌∙◌, subst, List, [], ◌∷◌, length, set, length-set, Option, Some, None, Ok, Err}
 use Rattle.step_core.specs.Job.{JobDefinition}
 use Rattle.step_core.specs.Plant.{PlantDefinition}
-use Rattle.plant_core.specs.Events.{AreHandsBehind}
+use Rattle.plant_core.specs.Events.{AreHandsAfter}
 use Rattle.plant_core.specs.Hands.{AreHandsFor, HandFields, with_jobs}
 use Rattle.plant_core.specs.View.{View}
 use Rattle.plant_core.specs.declared.events.Happened.{Happened}
@@ -12,7 +12,7 @@ pub jobs-long : (jobs : List JobDefinition) (held : List (Option JobDefinition))
 jobs-long [] held = refl
 jobs-long (job ∷ jobs) held = jobs-long jobs (set held job.atom (Some job)) ∙ length-set held job.atom (Some job)
 
-pub as-many : (plant : PlantDefinition) (v : View) (n : ℕ) (hands after : HandFields) (h : Happened) → AreHandsFor n hands → AreHandsBehind plant v hands h after → AreHandsFor n after
+pub as-many : (plant : PlantDefinition) (v : View) (n : ℕ) (hands after : HandFields) (h : Happened) → AreHandsFor n hands → AreHandsAfter plant v hands h after → AreHandsFor n after
 as-many plant v n hands after (Fire pick answer) there is = subst (AreHandsFor n) (sym is) there
 as-many plant v n hands after (Flush answer) there is = subst (AreHandsFor n) (sym is) there
 as-many plant v n hands after (Ask atom (Ok saved)) there is = subst (AreHandsFor n) (sym is) (record { saved = length-set hands.saved saved.atom (Some saved) ∙ there.saved; jobs = there.jobs })

@@ -1,4 +1,4 @@
--- Jobs in hands: what is there where one is put or taken.
+-- Jobs in hands: what is there if one is put or taken.
 use Rattle.std.proofs.Common.{◌≡◌, ℕ, zero, suc, refl, sym, ◌∙◌, ap, List, [], ◌∷◌, drop, get_or, length, set, arith, length-set, get_or-set_same, get_or-set_other, ⊎_elim, Option, Some, None, IfSome}
 use Rattle.std.specs.Prelude.{option_map, slice_get}
 use Rattle.std.proofs.lemmas.Bool.{cases_eq, cases_lt}
@@ -14,10 +14,10 @@ use Rattle.step_core.specs.Runs.{fold}
 use Rattle.step_core.specs.Step.{next, transfer}
 use Rattle.step_core.proofs.Stepping.{length-stepped}
 use Rattle.plant_core.specs.Hands.{AreOwnJobs, job_at}
-use Rattle.plant_core.specs.Kept.{FitsTogether}
+use Rattle.plant_core.specs.Invariant.{FitsTogether}
 use Rattle.plant_core.specs.View.{View}
 
--- where none is put, each is still one of its own atom
+-- if none is put, each is still one of its own atom
 pub own-without : (jobs : List (Option JobDefinition)) (n : ℕ) → AreOwnJobs jobs → AreOwnJobs (set jobs n None)
 own-without jobs n own atom job there =
     let none : Option JobDefinition = None in
@@ -29,7 +29,7 @@ own-without jobs n own atom job there =
     (λ other. own atom job (sym (get_or-set_other jobs n atom none none other) ∙ there))
     (cases_eq atom n)
 
--- and where one is put in its own atom's place
+-- and if one is put in its own atom's place
 pub own-with : (jobs : List (Option JobDefinition)) (put : JobDefinition) → AreOwnJobs jobs → AreOwnJobs (set jobs put.atom (Some put))
 own-with jobs put own atom job there =
     let some : Option JobDefinition = Some put in
@@ -61,7 +61,7 @@ pub nothing-left : {X : Type 0} (xs : List X) → None ≡ slice_get xs 0 → le
 nothing-left [] none = refl
 nothing-left (y ∷ ys) none = absurd (none-some y none)
 
--- jobs as they are kept, where one is put
+-- jobs as they are kept, if one is put
 pub kept-put : (items : List (Option Job)) (n : ℕ) (job : Job) → n ≡ (job_of job).atom → kept_in (set items n (Some job)) ≡ set (kept_in items) (job_of job).atom (Some (job_of job))
 kept-put items n job at =
     let some : Option JobDefinition = Some (job_of job) in

@@ -1,16 +1,17 @@
-pub mod Answered
-pub mod Chosen
-pub mod Firing
-pub mod Flushing
-pub mod AtRest
+mod Answered
+mod Chosen
+mod Firing
+mod Flushing
+mod AtRest
 pub mod EventRuns
 pub mod EventByEvent
-pub mod Copies
+mod Copies
 pub mod Saving
-pub mod Stored
+mod NextSlots
+mod Stored
 pub mod Marking
-pub mod Trimmed
-pub mod Taken
+mod Trimmed
+mod Taken
 pub mod Crossing
 mod Handed
 mod JobsHeld

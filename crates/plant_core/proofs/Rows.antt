@@ -50,15 +50,15 @@ module _ (plant : PlantDefinition) (choice : ChoiceDefinition) where
   a_full_ring : fire_refusal plant (record fired_eight { ring = 8 }) ≡ Some RingFull
   a_full_ring = refl
 
-  -- also where some of them are not acknowledged
+  -- also if some of them are not acknowledged
   a_ring_full_of_the_tail : fire_refusal plant (record fired_eight { number = 6; tail = choice ∷ choice ∷ []; ring = 8 }) ≡ Some RingFull
   a_ring_full_of_the_tail = refl
 
-  -- there is no record behind the last number
+  -- there is no record after the last number
   numbers_at_their_end : fire_refusal plant (record fired_eight { number = 9223372036854775807; base = 9223372036854775807 }) ≡ Some Spent
   numbers_at_their_end = refl
 
-  -- where more than one cause is there, the device comes first, then the number, the tail and the ring
+  -- if more than one cause is there, the device comes first, then the number, the tail and the ring
   a_failed_device_is_told_first : fire_refusal plant (record fired_eight { number = 9223372036854775807; broken = true }) ≡ Some Broken
   a_failed_device_is_told_first = refl
 
@@ -70,11 +70,11 @@ module _ (plant : PlantDefinition) (choice : ChoiceDefinition) where
 
 -- ---- a put ahead of its records, and a copy that was asked for twice
 
--- atom 0 as it was copied behind its 9th firing, which is not acknowledged
+-- atom 0 as it was copied after its 9th firing, which is not acknowledged
 copied : SavedFields
 copied = record { atom = 0; count = 9; at = 9; marking = 1; values = [] }
 
--- and behind its 10th
+-- and after its 10th
 copied_again : SavedFields
 copied_again = record { atom = 0; count = 10; at = 10; marking = 1; values = [] }
 
@@ -116,7 +116,7 @@ module _ (a : AtomDefinition) (values : Row) (s t : Local) where
   a_job_comes_back_once : IsBack (record (away_with ninth) { away = None ∷ None ∷ [] }) ninth (Err Stranger) (record (away_with ninth) { away = None ∷ None ∷ [] })
   a_job_comes_back_once = (λ broken. false≢true broken, λ is. none-some ninth is, refl)
 
--- ---- a trim past an uncovered record: atom 0 fired alone, then with atom 1, then alone; atom 0 is saved behind all three, atom 1 behind none
+-- ---- a trim past an uncovered record: atom 0 fired alone, then with atom 1, then alone; atom 0 is saved after all three, atom 1 after none
 
 abbrev fired_three : View
 fired_three = record fired_eight {

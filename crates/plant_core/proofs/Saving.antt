@@ -1,14 +1,12 @@
 -- What is in memory fits together when a state is copied, and when it is stored.
-use Rattle.std.proofs.Common.{◌≡◌, ◌≢◌, inl, inr, ⊎_elim, ℕ, zero, suc, ◌+◌, ◌^◌, ◌<◌, ◌≤◌, ◌==◌, ◌&&◌, Bool, true, false, refl, sym, ◌∙◌, ap, subst, List, [], ◌∷◌, length, length-set, nat_le, set, slice_get, arith, None, Some}
+use Rattle.std.proofs.Common.{◌≡◌, ◌≢◌, inl, inr, ℕ, zero, suc, ◌<◌, ◌≤◌, ◌&&◌, Bool, true, refl, sym, ◌∙◌, ap, subst, List, [], ◌∷◌, length, length-set, nat_le, set, slice_get, arith, None, Some}
 use Rattle.std.specs.List.{list_all}
-use Rattle.std.proofs.Math.Nat.{pow-le-pow_right}
-use Rattle.std.proofs.lemmas.Bool.{and_parts, cases_eq, cases_lt, eq-eqb, leb-true, lt-ltb}
+use Rattle.std.proofs.lemmas.Bool.{and_parts, cases_eq, leb-true}
 use Rattle.std.proofs.lemmas.Option.{none-some}
-use Rattle.petri_atom.specs.Definition.{AtomDefinition, Fits, exports_few, has_each_once, has_known_numbers, has_sources_and_targets, is_small_transition, is_well_formed, is_within_limits}
-use Rattle.petri_atom.specs.Local.{Local, has, set_below}
+use Rattle.petri_atom.specs.Definition.{AtomDefinition, exports_few, has_each_once, has_known_numbers, has_sources_and_targets, is_small_transition, is_well_formed, is_within_limits}
+use Rattle.petri_atom.specs.Local.{Local}
 use Rattle.petri_atom.specs.declared.parts.TheConstants.{MAX_PORTS, MAX_TRANSITIONS}
 use Rattle.petri_atom.specs.declared.state.TheConstants.{MAX_PLACES, MAX_VARIABLES}
-use Rattle.petri_atom.proofs.Sets.{has-above, has-set_below, same_set, set_below-lt}
 use Rattle.record_codec.specs.Saved.{SavedFields}
 use Rattle.record_replay.specs.Records.{count_of}
 use Rattle.snapshot_writer.specs.Parcels.{saved_by}
@@ -16,9 +14,9 @@ use Rattle.step_core.specs.Fitting.{AllFit}
 use Rattle.step_core.specs.Plant.{PlantDefinition}
 use Rattle.trimmer.specs.Covered.{saved_count}
 use Rattle.trimmer.specs.declared.saved.SavedAt.{SavedAt}
-use Rattle.plant_image.specs.Faults.{is_of_atom, marks_known}
+use Rattle.plant_image.proofs.SavedFits.{fitting_passes}
 use Rattle.plant_core.specs.Events.{copy_in}
-use Rattle.plant_core.specs.Kept.{FitsTogether, IsCopy}
+use Rattle.plant_core.specs.Invariant.{FitsTogether, IsCopy}
 use Rattle.plant_core.specs.Snapshots.{held_at}
 use Rattle.plant_core.specs.View.{View, fired_number, with_asked, with_stored}
 use Rattle.plant_core.proofs.Copies.{copy-parts, held-none, held-other, put-there}
@@ -39,31 +37,6 @@ few_variables a well =
     (second_of (nat_le (length a.places) MAX_PLACES) (nat_le (length a.variables) MAX_VARIABLES) (nat_le (length a.ports) MAX_PORTS) (nat_le (length a.transitions) MAX_TRANSITIONS) (list_all exports_few a.ports) (list_all is_small_transition a.transitions)
     (first_of_four (is_within_limits a) (has_each_once a) (has_known_numbers a) (has_sources_and_targets a) well))
 
-self-below : (m : ℕ) → m < 2 ^ m
-self-below zero = omega arith
-self-below (suc m) = omega (arith, self-below m)
-
--- a marking that marks none from n on is below 2 ^ n
-marks-below : (m n : ℕ) → ((k : ℕ) → n ≤ k → has m k ≡ false) → m < 2 ^ n
-marks-below m n none =
-    let wide : ℕ = m + n in
-    let small : set_below n (has m) < 2 ^ n = set_below-lt n (has m) in
-    let from_m : 2 ^ m ≤ 2 ^ wide = pow-le-pow_right (omega arith) (omega arith) in
-    let from_n : 2 ^ n ≤ 2 ^ wide = pow-le-pow_right (omega arith) (omega arith) in
-    let each : (k : ℕ) → k < wide → has m k ≡ has (set_below n (has m)) k =
-    λ k low.
-    ⊎_elim
-    (λ before. sym (has-set_below n (has m) k before))
-    (λ past. none k past ∙ sym (has-above (set_below n (has m)) n k small past))
-    (cases_lt k n) in
-    subst (λ (x : ℕ). x < 2 ^ n) (sym (same_set wide m (set_below n (has m)) (omega (arith, self-below m, from_m)) (omega (arith, small, from_n)) each)) small
-
-copy-passes : (atom count at : ℕ) (a : AtomDefinition) (s : Local) → Fits a s → is_of_atom atom a (saved_by atom count at s) ≡ true
-copy-passes atom count at a s fits =
-    ap (λ (t : Bool). t && length s.values == length a.variables && marks_known a s.marking) (eq-eqb atom atom refl) ∙
-    ap (λ (t : Bool). t && marks_known a s.marking) (eq-eqb (length s.values) (length a.variables) fits.variables) ∙
-    lt-ltb s.marking (2 ^ length a.places) (marks-below s.marking (length a.places) fits.places)
-
 -- ---- what is known of saved states
 
 -- the newest state of the atom is another one, and that of every other atom as before
@@ -82,7 +55,7 @@ known-other (m ∷ ms) (suc atom) (suc i) mark other = known-other ms atom i mar
 module _ (plant : PlantDefinition) (v : View) (bodies : List (List ℕ)) (kept : FitsTogether plant v bodies) where
   copied : (atom : ℕ) (s : Local) → slice_get v.present atom ≡ Some s → AllFit plant v.present → count_of v.counts atom ≢ saved_count v.saved atom → IsCopy plant v.saved (fired_number v) (saved_by atom (count_of v.counts atom) (fired_number v) s)
   copied atom s there fits new = record {
-    of_atom = λ a at. copy-passes atom (count_of v.counts atom) (fired_number v) a s (fits atom a s at there);
+    of_atom = λ a at. fitting_passes atom (count_of v.counts atom) (fired_number v) a s (fits atom a s at there);
     last = omega arith;
     newer = omega (arith, kept.snapshots.known_within atom, counts-grown plant v bodies kept atom, new);
   }
@@ -106,7 +79,7 @@ module _ (plant : PlantDefinition) (v : View) (bodies : List (List ℕ)) (kept :
         ];
       }) kept
 
-  -- a copy that is behind acknowledged firings alone is stored, and given up
+  -- a copy that includes acknowledged firings alone is stored, and given up
   pub stored-fits : (saved : SavedFields) → saved.atom < length plant.atoms → saved.count ≤ count_of v.acked_counts saved.atom → FitsTogether plant (with_stored saved v) bodies
   stored-fits saved within behind =
       let mark : SavedAt = record { count = saved.count; at = saved.at } in

@@ -1,4 +1,4 @@
--- What a stop leaves where a state is stored, and that the device is at rest behind it.
+-- What a stop leaves if a state is stored, and that the device is at rest after it.
 use Rattle.std.proofs.Common.{◌≡◌, inl, inr, ⊎_elim, ◌+◌, ◌<◌, ℕ, zero, suc, refl, sym, ◌∙◌, ap, subst, List, [], ◌∷◌, length, map, set, slice_get, arith, Bool, Option, None, Some, true, unwrap_or}
 use Rattle.std.specs.Option.{some_prefix}
 use Rattle.std.proofs.lemmas.Option.{get_or_from_slice_get, slice_get_within}
@@ -15,7 +15,7 @@ use Rattle.gated_journal.specs.declared.ring.Ring.{Ring}
 use Rattle.record_codec.specs.Fired.{FiredFields}
 use Rattle.record_codec.specs.Saved.{SavedFields}
 use Rattle.snapshot_writer.specs.Slots.{IsAbove, IsFree, newest, other_slot, saved_at}
-use Rattle.snapshot_writer.specs.Storing.{HasStored, IsStored}
+use Rattle.snapshot_writer.specs.Storing.{HasStored, IsNewestNow, IsStored}
 use Rattle.snapshot_writer.proofs.NewestStates.{other_is_free, other_is_slot}
 use Rattle.snapshot_writer.proofs.StoredCells.{is_newest_now}
 use Rattle.step_core.specs.Plant.{PlantDefinition}
@@ -28,9 +28,10 @@ use Rattle.plant_image.proofs.KeptCells.{IsSound, map_same, sound_of}
 use Rattle.plant_image.proofs.OnContents.{saved_leads}
 use Rattle.plant_image.proofs.Standings.{leads_stands}
 use Rattle.plant_image.proofs.StoredImages.{made_at, stored_image_none, stored_reads}
-use Rattle.plant_core.specs.Kept.{IsAtRest}
-use Rattle.plant_core.specs.Snapshots.{known_of, with_known}
+use Rattle.plant_core.specs.Invariant.{AreNextSlots, IsAtRest}
+use Rattle.plant_core.specs.Snapshots.{known_of, with_known, with_written}
 use Rattle.plant_core.proofs.Marking.{count-known}
+use Rattle.plant_core.proofs.NextSlots.{slots-stored}
 
 -- what is known of the slots, one of which is written
 known-set : (slots : List SavedFields) (atom : ℕ) (saved : SavedFields) → map known_of (set slots atom saved) ≡ set (map known_of slots) atom (known_of saved)
@@ -58,7 +59,7 @@ module _ (plant : PlantDefinition) (digest : List ℕ) (j : Ring) (acked : List 
   slots_many : length (contents_of (length plant.atoms) before).slots ≡ length plant.atoms
   slots_many = length-map-range_with_len (newest_held before) 0 (length plant.atoms)
 
-  -- the stored state leads where the one before it did
+  -- the stored state leads if the one before it did
   led : Leads plant (with_saved saved (contents_of (length plant.atoms) before)) acked counts number
   led = saved_leads plant (contents_of (length plant.atoms) before) acked counts number rest.leads a saved at slots_many way
 
@@ -102,8 +103,15 @@ module _ (plant : PlantDefinition) (digest : List ℕ) (j : Ring) (acked : List 
         by_newest None less = tt
         by_newest (Some was) less = less
 
+    newest_now : IsNewestNow slot saved before after
+    newest_now = is_newest_now slot saved before after within free has_stored done.here above
+
     now_newest : newest_held after saved.atom ≡ saved
-    now_newest = ap (λ (o : Option SavedFields). unwrap_or o (unsaved saved.atom)) (is_newest_now slot saved before after within free has_stored done.here above).newest_is
+    now_newest = ap (λ (o : Option SavedFields). unwrap_or o (unsaved saved.atom)) newest_now.newest_is
+
+    -- so the next state of its atom goes in the other slot, and that of every other where it did
+    pub stored-slots : (slots : List (Option ℕ)) → AreNextSlots plant slots before → AreNextSlots plant (with_written saved.atom slot slots) after
+    stored-slots slots were = slots-stored plant slots slot saved before after within has_stored newest_now were
 
     pub stored-contents : contents_of (length plant.atoms) after ≡ with_saved saved (contents_of (length plant.atoms) before)
     stored-contents = ⊎_elim
@@ -140,11 +148,11 @@ module _ (plant : PlantDefinition) (digest : List ℕ) (j : Ring) (acked : List 
           sym (ap (λ (c : Contents). map known_of c.slots) stored-contents);
     }
 
--- where nothing was stored yet
+-- if nothing was stored yet
 pub nothing-stored : (slot : ℕ) (saved : SavedFields) (s : DiskState) → IsSettled s.now → (cells : List Cell) → MayBe (BODY + 1) s cells → HasStored slot saved (seen_cells (BODY + 1) s) cells
 nothing-stored slot saved s settled cells may = subst (HasStored slot saved (seen_cells (BODY + 1) s)) (sym (settled_cells (BODY + 1) s cells settled may)) (record { count = refl; here = inl refl; others = λ k other. refl })
 
--- what storing leaves where slots were read before it
+-- what storing leaves if slots were read before it
 pub stored-behind-reads : {failed : Bool} (slot free : ℕ) (saved : SavedFields) (old mid new : DiskState) → IsSettled old.now → Reads failed old mid → old.keeps ≡ true → slot ≡ free
     → Leaves (BODY + 1) (HasStored slot saved (seen_cells (BODY + 1) mid)) mid new → Leaves (BODY + 1) (HasStored free saved (seen_cells (BODY + 1) old)) old new
 stored-behind-reads slot free saved old mid new settled reads keeps is left = leaves_then (BODY + 1) (HasStored free saved (seen_cells (BODY + 1) old)) old mid new

@@ -1,5 +1,5 @@
--- A plant takes a state to be stored: what a stop leaves then, and what it keeps behind it.
-use Rattle.std.proofs.Common.{◌≡◌, ◌∙◌, ap, sym, ℕ, ◌+◌, ◌<◌, List, length, slice_get, arith, Some, true}
+-- A plant takes a state to be stored: what a stop leaves then, and what it keeps after it.
+use Rattle.std.proofs.Common.{◌≡◌, ◌∙◌, ap, sym, ℕ, ◌+◌, ◌<◌, List, length, slice_get, arith, Option, Some, true}
 use Rattle.petri_atom.specs.Definition.{AtomDefinition}
 use Rattle.disk_model.specs.Cells.{Leaves, seen_cells}
 use Rattle.disk_model.specs.DiskState.{DiskState, size_of}
@@ -14,13 +14,13 @@ use Rattle.plant_image.specs.Faults.{is_of_atom}
 use Rattle.plant_image.specs.Standing.{IsOnTheWay, StandsFor}
 use Rattle.plant_image.proofs.ByAtoms.{element_at}
 use Rattle.plant_core.specs.Events.{IsTaken}
-use Rattle.plant_core.specs.Kept.{AreMarked, AreOnTheWay, FitsTogether, IsAtRest, IsCopy}
+use Rattle.plant_core.specs.Invariant.{AreMarked, AreNextSlots, AreOnTheWay, FitsTogether, IsAtRest, IsCopy}
 use Rattle.plant_core.specs.Marks.{marks_of}
-use Rattle.plant_core.specs.Snapshots.{with_known}
+use Rattle.plant_core.specs.Snapshots.{with_known, with_written}
 use Rattle.plant_core.specs.View.{View, fired_number, with_stored}
 use Rattle.plant_core.proofs.Copies.{held-within, way-acked, ways-stored}
 use Rattle.plant_core.proofs.Saving.{stored-fits}
-use Rattle.plant_core.proofs.Stored.{stored-contents, stored-rest, stored-stops}
+use Rattle.plant_core.proofs.Stored.{stored-contents, stored-rest, stored-slots, stored-stops}
 
 module _ (plant : PlantDefinition) (v : View) (bodies : List (List ℕ)) (kept : FitsTogether plant v bodies) (saved : SavedFields) (taken : IsTaken v saved) where
   copy : IsCopy plant v.saved (fired_number v) saved
@@ -43,7 +43,7 @@ module _ (plant : PlantDefinition) (v : View) (bodies : List (List ℕ)) (kept :
     passes : is_of_atom saved.atom own.0 saved ≡ true
     passes = copy.of_atom own.0 own.1
 
-    -- all that the state is behind is acknowledged, so it is on the way over the records on the device
+    -- all that the state includes is acknowledged, so it is on the way over the records on the device
     way : IsOnTheWay (contents_of (length plant.atoms) (seen_cells (BODY + 1) old)) own.0 saved
     way = way-acked plant v bodies kept (contents_of (length plant.atoms) (seen_cells (BODY + 1) old)) rest.leads own.0 saved own.1 taken.behind (ways saved.atom saved own.0 taken.kept own.1)
 
@@ -53,6 +53,9 @@ module _ (plant : PlantDefinition) (v : View) (bodies : List (List ℕ)) (kept :
     module _ (new : DiskState) (done : IsStored slot saved old new) where
       pub taken-rest : size_of new ≡ size_of old → IsAtRest plant digest j v.acked v.acked_counts v.number (with_known saved v.saved) new
       taken-rest same = stored-rest plant digest j v.acked v.acked_counts v.number v.saved old rest own.0 saved own.1 passes way copy.newer new done same
+
+      pub taken-slots : (slots : List (Option ℕ)) → AreNextSlots plant slots (seen_cells (BODY + 1) old) → AreNextSlots plant (with_written saved.atom slot slots) (seen_cells (BODY + 1) new)
+      taken-slots = stored-slots plant digest j v.acked v.acked_counts v.number v.saved old rest own.0 saved own.1 passes way copy.newer new done
 
       pub taken-ways : AreOnTheWay plant (with_stored saved v) (seen_cells (BODY + 1) new)
       taken-ways = ways-stored plant v bodies kept (seen_cells (BODY + 1) old) rest.leads ways saved (seen_cells (BODY + 1) new) kept.snapshots.own

@@ -1,4 +1,4 @@
--- Records are dropped that no restart needs: what a stop leaves then, and that the device is at rest behind it.
+-- Records are dropped that no restart needs: what a stop leaves then, and that the device is at rest after it.
 use Rattle.std.proofs.Common.{◌≡◌, ⊎_elim, ℕ, ◌+◌, ◌-◌, ◌<◌, ◌≤◌, refl, sym, ◌∙◌, ap, subst, List, [], ◌++◌, length, map, take, drop, arith, None, Ok, true}
 use Rattle.std.specs.List.{list_all, prefix_len}
 use Rattle.std.proofs.Math.Seq.{take-append-add}
@@ -17,7 +17,7 @@ use Rattle.gated_journal.specs.declared.ring.Ring.{Ring}
 use Rattle.record_codec.specs.Fired.{FiredFields}
 use Rattle.record_codec.specs.Saved.{SavedFields}
 use Rattle.record_replay.specs.Records.{records_of}
-use Rattle.record_replay.specs.Replay.{Position, is_behind, replay_from}
+use Rattle.record_replay.specs.Replay.{Position, is_included, replay_from}
 use Rattle.record_replay.proofs.OverRecords.{replay-behind, same_Ok}
 use Rattle.snapshot_writer.specs.Parcels.{local_in}
 use Rattle.step_core.specs.Plant.{PlantDefinition}
@@ -25,15 +25,16 @@ use Rattle.trimmer.specs.Covered.{is_covered, saved_count}
 use Rattle.trimmer.specs.declared.saved.SavedAt.{SavedAt}
 use Rattle.plant_image.specs.Contents.{Contents, contents_of, last_number, ring_in, saved_position, unsaved}
 use Rattle.plant_image.specs.Faults.{cells_fault}
-use Rattle.plant_image.specs.Standing.{AreBehind, IsOnTheWay, Leads, StandsFor, cut_to, with_records}
+use Rattle.plant_image.specs.Standing.{AreIncluded, IsOnTheWay, Leads, StandsFor, cut_to, with_records}
 use Rattle.plant_image.proofs.KeptCells.{IsSound, sound_of}
 use Rattle.plant_image.proofs.MovedImages.{moved_none, moved_reads, unmoved_none, unmoved_reads}
 use Rattle.plant_image.proofs.OnContents.{cut_leads}
 use Rattle.plant_image.proofs.Standings.{base_some, leads_stands}
-use Rattle.plant_core.specs.Kept.{AreMarked, AreOnTheWay, FitsTogether, IsAtRest}
+use Rattle.plant_core.specs.Invariant.{AreMarked, AreOnTheWay, FitsTogether, IsAtRest}
 use Rattle.plant_core.specs.Marks.{mark_of, marks_of}
 use Rattle.plant_core.specs.Snapshots.{known_of}
 use Rattle.plant_core.specs.View.{View, acked_marks, may_go, with_cut}
+use Rattle.plant_core.proofs.Firing.{changed-fits}
 use Rattle.plant_core.proofs.Marking.{count-known, front-dropped, gone-behind, prefix-within}
 
 -- ---- the device
@@ -55,7 +56,7 @@ module _ (plant : PlantDefinition) (digest : List ℕ) (j : Ring) (acked : List 
   pub short : count ≤ length held.records
   short = omega (arith, few, prefix-within (is_covered known) (marks_of held.records), length-map held.records mark_of)
 
-  pub behind : AreBehind held (take count held.records)
+  pub behind : AreIncluded held (take count held.records)
   behind = gone-behind held known count rest.slots few
 
   -- without these records the contents lead to the same
@@ -107,7 +108,7 @@ module _ (plant : PlantDefinition) (digest : List ℕ) (j : Ring) (acked : List 
 
 -- ---- the copies that are kept
 
-module _ (c : Contents) (a : AtomDefinition) (saved : SavedFields) (count : ℕ) (news : List FiredFields) (short : count ≤ length c.records) (behind : AreBehind c (take count c.records)) (newer : (saved_position c saved.atom).count < saved.count)
+module _ (c : Contents) (a : AtomDefinition) (saved : SavedFields) (count : ℕ) (news : List FiredFields) (short : count ≤ length c.records) (behind : AreIncluded c (take count c.records)) (newer : (saved_position c saved.atom).count < saved.count)
     (way : IsOnTheWay (with_records news c) a saved) where
   abbrev k : ℕ
   k = saved.at + 1 - c.base
@@ -119,7 +120,7 @@ module _ (c : Contents) (a : AtomDefinition) (saved : SavedFields) (count : ℕ)
   q = record { state = local_in saved; count = saved.count }
 
   -- a replay over records that are behind the newest state ends where it begins
-  passed : (xs : List FiredFields) → list_all (is_behind saved.atom p.count) xs ≡ true → replay_from a saved.atom p xs ≡ Ok p
+  passed : (xs : List FiredFields) → list_all (is_included saved.atom p.count) xs ≡ true → replay_from a saved.atom p xs ≡ Ok p
   passed xs all = ap (replay_from a saved.atom p) (sym (append-nil xs)) ∙ replay-behind a saved.atom p.count xs [] p all
 
   -- so more than those are needed to reach the copy
@@ -128,8 +129,8 @@ module _ (c : Contents) (a : AtomDefinition) (saved : SavedFields) (count : ℕ)
       (λ near.
       let fewer : take k c.records ≡ take k (take count c.records) = sym (take-take k count c.records (omega (arith, near))) in
       let split : take k (take count c.records) ++ drop k (take count c.records) ≡ take count c.records = take-append-drop k (take count c.records) in
-      let all : list_all (is_behind saved.atom p.count) (take k (take count c.records)) ≡ true =
-      (and_parts _ _ (sym (list_all-append (is_behind saved.atom p.count) (take k (take count c.records)) (drop k (take count c.records))) ∙ ap (list_all (is_behind saved.atom p.count)) split ∙ behind saved.atom)).0 in
+      let all : list_all (is_included saved.atom p.count) (take k (take count c.records)) ≡ true =
+      (and_parts _ _ (sym (list_all-append (is_included saved.atom p.count) (take k (take count c.records)) (drop k (take count c.records))) ∙ ap (list_all (is_included saved.atom p.count)) split ∙ behind saved.atom)).0 in
       let reached : replay_from a saved.atom p (take k c.records) ≡ Ok q = ap (replay_from a saved.atom p) (sym (take-append-le k c.records news (omega (arith, near, short)))) ∙ way.reached in
       let stays : replay_from a saved.atom p (take k c.records) ≡ Ok p = ap (replay_from a saved.atom p) fewer ∙ passed (take k (take count c.records)) all in
       let same : p ≡ q = same_Ok p q (sym stays ∙ reached) in
@@ -169,26 +170,10 @@ module _ (c : Contents) (a : AtomDefinition) (saved : SavedFields) (count : ℕ)
 module _ (plant : PlantDefinition) (v : View) (bodies : List (List ℕ)) (kept : FitsTogether plant v bodies) (count : ℕ) (within : count ≤ v.number + 1 - v.base) where
   -- what is in memory fits together without the first marks
   pub cut-fits : FitsTogether plant (with_cut count v) bodies
-  cut-fits = record {
-    of_plant = kept.of_plant;
-    fits = kept.fits;
-    run = kept.run;
-    leads = kept.leads;
-    counted = kept.counted;
-    counts_length = kept.counts_length;
-    counts_within = kept.counts_within;
-    held = kept.held;
-    short = kept.short;
-    base_from = omega (arith, kept.base_from);
-    base_to = omega (arith, kept.base_to, within);
-    room = omega (arith, kept.room);
-    last_to = kept.last_to;
-    marks_many = omega (arith, kept.marks_many, kept.base_to, within, length-drop count v.marks);
-    marks_of_tail = drop-drop (v.number + 1 - (v.base + count)) count v.marks ∙
-        ap (λ (n : ℕ). drop n v.marks) (omega (arith, kept.base_to, within)) ∙
-        kept.marks_of_tail;
-    snapshots = kept.snapshots;
-  }
+  cut-fits = changed-fits plant v bodies kept (v.base + count) (drop count v.marks) v.saved v.kept v.away v.broken
+      (omega (arith, kept.base_from)) (omega (arith, kept.base_to, within)) (omega (arith, kept.room)) (omega (arith, kept.marks_many, kept.base_to, within, length-drop count v.marks))
+      (drop-drop (v.number + 1 - (v.base + count)) count v.marks ∙ ap (λ (n : ℕ). drop n v.marks) (omega (arith, kept.base_to, within)) ∙ kept.marks_of_tail)
+      kept.snapshots
 
   module _ (cells after : List Cell) (base_cell : ℕ) (based : v.base ≡ (contents_of (length plant.atoms) cells).base) (reads : contents_of (length plant.atoms) after ≡ cut_to base_cell ((contents_of (length plant.atoms) cells).base + count) (contents_of (length plant.atoms) cells)) where
     abbrev here : Contents
@@ -201,7 +186,7 @@ module _ (plant : PlantDefinition) (v : View) (bodies : List (List ℕ)) (kept :
         ap (λ (n : ℕ). marks_of (drop n here.records)) (omega arith) ∙
         sym (ap (λ (c : Contents). marks_of c.records) reads)
 
-    pub ways-cut : v.saved ≡ map known_of here.slots → count ≤ length here.records → AreBehind here (take count here.records) → AreOnTheWay plant v cells → AreOnTheWay plant (with_cut count v) after
+    pub ways-cut : v.saved ≡ map known_of here.slots → count ≤ length here.records → AreIncluded here (take count here.records) → AreOnTheWay plant v cells → AreOnTheWay plant (with_cut count v) after
     ways-cut known short behind ways = λ atom saved a there at.
         let counted : saved_count v.saved saved.atom ≡ (saved_position here saved.atom).count = ap (λ (ks : List SavedAt). saved_count ks saved.atom) known ∙ count-known here.slots saved.atom (unsaved saved.atom) refl in
         subst (λ d. IsOnTheWay (with_records (records_of plant v.acked v.acked_counts v.number v.tail) d) a saved) (sym reads)
@@ -225,7 +210,7 @@ module _ (plant : PlantDefinition) (v : View) (bodies : List (List ℕ)) (kept :
   pub gone-stops : (new : DiskState) → Leaves (BODY + 1) (IsMovedOrNot (j.base + count) j (seen_cells (BODY + 1) old)) old new → Leaves (BODY + 1) (λ cells. StandsFor plant digest (size_of old) cells v.acked v.number) old new
   gone-stops = trimmed-stops plant digest j v.acked v.acked_counts v.number v.saved old rest count some few
 
-  -- and the device is at rest behind it
+  -- and the device is at rest after it
   module _ (new : DiskState) (done : HasMoved (j.base + count) j old new) where
     cut-reads : contents_of (length plant.atoms) (seen_cells (BODY + 1) new) ≡ cut_to (other_cell (ring_in (length plant.atoms) (contents_of (length plant.atoms) (seen_cells (BODY + 1) old)))) ((contents_of (length plant.atoms) (seen_cells (BODY + 1) old)).base + count) (contents_of (length plant.atoms) (seen_cells (BODY + 1) old))
     cut-reads = trimmed-contents plant digest j v.acked v.acked_counts v.number v.saved old rest count some few new done

@@ -1,4 +1,4 @@
--- What becomes of a plant and of its device where some events are asked of it.
+-- What becomes of a plant and of its device if some events are asked of it.
 use Rattle.std.specs.Prelude.{◌≡◌, ℕ, ◌+◌, true, false, List, map}
 use Rattle.std.specs.List.{list_all, list_any}
 use Rattle.disk_model.specs.Cells.{Leaves}
@@ -13,8 +13,8 @@ use Rattle.plant_core.specs.declared.events.Event.{Event}
 use Rattle.plant_core.specs.declared.events.Happened.{Happened}
 
 -- The plant was asked for these events, these things happened, and its view, its device and the hands are these then. A stop at any moment since leaves what
--- stands for the state behind some front of what was not acknowledged and what was fired since. The device counts a failure where it failed in a call, and then
--- the plant is broken; where no event makes calls of it, or each was refused before the first, it is as it was.
+-- stands for the state after some front of what was not acknowledged and what was fired since. The device counts a failure if it failed in a call, and then
+-- the plant is broken; if no event makes calls of it, or each was refused before the first, it is as it was.
 pub record IsDriven (plant : PlantDefinition) (digest : List ℕ) (v : View) (s : DiskState) (hands : HandFields) (events : List Event) (hs : List Happened) (u : View) (m : DiskState) (held : HandFields) : Type 0 where
   pub asked : map asked_in hs ≡ events
   pub run : IsEventRun plant v hs u

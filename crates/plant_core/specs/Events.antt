@@ -26,7 +26,7 @@ use Rattle.plant_core.specs.declared.limits.TheConstants.{MOST_TAIL}
 use Rattle.plant_core.specs.declared.refused.Refused.{Refused}
 use Rattle.plant_core.specs.declared.refused.Refused.TheVariants.{Stuck, Busy, TailFull, RingFull, Spent, Away, Ahead, Stranger, NothingNew, Disk, Broken}
 
--- the refusal, where its cause is there
+-- the refusal, if its cause is there
 abbrev pub refused_where : Bool → Refused → Option Refused
 refused_where is_so refused = if is_so then Some refused else None
 
@@ -40,7 +40,7 @@ first_refusal (Some refused ∷ rest) = Some refused
 abbrev pub is_any_away : View → Bool
 is_any_away v = list_any is_some v.away
 
--- no choice is sure; where no atom is away no interaction is possible then
+-- no choice is sure; if no atom is away no interaction is possible then
 abbrev pub has_none : PlantDefinition → View → Bool
 has_none plant v = length (sure_in plant v) == 0
 
@@ -55,7 +55,7 @@ fire_refusal plant v = first_refusal (
     [])
 
 -- A fire by a pick: where it is refused nothing changes. Else it fires the choice at the place of the pick, modulo the number of choices,
--- and answers it with its number. The choices are the sure ones: all of the present state where no atom is away.
+-- and answers it with its number. The choices are the sure ones: all of the present state if no atom is away.
 abbrev pub IsFire : PlantDefinition → View → ℕ → Result FiredAs Refused → View → Type 0
 IsFire plant v pick (Err refused) w = (fire_refusal plant v ≡ Some refused) × (w ≡ v)
 IsFire plant v pick (Ok fired) w =
@@ -63,7 +63,7 @@ IsFire plant v pick (Ok fired) w =
     × (slice_get (sure_in plant v) (pick % length (sure_in plant v)) ≡ Some (choice_of fired.choice))
     × (w ≡ with_fired plant (choice_of fired.choice) v)
 
--- The same where the participants go away, each with its job.
+-- The same if the participants go away, each with its job.
 abbrev pub IsBegin : PlantDefinition → View → ℕ → Result FiredAs Refused → View → Type 0
 IsBegin plant v pick (Err refused) w = (fire_refusal plant v ≡ Some refused) × (w ≡ v)
 IsBegin plant v pick (Ok fired) w =
@@ -88,7 +88,7 @@ pub record IsReturned (plant : PlantDefinition) (r : Returned) (job : JobDefinit
   pub delivered : job.delivered ≡ r.delivered
   pub before : job.state ≡ r.before
 
--- A flush: a plant whose device has failed refuses it. Else it acknowledges all that was fired, and answers the number of the last; where there is
+-- A flush: a plant whose device has failed refuses it. Else it acknowledges all that was fired, and answers the number of the last; if there is
 -- something to acknowledge the device may fail, and then nothing is acknowledged, and the plant is broken.
 abbrev pub IsFlush : View → Result ℕ Refused → View → Type 0
 IsFlush v (Ok number) w = (v.broken ≢ true) × (number ≡ fired_number v) × (w ≡ with_all_acked v)
@@ -112,13 +112,13 @@ IsAsk v atom (Err NothingNew) w =
     (v.broken ≢ true) × (atom < length v.present) × (slice_index_or v.away atom None ≡ None) × (count_of v.counts atom ≡ saved_count v.saved atom) × (w ≡ v)
 IsAsk v atom (Err other) w = ⊥
 
--- The plant takes this state to be stored: it keeps a copy of it, and all firings that the state is behind are acknowledged.
+-- The plant takes this state to be stored: it keeps a copy of it, and all firings that the state includes are acknowledged.
 pub record IsTaken (v : View) (saved : SavedFields) : Type 0 where
   pub whole : v.broken ≢ true
   pub kept : held_at v.kept saved.atom ≡ Some saved
   pub behind : saved.count ≤ count_of v.acked_counts saved.atom
 
--- A state is handed in to be stored: a plant whose device has failed refuses it, and so does one that keeps no such copy, and one where it is behind
+-- A state is handed in to be stored: a plant whose device has failed refuses it, and so does one that keeps no such copy, and one if it includes
 -- firings of its atom that are not acknowledged. Else it is the newest of its atom and its copy is given up, and its count is answered;
 -- or the device fails, and then the plant is broken.
 abbrev pub IsPut : View → SavedFields → Result ℕ Refused → View → Type 0
@@ -150,7 +150,7 @@ is_call (Ok x) = true
 is_call (Err Disk) = true
 is_call (Err other) = false
 
--- what happened, and how it changes the view: each kind of event has its own rule, and where no state is at hand to be stored nothing changes
+-- what happened, and how it changes the view: each kind of event has its own rule, and if no state is at hand to be stored nothing changes
 abbrev pub IsEvent : PlantDefinition → View → Happened → View → Type 0
 IsEvent plant v (Fire pick answer) w = IsFire plant v pick answer w
 IsEvent plant v (Flush answer) w = IsFlush v answer w
@@ -218,17 +218,17 @@ abbrev pub IsEventRun : PlantDefinition → View → List Happened → View → 
 IsEventRun plant v [] w = w ≡ v
 IsEventRun plant v (h ∷ hs) w = (u : View) × IsEvent plant v h u × IsEventRun plant u hs w
 
--- What is in the hands of the atoms behind an event: a state that was asked for is in its atom's hand, and one that was stored is no more; each job of a
+-- What is in the hands of the atoms after an event: a state that was asked for is in its atom's hand, and one that was stored is no more; each job of a
 -- choice that begins is in its atom's hand, and one that was handed in is no more, whatever is answered.
-abbrev pub AreHandsBehind : PlantDefinition → View → HandFields → Happened → HandFields → Type 0
-AreHandsBehind plant v hands (Ask atom (Ok saved)) after = after ≡ record hands { saved = with_held saved hands.saved }
-AreHandsBehind plant v hands (Put saved (Ok count)) after = after ≡ record hands { saved = without saved hands.saved }
-AreHandsBehind plant v hands (Begin pick (Ok fired)) after =
+abbrev pub AreHandsAfter : PlantDefinition → View → HandFields → Happened → HandFields → Type 0
+AreHandsAfter plant v hands (Ask atom (Ok saved)) after = after ≡ record hands { saved = with_held saved hands.saved }
+AreHandsAfter plant v hands (Put saved (Ok count)) after = after ≡ record hands { saved = without saved hands.saved }
+AreHandsAfter plant v hands (Begin pick (Ok fired)) after =
     (jobs : List JobDefinition) × AreJobsOf plant (parts_in v) (choice_of fired.choice) v.counts fired.choice.moves jobs × (after ≡ record hands { jobs = with_jobs jobs hands.jobs })
-AreHandsBehind plant v hands (Back returned answer) after = after ≡ record hands { jobs = slice_set hands.jobs returned.atom None }
-AreHandsBehind plant v hands other after = after ≡ hands
+AreHandsAfter plant v hands (Back returned answer) after = after ≡ record hands { jobs = slice_set hands.jobs returned.atom None }
+AreHandsAfter plant v hands other after = after ≡ hands
 
--- What is handed in is what is in its atom's hand; where none is handed in, there is none in that hand, or no such hand.
+-- What is handed in is what is in its atom's hand; if none is handed in, there is none in that hand, or no such hand.
 abbrev pub IsHandedIn : PlantDefinition → HandFields → Happened → Type 0
 IsHandedIn plant hands (Put saved answer) = held_at hands.saved saved.atom ≡ Some saved
 IsHandedIn plant hands (Empty atom) = held_at hands.saved atom ≡ None
@@ -236,13 +236,13 @@ IsHandedIn plant hands (Back returned answer) = (job : JobDefinition) × (job_at
 IsHandedIn plant hands (Idle atom) = job_at hands.jobs atom ≡ None
 IsHandedIn plant hands other = Unit {0}
 
--- Events one after another, each with what is handed in and with what is in hands behind it.
+-- Events one after another, each with what is handed in and with what is in hands after it.
 abbrev pub IsHandedRun : PlantDefinition → View → HandFields → List Happened → View → HandFields → Type 0
 IsHandedRun plant v hands [] w after = (w ≡ v) × (after ≡ hands)
 IsHandedRun plant v hands (h ∷ hs) w after =
-    IsHandedIn plant hands h × ((u : View) × IsEvent plant v h u × ((next : HandFields) × AreHandsBehind plant v hands h next × IsHandedRun plant u next hs w after))
+    IsHandedIn plant hands h × ((u : View) × IsEvent plant v h u × ((next : HandFields) × AreHandsAfter plant v hands h next × IsHandedRun plant u next hs w after))
 
--- What was acknowledged between two views, where these choices were fired: a front of the tail and of these choices, as long as the
+-- What was acknowledged between two views, if these choices were fired: a front of the tail and of these choices, as long as the
 -- acknowledged number has grown. The rest is the tail.
 pub record IsAckedOf (plant : PlantDefinition) (v : View) (fired : List ChoiceDefinition) (w : View) : Type 0 where
   pub grows : v.number ≤ w.number

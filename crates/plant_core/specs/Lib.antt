@@ -4,7 +4,8 @@ pub mod View
 pub mod Hands
 pub mod Handed
 pub mod Events
-pub mod Kept
+pub mod Invariant
+pub mod Parts
 pub mod Plants
 pub mod Stops
 pub mod Driven

@@ -1,9 +1,9 @@
--- How refusals are told.
+-- How refusals are printed.
 use Rattle.std.specs.Prelude.{ℕ, List, ◌++◌, codes, decimal}
 use Rattle.plant_core.specs.declared.refused.Refused.{Refused}
 use Rattle.plant_core.specs.declared.refused.Refused.TheVariants.{Stuck, Busy, TailFull, RingFull, Spent, Away, Ahead, Stranger, NothingNew, Disk, Broken}
 
--- the number by which a refusal is told
+-- the number by which a refusal is printed
 abbrev pub number_of : Refused → ℕ
 number_of Stuck = 1
 number_of Busy = 2

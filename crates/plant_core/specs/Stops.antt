@@ -12,16 +12,16 @@ use Rattle.plant_core.specs.View.{View}
 abbrev pub StandsForAcked : PlantDefinition → List ℕ → ℕ → View → List Cell → Type 0
 StandsForAcked plant digest bytes v cells = StandsFor plant digest bytes cells v.acked v.number
 
--- they stand for the state behind some front of these choices, from the acknowledged state on
+-- they stand for the state after some front of these choices, from the acknowledged state on
 abbrev pub StandsForFrontOf : PlantDefinition → List ℕ → ℕ → View → List ChoiceDefinition → List Cell → Type 0
 StandsForFrontOf plant digest bytes v choices cells =
     (k : ℕ) × (k ≤ length choices) × StandsFor plant digest bytes cells (fold plant v.acked (take k choices)) (v.number + k)
 
--- they stand for the state behind some front of the tail
+-- they stand for the state after some front of the tail
 abbrev pub StandsForFront : PlantDefinition → List ℕ → ℕ → View → List Cell → Type 0
 StandsForFront plant digest bytes v = StandsForFrontOf plant digest bytes v v.tail
 
--- they stand for the state behind some front of what was not acknowledged and what was fired since
+-- they stand for the state after some front of what was not acknowledged and what was fired since
 abbrev pub StandsForFrontSince : PlantDefinition → List ℕ → ℕ → View → List ChoiceDefinition → List Cell → Type 0
 StandsForFrontSince plant digest bytes v fired = StandsForFrontOf plant digest bytes v (v.tail ++ fired)
 

@@ -1,6 +1,7 @@
 -- What a durable plant shows of itself.
-use Rattle.std.specs.Prelude.{ℕ, ◌+◌, ◌-◌, Bool, List, [], ◌∷◌, ◌++◌, Option, None, length, map, take, drop, slice_set}
+use Rattle.std.specs.Prelude.{ℕ, ◌+◌, ◌-◌, Bool, false, List, [], ◌∷◌, ◌++◌, Option, None, length, map, take, drop, slice_get, slice_set}
 use Rattle.std.specs.List.{prefix_len}
+use Rattle.std.specs.Option.{option_map_or}
 use Rattle.petri_atom.specs.Local.{Local}
 use Rattle.gated_journal.specs.declared.ring.Ring.{Ring}
 use Rattle.step_core.specs.Choice.{ChoiceDefinition}
@@ -10,10 +11,10 @@ use Rattle.step_core.specs.Plant.{PlantDefinition}
 use Rattle.step_core.specs.Step.{next}
 use Rattle.step_core.specs.Sure.{sure_choices}
 use Rattle.step_core.specs.declared.choice.Choice.{Choice}
-use Rattle.step_executor.specs.Outstanding.{jobs_behind, parts_without}
+use Rattle.step_executor.specs.Outstanding.{jobs_after, parts_without}
 use Rattle.record_codec.specs.Saved.{SavedFields}
 use Rattle.record_replay.specs.Records.{counts_after, record_by}
-use Rattle.trimmer.specs.Covered.{MarkFields, is_covered}
+use Rattle.trimmer.specs.Covered.{MarkFields, is_covered, is_held_by}
 use Rattle.trimmer.specs.declared.saved.SavedAt.{SavedAt}
 use Rattle.plant_core.specs.Marks.{mark_of}
 use Rattle.plant_core.specs.Snapshots.{SnapshotFields, with_held, with_known, without}
@@ -60,7 +61,7 @@ view_by acked acked_counts number tail present counts j marks snapshots away bro
 abbrev pub fired_number : View → ℕ
 fired_number v = v.number + length v.tail
 
--- the view behind one more fired choice
+-- the view after one more fired choice
 abbrev pub with_fired : PlantDefinition → ChoiceDefinition → View → View
 with_fired plant c v = record v {
   tail = v.tail ++ c ∷ [];
@@ -73,23 +74,23 @@ with_fired plant c v = record v {
 abbrev pub parts_in : View → List (Option Local)
 parts_in v = parts_without v.away v.present
 
--- the choices that are sure: all of the present state where no atom is away
+-- the choices that are sure: all of the present state if no atom is away
 abbrev pub sure_in : PlantDefinition → View → List ChoiceDefinition
 sure_in plant v = sure_choices plant (parts_in v)
 
--- the view where jobs are given out
+-- the view once jobs are given out
 abbrev pub with_away : List (Option JobDefinition) → View → View
 with_away away v = record v { away = away }
 
--- the view behind one more fired choice whose participants go away, each with a job that carries how often it had taken part before
+-- the view after one more fired choice whose participants go away, each with a job that carries how often it had taken part before
 abbrev pub with_begun : PlantDefinition → ChoiceDefinition → View → View
-with_begun plant c v = with_away (jobs_behind plant v.present v.counts c c.moves v.away) (with_fired plant c v)
+with_begun plant c v = with_away (jobs_after plant v.present v.counts c c.moves v.away) (with_fired plant c v)
 
 -- the view where the atom of this job is back
 abbrev pub with_back : JobDefinition → View → View
 with_back job v = with_away (slice_set v.away job.atom None) v
 
--- the view where all that was fired is acknowledged
+-- the view once all that was fired is acknowledged
 abbrev pub with_all_acked : View → View
 with_all_acked v = record v {
   acked = v.present;
@@ -98,11 +99,11 @@ with_all_acked v = record v {
   tail = [];
 }
 
--- the view where a copy of this state is kept
+-- the view once a copy of this state is kept
 abbrev pub with_asked : SavedFields → View → View
 with_asked saved v = record v { kept = with_held saved v.kept }
 
--- the view where this state is stored, and its copy given up
+-- the view once this state is stored, and its copy given up
 abbrev pub with_stored : SavedFields → View → View
 with_stored saved v = record v {
   saved = with_known saved v.saved;
@@ -112,6 +113,10 @@ with_stored saved v = record v {
 -- the marks of the records that are acknowledged
 abbrev pub acked_marks : View → List MarkFields
 acked_marks v = take (v.number + 1 - v.base) v.marks
+
+-- an atom keeps the base where it is: the first acknowledged record includes a firing of it that its newest saved state does not
+abbrev pub is_base_held_by : ℕ → View → Bool
+is_base_held_by atom v = option_map_or (is_held_by atom v.saved) (slice_get (acked_marks v) 0) false
 
 -- how many records may go: the longest front of them that are acknowledged and covered
 abbrev pub may_go : View → ℕ

@@ -2,7 +2,7 @@
 ghost use Rattle.std.specs.Prelude.{◌≡◌, ◌+◌, ◌<◌, [], None, Some, IfOk, IfErr, OnErr, length, map, slice_get, slice_index_or};
 ghost use Rattle.record_codec.specs.Fired.{IsFired, fired_in};
 ghost use Rattle.record_codec.specs.declared.layout.TheConstants.{LAST_NUMBER};
-ghost use Rattle.record_replay.specs.Records.{record_told};
+ghost use Rattle.record_replay.specs.Records.{record_delivered};
 ghost use Rattle.step_core.specs.Chosen.{choice_of};
 ghost use Rattle.step_core.specs.Job.{JobDefinition, job_done};
 ghost use Rattle.step_core.specs.Jobs.{AreJobsOf, jobs_of};
@@ -18,21 +18,19 @@ use crate::events::{FiredAs, Returned};
 use crate::marks::mark_of;
 use crate::plant::Plant;
 use crate::refused::{BackRefused, Refused};
-use connector_tree::MAX_LEAVES;
 use disk_model::Disk;
-use petri_atom::Delivered;
 use record_replay::laws::{
-    a_told_record_is_the_record_of_its_choice, the_record_of_a_step_is_of_its_plant,
+    a_record_of_what_was_delivered_is_that_of_the_choice, the_record_of_a_step_is_of_its_plant,
 };
 use record_replay::{count_participants, record_of};
 use step_core::laws::{an_allowed_choice_is_in_range, sure_is_allowed};
-use step_core::{Choice, Done, Jobs};
+use step_core::{Choice, Done, Jobs, no_deliveries};
 
 impl<'s, D: Disk> Plant<'s, D> {
-    /// Begins the choice at the place `pick`, modulo the number of choices, and tells it with its number: its participants go away, each with a
+    /// Begins the choice at the place `pick`, modulo the number of choices, and answers it with its number: its participants go away, each with a
     /// job, of which the plant keeps a copy. Its record is whole: no flush and no restart needs what the jobs come to. No call of the device
     /// is made, and no memory taken.
-    pub fn begin(&mut self, pick: u64, jobs: &mut Jobs<'s>) -> Result<FiredAs, Refused>
+    pub fn begin(&mut self, pick: u128, jobs: &mut Jobs<'s>) -> Result<FiredAs, Refused>
         requires { jobs_of jobs.old ≡ [] }
         ensures event { IsEvent (definition_of self.old) (view_of self.old) (Begin pick result) (view_of self.new) }
         ensures jobs { IfOk result (λ fired. AreJobsOf (definition_of self.old) (parts_in (view_of self.old)) (choice_of fired.choice) (view_of self.old).counts fired.choice.moves (jobs_of jobs.new)) }
@@ -44,7 +42,7 @@ impl<'s, D: Disk> Plant<'s, D> {
         if let Some(refused) = self.fire_refusal() {
             return Err(refused);
         }
-        let place = u128::from(pick) % self.executor.count();
+        let place = pick % self.executor.count();
         let choice = self.executor.nth(place);
         let number = self.fired() + 1;
         self.go_away(choice.copy(), jobs);
@@ -67,19 +65,20 @@ impl<'s, D: Disk> Plant<'s, D> {
         self.executor.system().keeps_its_rules();
         sure_is_allowed();
         an_allowed_choice_is_in_range();
-        a_told_record_is_the_record_of_its_choice();
+        a_record_of_what_was_delivered_is_that_of_the_choice();
         the_record_of_a_step_is_of_its_plant();
         let number = self.fired() + 1;
-        let mut told = [Delivered::of([None; petri_atom::MAX_EXPORTS]); MAX_LEAVES];
-        self.executor.begin(&choice, &self.counts, jobs, &mut told);
-        let record = record_of(number, &choice, &told, &self.counts);
+        let mut delivered = no_deliveries();
+        self.executor
+            .begin(&choice, &self.counts, jobs, &mut delivered);
+        let record = record_of(number, &choice, &delivered, &self.counts);
         count_participants(&choice, &mut self.counts);
         self.tail.push_reserved(choice);
         self.bodies.push_reserved(record.to_body());
         self.marks.push_reserved(mark_of(&record));
     }
 
-    /// Takes a job back that was done: its atom is present again. It has to be the very one that was given out. Where it is refused it comes
+    /// Takes a job back that was done: its atom is present again. It has to be the very one that was given out. If it is refused it comes
     /// back. No call of the device is made, and no memory taken.
     pub fn back(&mut self, done: Done<'s>) -> Result<(), BackRefused<'s>>
         ensures event { IsBack (view_of self.old) (job_done done.entry) (refusal_in result) (view_of self.new) }

@@ -4,7 +4,7 @@ ghost use Rattle.disk_model.specs.Cells.{Leaves};
 ghost use Rattle.disk_model.specs.DiskState.{CountsUpTo, counted, size_of};
 ghost use Rattle.disk_model.specs.declared.cells.TheConstants.{BODY};
 ghost use Rattle.plant_core.specs.Driven.{IsDriven};
-ghost use Rattle.plant_core.specs.Events.{AreHandsBehind, IsEvent, IsHandedIn, asked_in, has_failed, is_in_memory, may_call};
+ghost use Rattle.plant_core.specs.Events.{AreHandsAfter, IsEvent, IsHandedIn, asked_in, has_failed, is_in_memory, may_call};
 ghost use Rattle.plant_core.specs.Handed.{hands_of};
 ghost use Rattle.plant_core.specs.Hands.{AreHandsFor};
 ghost use Rattle.plant_core.specs.Plants.{definition_of, device_of, text_digest, view_of};
@@ -19,8 +19,8 @@ use snapshot_writer::encode;
 use std::alloc::{AllocError, Global};
 use step_core::{Jobs, work};
 
-/// Asks a plant for these events, one after another, and tells what happened at each. A state that is asked for goes into the hand of its atom,
-/// and what is in the hand is stored where that is asked. It takes the room for its answers first: where there is none, nothing happens.
+/// Asks a plant for these events, one after another, and answers what happened at each. A state that is asked for goes into the hand of its atom,
+/// and what is in the hand is stored if that is asked. It takes the room for its answers first: if there is none, nothing happens.
 pub fn drive<'s, D: Disk>(
     alloc: Global,
     plant: &mut Plant<'s, D>,
@@ -47,13 +47,13 @@ pub fn drive<'s, D: Disk>(
     Ok(answers)
 }
 
-/// Asks a plant for one event, and tells what happened.
+/// Asks a plant for one event, and answers what happened.
 pub fn meet<'s, D: Disk>(plant: &mut Plant<'s, D>, hands: &mut Hands<'s>, event: Event) -> Happened
     requires { AreHandsFor (length (definition_of plant.old).atoms) (hands_of hands.old) }
     ensures asked { asked_in result ≡ event }
     ensures event { IsEvent (definition_of plant.old) (view_of plant.old) result (view_of plant.new) }
     ensures handed_in { IsHandedIn (definition_of plant.old) (hands_of hands.old) result }
-    ensures hands { AreHandsBehind (definition_of plant.old) (view_of plant.old) (hands_of hands.old) result (hands_of hands.new) }
+    ensures hands { AreHandsAfter (definition_of plant.old) (view_of plant.old) (hands_of hands.old) result (hands_of hands.new) }
     ensures as_many { AreHandsFor (length (definition_of plant.old).atoms) (hands_of hands.new) }
     ensures stops { (device_of plant.old).keeps ≡ true
         → Leaves (BODY + 1) (StandsForFront (definition_of plant.old) (text_digest plant.old) (size_of (device_of plant.old)) (view_of plant.old)) (device_of plant.old) (device_of plant.new) }
@@ -82,7 +82,7 @@ fn ask<'s, D: Disk>(plant: &mut Plant<'s, D>, hands: &mut Hands<'s>, atom: u16) 
     ensures asked { asked_in result ≡ Event.Ask atom }
     ensures event { IsEvent (definition_of plant.old) (view_of plant.old) result (view_of plant.new) }
     ensures handed_in { IsHandedIn (definition_of plant.old) (hands_of hands.old) result }
-    ensures hands { AreHandsBehind (definition_of plant.old) (view_of plant.old) (hands_of hands.old) result (hands_of hands.new) }
+    ensures hands { AreHandsAfter (definition_of plant.old) (view_of plant.old) (hands_of hands.old) result (hands_of hands.new) }
     ensures silent { has_failed result ≡ false }
     ensures device { device_of plant.new ≡ device_of plant.old }
     ensures plant { definition_of plant.new ≡ definition_of plant.old }
@@ -98,12 +98,12 @@ fn ask<'s, D: Disk>(plant: &mut Plant<'s, D>, hands: &mut Hands<'s>, atom: u16) 
     }
 }
 
-/// Asks a plant to store what the hand of an atom holds. Where it is refused it is in the hand again.
+/// Asks a plant to store what the hand of an atom holds. If it is refused it is in the hand again.
 fn put<'s, D: Disk>(plant: &mut Plant<'s, D>, hands: &mut Hands<'s>, atom: u16) -> Happened
     ensures asked { asked_in result ≡ Event.Put atom }
     ensures event { IsEvent (definition_of plant.old) (view_of plant.old) result (view_of plant.new) }
     ensures handed_in { IsHandedIn (definition_of plant.old) (hands_of hands.old) result }
-    ensures hands { AreHandsBehind (definition_of plant.old) (view_of plant.old) (hands_of hands.old) result (hands_of hands.new) }
+    ensures hands { AreHandsAfter (definition_of plant.old) (view_of plant.old) (hands_of hands.old) result (hands_of hands.new) }
     ensures stops { (device_of plant.old).keeps ≡ true
         → Leaves (BODY + 1) (StandsForFront (definition_of plant.old) (text_digest plant.old) (size_of (device_of plant.old)) (view_of plant.old)) (device_of plant.old) (device_of plant.new) }
     ensures counts { CountsUpTo (has_failed result) 3 (device_of plant.old) (device_of plant.new) }
@@ -125,12 +125,12 @@ fn put<'s, D: Disk>(plant: &mut Plant<'s, D>, hands: &mut Hands<'s>, atom: u16) 
 }
 
 /// Asks a plant to begin a choice, whose jobs go into the hands of their atoms.
-fn begin<'s, D: Disk>(plant: &mut Plant<'s, D>, hands: &mut Hands<'s>, pick: u64) -> Happened
+fn begin<'s, D: Disk>(plant: &mut Plant<'s, D>, hands: &mut Hands<'s>, pick: u128) -> Happened
     requires { AreHandsFor (length (definition_of plant.old).atoms) (hands_of hands.old) }
     ensures asked { asked_in result ≡ Event.Begin pick }
     ensures event { IsEvent (definition_of plant.old) (view_of plant.old) result (view_of plant.new) }
     ensures handed_in { IsHandedIn (definition_of plant.old) (hands_of hands.old) result }
-    ensures hands { AreHandsBehind (definition_of plant.old) (view_of plant.old) (hands_of hands.old) result (hands_of hands.new) }
+    ensures hands { AreHandsAfter (definition_of plant.old) (view_of plant.old) (hands_of hands.old) result (hands_of hands.new) }
     ensures silent { has_failed result ≡ false }
     ensures device { device_of plant.new ≡ device_of plant.old }
     ensures plant { definition_of plant.new ≡ definition_of plant.old }
@@ -152,7 +152,7 @@ fn back<'s, D: Disk>(plant: &mut Plant<'s, D>, hands: &mut Hands<'s>, atom: u16)
     ensures asked { asked_in result ≡ Event.Back atom }
     ensures event { IsEvent (definition_of plant.old) (view_of plant.old) result (view_of plant.new) }
     ensures handed_in { IsHandedIn (definition_of plant.old) (hands_of hands.old) result }
-    ensures hands { AreHandsBehind (definition_of plant.old) (view_of plant.old) (hands_of hands.old) result (hands_of hands.new) }
+    ensures hands { AreHandsAfter (definition_of plant.old) (view_of plant.old) (hands_of hands.old) result (hands_of hands.new) }
     ensures silent { has_failed result ≡ false }
     ensures device { device_of plant.new ≡ device_of plant.old }
     ensures plant { definition_of plant.new ≡ definition_of plant.old }

@@ -8,7 +8,7 @@ use step_core::Choice;
 #[derive(Clone, Copy, Debug, PartialEq, Eq)]
 pub enum Event {
     /// To fire the choice at the place of the pick, modulo the number of choices.
-    Fire(u64),
+    Fire(u128),
     /// To acknowledge all that was fired.
     Flush,
     /// To copy the present state of the atom with the number, into its hand.
@@ -18,7 +18,7 @@ pub enum Event {
     /// To drop the records that no restart needs.
     Trim,
     /// To begin the choice at the place of the pick, modulo the number of choices: the jobs of its participants go into their hands.
-    Begin(u64),
+    Begin(u128),
     /// To do the job that the hand of the atom with the number holds, and to hand it in.
     Back(u16),
 }
@@ -36,7 +36,7 @@ pub struct FiredAs {
 #[derive(Drop)]
 pub enum Happened {
     /// A choice was to be fired by this pick: it was, or the plant refused it.
-    Fire(u64, Result<FiredAs, Refused>),
+    Fire(u128, Result<FiredAs, Refused>),
     /// What was fired was to be acknowledged: up to this number it is, or the plant refused it.
     Flush(Result<u64, Refused>),
     /// The present state of the atom with the number was to be copied: this is it, or the plant refused it.
@@ -48,7 +48,7 @@ pub enum Happened {
     /// The records that no restart needs were to be dropped: this is the number of the first that is kept, or of the next, or the plant refused it.
     Trim(Result<u64, Refused>),
     /// A choice was to begin by this pick: it did, or the plant refused it.
-    Begin(u64, Result<FiredAs, Refused>),
+    Begin(u128, Result<FiredAs, Refused>),
     /// This job, which was done, was to be taken back: the atom is present again, or the plant refused it.
     Back(Returned, Result<(), Refused>),
     /// The job that the hand of the atom with the number holds was to be done, and it holds none, or there is no such hand.

@@ -2,7 +2,7 @@
 ghost use Rattle.std.specs.Prelude.{◌≡◌, ◌+◌, ◌<◌, None, Some, length};
 ghost use Rattle.record_codec.specs.Fired.{IsFired, fired_in};
 ghost use Rattle.record_codec.specs.declared.layout.TheConstants.{LAST_NUMBER};
-ghost use Rattle.record_replay.specs.Records.{record_told};
+ghost use Rattle.record_replay.specs.Records.{record_delivered};
 ghost use Rattle.step_core.specs.Sure.{IsSure};
 ghost use Rattle.step_core.specs.Chosen.{choice_of};
 ghost use Rattle.plant_core.specs.Events.{IsEvent, fire_refusal};
@@ -15,21 +15,19 @@ use crate::limits::MOST_TAIL;
 use crate::marks::mark_of;
 use crate::plant::Plant;
 use crate::refused::Refused;
-use connector_tree::MAX_LEAVES;
 use disk_model::Disk;
-use petri_atom::Delivered;
 use record_codec::LAST_NUMBER;
 use record_replay::laws::{
-    a_told_record_is_the_record_of_its_choice, the_record_of_a_step_is_of_its_plant,
+    a_record_of_what_was_delivered_is_that_of_the_choice, the_record_of_a_step_is_of_its_plant,
 };
 use record_replay::{count_participants, record_of};
 use step_core::laws::{an_allowed_choice_is_in_range, sure_is_allowed};
-use step_core::{Choice, MAX_ATOMS};
+use step_core::{Choice, MAX_ATOMS, no_deliveries};
 
 impl<'s, D: Disk> Plant<'s, D> {
-    /// Fires the choice at the place `pick`, modulo the number of choices, and tells it with its number. No call of the device is made,
+    /// Fires the choice at the place `pick`, modulo the number of choices, and answers it with its number. No call of the device is made,
     /// and no memory taken.
-    pub fn fire(&mut self, pick: u64) -> Result<FiredAs, Refused>
+    pub fn fire(&mut self, pick: u128) -> Result<FiredAs, Refused>
         ensures event { IsEvent (definition_of self.old) (view_of self.old) (Fire pick result) (view_of self.new) }
         ensures device { device_of self.new ≡ device_of self.old }
         ensures plant { definition_of self.new ≡ definition_of self.old }
@@ -38,7 +36,7 @@ impl<'s, D: Disk> Plant<'s, D> {
         if let Some(refused) = self.fire_refusal() {
             return Err(refused);
         }
-        let place = u128::from(pick) % self.executor.count();
+        let place = pick % self.executor.count();
         let choice = self.executor.nth(place);
         let number = self.fired() + 1;
         self.go_on(choice.copy());
@@ -86,12 +84,12 @@ impl<'s, D: Disk> Plant<'s, D> {
         self.executor.system().keeps_its_rules();
         sure_is_allowed();
         an_allowed_choice_is_in_range();
-        a_told_record_is_the_record_of_its_choice();
+        a_record_of_what_was_delivered_is_that_of_the_choice();
         the_record_of_a_step_is_of_its_plant();
         let number = self.fired() + 1;
-        let mut told = [Delivered::of([None; petri_atom::MAX_EXPORTS]); MAX_LEAVES];
-        self.executor.fire_telling(&choice, &mut told);
-        let record = record_of(number, &choice, &told, &self.counts);
+        let mut delivered = no_deliveries();
+        self.executor.fire_telling(&choice, &mut delivered);
+        let record = record_of(number, &choice, &delivered, &self.counts);
         count_participants(&choice, &mut self.counts);
         self.tail.push_reserved(choice);
         self.bodies.push_reserved(record.to_body());

@@ -13,7 +13,7 @@ use crate::refused::Refused;
 use disk_model::Disk;
 
 impl<'s, D: Disk> Plant<'s, D> {
-    /// Acknowledges all that was fired, and tells the number of the last: their records are written, by two syncs. Where nothing was
+    /// Acknowledges all that was fired, and answers the number of the last: their records are written, by two syncs. If nothing was
     /// fired since the last flush no call of the device is made.
     pub fn flush(&mut self) -> Result<u64, Refused>
         ensures event { IsEvent (definition_of self.old) (view_of self.old) (Flush result) (view_of self.new) }

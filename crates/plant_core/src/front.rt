@@ -14,11 +14,11 @@ use step_core::System;
 /// How far a plant is.
 #[derive(Clone, Copy, Debug, PartialEq, Eq)]
 pub struct Front {
-    /// The number of the last choice that was fired, and 0 where none was.
+    /// The number of the last choice that was fired, and 0 if none was.
     pub fired: u64,
     /// The number of the last choice that is acknowledged.
     pub acked: u64,
-    /// The number of the first record that is kept, or of the next where none is.
+    /// The number of the first record that is kept, or of the next if none is.
     pub base: u64,
 }
 

@@ -6,14 +6,14 @@ ghost use Rattle.plant_core.specs.Events.{IsAckedOf, IsEventRun, all_fired};
 ghost use Rattle.plant_core.specs.View.{View};
 ghost use Rattle.plant_core.specs.declared.events.Happened.{Happened};
 
-/// The choices that a run of events fired are a run of the plant from its present state to the one behind them.
+/// The choices that a run of events fired are a run of the plant from its present state to the one after them.
 pub fn what_events_fire_is_a_run()
     ensures { (plant : PlantDefinition) (v w : View) (hs : List Happened)
         → IsEventRun plant v hs w → IsRun plant v.present (all_fired hs) w.present }
 {}
 
 /// Where the tail leads to the present state, what a run of events acknowledges is a front of the tail and of what they fired, and the rest
-/// of these is the tail behind them, which leads to the present state then.
+/// of these is the tail after them, which leads to the present state then.
 pub fn what_events_acknowledge_is_a_front()
     ensures acked { (plant : PlantDefinition) (v w : View) (hs : List Happened)
         → v.present ≡ fold plant v.acked v.tail → IsEventRun plant v hs w → IsAckedOf plant v (all_fired hs) w }

@@ -1,7 +1,7 @@
 //! Storing the saved state of an atom.
-ghost use Rattle.std.specs.Prelude.{◌≡◌, ◌≢◌, ◌+◌, ◌<◌, List, true, false, is_err, IfErr, OnOk};
+ghost use Rattle.std.specs.Prelude.{◌≡◌, ◌≢◌, ◌+◌, ◌<◌, List, true, false, is_err, IfErr, IfOk, IfSome, OnOk};
 ghost use Rattle.disk_model.specs.Cells.{Cell, Leaves, MayBe, cell_count, seen_cells};
-ghost use Rattle.disk_model.specs.DiskState.{CountsUpTo, IsSettled, size_of};
+ghost use Rattle.disk_model.specs.DiskState.{CountsUpTo, IsSettled, Reads, size_of};
 ghost use Rattle.disk_model.specs.declared.cells.TheConstants.{BODY};
 ghost use Rattle.record_codec.specs.Ring.{slot_cell};
 ghost use Rattle.snapshot_writer.specs.Slots.{other_slot};
@@ -18,9 +18,12 @@ use disk_model::{Cells, Disk, DiskFault};
 use snapshot_writer::{Encoded, Parcel, slot_to_write, store};
 
 impl<'s, D: Disk> Plant<'s, D> {
-    /// Stores a state that was asked for, in the slot of its atom that does not hold the newest one, and tells how often the atom had taken part. It
-    /// has to be the one that was asked for last, and all firings that it is behind have to be acknowledged. Where it is refused it comes
-    /// back, and may be handed in again. Also where the device fails in this call, a stop leaves what stands for the acknowledged state.
+    /// Stores a state that was asked for, in the slot of its atom that does not hold the newest one, and answers how often the atom had taken part. It
+    /// has to be the one that was asked for last, and all firings that it includes have to be acknowledged. If it is refused it comes
+    /// back, and may be handed in again. Also if the device fails in this call, a stop leaves what stands for the acknowledged state.
+    ///
+    /// The first put of an atom since the start reads both slots of the atom, to find the newest state. Each later one reads one cell: whether
+    /// the slot that it writes is full.
     pub fn put(&mut self, encoded: Encoded) -> Result<u64, PutRefused>
         ensures event { IsEvent (definition_of self.old) (view_of self.old) (Put encoded (refusal_in result)) (view_of self.new) }
         ensures returned { IfErr result (λ refused. refused.encoded ≡ encoded) }
@@ -40,16 +43,17 @@ impl<'s, D: Disk> Plant<'s, D> {
         if let Some(refused) = self.put_refusal(encoded.parcel()) {
             return Err(PutRefused { encoded, refused });
         }
+        let known = self.snapshots.next_slot(encoded.parcel().atom());
         self.broken = true;
         // A stop here leaves the newest state as it was, or the whole new one in its place: either leads to what is acknowledged.
-        if save(&mut self.cells, &encoded).is_err() {
+        let Ok(slot) = save(&mut self.cells, known, &encoded) else {
             return Err(PutRefused {
                 encoded,
                 refused: Refused::Disk,
             });
-        }
+        };
         let parcel = encoded.into_parcel();
-        self.snapshots.stored(&parcel);
+        self.snapshots.stored(&parcel, slot);
         self.broken = false;
         Ok(parcel.count())
     }
@@ -71,16 +75,44 @@ impl<'s, D: Disk> Plant<'s, D> {
     }
 }
 
-/// Stores the state in the slot of its atom that does not hold the newest one.
-fn save<D: Disk>(cells: &mut Cells<D>, encoded: &Encoded) -> Result<(), DiskFault>
+/// Stores the state in the slot of its atom that does not hold the newest one, and answers that slot. If it is known it is not looked for.
+fn save<D: Disk>(
+    cells: &mut Cells<D>,
+    known: Option<u8>,
+    encoded: &Encoded,
+) -> Result<u8, DiskFault>
+    requires in_range { IfSome known (λ slot. slot < 2) }
+    requires known { cells.old.keeps ≡ true → IfSome known (λ slot. slot ≡ other_slot encoded.now.atom (seen_cells (BODY + 1) cells.old)) }
     requires inside { slot_cell encoded.now.atom 1 < cell_count (BODY + 1) cells.old }
     requires settled { cells.old.keeps ≡ true → IsSettled cells.old.now }
     ensures counts { CountsUpTo (is_err result) 3 cells.old cells.new }
+    ensures in_range { IfOk result (λ slot. slot < 2) }
+    ensures slot { cells.old.keeps ≡ true → IfOk result (λ slot. slot ≡ other_slot encoded.now.atom (seen_cells (BODY + 1) cells.old)) }
     ensures leaves { cells.old.keeps ≡ true → Leaves (BODY + 1)
         (HasStored (other_slot encoded.now.atom (seen_cells (BODY + 1) cells.old)) encoded.now (seen_cells (BODY + 1) cells.old)) cells.old cells.new }
     ensures stored { cells.old.keeps ≡ true
         → OnOk result (IsStored (other_slot encoded.now.atom (seen_cells (BODY + 1) cells.old)) encoded.now cells.old cells.new) }
 {
-    let slot = slot_to_write(cells, encoded.parcel().atom())?;
-    store(cells, slot, encoded)
+    let slot = slot_to_fill(cells, known, encoded)?;
+    store(cells, slot, encoded).map(|()| slot)
+}
+
+/// The slot of the state's atom that does not hold the newest one. If it is known no cell is read.
+fn slot_to_fill<D: Disk>(
+    cells: &mut Cells<D>,
+    known: Option<u8>,
+    encoded: &Encoded,
+) -> Result<u8, DiskFault>
+    requires in_range { IfSome known (λ slot. slot < 2) }
+    requires known { cells.old.keeps ≡ true → IfSome known (λ slot. slot ≡ other_slot encoded.now.atom (seen_cells (BODY + 1) cells.old)) }
+    requires inside { slot_cell encoded.now.atom 1 < cell_count (BODY + 1) cells.old }
+    ensures slot { cells.old.keeps ≡ true → IfOk result (λ slot. slot ≡ other_slot encoded.now.atom (seen_cells (BODY + 1) cells.old)) }
+    ensures in_range { IfOk result (λ slot. slot < 2) }
+    ensures reads { Reads (is_err result) cells.old cells.new }
+    ensures untouched { IfSome known (λ slot. cells.new ≡ cells.old) }
+{
+    match known {
+        Some(slot) => Ok(slot),
+        None => slot_to_write(cells, encoded.parcel().atom()),
+    }
 }

@@ -22,7 +22,7 @@ pub enum Refused {
     Spent,
     /// The atom with this number is away.
     Away(u16),
-    /// The state of the atom with this number is behind firings that are not acknowledged.
+    /// The state of the atom with this number includes firings that are not acknowledged.
     Ahead(u16),
     /// What was handed in is not what the plant has kept of it, or there is no such atom.
     Stranger,
@@ -35,7 +35,7 @@ pub enum Refused {
 }
 
 impl Refused {
-    /// The number by which the refusal is told, from 1 on.
+    /// The number by which the refusal is printed, from 1 on.
     pub fn number(&self) -> u8
         ensures { result ≡ number_of self.now }
     {

@@ -15,27 +15,27 @@ use crate::plant::Plant;
 use disk_model::Disk;
 
 impl<'s, D: Disk> Plant<'s, D> {
-    /// Where the device has not failed, whatever a stop leaves now stands for the acknowledged state.
+    /// If the device has not failed, whatever a stop leaves now stands for the acknowledged state.
     pub fn stands(&self)
         ensures { (device_of self.now).keeps ≡ true → (view_of self.now).broken ≡ false
             → (cells : List Cell) → MayBe (BODY + 1) (device_of self.now) cells
             → StandsForAcked (definition_of self.now) (text_digest self.now) (size_of (device_of self.now)) (view_of self.now) cells }
     {}
 
-    /// Whatever a stop leaves now stands for the state behind some front of the tail, also where the device has failed.
+    /// Whatever a stop leaves now stands for the state after some front of the tail, also if the device has failed.
     pub fn stands_for_a_front(&self)
         ensures { (device_of self.now).keeps ≡ true
             → (cells : List Cell) → MayBe (BODY + 1) (device_of self.now) cells
             → StandsForFront (definition_of self.now) (text_digest self.now) (size_of (device_of self.now)) (view_of self.now) cells }
     {}
 
-    /// Where the device has not failed, what is known of saved states is what the slots of the atoms hold.
+    /// If the device has not failed, what is known of saved states is what the slots of the atoms hold.
     pub fn knows_its_slots(&self)
         ensures { (device_of self.now).keeps ≡ true → (view_of self.now).broken ≡ false
             → (view_of self.now).saved ≡ map known_of (contents_of (length (definition_of self.now).atoms) (seen_cells (BODY + 1) (device_of self.now))).slots }
     {}
 
-    /// Where the device has not failed, the marks of the acknowledged records are those of the live ones on the device, and the base and the ring are
+    /// If the device has not failed, the marks of the acknowledged records are those of the live ones on the device, and the base and the ring are
     /// its own.
     pub fn knows_its_records(&self)
         ensures marks { (device_of self.now).keeps ≡ true → (view_of self.now).broken ≡ false

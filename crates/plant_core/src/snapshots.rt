@@ -1,7 +1,7 @@
 //! What a durable plant knows of the saved states of its atoms.
-ghost use Rattle.std.specs.Prelude.{◌≡◌, ◌<◌, ◌↔◌, Some, IsTrue, IfOk, length};
+ghost use Rattle.std.specs.Prelude.{◌≡◌, ◌<◌, ◌↔◌, Some, IsTrue, IfOk, IfSome, length};
 ghost use Rattle.trimmer.specs.Covered.{saved_count};
-ghost use Rattle.plant_core.specs.Snapshots.{held_at, nothing_kept, with_copy, with_slot};
+ghost use Rattle.plant_core.specs.Snapshots.{held_at, next_slot, nothing_kept, with_copy, with_slot};
 
 use record_codec::Saved;
 use snapshot_writer::Parcel;
@@ -10,39 +10,47 @@ use std::marker::Model;
 use trimmer::SavedAt;
 
 /// What a durable plant knows of the saved states of its atoms: of the newest in the slots of each atom how often the atom had taken part, and
-/// which record was the last then; and a copy of each state that was asked for and is not stored yet. Only making it takes memory.
+/// which record was the last then; a copy of each state that was asked for and is not stored yet; and in which slot the next state of each atom goes.
+/// That is known of an atom once the plant has stored a state of it since its start: until then the slots of the atom tell. Only making it takes memory.
 #[derive(Drop)]
 pub struct Snapshots {
     saved: Vec<SavedAt>,
     kept: Vec<Option<Parcel>>,
+    next_slots: Vec<Option<u8>>,
 }
 
-// Clauses see both lists.
+// Clauses see the three lists.
 impl Model for Snapshots {
     ghost use Rattle.plant_core.specs.Snapshots.{AreSnapshots, SnapshotFields};
 
     ghost Value = { SnapshotFields };
 
-    ghost view = { λ s. record { saved = s.saved.items; kept = s.kept.items } };
+    ghost view = { λ s. record { saved = s.saved.items; kept = s.kept.items; next_slots = s.next_slots.items } };
 
-    ghost invariant = { λ s. AreSnapshots (record { saved = s.saved.items; kept = s.kept.items }) };
+    ghost invariant = { λ s. AreSnapshots (record { saved = s.saved.items; kept = s.kept.items; next_slots = s.next_slots.items }) };
 }
 
 impl Snapshots {
-    /// What is known where these states stand in the slots of the atoms, by the atoms' numbers, and none was asked for.
+    /// What is known if these states stand in the slots of the atoms, by the atoms' numbers, and none was asked for.
     pub fn of(alloc: Global, slots: &[Saved]) -> Result<Snapshots, AllocError>
         ensures { IfOk result (λ s. s ≡ nothing_kept slots.now) }
     {
         let mut saved = Vec::with_capacity(alloc, slots.len())?;
         let mut kept = Vec::with_capacity(alloc, slots.len())?;
+        let mut next_slots = Vec::with_capacity(alloc, slots.len())?;
         for slot in slots {
             saved.push_reserved(SavedAt {
                 count: slot.count(),
                 at: slot.at(),
             });
             kept.push_reserved(None);
+            next_slots.push_reserved(None);
         }
-        Ok(Snapshots { saved, kept })
+        Ok(Snapshots {
+            saved,
+            kept,
+            next_slots,
+        })
     }
 
     /// How often the atom had taken part when its newest state was saved.
@@ -81,10 +89,22 @@ impl Snapshots {
         self.kept[atom] = Some(copy);
     }
 
-    /// The state is stored: its copy is given up, and it is the newest of its atom.
-    pub(crate) fn stored(&mut self, parcel: &Parcel)
-        requires { parcel.now.atom < length self.old.kept }
-        ensures { self.new ≡ with_slot parcel.now self.old }
+    /// The slot in which the next state of the atom goes, if it is known.
+    pub(crate) fn next_slot(&self, atom: u16) -> Option<u8>
+        ensures known { result ≡ next_slot self.now.next_slots atom }
+        ensures in_range { IfSome result (λ slot. slot < 2) }
+    {
+        match self.next_slots.get(usize::from(atom)) {
+            Some(Some(slot)) => Some(*slot),
+            _ => None,
+        }
+    }
+
+    /// The state is stored in the slot: its copy is given up, it is the newest of its atom, and the next one goes in the other slot.
+    pub(crate) fn stored(&mut self, parcel: &Parcel, slot: u8)
+        requires there { parcel.now.atom < length self.old.kept }
+        requires slot { slot < 2 }
+        ensures { self.new ≡ with_slot parcel.now slot self.old }
     {
         let atom = usize::from(parcel.atom());
         self.saved[atom] = SavedAt {
@@ -92,5 +112,6 @@ impl Snapshots {
             at: parcel.at(),
         };
         self.kept[atom] = None;
+        self.next_slots[atom] = Some(1 - slot);
     }
 }

@@ -16,8 +16,8 @@ use disk_model::Disk;
 use trimmer::{Mark, cut};
 
 impl<'s, D: Disk> Plant<'s, D> {
-    /// Drops the longest front of the acknowledged records that are covered, those that no restart needs any more, and tells the number of the first
-    /// that is kept, or of the next where none is. Their cells are used again. Also where the device fails in this call, a stop leaves what
+    /// Drops the longest front of the acknowledged records that are covered, those that no restart needs any more, and answers the number of the first
+    /// that is kept, or of the next if none is. Their cells are used again. Also if the device fails in this call, a stop leaves what
     /// stands for the acknowledged state.
     pub fn trim(&mut self) -> Result<u64, Refused>
         ensures event { IsEvent (definition_of self.old) (view_of self.old) (Trim result) (view_of self.new) }

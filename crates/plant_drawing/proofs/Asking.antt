@@ -7,7 +7,7 @@ use Rattle.connector_tree.specs.Tree.{tree_in, branch_of, leaves, branch_leaves}
 use Rattle.connector_tree.specs.declared.tree.Child.{Child}
 use Rattle.connector_tree.specs.declared.tree.Port.{Port}
 
--- a leaf of the children from one on is one of its own, or one of those behind it
+-- a leaf of the children from one on is one of its own, or one of those after it
 pub any-child : (test : Port → Bool) (children : List Child) (i : ℕ) (child : Child) → i < length children → child ≡ get_or children i child
     → list_any test (leaves (tree_in (drop i children))) ≡ (list_any test (branch_leaves (branch_of child.node)) || list_any test (leaves (tree_in (drop (i + 1) children))))
 any-child test children i child within here =

@@ -1,5 +1,5 @@
-pub mod Listing
-pub mod Ordered
-pub mod Asking
-pub mod Breaking
+mod Listing
+mod Ordered
+mod Asking
+mod Breaking
 mod Rows

@@ -39,7 +39,7 @@ module _ (plant : PlantDefinition) (states : List Local) where
   same-connector i j c d same first second =
       ap (λ o. option_map_or (λ (x : ChoiceDefinition). x.connector) o 0) (sym first ∙ ap (slice_get cs) same ∙ second)
 
-  -- from one place on, or behind it
+  -- from one place on, or after it
   not-before : (i j : ℕ) (c d : ChoiceDefinition) → i ≤ j → slice_get cs i ≡ Some c → slice_get cs j ≡ Some d → c.connector ≤ d.connector
   not-before i j c d order first second =
       ⊎_elim
@@ -58,8 +58,8 @@ module _ (plant : PlantDefinition) (states : List Local) where
       omega (arith, higher, not-before middle i m c past here at)
 
   -- where the first choice from a connector on is there, it says whether the connector has one
-  pub told_by_first : (number place : ℕ) (c : ChoiceDefinition) → IsFirstFrom cs number place → slice_get cs place ≡ Some c → (c.connector == number) ≡ has_choice cs number
-  told_by_first number place c first here =
+  pub known_by_first : (number place : ℕ) (c : ChoiceDefinition) → IsFirstFrom cs number place → slice_get cs place ≡ Some c → (c.connector == number) ≡ has_choice cs number
+  known_by_first number place c first here =
       ⊎_elim
       (λ yes. yes.0 ∙ sym (list_any-from_Any (is_of_connector number) cs (place, c, slice_get_within cs place c here, get_or_from_slice_get cs place c c here, yes.0)))
       (λ no. no.0 ∙ sym (list_any_none (is_of_connector number) cs (λ k d within. ne_eqb (get_or cs k d).connector number (λ same. no.1 (found k (get_or cs k d) (slice_get-get_or cs k d within) same)))))
@@ -72,9 +72,9 @@ module _ (plant : PlantDefinition) (states : List Local) where
           (λ past. omega (arith, same, not-before place k c x past here at, first.later place c (omega arith) here))
           (cases_lt k place)
 
-  -- where it is not there, the connector has none
-  pub told_past : (number place : ℕ) → IsFirstFrom cs number place → length cs ≤ place → false ≡ has_choice cs number
-  told_past number place first past =
+  -- if it is not there, the connector has none
+  pub known_past : (number place : ℕ) → IsFirstFrom cs number place → length cs ≤ place → false ≡ has_choice cs number
+  known_past number place first past =
       sym (list_any_none (is_of_connector number) cs (λ k d within.
       ne_eqb (get_or cs k d).connector number (λ same.
       omega (arith, same, first.earlier k (get_or cs k d) (omega (arith, within, past)) (slice_get-get_or cs k d within)))))

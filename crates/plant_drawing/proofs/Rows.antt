@@ -21,7 +21,7 @@ use Rattle.plant_drawing.specs.Rule.{drawn_rule, rule_line}
 use Rattle.plant_drawing.specs.Drawing.{drawing_of}
 use Rattle.plant_drawing.specs.Outline.{connector_outline, outline_of}
 
--- place 3 where places 0 and 3 are marked, and place 0 where place 1 alone is
+-- place 3 where places 0 and 3 are marked, and place 0 if place 1 alone is
 marked_place : place_line 9 0 3 (record { name = codes "p"; marked = false }) ≡ codes "    place_0_3 [shape=circle, margin=0.03, style=filled, label=\"p\"];\n"
 unfolding digits
 marked_place = refl
@@ -67,7 +67,7 @@ guarded : transition_lines 0 sample 4 (record { port = 0; sources = 0 ∷ []; ta
 unfolding sample digits
 guarded = refl
 
--- a guard that is 1 is not told
+-- a guard that is 1 is not printed
 unguarded : transition_lines 0 sample 0 (record { port = 0; sources = 1 ∷ []; targets = 0 ∷ []; guard = number (pos 1); updates = [] })
     ≡ codes "    transition_0_0 [shape=box, label=\"t/0\"];\n    port_0_0 -> transition_0_0 [style=dotted, arrowhead=none];\n    place_0_1 -> transition_0_0;\n    transition_0_0 -> place_0_0;\n"
 unfolding sample digits
@@ -148,11 +148,11 @@ fits_just = refl
 passes : wrapped 10 (codes "1234567890" ∷ codes "n" ∷ []) ≡ codes "\\n    1234567890 n"
 passes = refl
 
--- where nothing stands on a line yet, a word of 48 goes there
+-- if nothing stands on a line yet, a word of 48 goes there
 alone : wrapped 48 (codes "123456789012345678901234567890123456789012345678" ∷ codes "n" ∷ []) ≡ codes " 123456789012345678901234567890123456789012345678\\n    n"
 alone = refl
 
--- behind `when` 44 columns are left, and ` && n && n ..` takes them in fives
+-- after `when` 44 columns are left, and ` && n && n ..` takes them in fives
 abbrev long : ℕ → Tree ℕ
 long zero = variable 0
 long (suc k) = operation And (variable 0) (long k)
@@ -188,7 +188,7 @@ maximal : rule_line plant (Maximal 1) ≡ codes "  connector_1 -> connector_1 [s
 unfolding digits
 maximal = refl
 
--- a rule is drawn where both of its connectors are
+-- a rule is drawn if both of its connectors are
 rule_of_one_drawn : drawn_rule 2 plant (Under (Whole 0) (Whole 1)) ≡ []
 rule_of_one_drawn = refl
 

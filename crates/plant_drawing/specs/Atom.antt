@@ -1,5 +1,5 @@
 -- An atom in a state as a cluster: its variables in the label, and a node for each place, port and transition.
-use Rattle.std.specs.Prelude.{ℕ, ℤ, Bool, if◌then◌else◌, List, [], ◌++◌, codes, decimal, flat_map}
+use Rattle.std.specs.Prelude.{ℕ, ℤ, Bool, true, false, if◌then◌else◌, List, [], ◌++◌, codes, decimal, flat_map}
 use Rattle.std.specs.Fmt.{signed_decimal}
 use Rattle.petri_atom.specs.Expression.{Tree}
 use Rattle.petri_atom.specs.Local.{Local, has, value_in}
@@ -23,7 +23,7 @@ fill_of marked = if marked then codes "style=filled, " else []
 abbrev pub named : List ℕ → List ℕ
 named name = codes "label=\"" ++ name ++ codes "\"];\n"
 
--- the place with number k is a circle, and a filled one where it is marked
+-- the place with number k is a circle, and a filled one if it is marked
 abbrev pub place_line : ℕ → ℕ → ℕ → Place → List ℕ
 place_line marking atom k place =
     codes "    " ++ part_node (codes "place") atom k ++ codes " [shape=circle, margin=0.03, " ++
@@ -55,26 +55,25 @@ abbrev pub transition_line : ℕ → AtomDefinition → ℕ → TransitionDefini
 transition_line atom a k t =
     codes "    " ++ part_node (codes "transition") atom k ++ codes " [shape=box, label=\"" ++ transition_label a k t ++ codes "\"];\n"
 
+-- an edge between two parts of an atom, each by what it is and its number
+abbrev pub edge : ℕ → List ℕ → ℕ → List ℕ → ℕ → List ℕ → List ℕ
+edge atom from number to other style =
+    codes "    " ++ part_node from atom number ++ codes " -> " ++ part_node to atom other ++ style
+
 -- the line from a port to one of its transitions
 abbrev pub firing_edge : ℕ → ℕ → ℕ → List ℕ
-firing_edge atom port k =
-    codes "    " ++ part_node (codes "port") atom port ++ codes " -> " ++ part_node (codes "transition") atom k ++
-    codes " [style=dotted, arrowhead=none];\n"
+firing_edge atom port k = edge atom (codes "port") port (codes "transition") k (codes " [style=dotted, arrowhead=none];\n")
 
--- the arrow from a source to its transition
-abbrev pub source_edge : ℕ → ℕ → ℕ → List ℕ
-source_edge atom k place =
-    codes "    " ++ part_node (codes "place") atom place ++ codes " -> " ++ part_node (codes "transition") atom k ++ codes ";\n"
-
--- the arrow from a transition to its target
-abbrev pub target_edge : ℕ → ℕ → ℕ → List ℕ
-target_edge atom k place =
-    codes "    " ++ part_node (codes "transition") atom k ++ codes " -> " ++ part_node (codes "place") atom place ++ codes ";\n"
+-- the arrow from a source to its transition, or from a transition to its target
+abbrev pub place_edge : Bool → ℕ → ℕ → ℕ → List ℕ
+place_edge is_source atom k place =
+    if is_source then edge atom (codes "place") place (codes "transition") k (codes ";\n")
+    else edge atom (codes "transition") k (codes "place") place (codes ";\n")
 
 -- the edges of a transition
 abbrev pub transition_edges : ℕ → ℕ → TransitionDefinition → List ℕ
 transition_edges atom k t =
-    firing_edge atom t.port k ++ flat_map (source_edge atom k) t.sources ++ flat_map (target_edge atom k) t.targets
+    firing_edge atom t.port k ++ flat_map (place_edge true atom k) t.sources ++ flat_map (place_edge false atom k) t.targets
 
 -- a transition, and its edges
 abbrev pub transition_lines : ℕ → AtomDefinition → ℕ → TransitionDefinition → List ℕ

@@ -9,7 +9,7 @@ use Rattle.connector_tree.specs.Tokens.{tokens_of}
 use Rattle.step_core.specs.Plant.{TransferDefinition, WireDefinition}
 use Rattle.step_core.specs.declared.wire.Export.{Export}
 use Rattle.plant_drawing.specs.Drawn.{is_drawn}
-use Rattle.plant_drawing.specs.Edges.{end_of_edge, token_edge}
+use Rattle.plant_drawing.specs.Edges.{end_of_edge, from_connector, token_edge}
 use Rattle.plant_drawing.specs.Node.{part_node, connector_node}
 use Rattle.part_text.specs.Export.{export_name}
 use Rattle.part_text.specs.Words.{token_word}
@@ -18,15 +18,13 @@ use Rattle.plant_drawing.specs.declared.wrapping.TheConstants.{COLUMNS}
 
 -- the begin of the edge of a connector to a port of an atom
 abbrev pub arrow_to : ℕ → ℕ → ℕ → List ℕ
-arrow_to number atom port =
-    codes "  " ++ connector_node number ++ codes " -> " ++ part_node (codes "port") atom port
+arrow_to number atom port = from_connector number ++ part_node (codes "port") atom port
 
 -- the edge of a connector to a port
 abbrev pub port_edge : ℕ → Port → Bool → List ℕ
-port_edge number port trigger =
-    arrow_to number port.atom port.port ++ codes " [arrowhead=" ++ end_of_edge trigger ++ codes "];\n"
+port_edge number port trigger = arrow_to number port.atom port.port ++ end_of_edge trigger
 
--- the same where the port's atom is drawn; nothing of another
+-- the same if the port's atom is drawn; nothing of another
 abbrev pub drawn_edge : ℕ → ℕ → Port → Bool → List ℕ
 drawn_edge drawn number port trigger = if has drawn port.atom then port_edge number port trigger else []
 
@@ -41,7 +39,7 @@ transfer_line atoms ports t =
     codes "\\n" ++ export_name atoms ports t.target ++
     wrapped (columns_past (export_name atoms ports t.target)) (assigned_words (export_name atoms ports) t.value)
 
--- the tree of a connector: its words, with a space before each, and one behind the last
+-- the tree of a connector: its words, with a space before each, and one after the last
 abbrev pub tree_text : List AtomDefinition → WireDefinition → List ℕ
 tree_text atoms wire = wrapped COLUMNS (map (token_word atoms) (tokens_of wire.connector)) ++ codes " "
 
@@ -71,7 +69,7 @@ abbrev pub connector_lines : List AtomDefinition → ℕ → Bool → ℕ → Wi
 connector_lines atoms drawn coloured number wire =
     connector_line atoms coloured number wire ++ flat_map (token_edge (drawn_edge drawn number)) (tokens_of wire.connector)
 
--- the same where the connector is drawn, filled as it is told of its number; nothing of another
+-- the same if the connector is drawn, filled as is said of its number; nothing of another
 abbrev pub drawn_connector : List AtomDefinition → ℕ → (ℕ → Bool) → ℕ → WireDefinition → List ℕ
 drawn_connector atoms drawn coloured number wire =
     if is_drawn drawn wire then connector_lines atoms drawn (coloured number) number wire else []

@@ -18,7 +18,7 @@ use Rattle.plant_drawing.specs.declared.filling.Filling.TheVariants.{Alike, ByCh
 abbrev pub is_of_drawn : ℕ → Port → Bool
 is_of_drawn drawn port = has drawn port.atom
 
--- a connector is drawn where it has a leaf of an atom of the set
+-- a connector is drawn if it has a leaf of an atom of the set
 abbrev pub is_drawn : ℕ → WireDefinition → Bool
 is_drawn drawn wire = list_any (is_of_drawn drawn) (leaves wire.connector)
 
@@ -31,7 +31,7 @@ abbrev pub side_connector : Side → ℕ
 side_connector (Whole connector) = connector
 side_connector (One connector mask) = connector
 
--- a priority rule is drawn where the connectors that it names are
+-- a priority rule is drawn if the connectors that it names are
 abbrev pub is_drawn_rule : ℕ → PlantDefinition → Rule → Bool
 is_drawn_rule drawn plant (Under left right) =
     is_drawn_at drawn plant (side_connector left) && is_drawn_at drawn plant (side_connector right)

@@ -1,12 +1,17 @@
--- The edges of a connector, by the leaves of its tree.
-use Rattle.std.specs.Prelude.{Bool, ℕ, List, [], codes, if◌then◌else◌}
+-- The edges of a connector: by the leaves of its tree, and how they begin and end.
+use Rattle.std.specs.Prelude.{Bool, ℕ, List, [], ◌++◌, codes, if◌then◌else◌}
 use Rattle.connector_tree.specs.declared.tree.Port.{Port}
 use Rattle.connector_tree.specs.declared.token.Token.{Token}
 use Rattle.connector_tree.specs.declared.token.Token.TheVariants.{Leaf, Open, Close}
+use Rattle.plant_drawing.specs.Node.{connector_node}
 
--- how an edge ends at a trigger, and how at a synchron
+-- the begin of an edge from a connector
+abbrev pub from_connector : ℕ → List ℕ
+from_connector number = codes "  " ++ connector_node number ++ codes " -> "
+
+-- the end of an edge, at a trigger and at a synchron
 abbrev pub end_of_edge : Bool → List ℕ
-end_of_edge trigger = if trigger then codes "normal" else codes "dot"
+end_of_edge trigger = if trigger then codes " [arrowhead=normal];\n" else codes " [arrowhead=dot];\n"
 
 -- the edge for a word of the tree, by what is drawn for a leaf: brackets have none
 abbrev pub token_edge : (Port → Bool → List ℕ) → Token → List ℕ

@@ -9,6 +9,6 @@ part_node kind atom number = kind ++ codes "_" ++ decimal atom ++ codes "_" ++ d
 abbrev pub connector_node : ℕ → List ℕ
 connector_node number = codes "connector_" ++ decimal number
 
--- the atom with a number, where it is one node
+-- the atom with a number, if it is one node
 abbrev pub atom_node : ℕ → List ℕ
 atom_node number = codes "atom_" ++ decimal number

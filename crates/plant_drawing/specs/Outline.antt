@@ -7,7 +7,7 @@ use Rattle.step_core.specs.Plant.{PlantDefinition, WireDefinition}
 use Rattle.text_io.specs.Numbered.{numbered}
 use Rattle.plant_drawing.specs.Node.{atom_node, connector_node}
 use Rattle.plant_drawing.specs.Atom.{named}
-use Rattle.plant_drawing.specs.Edges.{end_of_edge, token_edge}
+use Rattle.plant_drawing.specs.Edges.{end_of_edge, from_connector, token_edge}
 use Rattle.plant_drawing.specs.Rule.{rule_line}
 use Rattle.plant_drawing.specs.Drawing.{style}
 
@@ -23,12 +23,11 @@ connector_oval number wire =
 
 -- the begin of the edge of a connector to an atom
 abbrev pub arrow_to_atom : ℕ → ℕ → List ℕ
-arrow_to_atom number atom = codes "  " ++ connector_node number ++ codes " -> " ++ atom_node atom
+arrow_to_atom number atom = from_connector number ++ atom_node atom
 
 -- the edge of a connector to the atom of one of its leaves
 abbrev pub atom_edge : ℕ → Port → Bool → List ℕ
-atom_edge number port trigger =
-    arrow_to_atom number port.atom ++ codes " [arrowhead=" ++ end_of_edge trigger ++ codes "];\n"
+atom_edge number port trigger = arrow_to_atom number port.atom ++ end_of_edge trigger
 
 -- the connector with a number, and its edges
 abbrev pub connector_outline : ℕ → WireDefinition → List ℕ
@@ -39,7 +38,7 @@ abbrev pub outline_parts : PlantDefinition → List ℕ
 outline_parts plant =
     numbered atom_box 0 plant.atoms ++ numbered connector_outline 0 plant.wires ++ flat_map (rule_line plant) plant.rules
 
--- how the graph is laid out: as a drawing is, with straight lines and a short search for places, since an outline is asked for where a plant is large
+-- how the graph is laid out: as a drawing is, with straight lines and a short search for places, since an outline is asked for if a plant is large
 abbrev pub outline_style : List ℕ
 outline_style = style ++ codes "  splines=line;\n  mclimit=0.1;\n  nslimit=1;\n  nslimit1=1;\n"
 

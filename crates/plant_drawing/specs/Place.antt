@@ -17,6 +17,6 @@ pub record IsBetween (cs : List ChoiceDefinition) (connector low high : ℕ) : T
   pub earlier : AreEarlier cs connector low
   pub later : AreLater cs connector high
 
--- the place is that of the first choice of this connector or of a later one, or that behind the last where there is none
+-- the place is that of the first choice of this connector or of a later one, or that after the last if there is none
 abbrev pub IsFirstFrom : List ChoiceDefinition → ℕ → ℕ → Type 0
 IsFirstFrom cs connector place = IsBetween cs connector place place

@@ -5,11 +5,12 @@ use Rattle.priority_filter.specs.declared.rule.Rule.TheVariants.{Under, UnderAt,
 use Rattle.step_core.specs.Plant.{PlantDefinition}
 use Rattle.part_text.specs.Rule.{condition_text, sides_text}
 use Rattle.plant_drawing.specs.Drawn.{is_drawn_rule, side_connector}
+use Rattle.plant_drawing.specs.Edges.{from_connector}
 use Rattle.plant_drawing.specs.Node.{connector_node}
 
 -- the begin of the edge between two connectors
 abbrev pub arrow : ℕ → ℕ → List ℕ
-arrow from to = codes "  " ++ connector_node from ++ codes " -> " ++ connector_node to
+arrow from to = from_connector from ++ connector_node to
 
 -- how the edge of a rule is drawn, and the begin of its label
 abbrev pub rule_style : List ℕ
@@ -29,6 +30,6 @@ rule_line plant (UnderAt left right at) =
     sides_text plant left right ++ condition_text plant at ++ codes " \"];\n"
 rule_line plant (Maximal connector) = maximal_line connector
 
--- the same where the rule is drawn; nothing of another
+-- the same if the rule is drawn; nothing of another
 abbrev pub drawn_rule : ℕ → PlantDefinition → Rule → List ℕ
 drawn_rule drawn plant rule = if is_drawn_rule drawn plant rule then rule_line plant rule else []

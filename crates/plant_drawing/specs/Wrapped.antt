@@ -14,26 +14,26 @@ fits left size = left == COLUMNS || nat_lt size left
 abbrev pub gap : Bool → List ℕ
 gap here = if here then codes " " else codes "\\n    "
 
--- the columns that are left behind a word of a length
-abbrev pub left_behind : ℕ → ℕ → ℕ
-left_behind left size = if fits left size then left - (1 + size) else COLUMNS - (INDENT + size)
+-- the columns that are left after a word of a length
+abbrev pub left_past : ℕ → ℕ → ℕ
+left_past left size = if fits left size then left - (1 + size) else COLUMNS - (INDENT + size)
 
 -- words, each set off from the one before it, where so many columns are left of the line
 abbrev pub wrapped : ℕ → List (List ℕ) → List ℕ
 wrapped left [] = []
-wrapped left (word ∷ words) = gap (fits left (length word)) ++ word ++ wrapped (left_behind left (length word)) words
+wrapped left (word ∷ words) = gap (fits left (length word)) ++ word ++ wrapped (left_past left (length word)) words
 
--- the columns that are left behind words
+-- the columns that are left after words
 abbrev pub left_after : ℕ → List (List ℕ) → ℕ
 left_after left [] = left
-left_after left (word ∷ words) = left_after (left_behind left (length word)) words
+left_after left (word ∷ words) = left_after (left_past left (length word)) words
 
 -- the words were printed, where so many columns were left, and so many are left now
 pub record Wraps (columns : ℕ) (words : List (List ℕ)) (old new : Option (List ℕ)) (left : ℕ) : Type 0 where
   pub text : Appends old new (wrapped columns words)
-  pub behind : left ≡ left_after columns words
+  pub room : left ≡ left_after columns words
 
--- the columns of a line that are left behind its first word
+-- the columns of a line that are left after its first word
 abbrev pub columns_past : List ℕ → ℕ
 columns_past word = COLUMNS - length word
 

@@ -1,11 +1,10 @@
 //! The cluster of an atom in a state.
-ghost use Rattle.std.specs.Prelude.{◌≡◌, ◌++◌, codes, OnOk, flat_map};
-ghost use Rattle.std.specs.Io.KnownBytes.{Appends};
-ghost use Rattle.petri_atom.specs.Atom.{definition_of};
+ghost use Rattle.std.specs.Prelude.{◌≡◌, ◌++◌, codes, flat_map};
 ghost use Rattle.petri_atom.specs.Definition.{variable_name};
 ghost use Rattle.petri_atom.specs.Local.{value_in};
-ghost use Rattle.petri_atom.specs.Parts.{port_of};
 ghost use Rattle.text_io.specs.Numbered.{numbered};
+ghost use Rattle.text_io.specs.Printing.{Prints};
+ghost use Rattle.part_text.specs.Seen.{definition_of, port_of};
 ghost use Rattle.plant_drawing.specs.Atom.{atom_label, atom_lines, cluster_head, cluster_parts, fill_of, named, place_line, port_line, transition_lines, variable_text};
 
 use crate::drawn::has_number;
@@ -22,8 +21,7 @@ pub(crate) fn print_atom<W: Write>(
     state: &AtomState,
     output: &mut W,
 ) -> Result<(), WriteFault>
-    ensures { OnOk result (Appends (W.contents output.old) (W.contents output.new)
-        (atom_lines number (definition_of atom.now) state.now)) }
+    ensures { Prints result (W.contents output.old) (W.contents output.new) (atom_lines number (definition_of atom.now) state.now) }
 {
     print_head(number, atom, state, output)?;
     print_parts(number, atom, state, output)?;
@@ -37,8 +35,7 @@ fn print_head<W: Write>(
     state: &AtomState,
     output: &mut W,
 ) -> Result<(), WriteFault>
-    ensures { OnOk result (Appends (W.contents output.old) (W.contents output.new)
-        (cluster_head number (definition_of atom.now) state.now)) }
+    ensures { Prints result (W.contents output.old) (W.contents output.new) (cluster_head number (definition_of atom.now) state.now) }
 {
     print_text(output, b"  subgraph cluster_")?;
     print_number(output, number)?;
@@ -49,8 +46,7 @@ fn print_head<W: Write>(
 
 /// Prints the name of an atom, and its variables with their values.
 fn print_label<W: Write>(atom: &Atom, state: &AtomState, output: &mut W) -> Result<(), WriteFault>
-    ensures { OnOk result (Appends (W.contents output.old) (W.contents output.new)
-        (atom_label (definition_of atom.now) state.now)) }
+    ensures { Prints result (W.contents output.old) (W.contents output.new) (atom_label (definition_of atom.now) state.now) }
 {
     print_text(output, atom.name().as_bytes())?;
     print_variables(state.values(), atom.variables(), output)
@@ -63,8 +59,7 @@ fn print_parts<W: Write>(
     state: &AtomState,
     output: &mut W,
 ) -> Result<(), WriteFault>
-    ensures { OnOk result (Appends (W.contents output.old) (W.contents output.new)
-        (cluster_parts number (definition_of atom.now) state.now)) }
+    ensures { Prints result (W.contents output.old) (W.contents output.new) (cluster_parts number (definition_of atom.now) state.now) }
 {
     print_places(state.places(), number, atom.places(), output)?;
     print_ports(number, atom, output)?;
@@ -77,8 +72,7 @@ fn print_variables<W: Write>(
     variables: &[Variable],
     output: &mut W,
 ) -> Result<(), WriteFault>
-    ensures { OnOk result (Appends (W.contents output.old) (W.contents output.new)
-        (numbered (variable_text values.now) 0 variables.now)) }
+    ensures { Prints result (W.contents output.old) (W.contents output.new) (numbered (variable_text values.now) 0 variables.now) }
 {
     for (number, variable) in variables.iter().enumerate() {
         print_variable(values, number, variable, output)?;
@@ -93,8 +87,7 @@ fn print_variable<W: Write>(
     variable: &Variable,
     output: &mut W,
 ) -> Result<(), WriteFault>
-    ensures { OnOk result (Appends (W.contents output.old) (W.contents output.new)
-        (variable_text values.now number variable.now)) }
+    ensures { Prints result (W.contents output.old) (W.contents output.new) (variable_text values.now number variable.now) }
 {
     print_text(output, b"\\n")?;
     print_text(output, variable.name.as_bytes())?;
@@ -102,7 +95,7 @@ fn print_variable<W: Write>(
     print_signed(output, value_at(values, number))
 }
 
-/// The value of the variable with this number; 0 where there is none.
+/// The value of the variable with this number; 0 if there is none.
 fn value_at(values: &[i64], variable: usize) -> i64
     ensures { result ≡ value_in values.now variable }
 {
@@ -116,8 +109,7 @@ fn print_places<W: Write>(
     places: &[Place],
     output: &mut W,
 ) -> Result<(), WriteFault>
-    ensures { OnOk result (Appends (W.contents output.old) (W.contents output.new)
-        (numbered (place_line marking atom) 0 places.now)) }
+    ensures { Prints result (W.contents output.old) (W.contents output.new) (numbered (place_line marking atom) 0 places.now) }
 {
     for (number, place) in places.iter().enumerate() {
         print_place(marking, atom, number, place, output)?;
@@ -125,7 +117,7 @@ fn print_places<W: Write>(
     Ok(())
 }
 
-/// Prints a place as a circle, filled where it is marked.
+/// Prints a place as a circle, filled if it is marked.
 fn print_place<W: Write>(
     marking: u64,
     atom: u64,
@@ -133,8 +125,7 @@ fn print_place<W: Write>(
     place: &Place,
     output: &mut W,
 ) -> Result<(), WriteFault>
-    ensures { OnOk result (Appends (W.contents output.old) (W.contents output.new)
-        (place_line marking atom number place.now)) }
+    ensures { Prints result (W.contents output.old) (W.contents output.new) (place_line marking atom number place.now) }
 {
     print_text(output, b"    ")?;
     print_part(b"place", atom, number as u64, output)?;
@@ -145,8 +136,7 @@ fn print_place<W: Write>(
 
 /// Prints the end of a node whose label is a name.
 pub(crate) fn print_named<W: Write>(name: &Name, output: &mut W) -> Result<(), WriteFault>
-    ensures { OnOk result (Appends (W.contents output.old) (W.contents output.new)
-        (named name.now)) }
+    ensures { Prints result (W.contents output.old) (W.contents output.new) (named name.now) }
 {
     print_text(output, b"label=\"")?;
     print_text(output, name.as_bytes())?;
@@ -155,8 +145,7 @@ pub(crate) fn print_named<W: Write>(name: &Name, output: &mut W) -> Result<(), W
 
 /// Prints how a place is filled that is marked; nothing for one that is not.
 fn print_fill<W: Write>(marked: bool, output: &mut W) -> Result<(), WriteFault>
-    ensures { OnOk result (Appends (W.contents output.old) (W.contents output.new)
-        (fill_of marked)) }
+    ensures { Prints result (W.contents output.old) (W.contents output.new) (fill_of marked) }
 {
     if marked {
         print_text(output, b"style=filled, ")
@@ -167,8 +156,7 @@ fn print_fill<W: Write>(marked: bool, output: &mut W) -> Result<(), WriteFault>
 
 /// Prints the ports of an atom, each with the variables that it exports.
 fn print_ports<W: Write>(number: u64, atom: &Atom, output: &mut W) -> Result<(), WriteFault>
-    ensures { OnOk result (Appends (W.contents output.old) (W.contents output.new)
-        (numbered (port_line number (definition_of atom.now)) 0 (definition_of atom.now).ports)) }
+    ensures { Prints result (W.contents output.old) (W.contents output.new) (numbered (port_line number (definition_of atom.now)) 0 (definition_of atom.now).ports) }
 {
     for (port, made) in atom.ports().iter().enumerate() {
         print_port(number, atom, port as u64, made, output)?;
@@ -184,8 +172,7 @@ fn print_port<W: Write>(
     made: &Port,
     output: &mut W,
 ) -> Result<(), WriteFault>
-    ensures { OnOk result (Appends (W.contents output.old) (W.contents output.new)
-        (port_line number (definition_of atom.now) port (port_of made.now))) }
+    ensures { Prints result (W.contents output.old) (W.contents output.new) (port_line number (definition_of atom.now) port (port_of made.now)) }
 {
     print_text(output, b"    ")?;
     print_part(b"port", number, port, output)?;
@@ -197,8 +184,7 @@ fn print_port<W: Write>(
 
 /// Prints the names of the variables with these numbers, each with a space before it.
 fn print_exports<W: Write>(atom: &Atom, exports: &[u8], output: &mut W) -> Result<(), WriteFault>
-    ensures { OnOk result (Appends (W.contents output.old) (W.contents output.new)
-        (flat_map (λ v. codes " " ++ variable_name (definition_of atom.now) v) exports.now)) }
+    ensures { Prints result (W.contents output.old) (W.contents output.new) (flat_map (λ v. codes " " ++ variable_name (definition_of atom.now) v) exports.now) }
 {
     for variable in exports {
         print_text(output, b" ")?;
@@ -209,8 +195,7 @@ fn print_exports<W: Write>(atom: &Atom, exports: &[u8], output: &mut W) -> Resul
 
 /// Prints the transitions of an atom.
 fn print_transitions<W: Write>(number: u64, atom: &Atom, output: &mut W) -> Result<(), WriteFault>
-    ensures { OnOk result (Appends (W.contents output.old) (W.contents output.new)
-        (numbered (transition_lines number (definition_of atom.now)) 0 (definition_of atom.now).transitions)) }
+    ensures { Prints result (W.contents output.old) (W.contents output.new) (numbered (transition_lines number (definition_of atom.now)) 0 (definition_of atom.now).transitions) }
 {
     for (transition, made) in atom.transitions().iter().enumerate() {
         print_transition(number, atom, transition as u64, made, output)?;

@@ -1,7 +1,7 @@
 //! Which connectors have a choice.
 ghost use Rattle.std.specs.Prelude.{◌≡◌};
 ghost use Rattle.step_core.specs.Choice.{choices};
-ghost use Rattle.step_core.specs.Running.{plant_in, states_in};
+ghost use Rattle.part_text.specs.Seen.{plant_in, states_in};
 ghost use Rattle.plant_drawing.specs.Drawn.{has_choice, is_coloured};
 ghost use Rattle.plant_drawing.specs.Place.{IsFirstFrom};
 
@@ -27,7 +27,7 @@ fn has_choice(run: &Stepper<'_>, connector: usize) -> bool
     first < run.count() && usize::from(run.nth(first).connector) == connector
 }
 
-/// The place of the first choice that is of this connector or of a later one; that behind the last where there is none.
+/// The place of the first choice that is of this connector or of a later one; that after the last if there is none.
 fn first_from(run: &Stepper<'_>, connector: usize) -> u128
     ensures { IsFirstFrom (choices (plant_in run.now) (states_in run.now)) connector result }
 {

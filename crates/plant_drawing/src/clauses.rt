@@ -1,10 +1,8 @@
 //! The guards and the transfers of a connector, each on a line of the connector's label.
-ghost use Rattle.std.specs.Prelude.{OnOk, flat_map, map};
-ghost use Rattle.std.specs.Io.KnownBytes.{Appends};
-ghost use Rattle.petri_atom.specs.Atom.{definition_of};
-ghost use Rattle.petri_atom.specs.Expression.{tree_of};
+ghost use Rattle.std.specs.Prelude.{flat_map, map};
 ghost use Rattle.connector_tree.specs.Tree as connectors;
-ghost use Rattle.step_core.specs.Wire.{transfer_of};
+ghost use Rattle.text_io.specs.Printing.{Prints};
+ghost use Rattle.part_text.specs.Seen.{definition_of, transfer_of, tree_of};
 ghost use Rattle.plant_drawing.specs.Connector.{guard_line, transfer_line};
 
 use crate::wrapping::{columns_past, print_assigned, print_expression_words};
@@ -20,8 +18,8 @@ pub(crate) fn print_guards<W: Write>(
     guards: &[Expression<Export>],
     output: &mut W,
 ) -> Result<(), WriteFault>
-    ensures { OnOk result (Appends (W.contents output.old) (W.contents output.new)
-        (flat_map (guard_line (map definition_of exports.now.atoms.now) (connectors.leaves (connectors.tree_of exports.now.connector.now))) (map tree_of guards.now))) }
+    ensures { Prints result (W.contents output.old) (W.contents output.new)
+        (flat_map (guard_line (map definition_of exports.now.atoms.now) (connectors.leaves (connectors.tree_of exports.now.connector.now))) (map tree_of guards.now)) }
 {
     for guard in guards {
         print_guard(exports, guard, output)?;
@@ -35,8 +33,8 @@ fn print_guard<W: Write>(
     guard: &Expression<Export>,
     output: &mut W,
 ) -> Result<(), WriteFault>
-    ensures { OnOk result (Appends (W.contents output.old) (W.contents output.new)
-        (guard_line (map definition_of exports.now.atoms.now) (connectors.leaves (connectors.tree_of exports.now.connector.now)) (tree_of guard.now))) }
+    ensures { Prints result (W.contents output.old) (W.contents output.new)
+        (guard_line (map definition_of exports.now.atoms.now) (connectors.leaves (connectors.tree_of exports.now.connector.now)) (tree_of guard.now)) }
 {
     print_text(output, b"\\nguard")?;
     print_expression_words(columns_past(5), guard, exports, output)?;
@@ -49,8 +47,8 @@ pub(crate) fn print_transfers<W: Write>(
     transfers: &[Transfer],
     output: &mut W,
 ) -> Result<(), WriteFault>
-    ensures { OnOk result (Appends (W.contents output.old) (W.contents output.new)
-        (flat_map (transfer_line (map definition_of exports.now.atoms.now) (connectors.leaves (connectors.tree_of exports.now.connector.now))) (map transfer_of transfers.now))) }
+    ensures { Prints result (W.contents output.old) (W.contents output.new)
+        (flat_map (transfer_line (map definition_of exports.now.atoms.now) (connectors.leaves (connectors.tree_of exports.now.connector.now))) (map transfer_of transfers.now)) }
 {
     for transfer in transfers {
         print_transfer(exports, transfer, output)?;
@@ -64,8 +62,8 @@ fn print_transfer<W: Write>(
     transfer: &Transfer,
     output: &mut W,
 ) -> Result<(), WriteFault>
-    ensures { OnOk result (Appends (W.contents output.old) (W.contents output.new)
-        (transfer_line (map definition_of exports.now.atoms.now) (connectors.leaves (connectors.tree_of exports.now.connector.now)) (transfer_of transfer.now))) }
+    ensures { Prints result (W.contents output.old) (W.contents output.new)
+        (transfer_line (map definition_of exports.now.atoms.now) (connectors.leaves (connectors.tree_of exports.now.connector.now)) (transfer_of transfer.now)) }
 {
     print_text(output, b"\\n")?;
     exports.print_name(&transfer.target, output)?;

@@ -1,17 +1,15 @@
 //! The node of a connector, and its edges.
-ghost use Rattle.std.specs.Prelude.{◌++◌, OnOk, flat_map, map};
-ghost use Rattle.std.specs.Io.KnownBytes.{Appends};
-ghost use Rattle.petri_atom.specs.Atom.{definition_of};
+ghost use Rattle.std.specs.Prelude.{◌++◌, flat_map, map};
 ghost use Rattle.connector_tree.specs.Tree.{leaves};
-ghost use Rattle.step_core.specs.Running.{plant_in, states_in};
-ghost use Rattle.step_core.specs.Wire.{wire_of};
+ghost use Rattle.text_io.specs.Printing.{Prints};
+ghost use Rattle.part_text.specs.Seen.{definition_of, plant_in, states_in, wire_of};
 ghost use Rattle.plant_drawing.specs.Drawn.{is_coloured};
 ghost use Rattle.plant_drawing.specs.Connector.{arrow_to, colour_of, connector_label, connector_line, connector_lines, connector_shape, drawn_connector, guard_line, port_edge, transfer_line, tree_text};
 
 use crate::choice::is_coloured;
 use crate::clauses::{print_guards, print_transfers};
 use crate::drawn::{has_number, is_drawn};
-use crate::edges::{LeafEdges, print_edges, print_end};
+use crate::edges::{LeafEdges, print_edges, print_end, print_from};
 use crate::filling::Filling;
 use crate::node::{print_connector, print_part};
 use crate::tree::print_words;
@@ -23,7 +21,7 @@ use std::io::Write;
 use step_core::{Stepper, Wire};
 use text_io::{WriteFault, print_text};
 
-/// Prints a connector where it is drawn; nothing of another.
+/// Prints a connector if it is drawn; nothing of another.
 pub(crate) fn print_drawn_wire<W: Write>(
     run: &Stepper<'_>,
     drawn: u64,
@@ -32,8 +30,8 @@ pub(crate) fn print_drawn_wire<W: Write>(
     wire: &Wire,
     output: &mut W,
 ) -> Result<(), WriteFault>
-    ensures { OnOk result (Appends (W.contents output.old) (W.contents output.new)
-        (drawn_connector (plant_in run.now).atoms drawn (is_coloured filling (plant_in run.now) (states_in run.now)) number (wire_of wire.now))) }
+    ensures { Prints result (W.contents output.old) (W.contents output.new)
+        (drawn_connector (plant_in run.now).atoms drawn (is_coloured filling (plant_in run.now) (states_in run.now)) number (wire_of wire.now)) }
 {
     if !is_drawn(drawn, wire) {
         return Ok(());
@@ -52,8 +50,7 @@ fn print_wire<W: Write>(
     wire: &Wire,
     output: &mut W,
 ) -> Result<(), WriteFault>
-    ensures { OnOk result (Appends (W.contents output.old) (W.contents output.new)
-        (connector_lines (map definition_of atoms.now) drawn coloured number (wire_of wire.now))) }
+    ensures { Prints result (W.contents output.old) (W.contents output.new) (connector_lines (map definition_of atoms.now) drawn coloured number (wire_of wire.now)) }
 {
     print_connector_line(atoms, coloured, number, wire, output)?;
     let edges = PortEdges {
@@ -71,8 +68,7 @@ fn print_connector_line<W: Write>(
     wire: &Wire,
     output: &mut W,
 ) -> Result<(), WriteFault>
-    ensures { OnOk result (Appends (W.contents output.old) (W.contents output.new)
-        (connector_line (map definition_of atoms.now) coloured number (wire_of wire.now))) }
+    ensures { Prints result (W.contents output.old) (W.contents output.new) (connector_line (map definition_of atoms.now) coloured number (wire_of wire.now)) }
 {
     print_text(output, b"  ")?;
     print_connector(number, output)?;
@@ -83,8 +79,7 @@ fn print_connector_line<W: Write>(
 
 /// Prints the shape of a connector's node and its colour, and the begin of its label.
 fn print_shape<W: Write>(coloured: bool, output: &mut W) -> Result<(), WriteFault>
-    ensures { OnOk result (Appends (W.contents output.old) (W.contents output.new)
-        (connector_shape coloured)) }
+    ensures { Prints result (W.contents output.old) (W.contents output.new) (connector_shape coloured) }
 {
     print_text(output, b" [shape=box, style=\"rounded,filled\", fillcolor=")?;
     print_colour(coloured, output)?;
@@ -93,8 +88,7 @@ fn print_shape<W: Write>(coloured: bool, output: &mut W) -> Result<(), WriteFaul
 
 /// Prints the colour of a connector that is filled as one that has a choice, or of another.
 fn print_colour<W: Write>(coloured: bool, output: &mut W) -> Result<(), WriteFault>
-    ensures { OnOk result (Appends (W.contents output.old) (W.contents output.new)
-        (colour_of coloured)) }
+    ensures { Prints result (W.contents output.old) (W.contents output.new) (colour_of coloured) }
 {
     if coloured {
         print_text(output, b"palegreen")
@@ -105,8 +99,7 @@ fn print_colour<W: Write>(coloured: bool, output: &mut W) -> Result<(), WriteFau
 
 /// Prints the name of a connector, and on lines of their own its tree, its guard clauses and its transfers.
 fn print_label<W: Write>(atoms: &[Atom], wire: &Wire, output: &mut W) -> Result<(), WriteFault>
-    ensures { OnOk result (Appends (W.contents output.old) (W.contents output.new)
-        (connector_label (map definition_of atoms.now) (wire_of wire.now))) }
+    ensures { Prints result (W.contents output.old) (W.contents output.new) (connector_label (map definition_of atoms.now) (wire_of wire.now)) }
 {
     print_text(output, wire.name.as_bytes())?;
     print_text(output, b"\\n")?;
@@ -114,10 +107,9 @@ fn print_label<W: Write>(atoms: &[Atom], wire: &Wire, output: &mut W) -> Result<
     print_clauses(atoms, wire, output)
 }
 
-/// Prints the tree of a connector: its words, with a space before each, and one behind the last.
+/// Prints the tree of a connector: its words, with a space before each, and one after the last.
 fn print_tree<W: Write>(atoms: &[Atom], wire: &Wire, output: &mut W) -> Result<(), WriteFault>
-    ensures { OnOk result (Appends (W.contents output.old) (W.contents output.new)
-        (tree_text (map definition_of atoms.now) (wire_of wire.now))) }
+    ensures { Prints result (W.contents output.old) (W.contents output.new) (tree_text (map definition_of atoms.now) (wire_of wire.now)) }
 {
     print_words(COLUMNS, atoms, &wire.connector.root, output)?;
     print_text(output, b" ")
@@ -125,9 +117,8 @@ fn print_tree<W: Write>(atoms: &[Atom], wire: &Wire, output: &mut W) -> Result<(
 
 /// Prints the guard clauses of a connector, and then its transfers.
 fn print_clauses<W: Write>(atoms: &[Atom], wire: &Wire, output: &mut W) -> Result<(), WriteFault>
-    ensures { OnOk result (Appends (W.contents output.old) (W.contents output.new)
-        (flat_map (guard_line (map definition_of atoms.now) (leaves (wire_of wire.now).connector)) (wire_of wire.now).guards ++
-        flat_map (transfer_line (map definition_of atoms.now) (leaves (wire_of wire.now).connector)) (wire_of wire.now).transfers)) }
+    ensures { Prints result (W.contents output.old) (W.contents output.new)
+        (flat_map (guard_line (map definition_of atoms.now) (leaves (wire_of wire.now).connector)) (wire_of wire.now).guards ++ flat_map (transfer_line (map definition_of atoms.now) (leaves (wire_of wire.now).connector)) (wire_of wire.now).transfers) }
 {
     let exports = Exports {
         atoms,
@@ -137,7 +128,7 @@ fn print_clauses<W: Write>(atoms: &[Atom], wire: &Wire, output: &mut W) -> Resul
     print_transfers(&exports, &wire.transfers, output)
 }
 
-/// The edges of a connector to the ports of its leaves, where the port's atom is drawn.
+/// The edges of a connector to the ports of its leaves, if the port's atom is drawn.
 #[derive(Clone, Copy)]
 struct PortEdges {
     drawn: u64,
@@ -170,19 +161,15 @@ fn print_port_edge<W: Write>(
     trigger: bool,
     output: &mut W,
 ) -> Result<(), WriteFault>
-    ensures { OnOk result (Appends (W.contents output.old) (W.contents output.new)
-        (port_edge number port trigger)) }
+    ensures { Prints result (W.contents output.old) (W.contents output.new) (port_edge number port trigger) }
 {
     print_arrow_to(number, port, output)?;
-    print_text(output, b" [arrowhead=")?;
-    print_end(trigger, output)?;
-    print_text(output, b"];\n")
+    print_end(trigger, output)
 }
 
 /// Prints the begin of the edge of a connector to a port.
 fn print_arrow_to<W: Write>(number: u64, port: Port, output: &mut W) -> Result<(), WriteFault>
-    ensures { OnOk result (Appends (W.contents output.old) (W.contents output.new)
-        (arrow_to number port.atom port.port)) }
+    ensures { Prints result (W.contents output.old) (W.contents output.new) (arrow_to number port.atom port.port) }
 {
     print_arrow(number, u64::from(port.atom), u64::from(port.port), output)
 }
@@ -194,11 +181,8 @@ fn print_arrow<W: Write>(
     port: u64,
     output: &mut W,
 ) -> Result<(), WriteFault>
-    ensures { OnOk result (Appends (W.contents output.old) (W.contents output.new)
-        (arrow_to number atom port)) }
+    ensures { Prints result (W.contents output.old) (W.contents output.new) (arrow_to number atom port) }
 {
-    print_text(output, b"  ")?;
-    print_connector(number, output)?;
-    print_text(output, b" -> ")?;
+    print_from(number, output)?;
     print_part(b"port", atom, port, output)
 }

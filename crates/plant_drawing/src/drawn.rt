@@ -3,8 +3,7 @@ ghost use Rattle.std.specs.Prelude.{◌≡◌};
 ghost use Rattle.std.specs.List.{list_any};
 ghost use Rattle.petri_atom.specs.Local.{has};
 ghost use Rattle.connector_tree.specs.Tree.{tree_in, branch_of, leaves, branch_leaves};
-ghost use Rattle.step_core.specs.System.{plant_of};
-ghost use Rattle.step_core.specs.Wire.{wire_of};
+ghost use Rattle.part_text.specs.Seen.{plant_of, wire_of};
 ghost use Rattle.plant_drawing.specs.Drawn.{is_drawn, is_drawn_at, is_drawn_rule, is_of_drawn, side_connector};
 
 use connector_tree::{Child, Node};

@@ -1,10 +1,11 @@
-//! The edges of a connector, by the leaves of its tree.
-ghost use Rattle.std.specs.Prelude.{Bool, List, ℕ, OnOk, flat_map};
-ghost use Rattle.std.specs.Io.KnownBytes.{Appends};
+//! The edges of a connector: by the leaves of its tree, and how they begin and end.
+ghost use Rattle.std.specs.Prelude.{Bool, List, ℕ, flat_map};
 ghost use Rattle.connector_tree.specs.declared.tree.Port as tree;
 ghost use Rattle.connector_tree.specs.Tokens.{children_tokens, node_tokens};
-ghost use Rattle.plant_drawing.specs.Edges.{end_of_edge, token_edge};
+ghost use Rattle.text_io.specs.Printing.{Prints};
+ghost use Rattle.plant_drawing.specs.Edges.{end_of_edge, from_connector, token_edge};
 
+use crate::node::print_connector;
 use connector_tree::{Child, Node, Port};
 use std::io::Write;
 use text_io::{WriteFault, print_text};
@@ -20,7 +21,7 @@ pub(crate) trait LeafEdges {
         trigger: bool,
         output: &mut W,
     ) -> Result<(), WriteFault>
-        ensures { OnOk result (Appends (W.contents output.old) (W.contents output.new) (edge_to self.now port trigger)) };
+        ensures { Prints result (W.contents output.old) (W.contents output.new) (edge_to self.now port trigger) };
 }
 
 /// Prints what is drawn for the leaves of several children of a tree.
@@ -30,8 +31,7 @@ pub(crate) fn print_edges<E: LeafEdges, W: Write>(
     children: &[Child],
     output: &mut W,
 ) -> Result<(), WriteFault>
-    ensures { OnOk result (Appends (W.contents output.old) (W.contents output.new)
-        (flat_map (token_edge (E.edge_to edges.now)) (children_tokens children.now))) }
+    ensures { Prints result (W.contents output.old) (W.contents output.new) (flat_map (token_edge (E.edge_to edges.now)) (children_tokens children.now)) }
 {
     for child in children {
         print_node_edges(edges, &child.node, child.trigger, output)?;
@@ -47,8 +47,7 @@ fn print_node_edges<E: LeafEdges, W: Write>(
     trigger: bool,
     output: &mut W,
 ) -> Result<(), WriteFault>
-    ensures { OnOk result (Appends (W.contents output.old) (W.contents output.new)
-        (flat_map (token_edge (E.edge_to edges.now)) (node_tokens node.now trigger))) }
+    ensures { Prints result (W.contents output.old) (W.contents output.new) (flat_map (token_edge (E.edge_to edges.now)) (node_tokens node.now trigger)) }
 {
     match node {
         Node::Leaf { atom, port } => {
@@ -62,14 +61,22 @@ fn print_node_edges<E: LeafEdges, W: Write>(
     }
 }
 
-/// Prints how an edge ends: in a triangle at a trigger, and in a dot at a synchron.
+/// Prints the end of an edge: a triangle at a trigger, and a dot at a synchron.
 pub(crate) fn print_end<W: Write>(trigger: bool, output: &mut W) -> Result<(), WriteFault>
-    ensures { OnOk result (Appends (W.contents output.old) (W.contents output.new)
-        (end_of_edge trigger)) }
+    ensures { Prints result (W.contents output.old) (W.contents output.new) (end_of_edge trigger) }
 {
     if trigger {
-        print_text(output, b"normal")
+        print_text(output, b" [arrowhead=normal];\n")
     } else {
-        print_text(output, b"dot")
+        print_text(output, b" [arrowhead=dot];\n")
     }
+}
+
+/// Prints the begin of an edge from the connector with this number.
+pub(crate) fn print_from<W: Write>(connector: u64, output: &mut W) -> Result<(), WriteFault>
+    ensures { Prints result (W.contents output.old) (W.contents output.new) (from_connector connector) }
+{
+    print_text(output, b"  ")?;
+    print_connector(connector, output)?;
+    print_text(output, b" -> ")
 }

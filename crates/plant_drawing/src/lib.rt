@@ -7,14 +7,14 @@
 //! | Part of the plant | Is drawn as |
 //! |---|---|
 //! | an atom | a cluster with its name below, and a line `n = 4` for each variable with its value |
-//! | a place | a circle with its name, filled where it is marked |
+//! | a place | a circle with its name, filled if it is marked |
 //! | a port | an ellipse with its name and the variables that it exports |
 //! | a transition | a box with the name of its port and its number (`move/1`), its guard and its updates; a dotted line from its port, and arrows from its sources and to its targets |
 //! | a connector | a rounded box with its name and its tree, a line for each guard clause, and a line `A.n := EXPR` for each transfer; an edge to each of its ports, which ends in a triangle at a trigger and in a dot at a synchron |
 //! | a priority rule | a dashed edge from the lower connector to the higher, with the rule on it; a loop for a connector that is to be maximal |
 //!
-//! **Of a part of a plant.** A drawing is of the atoms of a set ([`ALL_ATOMS`] for the whole plant). A connector is drawn where it has a
-//! leaf of one of these; its label has its whole tree, and its edges go to the ports that are drawn. A rule is drawn where both of its
+//! **Of a part of a plant.** A drawing is of the atoms of a set ([`ALL_ATOMS`] for the whole plant). A connector is drawn if it has a
+//! leaf of one of these; its label has its whole tree, and its edges go to the ports that are drawn. A rule is drawn if both of its
 //! connectors are.
 //!
 //! **Of a state.** Marked places and the values of variables are those of the present state of the plant that runs. With
@@ -29,10 +29,13 @@
 //! Nodes are named by numbers (`place_0_3`, `connector_1`), and all names of the plant stand in quoted labels. A name has
 //! letters, digits and `_` alone, so no label needs an escape but for its own line ends.
 //!
-//! - `plant`: the whole drawing. `atom`, `transition`: a cluster. `connector`, `rule`: what joins the clusters. `clauses`: guards and
-//!   transfers of a connector. `edges`: the edges of a connector, by its leaves. `outline`: the outline. `node`: names of nodes.
-//! - `wrapping`: words that are broken into lines, and those of an expression. `tree`: those of a connector's tree.
-//! - `drawn`: what is drawn where some atoms are. `filling`: how connectors are filled. `choice`: which connectors have a choice.
+//! - `plant`: the whole drawing of a state, and how its graph is laid out. `outline`: the outline.
+//! - `atom`: the cluster of an atom: its label, its places and its ports. `transition`: its transitions and their edges.
+//! - `connector`: the node of a connector and its edges. `clauses`: its guard clauses and its transfers. `edges`: how its edges begin and
+//!   end, and which leaf of its tree has one. `rule`: the edges of the priority rules.
+//! - `node`: the names of nodes. `wrapping`: words that are broken into lines, and those of an expression. `tree`: those of a
+//!   connector's tree.
+//! - `drawn`: what is drawn of a plant, by the set of atoms. `filling`: how connectors are filled. `choice`: which connectors have a choice.
 //!
 //! The words are those of `part_text`. Nothing here takes memory.
 #![tactic(auto)]

@@ -1,6 +1,5 @@
 //! The names of the drawing's nodes.
-ghost use Rattle.std.specs.Prelude.{OnOk};
-ghost use Rattle.std.specs.Io.KnownBytes.{Appends};
+ghost use Rattle.text_io.specs.Printing.{Prints};
 ghost use Rattle.plant_drawing.specs.Node.{atom_node, connector_node, part_node};
 
 use std::io::Write;
@@ -13,8 +12,7 @@ pub(crate) fn print_part<W: Write>(
     number: u64,
     output: &mut W,
 ) -> Result<(), WriteFault>
-    ensures { OnOk result (Appends (W.contents output.old) (W.contents output.new)
-        (part_node kind.now atom number)) }
+    ensures { Prints result (W.contents output.old) (W.contents output.new) (part_node kind.now atom number) }
 {
     print_text(output, kind)?;
     print_text(output, b"_")?;
@@ -25,17 +23,15 @@ pub(crate) fn print_part<W: Write>(
 
 /// Prints the name of the connector with this number.
 pub(crate) fn print_connector<W: Write>(number: u64, output: &mut W) -> Result<(), WriteFault>
-    ensures { OnOk result (Appends (W.contents output.old) (W.contents output.new)
-        (connector_node number)) }
+    ensures { Prints result (W.contents output.old) (W.contents output.new) (connector_node number) }
 {
     print_text(output, b"connector_")?;
     print_number(output, number)
 }
 
-/// Prints the name of the atom with this number, where it is one node.
+/// Prints the name of the atom with this number, if it is one node.
 pub(crate) fn print_atom_node<W: Write>(number: u64, output: &mut W) -> Result<(), WriteFault>
-    ensures { OnOk result (Appends (W.contents output.old) (W.contents output.new)
-        (atom_node number)) }
+    ensures { Prints result (W.contents output.old) (W.contents output.new) (atom_node number) }
 {
     print_text(output, b"atom_")?;
     print_number(output, number)

@@ -1,14 +1,12 @@
 //! The outline of a plant: its atoms and its connectors, each as one node.
-ghost use Rattle.std.specs.Prelude.{OnOk, map};
-ghost use Rattle.std.specs.Io.KnownBytes.{Appends};
-ghost use Rattle.petri_atom.specs.Atom.{definition_of};
-ghost use Rattle.step_core.specs.System.{plant_of};
-ghost use Rattle.step_core.specs.Wire.{wire_of};
+ghost use Rattle.std.specs.Prelude.{map};
 ghost use Rattle.text_io.specs.Numbered.{numbered};
-ghost use Rattle.plant_drawing.specs.Outline.{arrow_to_atom, atom_box, atom_edge, connector_outline, connector_oval, outline_of, outline_parts, outline_style};
+ghost use Rattle.text_io.specs.Printing.{Prints};
+ghost use Rattle.part_text.specs.Seen.{definition_of, plant_of, wire_of};
+ghost use Rattle.plant_drawing.specs.Outline.{arrow_to_atom, atom_box, connector_outline, connector_oval, outline_of, outline_parts, outline_style};
 
 use crate::atom::print_named;
-use crate::edges::{LeafEdges, print_edges, print_end};
+use crate::edges::{LeafEdges, print_edges, print_end, print_from};
 use crate::node::{print_atom_node, print_connector};
 use crate::plant::print_style;
 use crate::rule::print_rules;
@@ -21,8 +19,7 @@ use text_io::{WriteFault, print_text};
 /// Writes the outline of a plant: a node for each atom, then one for each connector with an edge to the atom of each of its leaves, and
 /// then the priority rules.
 pub fn outline_to<W: Write>(system: &System, output: &mut W) -> Result<(), WriteFault>
-    ensures { OnOk result (Appends (W.contents output.old) (W.contents output.new)
-        (outline_of (plant_of system.now))) }
+    ensures { Prints result (W.contents output.old) (W.contents output.new) (outline_of (plant_of system.now)) }
 {
     print_text(output, b"digraph plant {\n")?;
     print_outline_style(output)?;
@@ -32,7 +29,7 @@ pub fn outline_to<W: Write>(system: &System, output: &mut W) -> Result<(), Write
 
 /// Prints how the graph is laid out: as a drawing is, and so that `dot` takes seconds over hundreds of edges.
 fn print_outline_style<W: Write>(output: &mut W) -> Result<(), WriteFault>
-    ensures { OnOk result (Appends (W.contents output.old) (W.contents output.new) outline_style) }
+    ensures { Prints result (W.contents output.old) (W.contents output.new) outline_style }
 {
     print_style(output)?;
     print_text(
@@ -47,8 +44,7 @@ fn print_outline_style<W: Write>(output: &mut W) -> Result<(), WriteFault>
 
 /// Prints the atoms, the connectors and the priority rules.
 fn print_parts<W: Write>(system: &System, output: &mut W) -> Result<(), WriteFault>
-    ensures { OnOk result (Appends (W.contents output.old) (W.contents output.new)
-        (outline_parts (plant_of system.now))) }
+    ensures { Prints result (W.contents output.old) (W.contents output.new) (outline_parts (plant_of system.now)) }
 {
     print_atoms(system.atoms(), output)?;
     print_wires(system.wires(), output)?;
@@ -57,8 +53,7 @@ fn print_parts<W: Write>(system: &System, output: &mut W) -> Result<(), WriteFau
 
 /// Prints atoms as boxes, in the order of their numbers.
 fn print_atoms<W: Write>(atoms: &[Atom], output: &mut W) -> Result<(), WriteFault>
-    ensures { OnOk result (Appends (W.contents output.old) (W.contents output.new)
-        (numbered atom_box 0 (map definition_of atoms.now))) }
+    ensures { Prints result (W.contents output.old) (W.contents output.new) (numbered atom_box 0 (map definition_of atoms.now)) }
 {
     for (number, atom) in atoms.iter().enumerate() {
         print_box(number as u64, atom, output)?;
@@ -68,8 +63,7 @@ fn print_atoms<W: Write>(atoms: &[Atom], output: &mut W) -> Result<(), WriteFaul
 
 /// Prints an atom as a box with its name.
 fn print_box<W: Write>(number: u64, atom: &Atom, output: &mut W) -> Result<(), WriteFault>
-    ensures { OnOk result (Appends (W.contents output.old) (W.contents output.new)
-        (atom_box number (definition_of atom.now))) }
+    ensures { Prints result (W.contents output.old) (W.contents output.new) (atom_box number (definition_of atom.now)) }
 {
     print_text(output, b"  ")?;
     print_atom_node(number, output)?;
@@ -79,8 +73,7 @@ fn print_box<W: Write>(number: u64, atom: &Atom, output: &mut W) -> Result<(), W
 
 /// Prints connectors with their edges, in the order of their numbers.
 fn print_wires<W: Write>(wires: &[Wire], output: &mut W) -> Result<(), WriteFault>
-    ensures { OnOk result (Appends (W.contents output.old) (W.contents output.new)
-        (numbered connector_outline 0 (map wire_of wires.now))) }
+    ensures { Prints result (W.contents output.old) (W.contents output.new) (numbered connector_outline 0 (map wire_of wires.now)) }
 {
     for (number, wire) in wires.iter().enumerate() {
         print_wire(number as u64, wire, output)?;
@@ -90,8 +83,7 @@ fn print_wires<W: Write>(wires: &[Wire], output: &mut W) -> Result<(), WriteFaul
 
 /// Prints a connector as a small node, and an edge to the atom of each of its leaves.
 fn print_wire<W: Write>(number: u64, wire: &Wire, output: &mut W) -> Result<(), WriteFault>
-    ensures { OnOk result (Appends (W.contents output.old) (W.contents output.new)
-        (connector_outline number (wire_of wire.now))) }
+    ensures { Prints result (W.contents output.old) (W.contents output.new) (connector_outline number (wire_of wire.now)) }
 {
     print_oval(number, wire, output)?;
     let edges = AtomEdges { connector: number };
@@ -100,8 +92,7 @@ fn print_wire<W: Write>(number: u64, wire: &Wire, output: &mut W) -> Result<(), 
 
 /// Prints a connector as a small node with its name.
 fn print_oval<W: Write>(number: u64, wire: &Wire, output: &mut W) -> Result<(), WriteFault>
-    ensures { OnOk result (Appends (W.contents output.old) (W.contents output.new)
-        (connector_oval number (wire_of wire.now))) }
+    ensures { Prints result (W.contents output.old) (W.contents output.new) (connector_oval number (wire_of wire.now)) }
 {
     print_text(output, b"  ")?;
     print_connector(number, output)?;
@@ -112,7 +103,7 @@ fn print_oval<W: Write>(number: u64, wire: &Wire, output: &mut W) -> Result<(), 
     print_named(&wire.name, output)
 }
 
-/// The edges of a connector to the atoms of its leaves.
+/// The edges of a connector to the atoms of its leaves, which end in a triangle at a trigger, and in a dot at a synchron.
 #[derive(Clone, Copy)]
 struct AtomEdges {
     connector: u64,
@@ -129,33 +120,22 @@ impl LeafEdges for AtomEdges {
         trigger: bool,
         output: &mut W,
     ) -> Result<(), WriteFault> {
-        print_atom_edge(self.connector, port, trigger, output)
+        print_arrow_to(self.connector, port, output)?;
+        print_end(trigger, output)
     }
 }
 
-/// Prints the edge of a connector to the atom of a leaf, which ends in a triangle at a trigger, and in a dot at a synchron.
-fn print_atom_edge<W: Write>(
-    number: u64,
-    port: Port,
-    trigger: bool,
-    output: &mut W,
-) -> Result<(), WriteFault>
-    ensures { OnOk result (Appends (W.contents output.old) (W.contents output.new)
-        (atom_edge number port trigger)) }
+/// Prints the begin of the edge of a connector to the atom of a port.
+fn print_arrow_to<W: Write>(number: u64, port: Port, output: &mut W) -> Result<(), WriteFault>
+    ensures { Prints result (W.contents output.old) (W.contents output.new) (arrow_to_atom number port.atom) }
 {
-    print_arrow(number, u64::from(port.atom), output)?;
-    print_text(output, b" [arrowhead=")?;
-    print_end(trigger, output)?;
-    print_text(output, b"];\n")
+    print_arrow(number, u64::from(port.atom), output)
 }
 
-/// Prints the begin of the edge of a connector to an atom.
+/// Prints the begin of the edge of a connector to the atom with this number.
 fn print_arrow<W: Write>(number: u64, atom: u64, output: &mut W) -> Result<(), WriteFault>
-    ensures { OnOk result (Appends (W.contents output.old) (W.contents output.new)
-        (arrow_to_atom number atom)) }
+    ensures { Prints result (W.contents output.old) (W.contents output.new) (arrow_to_atom number atom) }
 {
-    print_text(output, b"  ")?;
-    print_connector(number, output)?;
-    print_text(output, b" -> ")?;
+    print_from(number, output)?;
     print_atom_node(atom, output)
 }

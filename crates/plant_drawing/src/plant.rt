@@ -1,9 +1,8 @@
 //! The drawing of a plant in a state.
-ghost use Rattle.std.specs.Prelude.{◌≡◌, OnOk, slice_get, Some};
-ghost use Rattle.std.specs.Io.KnownBytes.{Appends};
-ghost use Rattle.petri_atom.specs.Atom.{definition_of};
-ghost use Rattle.step_core.specs.Running.{plant_in, states_in};
+ghost use Rattle.std.specs.Prelude.{◌≡◌, slice_get, Some};
 ghost use Rattle.text_io.specs.Numbered.{numbered};
+ghost use Rattle.text_io.specs.Printing.{Prints};
+ghost use Rattle.part_text.specs.Seen.{definition_of, plant_in, states_in};
 ghost use Rattle.plant_drawing.specs.Connector.{drawn_connector};
 ghost use Rattle.plant_drawing.specs.Drawn.{is_coloured};
 ghost use Rattle.plant_drawing.specs.Drawing.{drawing_of, drawn_atom, parts_of, style};
@@ -26,8 +25,7 @@ pub fn draw_to<W: Write>(
     filling: Filling,
     output: &mut W,
 ) -> Result<(), WriteFault>
-    ensures { OnOk result (Appends (W.contents output.old) (W.contents output.new)
-        (drawing_of (plant_in run.now) (states_in run.now) drawn filling)) }
+    ensures { Prints result (W.contents output.old) (W.contents output.new) (drawing_of (plant_in run.now) (states_in run.now) drawn filling) }
 {
     print_text(output, b"digraph plant {\n")?;
     print_style(output)?;
@@ -37,7 +35,7 @@ pub fn draw_to<W: Write>(
 
 /// Prints how the graph is laid out: in one font, with some room between the nodes, and the label of an atom below its parts.
 pub(crate) fn print_style<W: Write>(output: &mut W) -> Result<(), WriteFault>
-    ensures { OnOk result (Appends (W.contents output.old) (W.contents output.new) style) }
+    ensures { Prints result (W.contents output.old) (W.contents output.new) style }
 {
     print_text(
         output,
@@ -58,8 +56,7 @@ fn print_parts<W: Write>(
     filling: Filling,
     output: &mut W,
 ) -> Result<(), WriteFault>
-    ensures { OnOk result (Appends (W.contents output.old) (W.contents output.new)
-        (parts_of (plant_in run.now) (states_in run.now) drawn filling)) }
+    ensures { Prints result (W.contents output.old) (W.contents output.new) (parts_of (plant_in run.now) (states_in run.now) drawn filling) }
 {
     print_atoms(run, drawn, output)?;
     print_wires(run, drawn, filling, output)?;
@@ -69,8 +66,7 @@ fn print_parts<W: Write>(
 
 /// Prints the atoms that are drawn, in the order of their numbers.
 fn print_atoms<W: Write>(run: &Stepper<'_>, drawn: u64, output: &mut W) -> Result<(), WriteFault>
-    ensures { OnOk result (Appends (W.contents output.old) (W.contents output.new)
-        (numbered (drawn_atom drawn (states_in run.now)) 0 (plant_in run.now).atoms)) }
+    ensures { Prints result (W.contents output.old) (W.contents output.new) (numbered (drawn_atom drawn (states_in run.now)) 0 (plant_in run.now).atoms) }
 {
     let system = run.system();
     for (number, atom) in system.atoms().iter().enumerate() {
@@ -79,7 +75,7 @@ fn print_atoms<W: Write>(run: &Stepper<'_>, drawn: u64, output: &mut W) -> Resul
     Ok(())
 }
 
-/// Prints the atom in its present state where it is drawn; nothing of another.
+/// Prints the atom in its present state if it is drawn; nothing of another.
 fn print_drawn_atom<W: Write>(
     run: &Stepper<'_>,
     drawn: u64,
@@ -88,8 +84,7 @@ fn print_drawn_atom<W: Write>(
     output: &mut W,
 ) -> Result<(), WriteFault>
     requires { slice_get (plant_in run.now).atoms number ≡ Some (definition_of atom.now) }
-    ensures { OnOk result (Appends (W.contents output.old) (W.contents output.new)
-        (drawn_atom drawn (states_in run.now) number (definition_of atom.now))) }
+    ensures { Prints result (W.contents output.old) (W.contents output.new) (drawn_atom drawn (states_in run.now) number (definition_of atom.now)) }
 {
     if !has_number(drawn, number) {
         return Ok(());
@@ -105,8 +100,8 @@ fn print_wires<W: Write>(
     filling: Filling,
     output: &mut W,
 ) -> Result<(), WriteFault>
-    ensures { OnOk result (Appends (W.contents output.old) (W.contents output.new)
-        (numbered (drawn_connector (plant_in run.now).atoms drawn (is_coloured filling (plant_in run.now) (states_in run.now))) 0 (plant_in run.now).wires)) }
+    ensures { Prints result (W.contents output.old) (W.contents output.new)
+        (numbered (drawn_connector (plant_in run.now).atoms drawn (is_coloured filling (plant_in run.now) (states_in run.now))) 0 (plant_in run.now).wires) }
 {
     let system = run.system();
     for (number, wire) in system.wires().iter().enumerate() {

@@ -1,12 +1,13 @@
 //! The edges of the priority rules.
-ghost use Rattle.std.specs.Prelude.{OnOk, flat_map};
-ghost use Rattle.std.specs.Io.KnownBytes.{Appends};
-ghost use Rattle.step_core.specs.System.{plant_of};
+ghost use Rattle.std.specs.Prelude.{flat_map};
 ghost use Rattle.priority_filter.specs.declared.rule.Rule.TheVariants.{Under, UnderAt};
+ghost use Rattle.text_io.specs.Printing.{Prints};
+ghost use Rattle.part_text.specs.Seen.{plant_of};
 ghost use Rattle.plant_drawing.specs.Drawn.{side_connector};
 ghost use Rattle.plant_drawing.specs.Rule.{arrow, drawn_rule, maximal_line, rule_line, rule_style};
 
 use crate::drawn::{is_drawn_rule, side_connector};
+use crate::edges::print_from;
 use crate::node::print_connector;
 use part_text::{print_condition, print_sides};
 use priority_filter::{At, Rule, Side};
@@ -21,8 +22,7 @@ pub(crate) fn print_drawn_rules<W: Write>(
     drawn: u64,
     output: &mut W,
 ) -> Result<(), WriteFault>
-    ensures { OnOk result (Appends (W.contents output.old) (W.contents output.new)
-        (flat_map (drawn_rule drawn (plant_of system.now)) rules.now)) }
+    ensures { Prints result (W.contents output.old) (W.contents output.new) (flat_map (drawn_rule drawn (plant_of system.now)) rules.now) }
 {
     for rule in rules {
         print_drawn_rule(system, *rule, drawn, output)?;
@@ -30,15 +30,14 @@ pub(crate) fn print_drawn_rules<W: Write>(
     Ok(())
 }
 
-/// Prints the edge of a rule where it is drawn; nothing of another.
+/// Prints the edge of a rule if it is drawn; nothing of another.
 fn print_drawn_rule<W: Write>(
     system: &System,
     rule: Rule,
     drawn: u64,
     output: &mut W,
 ) -> Result<(), WriteFault>
-    ensures { OnOk result (Appends (W.contents output.old) (W.contents output.new)
-        (drawn_rule drawn (plant_of system.now) rule)) }
+    ensures { Prints result (W.contents output.old) (W.contents output.new) (drawn_rule drawn (plant_of system.now) rule) }
 {
     if is_drawn_rule(drawn, system, rule) {
         print_rule(system, rule, output)
@@ -53,8 +52,7 @@ pub(crate) fn print_rules<W: Write>(
     rules: &[Rule],
     output: &mut W,
 ) -> Result<(), WriteFault>
-    ensures { OnOk result (Appends (W.contents output.old) (W.contents output.new)
-        (flat_map (rule_line (plant_of system.now)) rules.now)) }
+    ensures { Prints result (W.contents output.old) (W.contents output.new) (flat_map (rule_line (plant_of system.now)) rules.now) }
 {
     for rule in rules {
         print_rule(system, *rule, output)?;
@@ -64,8 +62,7 @@ pub(crate) fn print_rules<W: Write>(
 
 /// Prints the edge of a rule.
 fn print_rule<W: Write>(system: &System, rule: Rule, output: &mut W) -> Result<(), WriteFault>
-    ensures { OnOk result (Appends (W.contents output.old) (W.contents output.new)
-        (rule_line (plant_of system.now) rule)) }
+    ensures { Prints result (W.contents output.old) (W.contents output.new) (rule_line (plant_of system.now) rule) }
 {
     match rule {
         Rule::Under(left, right) => print_under(system, left, right, output),
@@ -81,8 +78,7 @@ fn print_under<W: Write>(
     right: Side,
     output: &mut W,
 ) -> Result<(), WriteFault>
-    ensures { OnOk result (Appends (W.contents output.old) (W.contents output.new)
-        (rule_line (plant_of system.now) (Under left right))) }
+    ensures { Prints result (W.contents output.old) (W.contents output.new) (rule_line (plant_of system.now) (Under left right)) }
 {
     print_between(left, right, output)?;
     print_style(output)?;
@@ -98,8 +94,7 @@ fn print_under_at<W: Write>(
     at: At,
     output: &mut W,
 ) -> Result<(), WriteFault>
-    ensures { OnOk result (Appends (W.contents output.old) (W.contents output.new)
-        (rule_line (plant_of system.now) (UnderAt left right at))) }
+    ensures { Prints result (W.contents output.old) (W.contents output.new) (rule_line (plant_of system.now) (UnderAt left right at)) }
 {
     print_between(left, right, output)?;
     print_style(output)?;
@@ -110,8 +105,7 @@ fn print_under_at<W: Write>(
 
 /// Prints the dashed loop of a connector that is to be maximal.
 fn print_maximal<W: Write>(connector: u64, output: &mut W) -> Result<(), WriteFault>
-    ensures { OnOk result (Appends (W.contents output.old) (W.contents output.new)
-        (maximal_line connector)) }
+    ensures { Prints result (W.contents output.old) (W.contents output.new) (maximal_line connector) }
 {
     print_arrow(connector, connector, output)?;
     print_style(output)?;
@@ -120,7 +114,7 @@ fn print_maximal<W: Write>(connector: u64, output: &mut W) -> Result<(), WriteFa
 
 /// Prints how the edge of a rule is drawn, and the begin of its label.
 fn print_style<W: Write>(output: &mut W) -> Result<(), WriteFault>
-    ensures { OnOk result (Appends (W.contents output.old) (W.contents output.new) rule_style) }
+    ensures { Prints result (W.contents output.old) (W.contents output.new) rule_style }
 {
     print_text(
         output,
@@ -130,8 +124,7 @@ fn print_style<W: Write>(output: &mut W) -> Result<(), WriteFault>
 
 /// Prints the begin of the edge from the connector of a side to that of another.
 fn print_between<W: Write>(left: Side, right: Side, output: &mut W) -> Result<(), WriteFault>
-    ensures { OnOk result (Appends (W.contents output.old) (W.contents output.new)
-        (arrow (side_connector left) (side_connector right))) }
+    ensures { Prints result (W.contents output.old) (W.contents output.new) (arrow (side_connector left) (side_connector right)) }
 {
     print_arrow(
         u64::from(side_connector(left)),
@@ -142,11 +135,8 @@ fn print_between<W: Write>(left: Side, right: Side, output: &mut W) -> Result<()
 
 /// Prints the begin of the edge between two connectors.
 fn print_arrow<W: Write>(from: u64, to: u64, output: &mut W) -> Result<(), WriteFault>
-    ensures { OnOk result (Appends (W.contents output.old) (W.contents output.new)
-        (arrow from to)) }
+    ensures { Prints result (W.contents output.old) (W.contents output.new) (arrow from to) }
 {
-    print_text(output, b"  ")?;
-    print_connector(from, output)?;
-    print_text(output, b" -> ")?;
+    print_from(from, output)?;
     print_connector(to, output)
 }

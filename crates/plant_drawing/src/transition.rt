@@ -1,11 +1,8 @@
 //! The transitions of an atom, with their edges.
-ghost use Rattle.std.specs.Prelude.{OnOk, flat_map, map};
-ghost use Rattle.std.specs.Io.KnownBytes.{Appends};
-ghost use Rattle.petri_atom.specs.Atom.{definition_of};
-ghost use Rattle.petri_atom.specs.Expression.{tree_of};
-ghost use Rattle.petri_atom.specs.Transition.{transition_of};
-ghost use Rattle.petri_atom.specs.Update.{update_of};
-ghost use Rattle.plant_drawing.specs.Atom.{firing_edge, guard_text, source_edge, target_edge, transition_edges, transition_label, transition_line, transition_lines, update_text};
+ghost use Rattle.std.specs.Prelude.{flat_map, map};
+ghost use Rattle.text_io.specs.Printing.{Prints};
+ghost use Rattle.part_text.specs.Seen.{definition_of, transition_of, tree_of, update_of};
+ghost use Rattle.plant_drawing.specs.Atom.{edge, firing_edge, guard_text, place_edge, transition_edges, transition_label, transition_line, transition_lines, update_text};
 
 use crate::node::print_part;
 use crate::wrapping::{columns_past, print_assigned, print_expression_words};
@@ -22,8 +19,7 @@ pub(crate) fn print_transition<W: Write>(
     made: &Transition,
     output: &mut W,
 ) -> Result<(), WriteFault>
-    ensures { OnOk result (Appends (W.contents output.old) (W.contents output.new)
-        (transition_lines number (definition_of atom.now) transition (transition_of made.now))) }
+    ensures { Prints result (W.contents output.old) (W.contents output.new) (transition_lines number (definition_of atom.now) transition (transition_of made.now)) }
 {
     print_box(number, atom, transition, made, output)?;
     print_edges(number, transition, made, output)
@@ -36,12 +32,11 @@ fn print_edges<W: Write>(
     made: &Transition,
     output: &mut W,
 ) -> Result<(), WriteFault>
-    ensures { OnOk result (Appends (W.contents output.old) (W.contents output.new)
-        (transition_edges atom transition (transition_of made.now))) }
+    ensures { Prints result (W.contents output.old) (W.contents output.new) (transition_edges atom transition (transition_of made.now)) }
 {
     print_firing(atom, u64::from(made.port()), transition, output)?;
-    print_sources(atom, transition, made.sources(), output)?;
-    print_targets(atom, transition, made.targets(), output)
+    print_place_edges(true, atom, transition, made.sources(), output)?;
+    print_place_edges(false, atom, transition, made.targets(), output)
 }
 
 /// Prints the box of a transition.
@@ -52,8 +47,7 @@ fn print_box<W: Write>(
     made: &Transition,
     output: &mut W,
 ) -> Result<(), WriteFault>
-    ensures { OnOk result (Appends (W.contents output.old) (W.contents output.new)
-        (transition_line number (definition_of atom.now) transition (transition_of made.now))) }
+    ensures { Prints result (W.contents output.old) (W.contents output.new) (transition_line number (definition_of atom.now) transition (transition_of made.now)) }
 {
     print_text(output, b"    ")?;
     print_part(b"transition", number, transition, output)?;
@@ -69,8 +63,7 @@ fn print_label<W: Write>(
     made: &Transition,
     output: &mut W,
 ) -> Result<(), WriteFault>
-    ensures { OnOk result (Appends (W.contents output.old) (W.contents output.new)
-        (transition_label (definition_of atom.now) transition (transition_of made.now))) }
+    ensures { Prints result (W.contents output.old) (W.contents output.new) (transition_label (definition_of atom.now) transition (transition_of made.now)) }
 {
     print_text(output, atom.port_name(made.port()))?;
     print_text(output, b"/")?;
@@ -85,8 +78,7 @@ fn print_guard<W: Write>(
     guard: &Expression<u8>,
     output: &mut W,
 ) -> Result<(), WriteFault>
-    ensures { OnOk result (Appends (W.contents output.old) (W.contents output.new)
-        (guard_text (definition_of atom.now) (tree_of guard.now))) }
+    ensures { Prints result (W.contents output.old) (W.contents output.new) (guard_text (definition_of atom.now) (tree_of guard.now)) }
 {
     if is_one(guard) {
         return Ok(());
@@ -102,8 +94,7 @@ fn print_updates<W: Write>(
     updates: &[Update],
     output: &mut W,
 ) -> Result<(), WriteFault>
-    ensures { OnOk result (Appends (W.contents output.old) (W.contents output.new)
-        (flat_map (update_text (definition_of atom.now)) (map update_of updates.now))) }
+    ensures { Prints result (W.contents output.old) (W.contents output.new) (flat_map (update_text (definition_of atom.now)) (map update_of updates.now)) }
 {
     for update in updates {
         print_update(atom, update, output)?;
@@ -113,8 +104,7 @@ fn print_updates<W: Write>(
 
 /// Prints an update on a line of its own.
 fn print_update<W: Write>(atom: &Atom, update: &Update, output: &mut W) -> Result<(), WriteFault>
-    ensures { OnOk result (Appends (W.contents output.old) (W.contents output.new)
-        (update_text (definition_of atom.now) (update_of update.now))) }
+    ensures { Prints result (W.contents output.old) (W.contents output.new) (update_text (definition_of atom.now) (update_of update.now)) }
 {
     print_text(output, b"\\n")?;
     let name = atom.variable_name(update.variable);
@@ -131,104 +121,77 @@ fn print_firing<W: Write>(
     transition: u64,
     output: &mut W,
 ) -> Result<(), WriteFault>
-    ensures { OnOk result (Appends (W.contents output.old) (W.contents output.new)
-        (firing_edge atom port transition)) }
+    ensures { Prints result (W.contents output.old) (W.contents output.new) (firing_edge atom port transition) }
 {
-    print_text(output, b"    ")?;
-    print_part(b"port", atom, port, output)?;
-    print_text(output, b" -> ")?;
-    print_part(b"transition", atom, transition, output)?;
-    print_text(output, b" [style=dotted, arrowhead=none];\n")
+    let end = b" [style=dotted, arrowhead=none];\n";
+    print_edge(
+        atom,
+        (b"port", port),
+        (b"transition", transition),
+        end,
+        output,
+    )
 }
 
-/// Prints the arrows from the sources of a transition to it.
-fn print_sources<W: Write>(
+/// Prints the arrows between a transition and its sources, or its targets.
+fn print_place_edges<W: Write>(
+    is_source: bool,
     atom: u64,
     transition: u64,
-    sources: &[u8],
+    places: &[u8],
     output: &mut W,
 ) -> Result<(), WriteFault>
-    ensures { OnOk result (Appends (W.contents output.old) (W.contents output.new)
-        (flat_map (source_edge atom transition) sources.now)) }
+    ensures { Prints result (W.contents output.old) (W.contents output.new) (flat_map (place_edge is_source atom transition) places.now) }
 {
-    for place in sources {
-        print_source_at(atom, transition, *place, output)?;
+    for place in places {
+        print_place_edge(is_source, atom, transition, *place, output)?;
     }
     Ok(())
 }
 
-/// Prints the arrow from a source to its transition.
-fn print_source_at<W: Write>(
+/// Prints the arrow from a source to its transition, or from a transition to its target.
+fn print_place_edge<W: Write>(
+    is_source: bool,
     atom: u64,
     transition: u64,
     place: u8,
     output: &mut W,
 ) -> Result<(), WriteFault>
-    ensures { OnOk result (Appends (W.contents output.old) (W.contents output.new)
-        (source_edge atom transition place)) }
+    ensures { Prints result (W.contents output.old) (W.contents output.new) (place_edge is_source atom transition place) }
 {
-    print_source(atom, transition, u64::from(place), output)
-}
-
-/// Prints the same arrow, by the number of its place.
-fn print_source<W: Write>(
-    atom: u64,
-    transition: u64,
-    place: u64,
-    output: &mut W,
-) -> Result<(), WriteFault>
-    ensures { OnOk result (Appends (W.contents output.old) (W.contents output.new)
-        (source_edge atom transition place)) }
-{
-    print_text(output, b"    ")?;
-    print_part(b"place", atom, place, output)?;
-    print_text(output, b" -> ")?;
-    print_part(b"transition", atom, transition, output)?;
-    print_text(output, b";\n")
-}
-
-/// Prints the arrows from a transition to its targets.
-fn print_targets<W: Write>(
-    atom: u64,
-    transition: u64,
-    targets: &[u8],
-    output: &mut W,
-) -> Result<(), WriteFault>
-    ensures { OnOk result (Appends (W.contents output.old) (W.contents output.new)
-        (flat_map (target_edge atom transition) targets.now)) }
-{
-    for place in targets {
-        print_target_at(atom, transition, *place, output)?;
+    let place = u64::from(place);
+    if is_source {
+        print_edge(
+            atom,
+            (b"place", place),
+            (b"transition", transition),
+            b";\n",
+            output,
+        )
+    } else {
+        print_edge(
+            atom,
+            (b"transition", transition),
+            (b"place", place),
+            b";\n",
+            output,
+        )
     }
-    Ok(())
 }
 
-/// Prints the arrow from a transition to its target.
-fn print_target_at<W: Write>(
+/// Prints an edge between two parts of an atom, each by what it is and its number, and how the edge ends.
+fn print_edge<W: Write>(
     atom: u64,
-    transition: u64,
-    place: u8,
+    from: (&[u8], u64),
+    to: (&[u8], u64),
+    end: &[u8],
     output: &mut W,
 ) -> Result<(), WriteFault>
-    ensures { OnOk result (Appends (W.contents output.old) (W.contents output.new)
-        (target_edge atom transition place)) }
-{
-    print_target(atom, transition, u64::from(place), output)
-}
-
-/// Prints the same arrow, by the number of its place.
-fn print_target<W: Write>(
-    atom: u64,
-    transition: u64,
-    place: u64,
-    output: &mut W,
-) -> Result<(), WriteFault>
-    ensures { OnOk result (Appends (W.contents output.old) (W.contents output.new)
-        (target_edge atom transition place)) }
+    ensures { Prints result (W.contents output.old) (W.contents output.new) (edge atom from.entry.0.now from.entry.1 to.entry.0.now to.entry.1 end.now) }
 {
     print_text(output, b"    ")?;
-    print_part(b"transition", atom, transition, output)?;
+    print_part(from.0, atom, from.1, output)?;
     print_text(output, b" -> ")?;
-    print_part(b"place", atom, place, output)?;
-    print_text(output, b";\n")
+    print_part(to.0, atom, to.1, output)?;
+    print_text(output, end)
 }

@@ -1,8 +1,8 @@
 //! The words of a connector's tree, broken into lines.
 ghost use Rattle.std.specs.Prelude.{◌≡◌, ◌++◌, ◌∷◌, [], codes, IfOk, map};
-ghost use Rattle.petri_atom.specs.Atom.{definition_of};
 ghost use Rattle.connector_tree.specs.Tokens.{children_tokens, node_tokens};
 ghost use Rattle.connector_tree.specs.declared.token.Token.TheVariants.{Leaf};
+ghost use Rattle.part_text.specs.Seen.{definition_of};
 ghost use Rattle.part_text.specs.Words.{token_word, trigger_mark};
 ghost use Rattle.plant_drawing.specs.Wrapped.{Wraps};
 
@@ -13,7 +13,7 @@ use petri_atom::Atom;
 use std::io::Write;
 use text_io::{WriteFault, print_text};
 
-/// Prints the words of several children of a tree behind others.
+/// Prints the words of several children of a tree after others.
 #[cycle(words)]
 pub(crate) fn print_words<W: Write>(
     left: usize,
@@ -30,7 +30,7 @@ pub(crate) fn print_words<W: Write>(
     Ok(now)
 }
 
-/// Prints the words of a node of a tree behind others.
+/// Prints the words of a node of a tree after others.
 #[cycle(words)]
 fn print_node_words<W: Write>(
     left: usize,
@@ -51,13 +51,13 @@ fn print_node_words<W: Write>(
         }
         Node::Fusion(children) => {
             let now = print_word(left, b"[", output)?;
-            let behind = print_words(now, atoms, children, output)?;
-            print_close(behind, trigger, output)
+            let inside = print_words(now, atoms, children, output)?;
+            print_close(inside, trigger, output)
         }
     }
 }
 
-/// Prints a port of a tree behind other words.
+/// Prints a port of a tree after other words.
 fn print_leaf<W: Write>(
     left: usize,
     atoms: &[Atom],
@@ -74,7 +74,7 @@ fn print_leaf<W: Write>(
     Ok(now)
 }
 
-/// Prints the end of a bracket behind other words.
+/// Prints the end of a bracket after other words.
 fn print_close<W: Write>(left: usize, trigger: bool, output: &mut W) -> Result<usize, WriteFault>
     ensures { IfOk result (Wraps left ((codes "]" ++ trigger_mark trigger) ∷ []) (W.contents output.old) (W.contents output.new)) }
 {

@@ -1,9 +1,9 @@
 //! Lines of a label, broken before a word that would pass their last column.
-ghost use Rattle.std.specs.Prelude.{◌≡◌, ◌+◌, ◌-◌, [], ◌∷◌, IfOk, OnOk, length};
-ghost use Rattle.std.specs.Io.KnownBytes.{Appends};
-ghost use Rattle.petri_atom.specs.Expression.{tree_of};
+ghost use Rattle.std.specs.Prelude.{◌≡◌, ◌+◌, ◌-◌, [], ◌∷◌, IfOk, length};
+ghost use Rattle.text_io.specs.Printing.{Prints};
+ghost use Rattle.part_text.specs.Seen.{tree_of};
 ghost use Rattle.plant_drawing.specs.declared.wrapping.TheConstants.{COLUMNS};
-ghost use Rattle.plant_drawing.specs.Wrapped.{Wraps, assigned_words, expression_words, fits, gap, left_behind};
+ghost use Rattle.plant_drawing.specs.Wrapped.{Wraps, assigned_words, expression_words, fits, gap, left_past};
 
 use itoa::Buffer;
 use part_text::{Names, operator_word};
@@ -18,15 +18,15 @@ pub(crate) const COLUMNS: usize = 48;
 const INDENT: usize = 4;
 
 /// Prints what sets off a word from the one before it: a space, or the begin of a further line where the word would pass the last
-/// column. The word has a length, and a mark of another length behind it. It says how many columns are left behind them.
+/// column. The word has a length, and a mark of another length after it. It says how many columns are left after them.
 pub(crate) fn print_gap<W: Write>(
     left: usize,
     size: usize,
     mark: usize,
     output: &mut W,
 ) -> Result<usize, WriteFault>
-    ensures text { OnOk result (Appends (W.contents output.old) (W.contents output.new) (gap (fits left (size + mark)))) }
-    ensures left { IfOk result (λ now. now ≡ left_behind left (size + mark)) }
+    ensures text { Prints result (W.contents output.old) (W.contents output.new) (gap (fits left (size + mark))) }
+    ensures left { IfOk result (λ now. now ≡ left_past left (size + mark)) }
 {
     if fits(left, size, mark) {
         print_text(output, b" ")?;
@@ -53,7 +53,7 @@ fn fits(left: usize, size: usize, mark: usize) -> bool
     left == COLUMNS || (size < left && mark < left - size)
 }
 
-/// Prints a word behind others.
+/// Prints a word after others.
 pub(crate) fn print_word<W: Write>(
     left: usize,
     word: &[u8],
@@ -66,7 +66,7 @@ pub(crate) fn print_word<W: Write>(
     Ok(now)
 }
 
-/// Prints the words of an expression behind others.
+/// Prints the words of an expression after others.
 pub(crate) fn print_expression_words<V, N: Names<V>, W: Write>(
     left: usize,
     expression: &Expression<V>,
@@ -94,7 +94,7 @@ pub(crate) fn print_expression_words<V, N: Names<V>, W: Write>(
     }
 }
 
-/// Prints what sets a variable to the value of an expression, behind its name: `:=`, and the words of the expression.
+/// Prints what sets a variable to the value of an expression, after its name: `:=`, and the words of the expression.
 pub(crate) fn print_assigned<V, N: Names<V>, W: Write>(
     left: usize,
     value: &Expression<V>,
@@ -107,14 +107,14 @@ pub(crate) fn print_assigned<V, N: Names<V>, W: Write>(
     print_expression_words(now, value, names, output)
 }
 
-/// The columns of a line that are left behind its first word, of this length.
+/// The columns of a line that are left after its first word, of this length.
 pub(crate) fn columns_past(size: usize) -> usize
     ensures { result ≡ COLUMNS - size }
 {
     COLUMNS.saturating_sub(size)
 }
 
-/// Prints the name of a variable behind other words.
+/// Prints the name of a variable after other words.
 fn print_variable<V, N: Names<V>, W: Write>(
     left: usize,
     variable: &V,

@@ -17,7 +17,7 @@ use Rattle.plant_image.proofs.LiveFits.{RowFits}
 use Rattle.plant_image.proofs.Standings.{base_some}
 use Rattle.plant_image.proofs.WholeImage.{records_read, same_contents}
 
--- a test of a list is one of its front, and of what is behind it
+-- a test of a list is one of its front, and of what is after it
 pub all_front : (p : FiredFields → Bool) (k : ℕ) (xs : List FiredFields) → list_all p xs ≡ true → (list_all p (take k xs) ≡ true) × (list_all p (drop k xs) ≡ true)
 all_front p k xs all = and_parts (list_all p (take k xs)) (list_all p (drop k xs)) (sym (list_all-append p (take k xs) (drop k xs)) ∙ ap (list_all p) (take-append-drop k xs) ∙ all)
 

@@ -14,7 +14,7 @@ use Rattle.plant_image.specs.Contents.{newest_held, unsaved}
 use Rattle.plant_image.specs.Faults.{fault_where, is_full_but_not, is_of_atom, marks_known, slot_fault, atom_fault}
 use Rattle.plant_image.specs.declared.fault.ImageFault.{ImageFault}
 
--- where no fault is told, the test does not apply
+-- if no fault is found, the test does not apply
 pub not_wrong : (wrong : Bool) (fault : ImageFault) → fault_where wrong fault ≡ None → wrong ≡ false
 not_wrong true fault none = absurd (let none = none in cc)
 not_wrong false fault none = refl
@@ -49,7 +49,7 @@ empty_or_holds {V} grammar passes (Some body) right = inr (by_value (grammar bod
     by_value None is right = absurd (let right = right in cc)
     by_value (Some v) is right = record { body = body; value = v; full = refl; held = is; passed = by_test v (passes v) refl right }
 
--- A slot of an atom holds nothing where its cell is empty, and else a state of the atom.
+-- A slot of an atom holds nothing if its cell is empty, and else a state of the atom.
 pub record SlotHolds (atom : ℕ) (a : AtomDefinition) (slot : ℕ) (cells : List Cell) : Type 0 where
   pub found : Option SavedFields
   pub at : saved_at atom slot cells ≡ found

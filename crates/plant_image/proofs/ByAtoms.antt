@@ -8,7 +8,7 @@ use Rattle.record_replay.specs.Records.{count_of}
 use Rattle.record_replay.specs.Replay.{Position}
 use Rattle.record_replay.specs.declared.fault.ReplayFault.{ReplayFault}
 use Rattle.step_core.specs.Plant.{PlantDefinition}
-use Rattle.step_core.specs.Rules.{first_of, first_told}
+use Rattle.step_core.specs.Rules.{first_of, first_fault_in}
 use Rattle.plant_image.specs.Contents.{Contents, saved_position, replayed, place_or, places_from, states_of, counts_of}
 
 -- ---- lists
@@ -46,38 +46,38 @@ element_at (x ∷ xs) (suc i) within = element_at xs i (omega arith)
 
 -- ---- what the first element tells that tells something
 
--- where none tells anything, each tells nothing
-pub told_none_at : {X F : Type 0} (tell : ℕ → X → Option F) (xs : List X) (n j i : ℕ) (x : X) → first_told tell n xs ≡ None → slice_get xs j ≡ Some x → n + j ≡ i → tell i x ≡ None
+-- if none has a fault, each has none
+pub told_none_at : {X F : Type 0} (tell : ℕ → X → Option F) (xs : List X) (n j i : ℕ) (x : X) → first_fault_in tell n xs ≡ None → slice_get xs j ≡ Some x → n + j ≡ i → tell i x ≡ None
 told_none_at tell [] n j i x none at sum = absurd (let at = at in cc)
 told_none_at {X} {F} tell (y ∷ ys) n zero i x none at sum =
     let same : y ≡ x = let at = at in cc in
     let here : n ≡ i = omega arith in
     ap (λ (k : ℕ). tell k x) (sym here) ∙ ap (tell n) (sym same) ∙ first_none (tell n y) none
   where
-    first_none : (found : Option F) → first_of found (first_told tell (suc n) ys) ≡ None → found ≡ None
+    first_none : (found : Option F) → first_of found (first_fault_in tell (suc n) ys) ≡ None → found ≡ None
     first_none None is = refl
     first_none (Some f) is = is
 told_none_at {X} {F} tell (y ∷ ys) n (suc j) i x none at sum = told_none_at tell ys (suc n) j i x (rest_none (tell n y) none) at (omega arith)
   where
-    rest_none : (found : Option F) → first_of found (first_told tell (suc n) ys) ≡ None → first_told tell (suc n) ys ≡ None
+    rest_none : (found : Option F) → first_of found (first_fault_in tell (suc n) ys) ≡ None → first_fault_in tell (suc n) ys ≡ None
     rest_none None is = is
     rest_none (Some f) is = absurd (let is = is in cc)
 
--- and where each tells nothing, none does
-pub told_none : {X F : Type 0} (tell : ℕ → X → Option F) (xs : List X) (n : ℕ) → ((j : ℕ) (x : X) → slice_get xs j ≡ Some x → tell (n + j) x ≡ None) → first_told tell n xs ≡ None
+-- and if each has none, all have none
+pub told_none : {X F : Type 0} (tell : ℕ → X → Option F) (xs : List X) (n : ℕ) → ((j : ℕ) (x : X) → slice_get xs j ≡ Some x → tell (n + j) x ≡ None) → first_fault_in tell n xs ≡ None
 told_none tell [] n each = refl
 told_none {X} {F} tell (y ∷ ys) n each =
     let here : tell n y ≡ None = ap (λ (k : ℕ). tell k y) (omega arith) ∙ each 0 y refl in
-    ap (λ (o : Option F). first_of o (first_told tell (suc n) ys)) here
+    ap (λ (o : Option F). first_of o (first_fault_in tell (suc n) ys)) here
     ∙ told_none tell ys (suc n) (λ j x at. ap (λ (k : ℕ). tell k x) (omega arith) ∙ each (suc j) x at)
 
 -- what tells the same of each tells the same of all
-pub told_same : {X F : Type 0} (tell other : ℕ → X → Option F) (xs : List X) (n : ℕ) → ((j : ℕ) (x : X) → slice_get xs j ≡ Some x → tell (n + j) x ≡ other (n + j) x) → first_told tell n xs ≡ first_told other n xs
+pub told_same : {X F : Type 0} (tell other : ℕ → X → Option F) (xs : List X) (n : ℕ) → ((j : ℕ) (x : X) → slice_get xs j ≡ Some x → tell (n + j) x ≡ other (n + j) x) → first_fault_in tell n xs ≡ first_fault_in other n xs
 told_same tell other [] n each = refl
 told_same {X} {F} tell other (y ∷ ys) n each =
     let zero_more : n ≡ n + 0 = omega arith in
     let here : tell n y ≡ other n y = ap (λ (k : ℕ). tell k y) zero_more ∙ each 0 y refl ∙ ap (λ (k : ℕ). other k y) (sym zero_more) in
-    ap (λ (o : Option F). first_of o (first_told tell (suc n) ys)) here
+    ap (λ (o : Option F). first_of o (first_fault_in tell (suc n) ys)) here
     ∙ ap (first_of (other n y)) (told_same tell other ys (suc n) (λ j x at. let more : suc n + j ≡ n + suc j = omega arith in ap (λ (k : ℕ). tell k x) more ∙ each (suc j) x at ∙ ap (λ (k : ℕ). other k x) (sym more)))
 
 -- ---- where the records bring the atoms

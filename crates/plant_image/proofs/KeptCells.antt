@@ -17,7 +17,7 @@ use Rattle.record_codec.specs.Ring.{base_cell, slot_cell, record_cell, device_ce
 use Rattle.record_codec.specs.Saved.{SavedFields, saved_in}
 use Rattle.snapshot_writer.specs.Slots.{saved_of, saved_at, newest_of, newest}
 use Rattle.step_core.specs.Plant.{PlantDefinition}
-use Rattle.step_core.specs.Rules.{first_told}
+use Rattle.step_core.specs.Rules.{first_fault_in}
 use Rattle.plant_image.specs.Contents.{contents_of, ring_held, base_held, newest_held, unsaved}
 use Rattle.plant_image.specs.Faults.{atom_fault, base_fault, cell_bytes, cells_fault, ends_or_fits, fault_where, first_cell_fault, first_fault, identity_fault, is_any, is_for, is_full_but_not, is_of_atom, record_fault, records_fault}
 use Rattle.plant_image.specs.declared.fault.ImageFault.{ImageFault}
@@ -32,23 +32,23 @@ use Rattle.plant_image.proofs.WholeImage.{fourth_is, records_judged}
 pub record IsSound (plant : PlantDefinition) (digest : List ℕ) (bytes : ℕ) (cells : List Cell) : Type 0 where
   pub identity : identity_fault (length plant.atoms) digest bytes cells ≡ None
   pub base : base_fault cells ≡ None
-  pub slots : first_told (atom_fault cells) 0 plant.atoms ≡ None
+  pub slots : first_fault_in (atom_fault cells) 0 plant.atoms ≡ None
   pub records : records_fault plant cells ≡ None
 
 pub sound_of : (plant : PlantDefinition) (digest : List ℕ) (bytes : ℕ) (cells : List Cell) → cells_fault plant digest bytes cells ≡ None → IsSound plant digest bytes cells
 sound_of plant digest bytes cells none =
     let second = no_later (identity_fault (length plant.atoms) digest bytes cells) _ none in
     let third = no_later (base_fault cells) _ second in
-    let fourth = no_later (first_told (atom_fault cells) 0 plant.atoms) _ third in
+    let fourth = no_later (first_fault_in (atom_fault cells) 0 plant.atoms) _ third in
     record {
       identity = no_first (identity_fault (length plant.atoms) digest bytes cells) _ none;
       base = no_first (base_fault cells) _ second;
-      slots = no_first (first_told (atom_fault cells) 0 plant.atoms) _ third;
+      slots = no_first (first_fault_in (atom_fault cells) 0 plant.atoms) _ third;
       records = no_first (records_fault plant cells) None fourth;
     }
 
 pub none_of : (plant : PlantDefinition) (digest : List ℕ) (bytes : ℕ) (cells : List Cell) → IsSound plant digest bytes cells → cells_fault plant digest bytes cells ≡ None
-none_of plant digest bytes cells sound = fourth_is (identity_fault (length plant.atoms) digest bytes cells) (base_fault cells) (first_told (atom_fault cells) 0 plant.atoms) (records_fault plant cells) sound.identity sound.base sound.slots ∙ sound.records
+none_of plant digest bytes cells sound = fourth_is (identity_fault (length plant.atoms) digest bytes cells) (base_fault cells) (first_fault_in (atom_fault cells) 0 plant.atoms) (records_fault plant cells) sound.identity sound.base sound.slots ∙ sound.records
 
 -- a list made of numbers in a row
 pub map_same : {X : Type 0} (f g : ℕ → X) (n a : ℕ) → ((k : ℕ) → a ≤ k → k < a + n → f k ≡ g k) → map f (range_with_len a n) ≡ map g (range_with_len a n)
@@ -57,7 +57,7 @@ map_same {X} f g (suc n) a same =
     ap (λ (x : X). x ∷ map f (range_with_len (a + 1) n)) (same a (omega arith) (omega arith))
     ∙ ap (λ (l : List X). g a ∷ l) (map_same f g n (a + 1) (λ k from to. same k (omega (arith, from)) (omega (arith, to))))
 
--- a record cell lies behind the slots
+-- a record cell lies after the slots
 pub behind_slots : (j : Ring) (n k : ℕ) → k < 3 + 2 * j.atoms → place j n ≢ k
 behind_slots j n k low = λ same. omega (arith, same)
 
@@ -129,7 +129,7 @@ module _ (before cells : List Cell) where
     slot_same : (atom slot : ℕ) → atom < length atoms → slot < 2 → cell cells (slot_cell atom slot) ≡ cell before (slot_cell atom slot)
     slot_same atom slot below either = same (slot_cell atom slot) (omega arith) (omega (arith, below, either))
 
-    pub slots_fault_same : first_told (atom_fault cells) 0 atoms ≡ first_told (atom_fault before) 0 atoms
+    pub slots_fault_same : first_fault_in (atom_fault cells) 0 atoms ≡ first_fault_in (atom_fault before) 0 atoms
     slots_fault_same = told_same (atom_fault cells) (atom_fault before) atoms 0 (λ j a at.
         let below : 0 + j < length atoms = omega (arith, slice_get_within atoms j a at) in
         atom_same (0 + j) (slot_same (0 + j) 0 below (omega arith)) (slot_same (0 + j) 1 below (omega arith)) a)

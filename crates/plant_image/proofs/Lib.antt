@@ -1,19 +1,19 @@
-pub mod FirstTold
-pub mod NumberFaults
+pub mod FirstFault
+mod NumberFaults
 pub mod ByAtoms
 pub mod SavedFits
 pub mod SoFar
 pub mod AtomSlots
-pub mod CountsTold
-pub mod WholeImage
+mod CountFaults
+mod WholeImage
 pub mod Standings
 pub mod OnContents
-pub mod LiveFits
+mod LiveFits
 pub mod KeptCells
 pub mod CleanedImages
 pub mod AppendedImages
 pub mod StoredImages
 pub mod MovedImages
 pub mod FormattedImages
-pub mod BaseReads
+mod BaseReads
 mod Rows

@@ -1,4 +1,4 @@
--- Nothing is wrong with the cells of records in a row exactly where the live ones can be of the plant, and nothing is wrong with the one
+-- Nothing is wrong with the cells of records in a row exactly if the live ones can be of the plant, and nothing is wrong with the one
 -- that ends them.
 use Rattle.std.proofs.Common.{◌≡◌, ◌≢◌, ◌⊎◌, inl, inr, ℕ, zero, suc, ◌+◌, ◌<◌, ◌==◌, ◌&&◌, ◌||◌, Bool, true, false, not, if◌then◌else◌, List, [], ◌∷◌, length, take, map, Option, Some, None, refl, sym, ◌∙◌, ap, subst, arith}
 use Rattle.std.specs.List.{range_with_len, list_all}
@@ -21,7 +21,7 @@ use Rattle.plant_image.proofs.Standings.{none_where}
 -- ---- one cell
 
 module _ (plant : PlantDefinition) (n : ℕ) where
-  -- where nothing is wrong with a cell that holds record n, that record can be of the plant
+  -- if nothing is wrong with a cell that holds record n, that record can be of the plant
   fits_of : (c : Cell) (r : FiredFields) → is_full_but_not fired_in (ends_or_fits plant n) c ≡ false → record_in n c ≡ Some r → is_record_of plant r ≡ true
   fits_of c r right there = by_cell (empty_or_holds fired_in (ends_or_fits plant n) c right)
     where
@@ -33,7 +33,7 @@ module _ (plant : PlantDefinition) (n : ℕ) where
       by_cell (inl empty) = absurd (none-some r (sym (ap (record_in n) empty) ∙ there))
       by_cell (inr h) = by_number h.value (h.value.number == n) refl (sym (ap (record_in n) h.full ∙ ap (option_and_then (if_numbered n)) h.held) ∙ there) h.passed
 
-  -- where it can be, nothing is wrong with the cell
+  -- if it can be, nothing is wrong with the cell
   right_of : (c : Cell) (r : FiredFields) → record_in n c ≡ Some r → is_record_of plant r ≡ true → is_full_but_not fired_in (ends_or_fits plant n) c ≡ false
   right_of None r there fits = refl
   right_of (Some body) r there fits = by_value (fired_in body) refl there

@@ -145,7 +145,7 @@ module _ (plant : PlantDefinition) (digest : List ℕ) (bytes : ℕ) (before cel
       | inr ne ↦ still_right (cell cells k) (cell before k) right (left.each k ne)
     ]
 
-    -- the cell behind the last record
+    -- the cell after the last record
     end_none : record_fault plant cells (ring_held before) (base_held before + length (contents_of (length plant.atoms) before).records) ≡ None
     end_none =
         let olds : List FiredFields = (contents_of (length plant.atoms) before).records in

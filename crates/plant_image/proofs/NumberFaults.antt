@@ -11,7 +11,7 @@ use Rattle.step_core.specs.Rules.{first_of}
 use Rattle.plant_image.specs.Faults.{first_fault, numbers_fault, record_fault}
 use Rattle.plant_image.specs.declared.fault.ImageFault.{ImageFault}
 
--- the record with a number, where its cell holds it
+-- the record with a number, if its cell holds it
 abbrev pub record_at : PlantDefinition → List Cell → ℕ → ℕ → Option FiredFields
 record_at plant cells ring n = record_in n (cell cells (record_cell (length plant.atoms) ring n))
 
@@ -21,11 +21,11 @@ module _ (plant : PlantDefinition) (cells : List Cell) (ring : ℕ) where
       ≡ first_of (record_fault plant cells ring n) (first_fault (map (record_fault plant cells ring) (take (length (front (record_at plant cells ring) n m)) (range_with_len (n + 1) k))))
   numbers_first n k m is = subst (λ (m : ℕ). numbers_fault plant cells ring (range_with_len n m) ≡ first_of (record_fault plant cells ring n) (first_fault (map (record_fault plant cells ring) (take (length (front (record_at plant cells ring) n m)) (range_with_len (n + 1) k))))) (sym is) refl
 
-  -- a record that is there is live, before those behind it
+  -- a record that is there is live, before those after it
   pub live_first : (n k m : ℕ) (x : FiredFields) → m ≡ suc k → record_at plant cells ring n ≡ Some x → front (record_at plant cells ring) n m ≡ x ∷ front (record_at plant cells ring) (n + 1) k
   live_first n k m x is there = ap (front (record_at plant cells ring) n) is ∙ first_is (record_at plant cells ring) n k (Some x) there
 
-  -- and where nothing is wrong with its cell, they tell what is wrong
+  -- and if nothing is wrong with its cell, they tell what is wrong
   pub numbers_rest : (n k m : ℕ) (x : FiredFields) → m ≡ suc k → record_at plant cells ring n ≡ Some x → record_fault plant cells ring n ≡ None
       → numbers_fault plant cells ring (range_with_len n m) ≡ numbers_fault plant cells ring (range_with_len (n + 1) k)
   numbers_rest n k m x is there none =
@@ -33,7 +33,7 @@ module _ (plant : PlantDefinition) (cells : List Cell) (ring : ℕ) where
       ∙ ap (λ (o : Option ImageFault). first_of o (first_fault (map (record_fault plant cells ring) (take (length (front (record_at plant cells ring) n m)) (range_with_len (n + 1) k))))) none
       ∙ ap (λ (l : List FiredFields). first_fault (map (record_fault plant cells ring) (take (length l) (range_with_len (n + 1) k)))) (live_first n k m x is there)
 
-  -- where no record is there, the row ends
+  -- if no record is there, the row ends
   pub live_ends : (n m : ℕ) → record_at plant cells ring n ≡ None → front (record_at plant cells ring) n m ≡ []
   live_ends n m none = front_stops (record_at plant cells ring) n m (λ some. none)
 

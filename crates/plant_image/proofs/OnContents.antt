@@ -8,7 +8,7 @@ use Rattle.petri_atom.specs.Definition.{AtomDefinition}
 use Rattle.petri_atom.specs.Local.{Local}
 use Rattle.record_codec.specs.Fired.{FiredFields}
 use Rattle.record_codec.specs.Saved.{SavedFields}
-use Rattle.record_replay.specs.Records.{count_of, counted_by, counts_after, counts_behind, records_of}
+use Rattle.record_replay.specs.Records.{count_of, counted_by, counts_after, counts_after_all, records_of}
 use Rattle.record_replay.specs.Replay.{Position, replay, replay_from}
 use Rattle.record_replay.proofs.Counting.{counted-entry, length-counted, length-behind}
 use Rattle.record_replay.proofs.OnRuns.{length-records, run-leads-on}
@@ -21,7 +21,7 @@ use Rattle.step_core.specs.Step.{next, transfer}
 use Rattle.step_core.specs.declared.choice.Move.{Move}
 use Rattle.step_core.proofs.Stepping.{length-stepped}
 use Rattle.plant_image.specs.Contents.{Contents, replayed, saved_position, unsaved}
-use Rattle.plant_image.specs.Standing.{AreBehind, IsOnTheWay, Leads, cut_to, with_records, with_saved}
+use Rattle.plant_image.specs.Standing.{AreIncluded, IsOnTheWay, Leads, cut_to, with_records, with_saved}
 use Rattle.plant_image.proofs.ByAtoms.{element_at}
 
 -- ---- records of a run
@@ -35,7 +35,7 @@ counted_once moves i k = by_part (find (λ (m : Move). m.atom == i) moves)
     by_part (Some m) = omega arith
 
 -- so no atom counts faster than the choices
-counts_slow : (cs : List ChoiceDefinition) (counts : List ℕ) (i : ℕ) → i < length counts → count_of (counts_behind cs counts) i ≤ count_of counts i + length cs
+counts_slow : (cs : List ChoiceDefinition) (counts : List ℕ) (i : ℕ) → i < length counts → count_of (counts_after_all cs counts) i ≤ count_of counts i + length cs
 counts_slow [] counts i within = omega arith
 counts_slow (c ∷ cs) counts i within =
     let long : i < length (counts_after c counts) = omega (arith, within, length-counted c.moves 0 counts) in
@@ -48,7 +48,7 @@ run_length plant [] start end run = ap (λ (l : List Local). length l) (sym run)
 run_length plant (c ∷ cs) start end run = run_length plant cs (next plant start c) end run.1 ∙ length-stepped plant.atoms c.moves (transfer plant start c) 0 start
 
 module _ (plant : PlantDefinition) (c : Contents) (states : List Local) (counts : List ℕ) (number : ℕ) (leads : Leads plant c states counts number) where
-  pub run_leads : (end : List Local) (cs : List ChoiceDefinition) → IsRun plant states cs end → Leads plant (with_records (records_of plant states counts number cs) c) end (counts_behind cs counts) (number + length cs)
+  pub run_leads : (end : List Local) (cs : List ChoiceDefinition) → IsRun plant states cs end → Leads plant (with_records (records_of plant states counts number cs) c) end (counts_after_all cs counts) (number + length cs)
   run_leads end cs run = record {
     last = omega (arith, leads.last, length-append c.records (records_of plant states counts number cs), length-records plant states counts number cs);
     as_many = run_length plant cs states end run ∙ leads.as_many;
@@ -106,7 +106,7 @@ module _ (plant : PlantDefinition) (c : Contents) (states : List Local) (counts 
 
   -- ---- fewer records
 
-  pub cut_leads : (base_cell count : ℕ) → count ≤ length c.records → AreBehind c (take count c.records) → Leads plant (cut_to base_cell (c.base + count) c) states counts number
+  pub cut_leads : (base_cell count : ℕ) → count ≤ length c.records → AreIncluded c (take count c.records) → Leads plant (cut_to base_cell (c.base + count) c) states counts number
   cut_leads base_cell count short behind =
       let k : ℕ = c.base + count - c.base in
       let is : k ≡ count = omega arith in

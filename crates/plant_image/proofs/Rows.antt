@@ -83,7 +83,7 @@ nothing_wrong_from_first : leading_fault plant from_first ≡ None
 unfolding moved set_below int_wrap
 nothing_wrong_from_first = refl
 
--- from states that were saved at different times, and without the first record, which both are behind
+-- from states that were saved at different times, and without the first record, which both include
 abbrev from_mixed : Contents
 from_mixed = contents 2 (saved_a 3 (pos 3)) (saved_b 0 (pos 0)) (drop 1 records)
 

@@ -10,17 +10,18 @@ use Rattle.record_replay.specs.Records.{count_of}
 use Rattle.record_replay.specs.Replay.{Position}
 use Rattle.step_core.specs.Fitting.{IsOf, AllFit}
 use Rattle.step_core.specs.Plant.{PlantDefinition}
-use Rattle.step_core.specs.Rules.{first_of, first_told}
+use Rattle.step_core.specs.Rules.{first_of, first_fault_in}
 use Rattle.step_core.specs.declared.limits.TheConstants.{MAX_ATOMS}
 use Rattle.plant_image.specs.Contents.{Contents, replayed, states_of, counts_of}
-use Rattle.plant_image.specs.Faults.{replay_fault, replay_told}
-use Rattle.plant_image.specs.Reading.{AreEnds}
+use Rattle.plant_image.specs.Faults.{replay_fault, fault_of_replay}
+use Rattle.plant_image.specs.Reading.{IsLed, contents_in}
+use Rattle.plant_image.specs.declared.standing.Standing.{Standing}
 use Rattle.plant_image.proofs.ByAtoms.{same_lists, get_set_same, get_set_other, states_length, counts_past, state_at, count_at}
-use Rattle.plant_image.proofs.FirstTold.{told_at, none_first}
+use Rattle.plant_image.proofs.FirstFault.{told_at, none_first}
 
 -- The whole is the answer for the rest, and the atoms so far are where the records lead them.
 pub record SoFar (plant : PlantDefinition) (c : Contents) (n : ℕ) (states : List Local) (counts : List ℕ) : Type 0 where
-  pub rest : first_told (replay_fault c) 0 plant.atoms ≡ first_told (replay_fault c) n (drop n plant.atoms)
+  pub rest : first_fault_in (replay_fault c) 0 plant.atoms ≡ first_fault_in (replay_fault c) n (drop n plant.atoms)
   pub of_plant : IsOf plant states
   pub fits : AllFit plant states
   pub states_are : (k : ℕ) → k < n → slice_get states k ≡ slice_get (states_of plant c) k
@@ -47,7 +48,7 @@ none_so_far plant c states of_plant fits = record {
 module _ (plant : PlantDefinition) (c : Contents) (n : ℕ) (states : List Local) (counts : List ℕ) (far : SoFar plant c n states counts) where
   -- one atom more
   module _ (a : AtomDefinition) (at : slice_get plant.atoms n ≡ Some a) where
-    pub told_of_atom : first_told (replay_fault c) 0 plant.atoms ≡ first_of (replay_told n (replayed c n a)) (first_told (replay_fault c) (n + 1) (drop (n + 1) plant.atoms))
+    pub told_of_atom : first_fault_in (replay_fault c) 0 plant.atoms ≡ first_of (fault_of_replay n (replayed c n a)) (first_fault_in (replay_fault c) (n + 1) (drop (n + 1) plant.atoms))
     told_of_atom = far.rest ∙ told_at (replay_fault c) plant.atoms n a at
 
     module _ (few : length plant.atoms ≤ MAX_ATOMS) (p : Position) (ends : replayed c n a ≡ Ok p) (fits : Fits a p.state) where
@@ -87,7 +88,7 @@ module _ (plant : PlantDefinition) (c : Contents) (n : ℕ) (states : List Local
 
       pub so_far_more : SoFar plant c (n + 1) (set states n p.state) (set counts n p.count)
       so_far_more = record {
-        rest = none_first (replay_told n (replayed c n a)) _ _ told_of_atom (ap (replay_told n) ends);
+        rest = none_first (fault_of_replay n (replayed c n a)) _ _ told_of_atom (ap (fault_of_replay n) ends);
         of_plant = length-set states n p.state ∙ far.of_plant;
         fits = still_fits;
         states_are = states_now;
@@ -107,9 +108,15 @@ module _ (plant : PlantDefinition) (c : Contents) (n : ℕ) (states : List Local
       | inr past ↦ far.none k past ∙ sym (counts_past c plant k (omega (arith, past, all)))
     ]
 
-    -- so nothing is told, and these are the ends
-    pub ends_told : (first_told (replay_fault c) 0 plant.atoms ≡ None) × AreEnds plant c (record { states = states; counts = counts })
-    ends_told = (
-      far.rest ∙ ap (first_told (replay_fault c) n) (drop_all n plant.atoms (omega (arith, all))),
-      record { states = states_all; of_plant = far.of_plant; fits = far.fits; counts = counts_all },
+    -- so nothing is told, and this is what stands
+    pub ends_told : (standing : Standing) → contents_in standing.held ≡ c → standing.states ≡ states → standing.counts ≡ counts → (first_fault_in (replay_fault c) 0 plant.atoms ≡ None) × IsLed plant c standing
+    ends_told standing contents its_states its_counts = (
+      far.rest ∙ ap (first_fault_in (replay_fault c) n) (drop_all n plant.atoms (omega (arith, all))),
+      record {
+        contents = contents;
+        states = its_states ∙ states_all;
+        of_plant = subst (IsOf plant) (sym its_states) far.of_plant;
+        fits = subst (AllFit plant) (sym its_states) far.fits;
+        counts = λ atom. ap (λ (ns : List ℕ). count_of ns atom) its_counts ∙ counts_all atom;
+      },
     )

@@ -13,15 +13,15 @@ use Rattle.record_replay.specs.Records.{count_of}
 use Rattle.record_replay.specs.Replay.{Position}
 use Rattle.record_replay.specs.declared.fault.ReplayFault.{ReplayFault}
 use Rattle.step_core.specs.Plant.{PlantDefinition}
-use Rattle.step_core.specs.Rules.{first_of, first_told}
+use Rattle.step_core.specs.Rules.{first_of, first_fault_in}
 use Rattle.plant_image.specs.Contents.{Contents, contents_of, base_held, last_number, replayed, states_of, counts_of}
-use Rattle.plant_image.specs.Faults.{cells_fault, count_fault, fault_where, is_ahead, leading_fault, replay_fault, replay_told}
+use Rattle.plant_image.specs.Faults.{cells_fault, count_fault, fault_where, is_ahead, leading_fault, replay_fault, fault_of_replay}
 use Rattle.plant_image.specs.Standing.{Leads, StandsFor}
 use Rattle.plant_image.specs.declared.fault.ImageFault.{ImageFault}
 use Rattle.plant_image.specs.declared.fault.ImageFault.TheVariants.{Gap}
 use Rattle.plant_image.proofs.AtomSlots.{no_first, no_later, not_wrong}
 use Rattle.plant_image.proofs.ByAtoms.{same_lists, element_at, told_none_at, told_none, states_length, counts_length, state_at, count_at}
-use Rattle.plant_image.proofs.CountsTold.{leads_at}
+use Rattle.plant_image.proofs.CountFaults.{leads_at}
 
 -- a base is 1 at least
 pub base_some : (cells : List Cell) → 1 ≤ base_held cells
@@ -35,12 +35,12 @@ base_some cells = by_cell (cell cells (base_cell_of cells))
     by_cell None = omega arith
     by_cell (Some body) = by_value body (base_in body) refl
 
--- no fault, where the test does not apply
+-- no fault, if the test does not apply
 pub none_where : (wrong : Bool) (fault : ImageFault) → wrong ≡ false → fault_where wrong fault ≡ None
 none_where wrong fault right = ap (λ (t : Bool). fault_where t fault) right
 
 module _ (plant : PlantDefinition) (c : Contents) where
-  -- where the contents lead, nothing is wrong with it
+  -- if the contents lead, nothing is wrong with it
   module _ (states : List Local) (counts : List ℕ) (number : ℕ) (leads : Leads plant c states counts number) where
     last_is : last_number c ≡ number
     last_is = omega (arith, leads.last)
@@ -51,7 +51,7 @@ module _ (plant : PlantDefinition) (c : Contents) where
         (there.0, there.1, leads.each i a there.0 at there.1)
 
     replays : (j : ℕ) (a : AtomDefinition) → slice_get plant.atoms j ≡ Some a → replay_fault c (0 + j) a ≡ None
-    replays j a at = ap (λ (k : ℕ). replay_fault c k a) (omega arith) ∙ ap (replay_told j) (ends_at j a at).2
+    replays j a at = ap (λ (k : ℕ). replay_fault c k a) (omega arith) ∙ ap (fault_of_replay j) (ends_at j a at).2
 
     counted : (j : ℕ) (a : AtomDefinition) → slice_get plant.atoms j ≡ Some a → count_fault c (0 + j) a ≡ None
     counted j a at =
@@ -62,7 +62,7 @@ module _ (plant : PlantDefinition) (c : Contents) where
 
     nothing_wrong : leading_fault plant c ≡ None
     nothing_wrong =
-        ap (λ (o : Option ImageFault). first_of o (first_of (first_told (count_fault c) 0 plant.atoms) None)) (told_none (replay_fault c) plant.atoms 0 replays)
+        ap (λ (o : Option ImageFault). first_of o (first_of (first_fault_in (count_fault c) 0 plant.atoms) None)) (told_none (replay_fault c) plant.atoms 0 replays)
         ∙ ap (λ (o : Option ImageFault). first_of o None) (told_none (count_fault c) plant.atoms 0 counted)
 
     states_same : states_of plant c ≡ states
@@ -71,13 +71,13 @@ module _ (plant : PlantDefinition) (c : Contents) where
         let ends = ends_at i there.0 there.1 in
         state_at c plant i there.0 (record { state = ends.0; count = count_of counts i }) there.1 ends.2 ∙ sym ends.1)
 
-  -- where nothing is wrong with it, the contents lead
+  -- if nothing is wrong with it, the contents lead
   module _ (none : leading_fault plant c ≡ None) where
-    replay_none : first_told (replay_fault c) 0 plant.atoms ≡ None
-    replay_none = no_first (first_told (replay_fault c) 0 plant.atoms) _ none
+    replay_none : first_fault_in (replay_fault c) 0 plant.atoms ≡ None
+    replay_none = no_first (first_fault_in (replay_fault c) 0 plant.atoms) _ none
 
-    count_none : first_told (count_fault c) 0 plant.atoms ≡ None
-    count_none = no_first (first_told (count_fault c) 0 plant.atoms) None (no_later (first_told (replay_fault c) 0 plant.atoms) _ none)
+    count_none : first_fault_in (count_fault c) 0 plant.atoms ≡ None
+    count_none = no_first (first_fault_in (count_fault c) 0 plant.atoms) None (no_later (first_fault_in (replay_fault c) 0 plant.atoms) _ none)
 
     brought : (states : List Local) (i : ℕ) (a : AtomDefinition) (s : Local) → states_of plant c ≡ states → slice_get plant.atoms i ≡ Some a → slice_get states i ≡ Some s → replayed c i a ≡ Ok (record { state = s; count = count_of (counts_of plant c) i })
     brought states i a s are at its =

@@ -18,7 +18,7 @@ use Rattle.snapshot_writer.specs.Storing.{HasStored, HoldsSaved}
 use Rattle.snapshot_writer.proofs.NewestStates.{first_is_newest, second_is_newest}
 use Rattle.snapshot_writer.proofs.StoredCells.{kept_or_stored, others_stay}
 use Rattle.step_core.specs.Plant.{PlantDefinition}
-use Rattle.step_core.specs.Rules.{first_of, first_told}
+use Rattle.step_core.specs.Rules.{first_of, first_fault_in}
 use Rattle.plant_image.specs.Contents.{contents_of, newest_held, ring_held, base_held, unsaved}
 use Rattle.plant_image.specs.Faults.{atom_fault, cells_fault, fault_where, is_full_but_not, is_of_atom, slot_fault}
 use Rattle.plant_image.specs.Standing.{with_saved}
@@ -128,7 +128,7 @@ module _ (plant : PlantDefinition) (digest : List ℕ) (bytes slot : ℕ) (a : A
       let n : ℕ = base_held before + length (contents_of (length plant.atoms) before).records in
       record { fit = there.fit; behind = λ some. record_same before cells plant (ring_held before) n (behind (record_cell (length plant.atoms) (ring_held before) n) (omega arith)) ∙ there.behind some }
 
-  slots_none : first_told (atom_fault cells) 0 plant.atoms ≡ None
+  slots_none : first_fault_in (atom_fault cells) 0 plant.atoms ≡ None
   slots_none = told_none (atom_fault cells) plant.atoms 0 (λ j b b_at.
       let none : atom_fault before j b ≡ None = told_none_at (atom_fault before) plant.atoms 0 j j b sound.slots b_at (omega arith) in
       ap (λ (k : ℕ). atom_fault cells k b) (omega arith) ∙ (elim (cases_eq j saved.atom) [

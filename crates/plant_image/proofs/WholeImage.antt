@@ -15,7 +15,7 @@ use Rattle.step_core.specs.Plant.{PlantDefinition}
 use Rattle.step_core.specs.Rules.{first_of}
 use Rattle.plant_image.specs.Contents.{Contents, contents_of, identity_held, ring_held, base_held}
 use Rattle.plant_image.specs.Faults.{base_fault, first_fault, numbers_fault, records_fault}
-use Rattle.plant_image.specs.Reading.{IsTold, IsInRange}
+use Rattle.plant_image.specs.Reading.{IsFault, IsInRange}
 use Rattle.plant_image.specs.declared.fault.ImageFault.{ImageFault}
 use Rattle.plant_image.proofs.BaseReads.{reads_for}
 
@@ -24,11 +24,11 @@ pub alone : (found : Option ImageFault) → first_of found None ≡ found
 alone None = refl
 alone (Some fault) = refl
 
--- the second of two, where the first is none
+-- the second of two, if the first is none
 pub second_is : (a b : Option ImageFault) → a ≡ None → first_fault (a ∷ b ∷ []) ≡ b
 second_is a b none = ap (λ (o : Option ImageFault). first_of o (first_of b None)) none ∙ alone b
 
--- the fourth of four, where the first three are none
+-- the fourth of four, if the first three are none
 pub fourth_is : (a b c d : Option ImageFault) → a ≡ None → b ≡ None → c ≡ None → first_fault (a ∷ b ∷ c ∷ d ∷ []) ≡ d
 fourth_is a b c d a_none b_none c_none =
     ap (λ (o : Option ImageFault). first_of o (first_of b (first_of c (first_of d None)))) a_none
@@ -36,10 +36,10 @@ fourth_is a b c d a_none b_none c_none =
     ∙ second_is c d c_none
 
 -- a fault of what is the same is told of it
-pub told_of_same : (found whole : Option ImageFault) (fault : ImageFault) → whole ≡ found → IsTold found fault → IsTold whole fault
-told_of_same found whole fault is told = subst (λ (o : Option ImageFault). IsTold o fault) (sym is) told
+pub told_of_same : (found whole : Option ImageFault) (fault : ImageFault) → whole ≡ found → IsFault found fault → IsFault whole fault
+told_of_same found whole fault is told = subst (λ (o : Option ImageFault). IsFault o fault) (sym is) told
 
--- contents are one where their parts are
+-- contents are one if their parts are
 pub same_contents : (c d : Contents) → c.ring ≡ d.ring → c.base_cell ≡ d.base_cell → c.base ≡ d.base → c.slots ≡ d.slots → c.records ≡ d.records → c ≡ d
 same_contents c d ring at base slots records =
     let first : c ≡ record c { ring = d.ring } = ap (λ (r : ℕ). record c { ring = r }) ring in

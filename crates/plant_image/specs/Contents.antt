@@ -61,7 +61,7 @@ contents_of atoms cells = record {
   records = live (ring_at atoms cells 0) cells;
 }
 
--- the number of the last live record, and base - 1 where none is live
+-- the number of the last live record, and base - 1 if none is live
 abbrev pub last_number : Contents → ℕ
 last_number c = c.base + length c.records - 1
 

@@ -5,7 +5,7 @@ use Rattle.std.specs.Option.{option_map_or}
 use Rattle.std.specs.Str.{bytes_eq}
 use Rattle.petri_atom.specs.Definition.{AtomDefinition}
 use Rattle.step_core.specs.Plant.{PlantDefinition}
-use Rattle.step_core.specs.Rules.{first_of, first_told}
+use Rattle.step_core.specs.Rules.{first_of, first_fault_in}
 use Rattle.disk_model.specs.Cells.{Cell, cell}
 use Rattle.disk_model.specs.declared.cells.TheConstants.{BODY}
 use Rattle.record_codec.specs.Base.{base_in}
@@ -23,7 +23,7 @@ use Rattle.plant_image.specs.Contents.{Contents, contents_of, identity_held, rin
 use Rattle.plant_image.specs.declared.fault.ImageFault.{ImageFault}
 use Rattle.plant_image.specs.declared.fault.ImageFault.TheVariants.{NotFormatted, OtherVersion, OtherSystem, WrongSize, Damaged, Gap, NotEnabled}
 
--- the fault, where something is wrong
+-- the fault, if something is wrong
 abbrev pub fault_where : Bool → ImageFault → Option ImageFault
 fault_where wrong fault = if wrong then Some fault else None
 
@@ -143,12 +143,12 @@ abbrev pub told_of : ℕ → ReplayFault → ImageFault
 told_of atom replays.Gap = Gap atom
 told_of atom (replays.NotEnabled number) = NotEnabled number atom
 
-abbrev pub replay_told : ℕ → Result Position ReplayFault → Option ImageFault
-replay_told atom (Ok place) = None
-replay_told atom (Err fault) = Some (told_of atom fault)
+abbrev pub fault_of_replay : ℕ → Result Position ReplayFault → Option ImageFault
+fault_of_replay atom (Ok place) = None
+fault_of_replay atom (Err fault) = Some (told_of atom fault)
 
 abbrev pub replay_fault : Contents → ℕ → AtomDefinition → Option ImageFault
-replay_fault c atom a = replay_told atom (replayed c atom a)
+replay_fault c atom a = fault_of_replay atom (replayed c atom a)
 
 -- an atom has taken part more often than there were firings: some are missing at the end
 abbrev pub is_ahead : ℕ → Result Position ReplayFault → Bool
@@ -165,15 +165,15 @@ abbrev pub cells_fault : PlantDefinition → List ℕ → ℕ → List Cell → 
 cells_fault plant digest bytes cells = first_fault (
     identity_fault (length plant.atoms) digest bytes cells ∷
     base_fault cells ∷
-    first_told (atom_fault cells) 0 plant.atoms ∷
+    first_fault_in (atom_fault cells) 0 plant.atoms ∷
     records_fault plant cells ∷
     [])
 
 -- where the records do not lead
 abbrev pub leading_fault : PlantDefinition → Contents → Option ImageFault
 leading_fault plant c = first_fault (
-    first_told (replay_fault c) 0 plant.atoms ∷
-    first_told (count_fault c) 0 plant.atoms ∷
+    first_fault_in (replay_fault c) 0 plant.atoms ∷
+    first_fault_in (count_fault c) 0 plant.atoms ∷
     [])
 
 -- what is wrong with an image of so many bytes, for a plant whose text has this digest

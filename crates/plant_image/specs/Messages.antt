@@ -1,4 +1,4 @@
--- What is told where an image stands for no state of a plant.
+-- What is printed if an image stands for no state of a plant.
 use Rattle.std.specs.Prelude.{ℕ, List, ◌++◌, codes, decimal}
 use Rattle.plant_image.specs.declared.fault.ImageFault.{ImageFault}
 use Rattle.plant_image.specs.declared.fault.ImageFault.TheVariants.{NotFormatted, OtherVersion, OtherSystem, WrongSize, Damaged, Gap, NotEnabled, Memory}

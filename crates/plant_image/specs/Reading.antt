@@ -11,19 +11,18 @@ use Rattle.plant_image.specs.Contents.{Contents, contents_of, counts_of, ring_he
 use Rattle.plant_image.specs.Faults.{is_of_atom}
 use Rattle.plant_image.specs.declared.fault.ImageFault.{ImageFault}
 use Rattle.plant_image.specs.declared.fault.ImageFault.TheVariants.{Memory}
-use Rattle.plant_image.specs.declared.replaying.Ends.{Ends}
 use Rattle.plant_image.specs.declared.standing.Held.{Held}
 use Rattle.plant_image.specs.declared.standing.Standing.{Standing}
 
--- a fault is told where this is what is wrong; that memory ran out says nothing of what is wrong
-abbrev pub IsTold : Option ImageFault → ImageFault → Type 0
-IsTold found Memory = Unit {0}
-IsTold found fault = found ≡ Some fault
+-- a fault is found if this is what is wrong; that memory ran out says nothing of what is wrong
+abbrev pub IsFault : Option ImageFault → ImageFault → Type 0
+IsFault found Memory = Unit {0}
+IsFault found fault = found ≡ Some fault
 
--- A part of the reading answers by what is wrong with its part of the image: a value that has P where nothing is, and else the fault.
+-- A part of the reading answers by what is wrong with its part of the image: a value that has P if nothing is, and else the fault.
 abbrev pub Tells : {V : Type 0} → Option ImageFault → (V → Type 0) → Result V ImageFault → Type 0
 Tells found P (Ok value) = (found ≡ None) × P value
-Tells found P (Err fault) = IsTold found fault
+Tells found P (Err fault) = IsFault found fault
 
 -- what was read, as contents
 abbrev pub contents_in : Held → Contents
@@ -40,19 +39,12 @@ pub record IsHeld (atoms : ℕ) (cells : List Cell) (held : Held) : Type 0 where
   pub contents : contents_in held ≡ contents_of atoms cells
   pub in_range : IsInRange atoms cells
 
--- Contents are sound where there is a saved state of each atom that is one of its atom, and the numbers are in their ranges.
+-- Contents are sound if there is a saved state of each atom that is one of its atom, and the numbers are in their ranges.
 pub record IsSound (plant : PlantDefinition) (c : Contents) : Type 0 where
   pub as_many : length c.slots ≡ length plant.atoms
   pub of_atoms : (n : ℕ) (a : AtomDefinition) → slice_get plant.atoms n ≡ Some a → is_of_atom n a (slice_index_or c.slots n (unsaved n)) ≡ true
   pub base : 1 ≤ c.base
   pub last : c.base + length c.records ≤ LAST_NUMBER + 1
-
--- The ends are where the records bring the atoms: a state of the plant, and how often each atom has taken part in it.
-pub record AreEnds (plant : PlantDefinition) (c : Contents) (ends : Ends) : Type 0 where
-  pub states : ends.states ≡ states_of plant c
-  pub of_plant : IsOf plant ends.states
-  pub fits : AllFit plant ends.states
-  pub counts : (atom : ℕ) → count_of ends.counts atom ≡ count_of (counts_of plant c) atom
 
 -- What stands is what was read, and where that leads: a state of the plant, and how often each atom has taken part in it.
 pub record IsLed (plant : PlantDefinition) (c : Contents) (standing : Standing) : Type 0 where

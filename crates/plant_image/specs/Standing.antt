@@ -16,7 +16,7 @@ use Rattle.record_codec.specs.Ring.{identity_cell, base_cell, slot_cell, record_
 use Rattle.record_codec.specs.Saved.{SavedFields}
 use Rattle.record_codec.specs.declared.layout.TheConstants.{LAST_NUMBER}
 use Rattle.record_replay.specs.Records.{count_of}
-use Rattle.record_replay.specs.Replay.{replay_from, is_behind}
+use Rattle.record_replay.specs.Replay.{replay_from, is_included}
 use Rattle.snapshot_writer.specs.Parcels.{saved_by}
 use Rattle.snapshot_writer.specs.Storing.{HoldsSaved}
 use Rattle.plant_image.specs.Contents.{Contents, contents_of, last_number, saved_position, replayed, states_of}
@@ -39,7 +39,7 @@ pub record Leads (plant : PlantDefinition) (c : Contents) (states : List Local) 
       → replayed c atom a ≡ Ok (record { state = s; count = count_of counts atom })
   pub within : (atom : ℕ) → atom < length plant.atoms → count_of counts atom ≤ number
 
--- the contents with more records behind the last
+-- the contents with more records after the last
 abbrev pub with_records : List FiredFields → Contents → Contents
 with_records news c = record c { records = c.records ++ news }
 
@@ -58,9 +58,9 @@ pub record IsOnTheWay (c : Contents) (a : AtomDefinition) (saved : SavedFields) 
   pub reached : replay_from a saved.atom (saved_position c saved.atom) (take (saved.at + 1 - c.base) c.records)
       ≡ Ok (record { state = record { marking = saved.marking; values = saved.values }; count = saved.count })
 
--- each atom's newest state is behind each of these records
-abbrev pub AreBehind : Contents → List FiredFields → Type 0
-AreBehind c records = (atom : ℕ) → list_all (is_behind atom (saved_position c atom).count) records ≡ true
+-- each atom's newest state includes each of these records
+abbrev pub AreIncluded : Contents → List FiredFields → Type 0
+AreIncluded c records = (atom : ℕ) → list_all (is_included atom (saved_position c atom).count) records ≡ true
 
 -- what a device is formatted for
 abbrev pub identity_for : PlantDefinition → List ℕ → ℕ → IdentityFields
@@ -76,7 +76,7 @@ pub record HasRoom (plant : PlantDefinition) (states : List Local) (counts : Lis
   pub number_within : number ≤ LAST_NUMBER
 
 -- What a device of so many bytes holds that is written afresh with a state, for a plant with this digest and a ring of so many records: the
--- identity, the base behind the number in the first base cell, and in slot 0 of each atom its state, saved at the number with its count. All
+-- identity, the base after the number in the first base cell, and in slot 0 of each atom its state, saved at the number with its count. All
 -- other cells are empty.
 pub record HoldsState (plant : PlantDefinition) (digest : List ℕ) (ring bytes : ℕ) (states : List Local) (counts : List ℕ) (number : ℕ) (cells : List Cell) : Type 0 where
   pub size : bytes ≡ cell_bytes * device_cells (length plant.atoms) ring

@@ -23,7 +23,7 @@ pub(crate) struct CountingBase {
     pub(crate) base: u64,
 }
 
-/// The base that counts: the greater of the two, and the first where both are equal.
+/// The base that counts: the greater of the two, and the first if both are equal.
 pub(crate) fn read_base(cells: &[Option<[u8; BODY]>]) -> Result<CountingBase, ImageFault>
     ensures base { Tells (base_fault cells.now)
         (λ found. (found.cell ≡ bases.base_cell_of cells.now) × (found.base ≡ base_held cells.now)) result }

@@ -14,7 +14,7 @@ pub enum ImageFault {
     OtherSystem,
     /// The device is smaller than a cell, or has not the size that its first cell tells.
     WrongSize,
-    /// The cell with this number is full, but with nothing that may stand there; or it is empty where something must stand.
+    /// The cell with this number is full, but with nothing that may stand there; or it is empty if something must stand.
     Damaged(u64),
     /// Firings of the atom with this number are missing among the records.
     Gap(u16),

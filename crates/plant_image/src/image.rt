@@ -1,15 +1,15 @@
 //! The reading of a whole image.
 ghost use Rattle.std.specs.Prelude.{◌≡◌, None, length, IfOk};
-ghost use Rattle.step_core.specs.Rules.{first_told};
+ghost use Rattle.step_core.specs.Rules.{first_fault_in};
 ghost use Rattle.step_core.specs.System.{plant_of, digest_of};
 ghost use Rattle.plant_image.specs.Faults.{cells_fault, fault_of, leading_fault, replay_fault};
-ghost use Rattle.plant_image.specs.Reading.{AreEnds, IsHeld, IsLed, IsSound, IsStanding, Tells, contents_in};
+ghost use Rattle.plant_image.specs.Reading.{IsHeld, IsLed, IsSound, IsStanding, Tells, contents_in};
 
 use crate::bases::read_base;
 use crate::fault::ImageFault;
 use crate::identity::read_identity;
 use crate::records::read_records;
-use crate::replaying::{Ends, judge_counts, replay_all};
+use crate::replaying::{judge_counts, replay_all};
 use crate::slots::read_slots;
 use crate::standing::{Held, Standing};
 use disk_model::BODY;
@@ -61,25 +61,20 @@ fn lead(alloc: Global, system: &System, held: Held) -> Result<Standing, ImageFau
     requires { IsSound (plant_of system.now) (contents_in held) }
     ensures { Tells (leading_fault (plant_of system.now) (contents_in held)) (IsLed (plant_of system.now) (contents_in held)) result }
 {
-    let ends = replay_all(alloc, system, &held)?;
-    stand(system, held, ends)
+    let standing = replay_all(alloc, system, held)?;
+    judge_standing(system, standing)
 }
 
-/// What stands, of what was read and of where the records bring the atoms; or which atom has taken part more often than there were firings.
-/// It takes no memory.
-pub fn stand(system: &System, held: Held, ends: Ends) -> Result<Standing, ImageFault>
-    requires sound { IsSound (plant_of system.now) (contents_in held) }
-    requires none { first_told (replay_fault (contents_in held)) 0 (plant_of system.now).atoms ≡ None }
-    requires ends { AreEnds (plant_of system.now) (contents_in held) ends }
-    ensures { Tells (leading_fault (plant_of system.now) (contents_in held)) (IsLed (plant_of system.now) (contents_in held)) result }
+/// What stands, of where the records bring the atoms; or which atom has taken part more often than there were firings. It takes no memory.
+pub fn judge_standing(system: &System, standing: Standing) -> Result<Standing, ImageFault>
+    requires sound { IsSound (plant_of system.now) (contents_in standing.held) }
+    requires none { first_fault_in (replay_fault (contents_in standing.held)) 0 (plant_of system.now).atoms ≡ None }
+    requires led { IsLed (plant_of system.now) (contents_in standing.held) standing }
+    ensures { Tells (leading_fault (plant_of system.now) (contents_in standing.held)) (IsLed (plant_of system.now) (contents_in standing.held)) result }
 {
-    let Ends { states, counts } = ends;
+    let held = &standing.held;
     let last = held.base + held.records.len() as u64 - 1;
     system.keeps_its_rules();
-    judge_counts(system.atoms(), &counts, last)?;
-    Ok(Standing {
-        held,
-        states,
-        counts,
-    })
+    judge_counts(system.atoms(), &standing.counts, last)?;
+    Ok(standing)
 }

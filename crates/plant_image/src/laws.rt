@@ -10,7 +10,7 @@ ghost use Rattle.record_codec.specs.Fired.{FiredFields};
 ghost use Rattle.record_codec.specs.Identity.{IsIdentity};
 ghost use Rattle.record_codec.specs.Saved.{SavedFields};
 ghost use Rattle.record_replay.specs.OfPlant.{is_record_of};
-ghost use Rattle.record_replay.specs.Records.{counts_behind, records_of};
+ghost use Rattle.record_replay.specs.Records.{counts_after_all, records_of};
 ghost use Rattle.snapshot_writer.specs.Slots.{IsFree};
 ghost use Rattle.snapshot_writer.specs.Storing.{HasStored};
 ghost use Rattle.step_core.specs.Choice.{ChoiceDefinition};
@@ -19,7 +19,7 @@ ghost use Rattle.step_core.specs.Runs.{IsRun};
 ghost use Rattle.step_core.specs.Step.{initial_states};
 ghost use Rattle.plant_image.specs.Contents.{Contents, contents_of, counts_of, ring_in};
 ghost use Rattle.plant_image.specs.Faults.{cells_fault, is_of_atom};
-ghost use Rattle.plant_image.specs.Standing.{AreBehind, HasRoom, HoldsState, IsFormatted, IsOnTheWay, Leads, StandsFor, cut_to, identity_for, with_records, with_saved};
+ghost use Rattle.plant_image.specs.Standing.{AreIncluded, HasRoom, HoldsState, IsFormatted, IsOnTheWay, Leads, StandsFor, cut_to, identity_for, with_records, with_saved};
 
 // ---- what stands leads
 
@@ -59,7 +59,7 @@ pub fn a_formatted_device_stands_for_the_first_state()
 pub fn the_records_of_a_run_lead_on()
     ensures { (plant : PlantDefinition) (c : Contents) (start end : List Local) (counts : List ℕ) (number : ℕ) (cs : List ChoiceDefinition)
         → Leads plant c start counts number → IsRun plant start cs end
-        → Leads plant (with_records (records_of plant start counts number cs) c) end (counts_behind cs counts) (number + length cs) }
+        → Leads plant (with_records (records_of plant start counts number cs) c) end (counts_after_all cs counts) (number + length cs) }
 {}
 
 /// A saved state that is on the way of its atom's replay may take the place of the atom's newest.
@@ -69,10 +69,10 @@ pub fn a_state_on_the_way_leads_to_the_same()
         → IsOnTheWay c a saved → Leads plant (with_saved saved c) states counts number }
 {}
 
-/// The first records may go where each atom's newest state is behind them.
-pub fn records_behind_the_slots_may_go()
+/// The first records may go if each atom's newest state includes them.
+pub fn included_records_may_go()
     ensures { (plant : PlantDefinition) (c : Contents) (states : List Local) (counts : List ℕ) (number base_cell count : ℕ)
-        → Leads plant c states counts number → count ≤ length c.records → AreBehind c (take count c.records)
+        → Leads plant c states counts number → count ≤ length c.records → AreIncluded c (take count c.records)
         → Leads plant (cut_to base_cell (c.base + count) c) states counts number }
 {}
 

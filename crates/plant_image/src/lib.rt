@@ -5,13 +5,14 @@
 //! records), what may be wrong with them, in the order in which a restart looks for it (`specs/Faults.antt`), and the state that the
 //! records lead to when each atom is replayed from its saved state. So an image stands for one state and one number at most.
 //!
-//! [`read_image`] reads it from the size and the loaded cells, with no device: what the image stands for, or the first thing that is
-//! wrong with it. The laws argue each event of a durable plant once, on plain lists: appending records of a run, saving a state of an
-//! atom, letting records go, cleaning; and what each of them leaves in the cells (`laws`).
+//! [`read_image`] reads it from the size and the loaded cells, with no device, in two steps: what the cells say ([`Held`]), and what that stands
+//! for ([`Standing`]); or the first thing that is wrong ([`ImageFault`]). The laws argue each event of a durable plant once, on plain lists:
+//! appending records of a run, saving a state of an atom, letting records go, cleaning; and what each of them leaves in the cells (`laws`).
 //!
 //! - `image`: the whole reading. `identity`, `bases`, `slots`, `records`: one kind of cell each. `bodies`: the body of one cell.
 //!   `replaying`: where the records bring each atom.
-//! - `standing`: what an image stands for. `fault`: why it stands for nothing. `laws`: what becomes of what an image stands for.
+//! - `standing`: what the cells say, and what they stand for. `fault`: why they stand for nothing. `laws`: what becomes of what an image stands
+//!   for.
 #![tactic(auto)]
 
 mod bases;
@@ -26,8 +27,8 @@ mod slots;
 mod standing;
 
 pub use fault::ImageFault;
-pub use image::{read_cells, read_image, stand};
-pub use replaying::{Ends, Reached, replay_saved};
+pub use image::{judge_standing, read_cells, read_image};
+pub use replaying::{Reached, replay_saved};
 pub use standing::{Held, Standing};
 
 // The cells of the device and the bodies that are read from them have one length.

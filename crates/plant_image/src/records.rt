@@ -18,7 +18,7 @@ use record_replay::is_record_of;
 use std::alloc::Global;
 use step_core::System;
 
-/// The live records of a ring of so many: the base and those behind it, up to the first cell that is empty or holds another number.
+/// The live records of a ring of so many: the base and those after it, up to the first cell that is empty or holds another number.
 pub(crate) fn read_records(
     alloc: Global,
     system: &System,
@@ -43,7 +43,7 @@ pub(crate) fn read_records(
     Ok(records)
 }
 
-/// The record with the number, where its cell holds it.
+/// The record with the number, if its cell holds it.
 fn read_record(
     system: &System,
     ring: u32,

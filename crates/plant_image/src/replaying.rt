@@ -6,29 +6,20 @@ ghost use Rattle.record_replay.specs.Records.{count_of};
 ghost use Rattle.record_replay.specs.Replay.{replay_from};
 ghost use Rattle.snapshot_writer.specs.Parcels.{local_in};
 ghost use Rattle.step_core.specs.Fitting.{IsOf, AllFit};
-ghost use Rattle.step_core.specs.Rules.{first_told};
+ghost use Rattle.step_core.specs.Rules.{first_fault_in};
 ghost use Rattle.step_core.specs.System.{plant_of};
 ghost use Rattle.plant_image.specs.Contents.{counts_of, states_of, unsaved};
-ghost use Rattle.plant_image.specs.Faults.{fault_where, is_of_atom, replay_fault, replay_told};
-ghost use Rattle.plant_image.specs.Reading.{AreEnds, IsSound, Tells, contents_in};
+ghost use Rattle.plant_image.specs.Faults.{fault_where, is_of_atom, replay_fault, fault_of_replay};
+ghost use Rattle.plant_image.specs.Reading.{IsLed, IsSound, Tells, contents_in};
 ghost use Rattle.plant_image.specs.declared.fault.ImageFault.TheVariants.{Gap};
 
 use crate::fault::ImageFault;
-use crate::standing::Held;
+use crate::standing::{Held, Standing};
 use petri_atom::{Atom, AtomState};
 use record_codec::{Fired, Saved};
 use record_replay::{ReplayFault, replay_atom};
 use std::alloc::Global;
 use step_core::{MAX_ATOMS, PlantState, System};
-
-/// Where the records bring the atoms.
-#[derive(Drop)]
-pub struct Ends {
-    /// The state of each atom.
-    pub states: PlantState,
-    /// How often each atom has taken part, 0 past the last.
-    pub counts: [u64; MAX_ATOMS],
-}
 
 /// Where the records bring one atom.
 #[derive(Drop)]
@@ -40,10 +31,10 @@ pub struct Reached {
 }
 
 /// Brings each atom from its newest saved state to where the records lead it, one after another.
-pub(crate) fn replay_all(alloc: Global, system: &System, held: &Held) -> Result<Ends, ImageFault>
-    requires { IsSound (plant_of system.now) (contents_in held.now) }
-    ensures { Tells (first_told (replay_fault (contents_in held.now)) 0 (plant_of system.now).atoms)
-        (AreEnds (plant_of system.now) (contents_in held.now)) result }
+pub(crate) fn replay_all(alloc: Global, system: &System, held: Held) -> Result<Standing, ImageFault>
+    requires { IsSound (plant_of system.now) (contents_in held) }
+    ensures { Tells (first_fault_in (replay_fault (contents_in held)) 0 (plant_of system.now).atoms)
+        (IsLed (plant_of system.now) (contents_in held)) result }
 {
     system.keeps_its_rules();
     let mut states = PlantState::init(alloc, system)?;
@@ -54,7 +45,11 @@ pub(crate) fn replay_all(alloc: Global, system: &System, held: &Held) -> Result<
         states.set(number as u16, state);
         counts[number] = count;
     }
-    Ok(Ends { states, counts })
+    Ok(Standing {
+        held,
+        states,
+        counts,
+    })
 }
 
 /// Brings the atom with the number from the saved state to where the records lead it. It looks at no other atom, and takes no memory.
@@ -65,7 +60,7 @@ pub fn replay_saved(
     records: &[Fired],
 ) -> Result<Reached, ImageFault>
     requires { is_of_atom number (definition_of atom.now) saved.now ≡ true }
-    ensures reached { Tells (replay_told number (replay_from (definition_of atom.now) number (record { state = local_in saved.now; count = saved.now.count }) records.now))
+    ensures reached { Tells (fault_of_replay number (replay_from (definition_of atom.now) number (record { state = local_in saved.now; count = saved.now.count }) records.now))
         (λ reached. replay_from (definition_of atom.now) number (record { state = local_in saved.now; count = saved.now.count }) records.now
         ≡ Ok (record { state = reached.state; count = reached.count })) result }
     ensures fits { IfOk result (λ reached. Fits (definition_of atom.now) reached.state) }
@@ -85,7 +80,7 @@ pub(crate) fn judge_counts(
     last: u64,
 ) -> Result<(), ImageFault>
     requires { length atoms.now ≤ MAX_ATOMS }
-    ensures { Tells (first_told (λ atom (a : AtomDefinition). fault_where (nat_lt last (count_of counts.now atom)) (Gap atom)) 0 (map definition_of atoms.now))
+    ensures { Tells (first_fault_in (λ atom (a : AtomDefinition). fault_where (nat_lt last (count_of counts.now atom)) (Gap atom)) 0 (map definition_of atoms.now))
         (λ _. Unit {0}) result }
 {
     for number in 0..atoms.len() {

@@ -5,7 +5,7 @@ ghost use Rattle.disk_model.specs.Cells.{cell};
 ghost use Rattle.petri_atom.specs.Atom.{definition_of};
 ghost use Rattle.record_codec.specs.Ring.{slot_cell};
 ghost use Rattle.snapshot_writer.specs.Slots.{saved_at};
-ghost use Rattle.step_core.specs.Rules.{first_told};
+ghost use Rattle.step_core.specs.Rules.{first_fault_in};
 ghost use Rattle.step_core.specs.System.{plant_of};
 ghost use Rattle.plant_image.specs.Contents.{newest_held};
 ghost use Rattle.plant_image.specs.Faults.{atom_fault, is_of_atom, marks_known, slot_fault};
@@ -26,7 +26,7 @@ pub(crate) fn read_slots(
     system: &System,
     cells: &[Option<[u8; BODY]>],
 ) -> Result<Vec<Saved>, ImageFault>
-    ensures { Tells (first_told (atom_fault cells.now) 0 (plant_of system.now).atoms)
+    ensures { Tells (first_fault_in (atom_fault cells.now) 0 (plant_of system.now).atoms)
         (λ slots. slots.items ≡ map (newest_held cells.now) (range_with_len 0 (length (plant_of system.now).atoms))) result }
 {
     system.keeps_its_rules();
@@ -38,7 +38,7 @@ pub(crate) fn read_slots(
     Ok(slots)
 }
 
-/// The newest saved state of the atom with the number: the one with the greater count, and the one in slot 0 where both are equal.
+/// The newest saved state of the atom with the number: the one with the greater count, and the one in slot 0 if both are equal.
 fn newest_saved(atom: &Atom, number: u16, cells: &[Option<[u8; BODY]>]) -> Result<Saved, ImageFault>
     ensures { Tells (atom_fault cells.now number (definition_of atom.now)) (λ saved. saved ≡ newest_held cells.now number) result }
 {

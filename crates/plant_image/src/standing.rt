@@ -1,4 +1,4 @@
-//! What an image stands for, as it was read.
+//! What the cells of an image say, and what it stands for, as it was read.
 
 use record_codec::{Fired, Saved};
 use step_core::{MAX_ATOMS, PlantState};

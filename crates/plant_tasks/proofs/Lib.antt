@@ -1,4 +1,4 @@
 pub mod Printing
-pub mod Naming
-pub mod Telling
-pub mod DrawnAfter
+mod Naming
+mod AfterPicks
+mod DrawnAfter

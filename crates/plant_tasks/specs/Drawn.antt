@@ -21,7 +21,7 @@ use Rattle.plant_drawing.specs.declared.filling.Filling.TheVariants.{Alike, ByCh
 use Rattle.command_line.specs.declared.request.Picking.{Picking}
 use Rattle.command_line.specs.declared.request.Drawing.{Drawing}
 use Rattle.command_line.specs.declared.request.Drawing.TheVariants.{Whole, Outline, After, Only}
-use Rattle.plant_tasks.specs.Picked.{behind, picks_said, refusal_said}
+use Rattle.plant_tasks.specs.Picked.{after_picks, picks_said, refusal_said}
 use Rattle.plant_tasks.specs.declared.ending.PlantEnding.{PlantEnding}
 use Rattle.plant_tasks.specs.declared.ending.PlantEnding.TheVariants.{NoAtom}
 
@@ -57,7 +57,7 @@ drawn_in plant drawn filling picks = drawing_of plant (state_after plant (initia
 
 -- the same, and nothing where one of the picks is refused
 abbrev pub drawn_after : PlantDefinition → ℕ → Filling → List PickDefinition → List ℕ
-drawn_after plant drawn filling = behind plant (drawn_in plant drawn filling)
+drawn_after plant drawn filling = after_picks plant (drawn_in plant drawn filling)
 
 -- the same in the first state, or in the state after the picks that the words of the command line ask for
 abbrev pub drawn_part : PlantDefinition → ℕ → Option Picking → Option (List ℕ) → Option (List ℕ)
@@ -71,7 +71,7 @@ drawn_of Outline plant input = Some (outline_of plant)
 drawn_of (After picking) plant input = drawn_part plant ALL_ATOMS (Some picking) input
 drawn_of (Only names picking) plant input = drawn_part plant (drawn_atoms plant (map (λ name. name.now) names.items)) picking input
 
--- the first refused one of the picks behind which a plant is drawn, if there are some
+-- the first refused one of the picks after which a plant is drawn, if there are some
 abbrev pub part_refusal : PlantDefinition → Option Picking → Option (List ℕ) → Option (Option Refusal)
 part_refusal plant None input = Some None
 part_refusal plant (Some picking) input = refusal_said picking plant input

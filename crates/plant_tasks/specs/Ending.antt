@@ -1,4 +1,4 @@
--- What a program tells where it ends early at a plant's text, the words, the picks, the memory or the output, and its exit status.
+-- What a program prints if it ends early at a plant's text, the words, the picks, the memory or the output, and its exit status.
 use Rattle.std.specs.Prelude.{◌≡◌, ◌≢◌, ℕ, List, [], ◌++◌, codes, decimal, unwrap_or, Option, Some, None, Result, Ok, Err}
 use Rattle.plant_text.specs.Fault.{number_of, name_of, subject_of, of_no_line}
 use Rattle.plant_text.specs.Meaning.{meaning}
@@ -28,7 +28,7 @@ fault_status fault = 1
 -- the exit status of a program that ends so: 1 a refused plant or pick, 2 usage, 3 a file, the memory or the output
 abbrev pub status_at : PlantEnding → ℕ
 status_at Usage = 2
-status_at (Plant told) = fault_status told.fault
+status_at (Plant found) = fault_status found.fault
 status_at Unopened = 3
 status_at InputUnread = 3
 status_at (Refused refusal) = 1
@@ -37,7 +37,7 @@ status_at (NoAtom place) = 2
 status_at Memory = 3
 status_at Unwritten = 3
 
--- how a program ends where the words of the command line are no request, and it was told so
+-- how a program ends if the words of the command line are no request, and that was printed
 abbrev pub ended_by : Answered → Result (Unit {0}) PlantEnding
 ended_by answered.Helped = Ok tt
 ended_by answered.Usage = Err Usage
@@ -51,18 +51,18 @@ subject_text (Some subject) = codes "(" ++ decimal subject ++ codes ")"
 
 -- the line of a plant's fault: its line, its number, its name, and what it speaks of
 abbrev pub fault_line : PlantFault → List ℕ
-fault_line told =
-    codes "plant line " ++ decimal told.line ++ codes ": fault " ++ decimal (number_of told.fault) ++ codes " " ++
-    name_of told.fault ++ subject_text (subject_of told.fault) ++ codes "\n"
+fault_line found =
+    codes "plant line " ++ decimal found.line ++ codes ": fault " ++ decimal (number_of found.fault) ++ codes " " ++
+    name_of found.fault ++ subject_text (subject_of found.fault) ++ codes "\n"
 
 -- the line of a file that can't be opened or read
 abbrev pub file_line : List ℕ → List ℕ
 file_line path = codes "file " ++ path ++ codes "\n"
 
--- what is told of a plant's fault, where its text stood at the path
+-- what is printed of a plant's fault, where its text stood at the path
 abbrev pub plant_text : List ℕ → Fault → PlantFault → List ℕ
-plant_text path fault.Read told = file_line path
-plant_text path fault told = fault_line told
+plant_text path fault.Read found = file_line path
+plant_text path fault found = fault_line found
 
 -- where a pick stands: a line of the text at the path, or a place among the picks of the command line
 abbrev pub place_text : Option (List ℕ) → ℕ → List ℕ
@@ -73,11 +73,11 @@ place_text None number = codes "pick " ++ decimal number ++ codes " of the comma
 abbrev pub refused_line : Option (List ℕ) → Refusal → List ℕ
 refused_line path refusal = codes "error: " ++ place_text path refusal.place ++ codes ": " ++ refused_message refusal.why ++ codes "\n"
 
--- What is told of an ending, where the files are at these paths. What is wrong with the words of the command line is told before, and of an output
+-- What is printed of an ending, where the files are at these paths. What is wrong with the words of the command line is printed before, and of an output
 -- that takes nothing there is nothing to tell.
 abbrev pub told_text : TaskPaths → PlantEnding → List ℕ
 told_text paths Usage = []
-told_text paths (Plant told) = plant_text paths.plant.now told.fault told
+told_text paths (Plant found) = plant_text paths.plant.now found.fault found
 told_text paths Unopened = file_line paths.plant.now
 told_text paths InputUnread = file_line (unwrap_or (path_of paths.input) [])
 told_text paths (Refused refusal) = refused_line (path_of paths.input) refusal
@@ -99,10 +99,10 @@ of_step step.Memory = Memory
 of_step step.Read = InputUnread
 of_step step.Write = Unwritten
 
--- A plant that was not read from these bytes of a text: a fault that is told is theirs, but for want of memory and a reader that failed; memory may always be
+-- A plant that was not read from these bytes of a text: a fault that is given is theirs, but for want of memory and a reader that failed; memory may always be
 -- wanting; and nothing else has a part in it.
 abbrev pub Tells : PlantEnding → List ℕ → Type 0
-Tells (Plant told) bytes = told ≢ of_no_line fault.Memory → told ≢ of_no_line fault.Read → meaning bytes ≡ Err told
+Tells (Plant found) bytes = found ≢ of_no_line fault.Memory → found ≢ of_no_line fault.Read → meaning bytes ≡ Err found
 Tells Memory bytes = Unit {0}
 Tells ending bytes = ⊥
 
@@ -122,16 +122,16 @@ IsSilent Memory = Unit {0}
 IsSilent ending = ⊥
 
 -- where a task was done, or was done up to a pick that is refused, P holds of the refusal, or of none
-abbrev pub IfTold : {A : Type 0} → Result A PlantEnding → (Option Refusal → Type 0) → Type 0
-IfTold (Ok done) P = P None
-IfTold (Err (Refused refusal)) P = P (Some refusal)
-IfTold (Err ending) P = Unit {0}
+abbrev pub IfDone : {A : Type 0} → Result A PlantEnding → (Option Refusal → Type 0) → Type 0
+IfDone (Ok done) P = P None
+IfDone (Err (Refused refusal)) P = P (Some refusal)
+IfDone (Err ending) P = Unit {0}
 
 -- the same of what does not name the refusal
-abbrev pub OnTold : {A : Type 0} → Result A PlantEnding → Type 0 → Type 0
-OnTold result P = IfTold result (λ refusal. P)
+abbrev pub OnDone : {A : Type 0} → Result A PlantEnding → Type 0 → Type 0
+OnDone result P = IfDone result (λ refusal. P)
 
 -- how a task ends whose run ended so
-abbrev pub told_of : Result (Unit {0}) TraceFault → Result (Unit {0}) PlantEnding
-told_of (Ok done) = Ok tt
-told_of (Err fault) = Err (of_trace fault)
+abbrev pub task_ending : Result (Unit {0}) TraceFault → Result (Unit {0}) PlantEnding
+task_ending (Ok done) = Ok tt
+task_ending (Err fault) = Err (of_trace fault)

@@ -3,3 +3,4 @@ pub mod Picked
 pub mod Drawn
 pub mod Printed
 pub mod Ending
+pub mod Done

@@ -2,7 +2,7 @@
 use Rattle.std.specs.Prelude.{ℕ, List, [], option_map, Option, None, Some}
 use Rattle.std.specs.Option.{option_map_or}
 use Rattle.step_core.specs.Plant.{PlantDefinition}
-use Rattle.run_text.specs.Picks.{PickDefinition, counted_picks, numbered_picks, random_picks}
+use Rattle.run_text.specs.Picks.{PickDefinition, counted_picks, given_picks, random_picks}
 use Rattle.run_text.specs.Runs.{refusal_of}
 use Rattle.run_text.specs.declared.fault.Refusal.{Refusal}
 use Rattle.run_text.specs.declared.pick.Numbers.{Numbers as RunNumbers}
@@ -13,20 +13,15 @@ use Rattle.command_line.specs.declared.request.Numbers.TheVariants.{Modulo, Stri
 use Rattle.command_line.specs.declared.request.Picking.{Picking}
 use Rattle.command_line.specs.declared.request.Picking.TheVariants.{Given, Recorded, Random}
 
--- how the numbers of a text are taken
+-- how numbers are taken
 abbrev pub numbers_of : Numbers → RunNumbers
 numbers_of Modulo = run.Modulo
 numbers_of Strict = run.Strict
 
--- numbers that are given, as picks
-abbrev pub given_picks : Numbers → List ℕ → List PickDefinition
-given_picks Modulo numbers = counted_picks numbers
-given_picks Strict numbers = numbered_picks numbers
-
 -- the picks that the words of the command line ask for, those of a text as far as its bytes are known: those that are given, those that the
 -- lines of the text say, or random ones
 abbrev pub picks_said : Picking → PlantDefinition → Option (List ℕ) → Option (List PickDefinition)
-picks_said (Given picks numbers) plant input = Some (given_picks numbers picks.items)
+picks_said (Given picks numbers) plant input = Some (given_picks (numbers_of numbers) picks.items)
 picks_said (Recorded path numbers) plant input = option_map (picks_in (numbers_of numbers) plant) input
 picks_said (Random count seed) plant input = Some (counted_picks (random_picks seed count))
 
@@ -34,6 +29,6 @@ picks_said (Random count seed) plant input = Some (counted_picks (random_picks s
 abbrev pub refusal_said : Picking → PlantDefinition → Option (List ℕ) → Option (Option Refusal)
 refusal_said picking plant input = option_map (refusal_of plant) (picks_said picking plant input)
 
--- what is printed of the state behind picks: nothing where one of them is refused
-abbrev pub behind : PlantDefinition → (List PickDefinition → List ℕ) → List PickDefinition → List ℕ
-behind plant text picks = option_map_or (λ refusal. []) (refusal_of plant picks) (text picks)
+-- what is printed of the state after picks: nothing where one of them is refused
+abbrev pub after_picks : PlantDefinition → (List PickDefinition → List ℕ) → List PickDefinition → List ℕ
+after_picks plant text picks = option_map_or (λ refusal. []) (refusal_of plant picks) (text picks)

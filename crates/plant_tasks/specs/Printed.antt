@@ -17,14 +17,14 @@ use Rattle.part_lines.specs.Lookup.{rule_lines}
 use Rattle.part_lines.specs.Table.{part_lines}
 use Rattle.plant_warnings.specs.Warnings.{warnings_text}
 use Rattle.plant_tasks.specs.Drawn.{drawing_refusal, drawn_of}
-use Rattle.plant_tasks.specs.Picked.{behind, picks_said, refusal_said}
+use Rattle.plant_tasks.specs.Picked.{after_picks, picks_said, refusal_said}
 use Rattle.plant_tasks.specs.declared.task.ReadPlant.{ReadPlant}
 use Rattle.command_line.specs.declared.request.Shape.{Shape}
 use Rattle.command_line.specs.declared.request.Shape.TheVariants.{Steps, States, Waves}
 use Rattle.command_line.specs.declared.request.Task.{Task}
 use Rattle.command_line.specs.declared.request.Task.TheVariants.{Check, Warn, Trace, Choices, Why, Draw}
 
--- a count behind the word for what is counted
+-- a count after the word for what is counted
 abbrev pub counted : List ℕ → ℕ → List ℕ
 counted word count = word ++ decimal count
 
@@ -36,9 +36,9 @@ counts_line plant =
 
 -- what is printed of a run by picks, in a shape
 abbrev pub run_shaped : Shape → PlantDefinition → List PickDefinition → List ℕ
-run_shaped (Steps format) plant picks = trace_in format plant picks
-run_shaped (States format) plant picks = states_in format plant picks
-run_shaped Waves plant picks = waves_of plant picks
+run_shaped (Steps format) = trace_in format
+run_shaped (States format) = states_in format
+run_shaped Waves = waves_of
 
 -- why connectors can't be fired after some picks
 abbrev pub why_after : PlantDefinition → List ℕ → List PickDefinition → List ℕ
@@ -48,17 +48,24 @@ why_after plant lines picks = blocked_text plant (state_after plant (initial_sta
 abbrev pub plant_read : ReadPlant → PlantDefinition
 plant_read plant = plant_of plant.system.now
 
+-- the counts of a plant that was read, and what is probably a mistake in it
+abbrev pub warned_text : ReadPlant → List ℕ
+warned_text plant = counts_line (plant_read plant) ++ warnings_text (plant_read plant) (part_lines plant.text.now) plant.path.now
+
+-- why its connectors can't be fired after some picks
+abbrev pub why_text : ReadPlant → List PickDefinition → List ℕ
+why_text plant = why_after (plant_read plant) (rule_lines plant.text.now)
+
 -- what a task prints of a plant that was read, where the bytes of what is read beside it are known as far as it needs them; up to the first pick that is refused
 abbrev pub printed_of : Task → ReadPlant → Option (List ℕ) → Option (List ℕ)
 printed_of Check plant input = Some (counts_line (plant_read plant))
-printed_of Warn plant input =
-    Some (counts_line (plant_read plant) ++ warnings_text (plant_read plant) (part_lines plant.text.now) plant.path.now)
+printed_of Warn plant input = Some (warned_text plant)
 printed_of (Trace trace) plant input =
     option_map (run_shaped trace.shape (plant_read plant)) (picks_said trace.picking (plant_read plant) input)
 printed_of (Choices picking) plant input =
-    option_map (behind (plant_read plant) (choices_after (plant_read plant))) (picks_said picking (plant_read plant) input)
+    option_map (after_picks (plant_read plant) (choices_after (plant_read plant))) (picks_said picking (plant_read plant) input)
 printed_of (Why picking) plant input =
-    option_map (behind (plant_read plant) (why_after (plant_read plant) (rule_lines plant.text.now))) (picks_said picking (plant_read plant) input)
+    option_map (after_picks (plant_read plant) (why_text plant)) (picks_said picking (plant_read plant) input)
 printed_of (Draw drawing) plant input = drawn_of drawing (plant_read plant) input
 
 -- what it saves of what it fires

@@ -2,7 +2,7 @@
 ghost use Rattle.std.specs.Prelude.{IfErr, IfSome, OnOk};
 ghost use Rattle.part_lines.specs.Lookup.{rule_lines};
 ghost use Rattle.plant_words.specs.Lines.{lines_of};
-ghost use Rattle.step_session.specs.Told.{IsTold, told_of};
+ghost use Rattle.step_session.specs.Transcript.{IsTranscript, transcript_of};
 ghost use Rattle.plant_tasks.specs.Ending.{IsOfTask};
 ghost use Rattle.plant_tasks.specs.Printed.{plant_read};
 
@@ -24,7 +24,7 @@ pub fn step<F: BufRead, W: Write, S: Saver>(
     saver: &mut S,
 ) -> Result<(), PlantEnding>
     ensures told { OnOk result (IfSome (F.remaining input.old) (λ bytes.
-        IsTold S.saves (told_of (plant_read plant.now) (rule_lines plant.now.text.now) prompt (lines_of bytes)) saver.old saver.new (W.contents output.old) (W.contents output.new))) }
+        IsTranscript S.saves (transcript_of (plant_read plant.now) (rule_lines plant.now.text.now) prompt (lines_of bytes)) saver.old saver.new (W.contents output.old) (W.contents output.new))) }
     ensures of_task { IfErr result IsOfTask }
 {
     let lines = rule_lines(alloc, plant.text)?;

@@ -1,7 +1,6 @@
 //! The line of a plant's counts.
-ghost use Rattle.std.specs.Prelude.{◌≡◌, length, OnOk};
-ghost use Rattle.std.specs.Io.KnownBytes.{Appends};
-ghost use Rattle.step_core.specs.System.{plant_of};
+ghost use Rattle.std.specs.Prelude.{◌≡◌, length};
+ghost use Rattle.run_text.specs.Seen.{Prints, plant_of};
 ghost use Rattle.plant_tasks.specs.Printed.{counted, counts_line};
 
 use std::io::Write;
@@ -10,8 +9,7 @@ use text_io::{WriteFault, end_line, print_number, print_text};
 
 /// Prints how many atoms, connectors, interactions and priority rules the plant has.
 pub(crate) fn print_counts<W: Write>(system: &System, output: &mut W) -> Result<(), WriteFault>
-    ensures { OnOk result (Appends (W.contents output.old) (W.contents output.new)
-        (counts_line (plant_of system.now))) }
+    ensures { Prints result (W.contents output.old) (W.contents output.new) (counts_line (plant_of system.now)) }
 {
     print_count(b"atoms ", atom_count(system), output)?;
     print_count(b" connectors ", connector_count(system), output)?;
@@ -21,9 +19,9 @@ pub(crate) fn print_counts<W: Write>(system: &System, output: &mut W) -> Result<
     Ok(())
 }
 
-/// Prints a count behind the word for what is counted.
+/// Prints a count after the word for what is counted.
 fn print_count<W: Write>(word: &[u8], count: usize, output: &mut W) -> Result<(), WriteFault>
-    ensures { OnOk result (Appends (W.contents output.old) (W.contents output.new) (counted word.now count)) }
+    ensures { Prints result (W.contents output.old) (W.contents output.new) (counted word.now count) }
 {
     print_text(output, word)?;
     print_number(output, count as u64)

@@ -1,17 +1,15 @@
 //! What each task prints of a plant that was read.
-ghost use Rattle.std.specs.Prelude.{◌≡◌, ◌≢◌, ◌++◌, IfErr, IfSome, OnOk, Err, None};
+ghost use Rattle.std.specs.Prelude.{◌≡◌, ◌≢◌, IfErr, IfSome, OnOk, Err, None};
 ghost use Rattle.std.specs.Io.KnownBytes.{Appends};
-ghost use Rattle.step_core.specs.System.{plant_of};
-ghost use Rattle.part_lines.specs.Lookup.{rule_lines};
-ghost use Rattle.part_lines.specs.Table.{part_lines};
-ghost use Rattle.plant_warnings.specs.Warnings.{warnings_text};
-ghost use Rattle.run_text.specs.Ran.{IfRan, OnRan};
+ghost use Rattle.run_text.specs.Seen.{plant_of};
+ghost use Rattle.run_text.specs.Ran.{IfRan};
 ghost use Rattle.run_text.specs.Runs.{refusal_of};
-ghost use Rattle.run_text.specs.Steps.{saved_in};
+ghost use Rattle.run_text.specs.Told.{IsTold};
 ghost use Rattle.run_text.specs.declared.fault.TraceFault.{TraceFault};
-ghost use Rattle.run_text.specs.declared.fault.TraceFault.TheVariants.{Memory, Write as WriteFailed};
-ghost use Rattle.plant_tasks.specs.Printed.{counts_line, plant_read, printed_of, refusal_by, run_shaped, saved_of, why_after};
-ghost use Rattle.plant_tasks.specs.Ending.{IfTold, IsOfTask, IsSilent, OnTold, told_of};
+ghost use Rattle.run_text.specs.declared.fault.TraceFault.TheVariants.{Write as WriteFailed};
+ghost use Rattle.plant_tasks.specs.Done.{IsDone};
+ghost use Rattle.plant_tasks.specs.Printed.{plant_read, run_shaped, warned_text, why_text};
+ghost use Rattle.plant_tasks.specs.Ending.{IfDone, IsOfTask, IsSilent, OnDone, task_ending};
 
 use crate::counts::print_counts;
 use crate::drawing::print_drawing;
@@ -22,8 +20,8 @@ use blocked_text::Reasons;
 use command_line::{Shape, Task};
 use part_lines::{PartLines, rule_lines};
 use plant_warnings::print_warnings;
-use run_states::{trace_states, trace_waves};
-use run_text::{Picks, TraceFault, print_choices_after, run_after, trace_by};
+use run_states::{States, Waves};
+use run_text::{Picks, Trace, TraceFault, print_choices_after, run_after, tell_run};
 use std::alloc::Global;
 use std::io::{BufRead, Write};
 use step_core::System;
@@ -37,12 +35,7 @@ pub(crate) fn print_task<F: BufRead + Drop, W: Write, S: Write>(
     output: &mut W,
     saved: &mut S,
 ) -> Result<(), PlantEnding>
-    ensures printed { OnTold result (IfSome (printed_of task.now plant.now (F.remaining input)) (Appends (W.contents output.old) (W.contents output.new))) }
-    ensures saved { OnTold result (IfSome (saved_of task.now plant.now (F.remaining input)) (Appends (S.contents saved.old) (S.contents saved.new))) }
-    ensures refusal { IfTold result (λ refusal. IfSome (refusal_by task.now plant.now (F.remaining input)) (λ first. refusal ≡ first)) }
-    ensures of_task { IfErr result IsOfTask }
-    ensures nothing_printed { IfErr result (λ ending. IsSilent ending → output.new ≡ output.old) }
-    ensures nothing_saved { IfErr result (λ ending. IsSilent ending → saved.new ≡ saved.old) }
+    ensures { IsDone W.contents S.contents task.now plant.now (F.remaining input) result output.old output.new saved.old saved.new }
 {
     let system = plant.system;
     match task {
@@ -50,23 +43,23 @@ pub(crate) fn print_task<F: BufRead + Drop, W: Write, S: Write>(
         Task::Warn => print_warned(alloc, plant, output),
         Task::Trace(trace) => {
             let mut picks = picks_of(alloc, &trace.picking, system, input)?;
-            told(print_run(alloc, trace.shape, system, &mut picks, output, saved))
+            task_ended(print_run(alloc, trace.shape, system, &mut picks, output, saved))
         }
         Task::Choices(picking) => {
             let mut picks = picks_of(alloc, picking, system, input)?;
-            told(print_choices_after(alloc, system, &mut picks, output))
+            task_ended(print_choices_after(alloc, system, &mut picks, output))
         }
         Task::Why(picking) => {
             let mut picks = picks_of(alloc, picking, system, input)?;
-            told(print_why(alloc, plant, &mut picks, output))
+            task_ended(print_why(alloc, plant, &mut picks, output))
         }
         Task::Draw(drawing) => print_drawing(alloc, drawing, system, input, output),
     }
 }
 
 /// How a task ends whose run ended so.
-pub(crate) fn told(ran: Result<(), TraceFault>) -> Result<(), PlantEnding>
-    ensures { result ≡ told_of ran }
+pub(crate) fn task_ended(ran: Result<(), TraceFault>) -> Result<(), PlantEnding>
+    ensures { result ≡ task_ending ran }
 {
     match ran {
         Ok(()) => Ok(()),
@@ -83,18 +76,19 @@ fn print_run<P: Picks, W: Write, S: Write>(
     output: &mut W,
     saved: &mut S,
 ) -> Result<(), TraceFault>
-    ensures refusal { IfRan result (λ refusal. IfSome (P.left picks.old) (λ left. refusal ≡ refusal_of (plant_of system.now) left)) }
-    ensures printed { OnRan result (IfSome (P.left picks.old) (λ left. Appends (W.contents output.old) (W.contents output.new)
-        (run_shaped shape (plant_of system.now) left))) }
-    ensures saved { OnRan result (IfSome (P.left picks.old) (λ left. Appends (S.contents saved.old) (S.contents saved.new)
-        (saved_in (plant_of system.now) left))) }
-    ensures nothing_printed { result ≡ Err Memory → output.new ≡ output.old }
-    ensures nothing_saved { result ≡ Err Memory → saved.new ≡ saved.old }
+    ensures { IsTold W.contents S.contents (run_shaped shape) (plant_of system.now) (P.left picks.old) result output.old output.new saved.old saved.new }
 {
     match shape {
-        Shape::Steps(format) => trace_by(alloc, system, picks, format, output, saved),
-        Shape::States(format) => trace_states(alloc, system, picks, format, output, saved),
-        Shape::Waves => trace_waves(alloc, system, picks, output, saved),
+        Shape::Steps(format) => {
+            tell_run(alloc, system, picks, &mut Trace { format }, output, saved)
+        }
+        Shape::States(format) => {
+            tell_run(alloc, system, picks, &mut States { format }, output, saved)
+        }
+        Shape::Waves => {
+            let mut waves = Waves::of(alloc, system)?;
+            tell_run(alloc, system, picks, &mut waves, output, saved)
+        }
     }
 }
 
@@ -107,7 +101,7 @@ fn print_why<P: Picks, W: Write>(
 ) -> Result<(), TraceFault>
     ensures refusal { IfRan result (λ refusal. IfSome (P.left picks.old) (λ left. refusal ≡ refusal_of (plant_read plant.now) left)) }
     ensures printed { OnOk result (IfSome (P.left picks.old) (λ left. Appends (W.contents output.old) (W.contents output.new)
-        (why_after (plant_read plant.now) (rule_lines plant.now.text.now) left))) }
+        (why_text plant.now left))) }
     ensures nothing_printed { (fault : TraceFault) → result ≡ Err fault → fault ≢ WriteFailed → output.new ≡ output.old }
 {
     let lines = rule_lines(alloc, plant.text)?;
@@ -123,9 +117,9 @@ fn print_warned<W: Write>(
     plant: &ReadPlant<'_>,
     output: &mut W,
 ) -> Result<(), PlantEnding>
-    ensures printed { OnTold result (Appends (W.contents output.old) (W.contents output.new)
-        (counts_line (plant_read plant.now) ++ warnings_text (plant_read plant.now) (part_lines plant.now.text.now) plant.now.path.now)) }
-    ensures refusal { IfTold result (λ refusal. refusal ≡ None) }
+    ensures printed { OnDone result (Appends (W.contents output.old) (W.contents output.new)
+        (warned_text plant.now)) }
+    ensures refusal { IfDone result (λ refusal. refusal ≡ None) }
     ensures of_task { IfErr result IsOfTask }
     ensures nothing_printed { IfErr result (λ ending. IsSilent ending → output.new ≡ output.old) }
 {

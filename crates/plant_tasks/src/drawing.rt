@@ -4,24 +4,23 @@ ghost use Rattle.std.specs.Option.{option_copied};
 ghost use Rattle.std.specs.List.{list_any, position};
 ghost use Rattle.petri_atom.specs.Name.{is_same_text};
 ghost use Rattle.std.specs.Io.KnownBytes.{Appends};
-ghost use Rattle.petri_atom.specs.Atom.{definition_of};
+ghost use Rattle.run_text.specs.Seen.{definition_of, plant_of};
 ghost use Rattle.petri_atom.specs.Local.{set_below};
-ghost use Rattle.step_core.specs.System.{plant_of};
 ghost use Rattle.step_core.specs.declared.limits.TheConstants.{MAX_ATOMS};
 ghost use Rattle.run_text.specs.Ran.{IfRan};
 ghost use Rattle.run_text.specs.Runs.{refusal_of};
 ghost use Rattle.run_text.specs.declared.fault.TraceFault.{TraceFault};
 ghost use Rattle.run_text.specs.declared.fault.TraceFault.TheVariants.{Write as WriteFailed};
 ghost use Rattle.plant_tasks.specs.Drawn.{drawing_refusal, drawn_atoms, drawn_in, drawn_of, drawn_part, is_named_in, IsNoAtom, part_refusal};
-ghost use Rattle.plant_tasks.specs.Ending.{IfTold, IsOfTask, IsSilent, OnTold};
+ghost use Rattle.plant_tasks.specs.Ending.{IfDone, IsOfTask, IsSilent, OnDone};
 
-use crate::doing::told;
+use crate::doing::task_ended;
 use crate::ending::PlantEnding;
 use crate::picks::picks_of;
 use command_line::{Drawing, Picking};
 use petri_atom::Atom;
 use plant_drawing::{ALL_ATOMS, Filling, draw_to, outline_to};
-use run_text::{GivenPicks, Picks, TraceFault, run_after};
+use run_text::{GivenPicks, Numbers, Picks, TraceFault, run_after};
 use std::alloc::Global;
 use std::io::{BufRead, Write};
 use step_core::System;
@@ -34,26 +33,26 @@ pub(crate) fn print_drawing<F: BufRead + Drop, W: Write>(
     input: F,
     output: &mut W,
 ) -> Result<(), PlantEnding>
-    ensures printed { OnTold result (IfSome (drawn_of drawing.now (plant_of system.now) (F.remaining input)) (Appends (W.contents output.old) (W.contents output.new))) }
-    ensures refusal { IfTold result (λ refusal. IfSome (drawing_refusal drawing.now (plant_of system.now) (F.remaining input)) (λ first. refusal ≡ first)) }
+    ensures printed { OnDone result (IfSome (drawn_of drawing.now (plant_of system.now) (F.remaining input)) (Appends (W.contents output.old) (W.contents output.new))) }
+    ensures refusal { IfDone result (λ refusal. IfSome (drawing_refusal drawing.now (plant_of system.now) (F.remaining input)) (λ first. refusal ≡ first)) }
     ensures of_task { IfErr result IsOfTask }
     ensures nothing_printed { IfErr result (λ ending. IsSilent ending → output.new ≡ output.old) }
 {
     match drawing {
-        Drawing::Whole => draw_behind(alloc, None, system, input, ALL_ATOMS, output),
+        Drawing::Whole => draw_after(alloc, None, system, input, ALL_ATOMS, output),
         Drawing::Outline => Ok(outline_to(system, output)?),
         Drawing::After(picking) => {
-            draw_behind(alloc, Some(picking), system, input, ALL_ATOMS, output)
+            draw_after(alloc, Some(picking), system, input, ALL_ATOMS, output)
         }
         Drawing::Only(names, picking) => {
             let drawn = atoms_named(system, names)?;
-            draw_behind(alloc, picking.as_ref(), system, input, drawn, output)
+            draw_after(alloc, picking.as_ref(), system, input, drawn, output)
         }
     }
 }
 
-/// Draws these atoms in the first state, or behind the picks, and what stands on them.
-fn draw_behind<F: BufRead + Drop, W: Write>(
+/// Draws these atoms in the first state, or after the picks, and what stands on them.
+fn draw_after<F: BufRead + Drop, W: Write>(
     alloc: Global,
     picking: Option<&Picking<'_>>,
     system: &System,
@@ -61,19 +60,19 @@ fn draw_behind<F: BufRead + Drop, W: Write>(
     drawn: u64,
     output: &mut W,
 ) -> Result<(), PlantEnding>
-    ensures printed { OnTold result (IfSome (drawn_part (plant_of system.now) drawn (option_copied picking.entry) (F.remaining input)) (Appends (W.contents output.old) (W.contents output.new))) }
-    ensures refusal { IfTold result (λ refusal. IfSome (part_refusal (plant_of system.now) (option_copied picking.entry) (F.remaining input)) (λ first. refusal ≡ first)) }
+    ensures printed { OnDone result (IfSome (drawn_part (plant_of system.now) drawn (option_copied picking.entry) (F.remaining input)) (Appends (W.contents output.old) (W.contents output.new))) }
+    ensures refusal { IfDone result (λ refusal. IfSome (part_refusal (plant_of system.now) (option_copied picking.entry) (F.remaining input)) (λ first. refusal ≡ first)) }
     ensures of_task { IfErr result IsOfTask }
     ensures nothing_printed { IfErr result (λ ending. IsSilent ending → output.new ≡ output.old) }
 {
     match picking {
         None => {
-            let mut none = GivenPicks::of(&[]);
-            told(draw_state(alloc, system, &mut none, drawn, Filling::Alike, output))
+            let mut none = GivenPicks::of(&[], Numbers::Modulo);
+            task_ended(draw_state(alloc, system, &mut none, drawn, Filling::Alike, output))
         }
         Some(picking) => {
             let mut picks = picks_of(alloc, picking, system, input)?;
-            told(draw_state(alloc, system, &mut picks, drawn, Filling::ByChoice, output))
+            task_ended(draw_state(alloc, system, &mut picks, drawn, Filling::ByChoice, output))
         }
     }
 }

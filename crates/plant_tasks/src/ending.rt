@@ -45,7 +45,7 @@ impl PlantEnding {
     {
         match self {
             PlantEnding::Usage => 2,
-            PlantEnding::Plant(told) => match told.fault {
+            PlantEnding::Plant(found) => match found.fault {
                 Fault::Memory | Fault::Read => 3,
                 _ => 1,
             },
@@ -60,7 +60,7 @@ impl PlantEnding {
     }
 }
 
-/// How a program ends where the words of the command line are no request, and it was told so.
+/// How a program ends if the words of the command line are no request, and that was printed.
 pub fn ended(answered: Answered) -> Result<(), PlantEnding>
     ensures { result ≡ ended_by answered }
 {
@@ -72,37 +72,37 @@ pub fn ended(answered: Answered) -> Result<(), PlantEnding>
     }
 }
 
-/// What is told of an ending: a line, or nothing where it was told already what is wrong with the words, and where the output failed.
+/// What is printed of an ending: a line, or nothing if what is wrong with the words was printed already, and if the output failed.
 #[derive(Clone, Copy)]
-pub struct PlantTold<'a> {
+pub struct PlantEndingText<'a> {
     /// Why the program ends early.
     pub ending: PlantEnding,
     /// Where the files are that it may tell of.
     pub paths: TaskPaths<'a>,
 }
 
-impl<'a> fmt::Display for PlantTold<'a> {
+impl<'a> fmt::Display for PlantEndingText<'a> {
     ghost use Rattle.std.specs.Prelude.{Some};
     ghost use Rattle.plant_tasks.specs.Ending.{told_text};
 
-    ghost output = { λ told. Some (told_text told.paths told.ending) };
+    ghost output = { λ text. Some (told_text text.paths text.ending) };
 
     fn fmt<W: fmt::Write>(&self, f: &mut fmt::Formatter<W>) -> fmt::Result {
         match self.ending {
             PlantEnding::Usage => Ok(()),
-            PlantEnding::Plant(told) => match (told.fault, told.fault.subject()) {
+            PlantEnding::Plant(found) => match (found.fault, found.fault.subject()) {
                 (Fault::Read, _) => writeln!(f, "file {}", self.paths.plant),
                 (fault, None) => writeln!(
                     f,
                     "plant line {}: fault {} {}",
-                    told.line,
+                    found.line,
                     fault.number(),
                     fault.name()
                 ),
                 (fault, Some(subject)) => writeln!(
                     f,
                     "plant line {}: fault {} {}({subject})",
-                    told.line,
+                    found.line,
                     fault.number(),
                     fault.name()
                 ),

@@ -1,6 +1,6 @@
 //! The picks by which a plant is run.
 ghost use Rattle.std.specs.Prelude.{◌≡◌, IfOk};
-ghost use Rattle.step_core.specs.System.{plant_of};
+ghost use Rattle.run_text.specs.Seen.{plant_of};
 ghost use Rattle.run_text.specs.RunPicks.{picks_left};
 ghost use Rattle.plant_tasks.specs.Picked.{numbers_of, picks_said};
 
@@ -24,8 +24,10 @@ pub(crate) fn picks_of<'a, F: BufRead + Drop>(
     ensures { IfOk result (λ picks. picks_left (λ left. left) picks ≡ picks_said picking.now (plant_of system.now) (F.remaining input)) }
 {
     match picking {
-        Picking::Given(picks, Numbers::Modulo) => Ok(RunPicks::Given(GivenPicks::of(picks))),
-        Picking::Given(picks, Numbers::Strict) => Ok(RunPicks::Given(GivenPicks::strictly(picks))),
+        Picking::Given(picks, numbers) => {
+            let given = GivenPicks::of(picks, numbers_of(*numbers));
+            Ok(RunPicks::Given(given))
+        }
         Picking::Recorded(_, numbers) => {
             let numbers = numbers_of(*numbers);
             Ok(RunPicks::From(RecordedPicks::new(alloc, system, input, numbers)?))
@@ -34,7 +36,7 @@ pub(crate) fn picks_of<'a, F: BufRead + Drop>(
     }
 }
 
-/// How a text's numbers are taken, as the words of the command line say.
+/// How numbers are taken, as the words of the command line say.
 fn numbers_of(numbers: Numbers) -> run_text::Numbers
     ensures { result ≡ numbers_of numbers }
 {

@@ -1,4 +1,4 @@
-//! What both programs do in their process: words, and what is told behind the line of an ending.
+//! What both programs do in their process: words, and what is printed after the line of an ending.
 use crate::ending::PlantEnding;
 use plant_text::{Fault, PlantFault};
 use shown_fault::explain;
@@ -42,7 +42,9 @@ pub fn tell_more<R: Eprint + AllocGlobal>(
     failure: Option<io::Error>,
 ) {
     match ending {
-        PlantEnding::Plant(told) if told.fault != Fault::Read => show_fault(rt, path, text, &told),
+        PlantEnding::Plant(found) if found.fault != Fault::Read => show_fault(
+            rt, path, text, &found,
+        ),
         PlantEnding::Plant(_) | PlantEnding::Unopened | PlantEnding::InputUnread => {
             tell_file_failure(rt, failure)
         }
@@ -89,9 +91,9 @@ pub fn tell_output_failure<R: Eprint>(rt: &R, failure: Option<io::Error>) {
 }
 
 /// Shows where the fault of the text is, and what can be done about it.
-fn show_fault<R: Eprint + AllocGlobal>(rt: &R, path: &str, text: &[u8], told: &PlantFault) {
-    // What can't be shown for want of memory has been told by its line.
-    let _ = show_explained(rt, path, text, told);
+fn show_fault<R: Eprint + AllocGlobal>(rt: &R, path: &str, text: &[u8], found: &PlantFault) {
+    // What can't be shown for want of memory was printed as its line.
+    let _ = show_explained(rt, path, text, found);
 }
 
 /// Shows the same, where there is memory for it.
@@ -99,9 +101,9 @@ fn show_explained<R: Eprint + AllocGlobal>(
     rt: &R,
     path: &str,
     text: &[u8],
-    told: &PlantFault,
+    found: &PlantFault,
 ) -> Result<(), AllocError> {
-    let shown = explain(rt.alloc(), path.as_bytes(), text, told)?;
+    let shown = explain(rt.alloc(), path.as_bytes(), text, found)?;
     let _ = rt.eprint(str::from_utf8(&shown).unwrap_or(""));
     Ok(())
 }

@@ -1,13 +1,13 @@
 //! What is done with a plant: it is read from a text, and then a task is done with it.
 ghost use Rattle.std.specs.Prelude.{◌≡◌, ◌<◌, IfErr, IfOk, IfSome, OnOk, Ok, Err};
-ghost use Rattle.std.specs.Io.KnownBytes.{Appends, Keeps};
-ghost use Rattle.step_core.specs.System.{plant_of};
+ghost use Rattle.std.specs.Io.KnownBytes.{Keeps};
+ghost use Rattle.run_text.specs.Seen.{plant_of};
 ghost use Rattle.plant_text.specs.Meaning.{meaning};
 ghost use Rattle.plant_text.specs.Taken.{TakesFew};
 ghost use Rattle.plant_text.specs.Text.{text_of};
 ghost use Rattle.plant_text.specs.declared.fault.PlantFault.{PlantFault};
-ghost use Rattle.plant_tasks.specs.Printed.{printed_of, refusal_by, saved_of};
-ghost use Rattle.plant_tasks.specs.Ending.{IfTold, IsOfTask, IsSilent, OnTold, Tells};
+ghost use Rattle.plant_tasks.specs.Done.{IsDone};
+ghost use Rattle.plant_tasks.specs.Ending.{Tells};
 ghost use Rattle.plant_tasks.specs.declared.ending.PlantEnding.TheVariants.{Plant};
 
 use crate::doing::print_task;
@@ -17,7 +17,7 @@ use plant_text::{PlantFault, plant_of_text};
 use std::alloc::Global;
 use std::io::{BufRead, Read, Write};
 use step_core::System;
-use text_io::{WriteFault, read_text};
+use text_io::{WriteFault, hand_on, read_text};
 
 /// A plant that was read, and its text.
 #[derive(Clone, Copy)]
@@ -42,31 +42,25 @@ pub fn perform<F: BufRead + Drop, W: Write, S: Write>(
     output: &mut W,
     saved: &mut S,
 ) -> Result<(), PlantEnding>
-    ensures printed { OnTold result (IfSome (printed_of task.now plant.now (F.remaining input)) (Appends (W.contents output.old) (W.contents output.new))) }
-    ensures saved { OnTold result (IfSome (saved_of task.now plant.now (F.remaining input)) (Appends (S.contents saved.old) (S.contents saved.new))) }
-    ensures refusal { IfTold result (λ refusal. IfSome (refusal_by task.now plant.now (F.remaining input)) (λ first. refusal ≡ first)) }
-    ensures of_task { IfErr result IsOfTask }
-    ensures nothing_printed { IfErr result (λ ending. IsSilent ending → output.new ≡ output.old) }
-    ensures nothing_saved { IfErr result (λ ending. IsSilent ending → saved.new ≡ saved.old) }
+    ensures { IsDone W.contents S.contents task.now plant.now (F.remaining input) result output.old output.new saved.old saved.new }
 {
     match print_task(alloc, task, plant, input, output, saved) {
-        Ok(()) => Ok(hand_on(output, saved)?),
+        Ok(()) => Ok(hand_on_both(output, saved)?),
         Err(PlantEnding::Refused(refusal)) => {
-            hand_on(output, saved)?;
+            hand_on_both(output, saved)?;
             Err(PlantEnding::Refused(refusal))
         }
         Err(ending) => Err(ending),
     }
 }
 
-/// Hands on what the writers still keep.
-fn hand_on<W: Write, S: Write>(output: &mut W, saved: &mut S) -> Result<(), WriteFault>
+/// Hands on what both writers still keep.
+fn hand_on_both<W: Write, S: Write>(output: &mut W, saved: &mut S) -> Result<(), WriteFault>
     ensures output { OnOk result (Keeps (W.contents output.old) (W.contents output.new)) }
     ensures saved { OnOk result (Keeps (S.contents saved.old) (S.contents saved.new)) }
 {
-    output.flush()?;
-    saved.flush()?;
-    Ok(())
+    hand_on(output)?;
+    hand_on(saved)
 }
 
 /// Reads a plant text to the reader's end, and gives the plant. The text is put into `text`, so that a fault of one of its lines can be
@@ -79,7 +73,7 @@ pub fn read_plant<R: Read>(
     ensures plant { IfOk result (λ system. IfSome (R.remaining reader.old) (λ bytes. meaning bytes ≡ Ok (text_of (plant_of system)))) }
     ensures all { OnOk result (IfSome (R.remaining reader.old) (λ bytes. text.new.items ≡ bytes)) }
     ensures refused { IfErr result (λ ending. IfSome (R.remaining reader.old) (λ bytes. Tells ending bytes)) }
-    ensures kept { (told : PlantFault) → result ≡ Err (Plant told) → 0 < told.line → IfSome (R.remaining reader.old) (λ bytes. text.new.items ≡ bytes) }
+    ensures kept { (found : PlantFault) → result ≡ Err (Plant found) → 0 < found.line → IfSome (R.remaining reader.old) (λ bytes. text.new.items ≡ bytes) }
     ensures few { TakesFew (R.remaining reader.old) (R.remaining reader.new) }
 {
     *text = read_bytes(alloc, reader)?;
@@ -90,7 +84,7 @@ pub fn read_plant<R: Read>(
 fn read_bytes<R: Read>(alloc: Global, reader: &mut R) -> Result<Vec<u8>, PlantEnding>
     ensures all { IfOk result (λ text. IfSome (R.remaining reader.old) (λ bytes. text.items ≡ bytes)) }
     ensures refused { IfErr result (λ ending. IfSome (R.remaining reader.old) (λ bytes. Tells ending bytes)) }
-    ensures no_line { (told : PlantFault) → result ≡ Err (Plant told) → told.line ≡ 0 }
+    ensures no_line { (found : PlantFault) → result ≡ Err (Plant found) → found.line ≡ 0 }
     ensures few { TakesFew (R.remaining reader.old) (R.remaining reader.new) }
 {
     Ok(read_text(alloc, reader).map_err(PlantFault::from)?)

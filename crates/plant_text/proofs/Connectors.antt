@@ -16,10 +16,10 @@ use Rattle.connector_lines.specs.Rows.{guards_with, transfers_with, guard_row, t
 use Rattle.plant_text.specs.Text.{WireText, wire_text_of}
 use Rattle.plant_text.specs.Names.{atom_number, export_named}
 use Rattle.plant_words.specs.Reading.{◌>>=◌}
+use Rattle.plant_words.specs.declared.line_kind.WirePart.TheVariants.{Guard, Transfer}
 use Rattle.plant_text.specs.Rows.{wire_part_row}
-use Rattle.plant_text.specs.declared.kinds.WirePart.TheVariants.{Guard, Transfer}
 
--- how a connector is written, where there is one
+-- how a connector is written, if there is one
 abbrev written : Result WireDefinition LineFault → Result WireText LineFault
 written (Ok w) = Ok (wire_text_of w)
 written (Err fault) = Err fault
@@ -67,36 +67,36 @@ pub transfer_refused : (atoms : List AtomDefinition) (words : List (List ℕ)) (
 transfer_refused atoms words w fault says = transfer_written atoms words w ∙ ap written says
 
 -- the tree of what was read, or another one where nothing was
-abbrev tree_behind : connectors.Tree → Result WireDefinition LineFault → connectors.Tree
-tree_behind before (Ok w) = w.connector
-tree_behind before (Err fault) = before
+abbrev tree_after : connectors.Tree → Result WireDefinition LineFault → connectors.Tree
+tree_after before (Ok w) = w.connector
+tree_after before (Err fault) = before
 
 -- a connector with guard clauses that were read has the tree that it had
 guards_keep_the_tree : (w made : WireDefinition) (read : Result (List (Tree Export)) LineFault) → (read >>= λ guards. Ok (record w { guards = guards })) ≡ Ok made → made.connector ≡ w.connector
-guards_keep_the_tree w made (Ok guards) says = sym (ap (tree_behind w.connector) says)
-guards_keep_the_tree w made (Err fault) says = sym (ap (tree_behind w.connector) says)
+guards_keep_the_tree w made (Ok guards) says = sym (ap (tree_after w.connector) says)
+guards_keep_the_tree w made (Err fault) says = sym (ap (tree_after w.connector) says)
 
 -- the same of transfers
 transfers_keep_the_tree : (w made : WireDefinition) (read : Result (List TransferDefinition) LineFault) → (read >>= λ transfers. Ok (record w { transfers = transfers })) ≡ Ok made → made.connector ≡ w.connector
-transfers_keep_the_tree w made (Ok transfers) says = sym (ap (tree_behind w.connector) says)
-transfers_keep_the_tree w made (Err fault) says = sym (ap (tree_behind w.connector) says)
+transfers_keep_the_tree w made (Ok transfers) says = sym (ap (tree_after w.connector) says)
+transfers_keep_the_tree w made (Err fault) says = sym (ap (tree_after w.connector) says)
 
 -- the name of what was read, or another one where nothing was
-abbrev name_behind : List ℕ → Result WireDefinition LineFault → List ℕ
-name_behind before (Ok w) = w.name
-name_behind before (Err fault) = before
+abbrev name_after : List ℕ → Result WireDefinition LineFault → List ℕ
+name_after before (Ok w) = w.name
+name_after before (Err fault) = before
 
 -- a connector with guard clauses that were read has the name that it had
 guards_keep_the_name : (w made : WireDefinition) (read : Result (List (Tree Export)) LineFault) → (read >>= λ guards. Ok (record w { guards = guards })) ≡ Ok made → made.name ≡ w.name
-guards_keep_the_name w made (Ok guards) says = sym (ap (name_behind w.name) says)
-guards_keep_the_name w made (Err fault) says = sym (ap (name_behind w.name) says)
+guards_keep_the_name w made (Ok guards) says = sym (ap (name_after w.name) says)
+guards_keep_the_name w made (Err fault) says = sym (ap (name_after w.name) says)
 
 -- the same of transfers
 transfers_keep_the_name : (w made : WireDefinition) (read : Result (List TransferDefinition) LineFault) → (read >>= λ transfers. Ok (record w { transfers = transfers })) ≡ Ok made → made.name ≡ w.name
-transfers_keep_the_name w made (Ok transfers) says = sym (ap (name_behind w.name) says)
-transfers_keep_the_name w made (Err fault) says = sym (ap (name_behind w.name) says)
+transfers_keep_the_name w made (Ok transfers) says = sym (ap (name_after w.name) says)
+transfers_keep_the_name w made (Err fault) says = sym (ap (name_after w.name) says)
 
--- behind a line `guard`, with or without a fault, the tree is as it was
+-- after a line `guard`, with or without a fault, the tree is as it was
 pub guard_same_tree : (atoms : List AtomDefinition) (words : List (List ℕ)) (w made : WireDefinition) (result : Result (Unit {0}) LineFault) →
     OnOk result (guard_row (atom_number atoms) (export_named atoms) words w ≡ Ok made) → OnErr result (made ≡ w) → (wire_text_of made).tree ≡ (wire_text_of w).tree
 guard_same_tree atoms words w made (Ok done) added unchanged =
@@ -110,14 +110,14 @@ transfer_same_tree atoms words w made (Ok done) added unchanged =
     ap tokens_of (transfers_keep_the_tree w made (transfers_with (variable_in (atom_number atoms) (export_named atoms) (leaves w.connector)) words w.transfers) added)
 transfer_same_tree atoms words w made (Err fault) added unchanged = ap (λ (x : WireDefinition). tokens_of x.connector) unchanged
 
--- behind a line `guard`, with or without a fault, the name is as it was
+-- after a line `guard`, with or without a fault, the name is as it was
 pub guard_same_name : (atoms : List AtomDefinition) (words : List (List ℕ)) (w made : WireDefinition) (result : Result (Unit {0}) LineFault) →
     OnOk result (guard_row (atom_number atoms) (export_named atoms) words w ≡ Ok made) → OnErr result (made ≡ w) → (wire_text_of made).name ≡ (wire_text_of w).name
 guard_same_name atoms words w made (Ok done) added unchanged =
     guards_keep_the_name w made (guards_with (variable_in (atom_number atoms) (export_named atoms) (leaves w.connector)) words w.guards) added
 guard_same_name atoms words w made (Err fault) added unchanged = ap (λ (x : WireDefinition). x.name) unchanged
 
--- behind a line `move`, with or without a fault, the name is as it was
+-- after a line `move`, with or without a fault, the name is as it was
 pub transfer_same_name : (atoms : List AtomDefinition) (words : List (List ℕ)) (w made : WireDefinition) (result : Result (Unit {0}) LineFault) →
     OnOk result (transfer_row (atom_number atoms) (export_named atoms) words w ≡ Ok made) → OnErr result (made ≡ w) → (wire_text_of made).name ≡ (wire_text_of w).name
 transfer_same_name atoms words w made (Ok done) added unchanged =

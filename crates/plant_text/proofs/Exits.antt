@@ -1,4 +1,4 @@
--- What a function says of its result where memory ran out, and whether one more connector may come.
+-- What a function says of its result if memory ran out, and whether one more connector may come.
 use Rattle.std.proofs.Common.{◌≡◌, ◌≢◌, ◌∙◌, sym, ap, ℕ, Bool, ◌+◌, List, length, map, Result, Ok, Err}
 use Rattle.std.specs.Prelude.{nat_le, IfErr}
 use Rattle.std.specs.Result.{IsErrAnd}
@@ -16,9 +16,9 @@ use Rattle.plant_text.specs.declared.fault.Fault.TheVariants.{Limit, Memory}
 use Rattle.plant_text.specs.declared.fault.PlantFault.{PlantFault}
 
 -- want of memory says nothing of a text
-pub told_without_memory : {A : Type 0} (result : Result A PlantFault) (Said : PlantFault → Type 0) → IsErrAnd result (λ told. told ≡ of_no_line Memory) → IfErr result (λ told. told ≢ of_no_line Memory → Said told)
-told_without_memory (Ok x) Said left = tt
-told_without_memory (Err told) Said left = λ other. absurd (other left)
+pub found_without_memory : {A : Type 0} (result : Result A PlantFault) (Said : PlantFault → Type 0) → IsErrAnd result (λ told. told ≡ of_no_line Memory) → IfErr result (λ told. told ≢ of_no_line Memory → Said told)
+found_without_memory (Ok x) Said left = tt
+found_without_memory (Err told) Said left = λ other. absurd (other left)
 
 -- whether a plant may have the interactions of one more connector
 pub room_for_more : (wires : List ListedWire) (lent : List ListedWire) (wire : ListedWire) (made : WireText) (count : ℕ) (room : Bool) (end : Result (Unit {0}) Fault) →

@@ -38,7 +38,7 @@ names_stay name_of list place last changed read same =
     ∙ ap (λ x. map name_of (slice_set list place x)) read
     ∙ ap (map name_of) (set-get_or list place last)
 
--- behind a line of an atom, with or without a fault, the name is as it was
-pub same_name_behind : (row : Result AtomDefinition LineFault) (a grown : AtomDefinition) (result : Result (Unit {0}) LineFault) → OnOk result (row ≡ Ok grown) → OnErr result (grown ≡ a) → (row ≡ Ok grown → Grows a grown) → grown.name ≡ a.name
-same_name_behind row a grown (Ok done) added unchanged grows = (grows added).name
-same_name_behind row a grown (Err fault) added unchanged grows = ap (λ (b : AtomDefinition). b.name) unchanged
+-- after a line of an atom, with or without a fault, the name is as it was
+pub same_name_after : (row : Result AtomDefinition LineFault) (a grown : AtomDefinition) (result : Result (Unit {0}) LineFault) → OnOk result (row ≡ Ok grown) → OnErr result (grown ≡ a) → (row ≡ Ok grown → Grows a grown) → grown.name ≡ a.name
+same_name_after row a grown (Ok done) added unchanged grows = (grows added).name
+same_name_after row a grown (Err fault) added unchanged grows = ap (λ (b : AtomDefinition). b.name) unchanged

@@ -6,49 +6,44 @@ use Rattle.std.proofs.lemmas.Bool.{and_from}
 use Rattle.petri_atom.specs.Definition.{AtomDefinition}
 use Rattle.petri_atom.specs.Parts.{definition_by}
 use Rattle.priority_filter.specs.declared.rule.Rule.{Rule}
-use Rattle.connector_tree.specs.declared.token.Token.{Token}
 use Rattle.step_core.specs.declared.limits.TheConstants.{MAX_ATOMS, MAX_WIRES, MAX_RULES}
 use Rattle.plant_words.specs.Lines.{is_legal_line, lines_of}
 use Rattle.plant_words.specs.Reading.{◌>>=◌, check, first_name, at_end}
 use Rattle.plant_words.specs.Words.{words_of, is_passed_over}
+use Rattle.plant_words.specs.LineKinds.{kind_in}
+use Rattle.plant_words.specs.declared.line_kind.AtomPart.{AtomPart}
+use Rattle.plant_words.specs.declared.line_kind.AtomPart.TheVariants.{Place, Variable, Port, Transition}
+use Rattle.plant_words.specs.declared.line_kind.WirePart.{WirePart}
+use Rattle.plant_words.specs.declared.line_kind.WirePart.TheVariants.{Guard, Transfer}
+use Rattle.plant_words.specs.declared.line_kind.RuleKind.{RuleKind}
+use Rattle.plant_words.specs.declared.line_kind.RuleKind.TheVariants.{Priority, Maximal}
+use Rattle.plant_words.specs.declared.line_kind.LineKind.{LineKind}
+use Rattle.plant_words.specs.declared.line_kind.LineKind.TheVariants.{Atom, Connector, OfAtom, OfConnector, Rule as OfRule}
 use Rattle.plant_words.proofs.Legal.{are_legal, line_of_words, name_is_legal, end_is_legal}
-use Rattle.plant_words.proofs.Steps.{led_on, passed, either_way}
+use Rattle.plant_words.proofs.Steps.{adds_named, led_on, passed, either_way}
 use Rattle.atom_lines.proofs.Legal.{place_row_is_legal, variable_row_is_legal, port_row_is_legal, transition_row_is_legal}
 use Rattle.connector_lines.specs.Rows.{guards_with, transfers_with}
 use Rattle.connector_lines.specs.Trees.{tree_in}
 use Rattle.connector_lines.proofs.Legal.{guards_are_legal, transfers_are_legal, priority_is_legal, maximal_is_legal, tree_is_legal}
 use Rattle.plant_text.specs.Interactions.{has_interaction}
 use Rattle.plant_text.specs.Meaning.{on_line, lines_row, nothing, meaning}
-use Rattle.plant_text.specs.Names.{kind_in, atom_number, wire_number, port_named, place_named}
-use Rattle.plant_text.specs.Rows.{told, told_tree, last_changed, atom_part_row, named_in, wire_part_row, atom_row, has_room, connector_row, rule_in, rule_row, row_of, words_row, passed_row, line_row}
+use Rattle.plant_text.specs.Names.{atom_number, wire_number, port_named, place_named}
+use Rattle.plant_text.specs.Rows.{told, found_tree, last_changed, atom_part_row, named_in, wire_part_row, atom_row, has_room, connector_row, rule_in, rule_row, row_of, words_row, passed_row, line_row}
 use Rattle.plant_text.specs.Text.{WireText, PlantText}
 use Rattle.plant_text.specs.declared.fault.Fault.{Fault}
 use Rattle.plant_text.specs.declared.fault.Fault.TheVariants.{NotAscii, UnknownWord, Twice, Limit}
-use Rattle.plant_text.specs.declared.kinds.AtomPart.{AtomPart}
-use Rattle.plant_text.specs.declared.kinds.AtomPart.TheVariants.{Place, Variable, Port, Transition}
-use Rattle.plant_text.specs.declared.kinds.WirePart.{WirePart}
-use Rattle.plant_text.specs.declared.kinds.WirePart.TheVariants.{Guard, Transfer}
-use Rattle.plant_text.specs.declared.kinds.RuleKind.{RuleKind}
-use Rattle.plant_text.specs.declared.kinds.RuleKind.TheVariants.{Priority, Maximal}
-use Rattle.plant_text.specs.declared.kinds.LineKind.{LineKind}
-use Rattle.plant_text.specs.declared.kinds.LineKind.TheVariants.{Atom, Connector, OfAtom, OfConnector, Rule as OfRule}
-use Rattle.plant_text.proofs.SoundLists.{was_told, changed_last}
-use Rattle.plant_text.proofs.SoundWires.{tree_told}
-use Rattle.plant_text.proofs.SoundLines.{told_on_line}
+use Rattle.plant_text.proofs.SoundLists.{was_found, changed_last}
+use Rattle.plant_text.proofs.SoundWires.{tree_found}
+use Rattle.plant_text.proofs.SoundLines.{found_on_line}
 use Rattle.plant_text.proofs.Sound.{meant}
 
--- ---- the words behind the first one
+-- ---- the words after the first one
 
 atom_is_legal : (words : List (List ℕ)) (plant next : PlantText) → atom_row words plant ≡ Ok next → are_legal words ≡ true
 atom_is_legal words plant next is =
-    let made : List ℕ → Unit {0} → Result PlantText Fault = λ name end. Ok (record plant { atoms = plant.atoms ++ definition_by name [] [] [] [] ∷ [] }) in
-    let ended : List ℕ → Unit {0} → Result PlantText Fault = λ name new. told (at_end (drop 1 words)) >>= made name in
-    let named : List ℕ → Result PlantText Fault = λ name. check (is_none (atom_number plant.atoms name)) Twice >>= ended name in
-    let room = led_on (check (nat_lt (length plant.atoms) MAX_ATOMS) Limit) (λ _. told (first_name words) >>= named) next is in
-    let name = led_on (told (first_name words)) named next room.2 in
-    let new = led_on (check (is_none (atom_number plant.atoms name.0)) Twice) (ended name.0) next name.2 in
-    let end = led_on (told (at_end (drop 1 words))) (made name.0) next new.2 in
-    name_is_legal words name.0 (was_told (first_name words) name.0 name.1) (end_is_legal (drop 1 words) end.0 (was_told (at_end (drop 1 words)) end.0 end.1))
+    let line = adds_named (nat_lt (length plant.atoms) MAX_ATOMS) Limit Twice (told (first_name words)) (λ name. is_none (atom_number plant.atoms name)) (told (at_end (drop 1 words)))
+    (λ name end. Ok (record plant { atoms = plant.atoms ++ definition_by name [] [] [] [] ∷ [] })) next is in
+    name_is_legal words line.name (was_found (first_name words) line.name line.named) (end_is_legal (drop 1 words) line.value (was_found (at_end (drop 1 words)) line.value line.valued))
 
 atom_part_is_legal : (part : AtomPart) (words : List (List ℕ)) (a grown : AtomDefinition) → atom_part_row part words a ≡ Ok grown → are_legal words ≡ true
 atom_part_is_legal Place words a grown is = place_row_is_legal words a grown is
@@ -66,16 +61,10 @@ wire_part_is_legal Transfer atoms words w changed is =
 
 connector_is_legal : (words : List (List ℕ)) (plant next : PlantText) → connector_row words plant ≡ Ok next → are_legal words ≡ true
 connector_is_legal words plant next is =
-    let added : List ℕ → List Token → Result PlantText Fault = λ name tree.
-    check (has_room plant.wires tree) Limit >>= (λ _. Ok (record plant { wires = plant.wires ++ record { name = name; tree = tree; guards = []; transfers = [] } ∷ [] })) in
-    let treed : List ℕ → Unit {0} → Result PlantText Fault = λ name new. told_tree (tree_in (port_named plant.atoms) (drop 1 words)) >>= added name in
-    let named : List ℕ → Result PlantText Fault = λ name. check (is_none (wire_number plant.wires name)) Twice >>= treed name in
-    let few = led_on (check (nat_lt (length plant.wires) MAX_WIRES) Limit) (λ _. told (first_name words) >>= named) next is in
-    let name = led_on (told (first_name words)) named next few.2 in
-    let new = led_on (check (is_none (wire_number plant.wires name.0)) Twice) (treed name.0) next name.2 in
-    let tree = led_on (told_tree (tree_in (port_named plant.atoms) (drop 1 words))) (added name.0) next new.2 in
-    name_is_legal words name.0 (was_told (first_name words) name.0 name.1)
-    (tree_is_legal (port_named plant.atoms) (drop 1 words) tree.0 (tree_told (tree_in (port_named plant.atoms) (drop 1 words)) tree.0 tree.1))
+    let line = adds_named (nat_lt (length plant.wires) MAX_WIRES) Limit Twice (told (first_name words)) (λ name. is_none (wire_number plant.wires name)) (found_tree (tree_in (port_named plant.atoms) (drop 1 words)))
+    (λ name tree. check (has_room plant.wires tree) Limit >>= λ _. Ok (record plant { wires = plant.wires ++ record { name = name; tree = tree; guards = []; transfers = [] } ∷ [] })) next is in
+    name_is_legal words line.name (was_found (first_name words) line.name line.named)
+    (tree_is_legal (port_named plant.atoms) (drop 1 words) line.value (tree_found (tree_in (port_named plant.atoms) (drop 1 words)) line.value line.valued))
 
 rule_in_is_legal : (kind : RuleKind) (atoms : List AtomDefinition) (wires : List WireText) (words : List (List ℕ)) (rule : Rule) → rule_in kind atoms wires words ≡ Ok rule → are_legal words ≡ true
 rule_in_is_legal Priority atoms wires words rule is = priority_is_legal (wire_number wires) (has_interaction wires) (atom_number atoms) (place_named atoms) words rule is
@@ -86,7 +75,7 @@ rule_is_legal kind words plant next is =
     let made : Rule → Result PlantText Fault = λ rule. Ok (record plant { rules = plant.rules ++ rule ∷ [] }) in
     let room = led_on (check (nat_lt (length plant.rules) MAX_RULES) Limit) (λ _. told (rule_in kind plant.atoms plant.wires words) >>= made) next is in
     let rule = led_on (told (rule_in kind plant.atoms plant.wires words)) made next room.2 in
-    rule_in_is_legal kind plant.atoms plant.wires words rule.0 (was_told (rule_in kind plant.atoms plant.wires words) rule.0 rule.1)
+    rule_in_is_legal kind plant.atoms plant.wires words rule.0 (was_found (rule_in kind plant.atoms plant.wires words) rule.0 rule.1)
 
 row_is_legal : (kind : LineKind) (words : List (List ℕ)) (plant next : PlantText) → row_of kind words plant ≡ Ok next → are_legal words ≡ true
 row_is_legal Atom words plant next is = atom_is_legal words plant next is
@@ -120,7 +109,7 @@ lines_are_legal : (number : ℕ) (lines : List (List ℕ)) (plant next : PlantTe
 lines_are_legal number [] plant next is = refl
 lines_are_legal number (line ∷ lines) plant next is =
     let first = led_on (on_line number (line_row line plant)) (λ p. lines_row (number + 1) lines p) next is in
-    and_from (is_legal_line line) (are_legal lines) (line_is_legal line plant first.0 (told_on_line number (line_row line plant) first.0 first.1))
+    and_from (is_legal_line line) (are_legal lines) (line_is_legal line plant first.0 (found_on_line number (line_row line plant) first.0 first.1))
     (lines_are_legal (number + 1) lines first.0 next first.2)
 
 pub text_is_legal : (text : List ℕ) (plant : PlantText) → meaning text ≡ Ok plant → are_legal (lines_of text) ≡ true

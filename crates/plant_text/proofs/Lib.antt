@@ -1,22 +1,21 @@
-pub mod Indexed
-pub mod Lasts
-pub mod Numbered
-pub mod SoundLists
-pub mod SoundAtoms
-pub mod SoundWires
-pub mod SoundRules
-pub mod SoundLines
-pub mod Sound
+mod Indexed
+mod Lasts
+mod Numbered
+mod SoundLists
+mod SoundAtoms
+mod SoundWires
+mod SoundRules
+mod SoundLines
+mod Sound
 mod Rows
-pub mod Connectors
-pub mod Counts
-pub mod Systems
-pub mod Marked
-pub mod Written
-pub mod Taking
-pub mod OnePlant
-pub mod Exits
-pub mod Deciding
-pub mod Listing
-pub mod Meant
-pub mod Legal
+mod Connectors
+mod Counts
+mod Systems
+mod Marked
+mod Written
+mod Taking
+mod OnePlant
+mod Exits
+mod Listing
+mod Meant
+mod Legal

@@ -28,34 +28,34 @@ line_read number lines rest line plant next taken says =
 pub lines_end : (number : ℕ) (lines : List (List ℕ)) (plant : PlantText) → lines ≡ [] → lines_row number lines plant ≡ Ok plant
 lines_end number lines plant none = ap (λ (all : List (List ℕ)). lines_row number all plant) none
 
--- the fault of a line is told with its number, but for want of memory
-told_on_line : (number : ℕ) (fault : Fault) (read : Result PlantText Fault) → (fault ≢ Memory → read ≡ Err fault) → placed number fault ≢ of_no_line Memory → on_line number read ≡ Err (placed number fault)
-told_on_line number Memory read refused other = absurd (other refl)
-told_on_line number NotAscii read refused other = ap (on_line number) (refused (λ is. cc))
-told_on_line number TooLong read refused other = ap (on_line number) (refused (λ is. cc))
-told_on_line number UnknownWord read refused other = ap (on_line number) (refused (λ is. cc))
-told_on_line number Misplaced read refused other = ap (on_line number) (refused (λ is. cc))
-told_on_line number BadName read refused other = ap (on_line number) (refused (λ is. cc))
-told_on_line number Twice read refused other = ap (on_line number) (refused (λ is. cc))
-told_on_line number UnknownName read refused other = ap (on_line number) (refused (λ is. cc))
-told_on_line number BadExpression read refused other = ap (on_line number) (refused (λ is. cc))
-told_on_line number BadNumber read refused other = ap (on_line number) (refused (λ is. cc))
-told_on_line number Shape read refused other = ap (on_line number) (refused (λ is. cc))
-told_on_line number (Tree f) read refused other = ap (on_line number) (refused (λ is. cc))
-told_on_line number (Order f) read refused other = ap (on_line number) (refused (λ is. cc))
-told_on_line number Limit read refused other = ap (on_line number) (refused (λ is. cc))
-told_on_line number NoAtom read refused other = ap (on_line number) (refused (λ is. cc))
-told_on_line number Read read refused other = ap (on_line number) (refused (λ is. cc))
+-- the fault of a line is answered with its number, but for want of memory
+found_on_line : (number : ℕ) (fault : Fault) (read : Result PlantText Fault) → (fault ≢ Memory → read ≡ Err fault) → placed number fault ≢ of_no_line Memory → on_line number read ≡ Err (placed number fault)
+found_on_line number Memory read refused other = absurd (other refl)
+found_on_line number NotAscii read refused other = ap (on_line number) (refused (λ is. cc))
+found_on_line number TooLong read refused other = ap (on_line number) (refused (λ is. cc))
+found_on_line number UnknownWord read refused other = ap (on_line number) (refused (λ is. cc))
+found_on_line number Misplaced read refused other = ap (on_line number) (refused (λ is. cc))
+found_on_line number BadName read refused other = ap (on_line number) (refused (λ is. cc))
+found_on_line number Twice read refused other = ap (on_line number) (refused (λ is. cc))
+found_on_line number UnknownName read refused other = ap (on_line number) (refused (λ is. cc))
+found_on_line number BadExpression read refused other = ap (on_line number) (refused (λ is. cc))
+found_on_line number BadNumber read refused other = ap (on_line number) (refused (λ is. cc))
+found_on_line number Shape read refused other = ap (on_line number) (refused (λ is. cc))
+found_on_line number (Tree f) read refused other = ap (on_line number) (refused (λ is. cc))
+found_on_line number (Order f) read refused other = ap (on_line number) (refused (λ is. cc))
+found_on_line number Limit read refused other = ap (on_line number) (refused (λ is. cc))
+found_on_line number NoAtom read refused other = ap (on_line number) (refused (λ is. cc))
+found_on_line number Read read refused other = ap (on_line number) (refused (λ is. cc))
 
 -- a line with a fault is the first one that has one
 pub line_refused : (number : ℕ) (lines rest : List (List ℕ)) (line : List ℕ) (plant : PlantText) (fault : Fault) (told : PlantFault) →
     lines ≡ line ∷ rest → told ≡ placed number fault → (fault ≢ Memory → line_row line plant ≡ Err fault) → told ≢ of_no_line Memory → lines_row number lines plant ≡ Err told
 line_refused number lines rest line plant fault told taken is refused other =
     ap (λ (all : List (List ℕ)). lines_row number all plant) taken
-    ∙ ap (λ told. told >>= λ next. lines_row (number + 1) rest next) (told_on_line number fault (line_row line plant) refused (λ same. other (is ∙ same)))
+    ∙ ap (λ told. told >>= λ next. lines_row (number + 1) rest next) (found_on_line number fault (line_row line plant) refused (λ same. other (is ∙ same)))
     ∙ ap Err (sym is)
 
--- the first line with a fault is behind one that has none
+-- the first line with a fault is after one that has none
 pub line_passed : (lines rest : List (List ℕ)) (line : List ℕ) (plant next : PlantText) →
     lines ≡ line ∷ rest → line_row line plant ≡ Ok next → faulty_line lines plant ≡ faulty_line rest next
 line_passed lines rest line plant next taken says =

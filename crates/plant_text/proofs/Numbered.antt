@@ -15,11 +15,11 @@ use Rattle.priority_filter.specs.Decided.{order_fault}
 use Rattle.priority_filter.specs.declared.fault.OrderFault.{OrderFault}
 use Rattle.step_core.specs.Choice as choice
 use Rattle.step_core.specs.Plant.{WireDefinition, PlantDefinition}
-use Rattle.step_core.specs.Rules.{first_of, first_told, atom_fault, tree_fault, wire_fault, fault_of_wire, fault_of_count, is_within_limits, early_fault, late_fault, fault_of_order, fault_of}
+use Rattle.step_core.specs.Rules.{first_of, first_fault_in, atom_fault, tree_fault, wire_fault, fault_of_wire, fault_of_count, is_within_limits, early_fault, late_fault, fault_of_order, fault_of}
 use Rattle.step_core.specs.declared.fault.SystemFault.{SystemFault}
 use Rattle.step_core.specs.declared.fault.SystemFault.TheVariants.{Limit, BadAtom, BadConnector, BadWire, Order}
 use Rattle.step_core.specs.declared.limits.TheConstants.{MAX_INTERACTIONS}
-use Rattle.step_core.proofs.Alive.{order-sound}
+use Rattle.step_core.proofs.NoDeadlock.{order-sound}
 use Rattle.connector_tree.specs.Tokens.{tokens_of}
 use Rattle.connector_tree.proofs.TokenMeaning as connector
 use Rattle.plant_text.specs.Interactions.{interactions_at, interactions_from, interactions_of, trees_of}
@@ -52,49 +52,49 @@ abbrev is_of_order : SystemFault → Bool
 is_of_order (Order fault) = true
 is_of_order fault = false
 
-abbrev tells_order : Option SystemFault → Bool
-tells_order told = option_map_or is_of_order told false
+abbrev finds_order : Option SystemFault → Bool
+finds_order told = option_map_or is_of_order told false
 
-first_of-not : (a b : Option SystemFault) → tells_order a ≡ false → tells_order b ≡ false → tells_order (first_of a b) ≡ false
+first_of-not : (a b : Option SystemFault) → finds_order a ≡ false → finds_order b ≡ false → finds_order (first_of a b) ≡ false
 first_of-not (Some fault) b here later = here
 first_of-not None b here later = later
 
-first_told-not : {X : Type 0} (tell : ℕ → X → Option SystemFault) → ((n : ℕ) (x : X) → tells_order (tell n x) ≡ false) → (n : ℕ) (xs : List X) → tells_order (first_told tell n xs) ≡ false
-first_told-not tell each n [] = refl
-first_told-not tell each n (x ∷ xs) = first_of-not (tell n x) (first_told tell (suc n) xs) (each n x) (first_told-not tell each (suc n) xs)
+first_found-not : {X : Type 0} (tell : ℕ → X → Option SystemFault) → ((n : ℕ) (x : X) → finds_order (tell n x) ≡ false) → (n : ℕ) (xs : List X) → finds_order (first_fault_in tell n xs) ≡ false
+first_found-not tell each n [] = refl
+first_found-not tell each n (x ∷ xs) = first_of-not (tell n x) (first_fault_in tell (suc n) xs) (each n x) (first_found-not tell each (suc n) xs)
 
-mapped-not : {F : Type 0} (make : F → SystemFault) → ((fault : F) → is_of_order (make fault) ≡ false) → (o : Option F) → tells_order (option_map make o) ≡ false
+mapped-not : {F : Type 0} (make : F → SystemFault) → ((fault : F) → is_of_order (make fault) ≡ false) → (o : Option F) → finds_order (option_map make o) ≡ false
 mapped-not make each None = refl
 mapped-not make each (Some fault) = each fault
 
-unless-not : (b : Bool) (fault : SystemFault) (later : Option SystemFault) → is_of_order fault ≡ false → tells_order later ≡ false → tells_order (cond b (Some fault) later) ≡ false
+unless-not : (b : Bool) (fault : SystemFault) (later : Option SystemFault) → is_of_order fault ≡ false → finds_order later ≡ false → finds_order (cond b (Some fault) later) ≡ false
 unless-not true fault later here there = here
 unless-not false fault later here there = there
 
--- the rules about limits, names of atoms and trees tell none
-early-not : (plant : PlantDefinition) → tells_order (early_fault plant) ≡ false
+-- the rules about limits, names of atoms and trees find none
+early-not : (plant : PlantDefinition) → finds_order (early_fault plant) ≡ false
 early-not plant =
-    let names = first_told-not (atom_fault plant.atoms) (λ n a. unless-not (list_any (λ b. is_same_text b.name a.name) (take n plant.atoms)) (BadAtom n) None refl refl) 0 plant.atoms in
-    let trees = first_told-not tree_fault (λ k w. mapped-not (BadConnector k) (λ fault. refl) (tree.fault_of w.connector)) 0 plant.wires in
-    unless-not (not (is_within_limits plant)) Limit (first_of (first_told (atom_fault plant.atoms) 0 plant.atoms) (first_told tree_fault 0 plant.wires)) refl
-    (first_of-not (first_told (atom_fault plant.atoms) 0 plant.atoms) (first_told tree_fault 0 plant.wires) names trees)
+    let names = first_found-not (atom_fault plant.atoms) (λ n a. unless-not (list_any (λ b. is_same_text b.name a.name) (take n plant.atoms)) (BadAtom n) None refl refl) 0 plant.atoms in
+    let trees = first_found-not tree_fault (λ k w. mapped-not (BadConnector k) (λ fault. refl) (tree.fault_of w.connector)) 0 plant.wires in
+    unless-not (not (is_within_limits plant)) Limit (first_of (first_fault_in (atom_fault plant.atoms) 0 plant.atoms) (first_fault_in tree_fault 0 plant.wires)) refl
+    (first_of-not (first_fault_in (atom_fault plant.atoms) 0 plant.atoms) (first_fault_in tree_fault 0 plant.wires) names trees)
 
 -- nor do those about wires and about how many interactions there are
-late-not : (plant : PlantDefinition) → tells_order (late_fault plant) ≡ false
+late-not : (plant : PlantDefinition) → finds_order (late_fault plant) ≡ false
 late-not plant =
     let count = length (choice.plant_interactions plant) in
-    first_of-not (first_told (wire_fault plant.atoms plant.wires) 0 plant.wires) (fault_of_count count)
-    (first_told-not (wire_fault plant.atoms plant.wires) (λ k w. mapped-not (BadWire k) (λ fault. refl) (fault_of_wire plant.atoms (take k plant.wires) w)) 0 plant.wires)
+    first_of-not (first_fault_in (wire_fault plant.atoms plant.wires) 0 plant.wires) (fault_of_count count)
+    (first_found-not (wire_fault plant.atoms plant.wires) (λ k w. mapped-not (BadWire k) (λ fault. refl) (fault_of_wire plant.atoms (take k plant.wires) w)) 0 plant.wires)
     (unless-not (nat_lt MAX_INTERACTIONS count) Limit None refl refl)
 
--- a fault of the order is told by what comes behind rules that tell none
-behind : (a b : Option SystemFault) (fault : OrderFault) → tells_order a ≡ false → first_of a b ≡ Some (Order fault) → b ≡ Some (Order fault)
+-- a fault of the order is found by what comes after rules that find none
+behind : (a b : Option SystemFault) (fault : OrderFault) → finds_order a ≡ false → first_of a b ≡ Some (Order fault) → b ≡ Some (Order fault)
 behind None b fault other told = told
-behind (Some first) b fault other told = absurd (false≢true (sym other ∙ ap tells_order told))
+behind (Some first) b fault other told = absurd (false≢true (sym other ∙ ap finds_order told))
 
--- the fault of the order that is told of a plant is that of its rules over the interactions that are written
-pub order_told : (plant : PlantDefinition) (fault : OrderFault) → fault_of plant ≡ Some (Order fault) → order_fault plant.rules (interactions_of (text_of plant).wires) ≡ Some fault
-order_told plant fault told =
+-- the fault of the order that is found in a plant is that of its rules over the interactions that are written
+pub order_found : (plant : PlantDefinition) (fault : OrderFault) → fault_of plant ≡ Some (Order fault) → order_fault plant.rules (interactions_of (text_of plant).wires) ≡ Some fault
+order_found plant fault told =
     let later = behind (early_fault plant) (first_of (late_fault plant) (fault_of_order plant)) fault (early-not plant) told in
     let last = behind (late_fault plant) (fault_of_order plant) fault (late-not plant) later in
     ap (order_fault plant.rules) (sym (interactions_written plant)) ∙

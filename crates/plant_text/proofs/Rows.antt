@@ -95,8 +95,8 @@ another_connector : line_row (codes "connector two A.t' B.u") (record sample { w
 another_connector = refl
 
 -- 228 is a byte that may not stand in a text
-an_illegal_byte_behind_a_word_of_no_line : line_row (codes "plaice " ++ 228 ∷ []) sample ≡ Err UnknownWord
-an_illegal_byte_behind_a_word_of_no_line = refl
+an_illegal_byte_after_a_word_of_no_line : line_row (codes "plaice " ++ 228 ∷ []) sample ≡ Err UnknownWord
+an_illegal_byte_after_a_word_of_no_line = refl
 
 an_illegal_byte_in_the_first_word : line_row (codes "pl" ++ 228 ∷ codes "ce p") sample ≡ Err NotAscii
 an_illegal_byte_in_the_first_word = refl
@@ -113,17 +113,17 @@ an_illegal_byte_in_a_name = refl
 an_illegal_byte_left_over : line_row (codes "atom C " ++ 228 ∷ []) sample ≡ Err NotAscii
 an_illegal_byte_left_over = refl
 
-an_illegal_byte_behind_a_place_twice : line_row (codes "place s " ++ 228 ∷ []) sample ≡ Err Twice
-an_illegal_byte_behind_a_place_twice = refl
+an_illegal_byte_after_a_place_twice : line_row (codes "place s " ++ 228 ∷ []) sample ≡ Err Twice
+an_illegal_byte_after_a_place_twice = refl
 
 an_illegal_byte_in_a_place_of_no_atom : line_row (codes "place " ++ 228 ∷ []) nothing ≡ Err Misplaced
 an_illegal_byte_in_a_place_of_no_atom = refl
 
-an_illegal_byte_behind_a_connector_too_many : line_row (codes "connector " ++ 228 ∷ []) (record sample { wires = replicate 64 (wire_named (codes "one")) }) ≡ Err Limit
-an_illegal_byte_behind_a_connector_too_many = refl
+an_illegal_byte_after_a_connector_too_many : line_row (codes "connector " ++ 228 ∷ []) (record sample { wires = replicate 64 (wire_named (codes "one")) }) ≡ Err Limit
+an_illegal_byte_after_a_connector_too_many = refl
 
-an_illegal_byte_behind_an_atom_twice_in_a_tree : line_row (codes "connector c A.t A.t " ++ 228 ∷ []) sample ≡ Err NotAscii
-an_illegal_byte_behind_an_atom_twice_in_a_tree = refl
+an_illegal_byte_after_an_atom_twice_in_a_tree : line_row (codes "connector c A.t A.t " ++ 228 ∷ []) sample ≡ Err NotAscii
+an_illegal_byte_after_an_atom_twice_in_a_tree = refl
 
 a_word_of_no_line : line_row (codes "priority one < two") sample ≡ Err UnknownWord
 a_word_of_no_line = refl
@@ -218,17 +218,17 @@ lines_end_at_line_feeds = refl
 lines_that_say_nothing_count : lines_row 1 (codes "# two atoms" ∷ [] ∷ codes "atom A" ∷ codes "atom A" ∷ []) nothing ≡ Err (at 4 Twice)
 lines_that_say_nothing_count = refl
 
-the_first_fault_is_told : lines_row 1 (codes "foo" ∷ codes "place p" ∷ []) nothing ≡ Err (at 1 UnknownWord)
-the_first_fault_is_told = refl
+the_first_fault_is_found : lines_row 1 (codes "foo" ∷ codes "place p" ∷ []) nothing ≡ Err (at 1 UnknownWord)
+the_first_fault_is_found = refl
 
 -- ---- what faults say
 
-a_fault_of_a_line_is_told_with_its_line : placed_message_of (at 14 BadExpression) ≡ codes "line 14: an expression is malformed"
+a_fault_of_a_line_is_shown_with_its_line : placed_message_of (at 14 BadExpression) ≡ codes "line 14: an expression is malformed"
 unfolding digits
-a_fault_of_a_line_is_told_with_its_line = refl
+a_fault_of_a_line_is_shown_with_its_line = refl
 
-a_fault_of_no_line_is_told_alone : placed_message_of (of_no_line NoAtom) ≡ codes "there is no atom"
-a_fault_of_no_line_is_told_alone = refl
+a_fault_of_no_line_is_shown_alone : placed_message_of (of_no_line NoAtom) ≡ codes "there is no atom"
+a_fault_of_no_line_is_shown_alone = refl
 
 a_text_that_is_too_long : placed_message_of (of_no_line TooLong) ≡ codes "the text has more than 1048576 bytes"
 unfolding digits

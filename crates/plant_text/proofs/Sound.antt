@@ -13,10 +13,10 @@ use Rattle.priority_filter.specs.Decided.{order_fault}
 use Rattle.priority_filter.specs.declared.fault.OrderFault.{OrderFault}
 use Rattle.step_core.specs.Choice as choice
 use Rattle.step_core.specs.Plant.{WireDefinition, PlantDefinition}
-use Rattle.step_core.specs.Rules.{first_of, first_told, first_broken, is_small_wire, is_within_limits, is_known_port, is_known_export, names_known, atom_fault, tree_fault, fault_of_wire, wire_fault, early_fault, fault_of_count, late_fault, fault_of_order, fault_of}
+use Rattle.step_core.specs.Rules.{first_of, first_fault_in, first_broken, is_small_wire, is_within_limits, is_known_port, is_known_export, names_known, atom_fault, tree_fault, fault_of_wire, wire_fault, early_fault, fault_of_count, late_fault, fault_of_order, fault_of}
 use Rattle.step_core.specs.declared.fault.SystemFault.TheVariants.{Limit, BadAtom, BadConnector, BadWire, Order}
 use Rattle.step_core.specs.declared.limits.TheConstants.{MAX_ATOMS, MAX_WIRES, MAX_RULES, MAX_INTERACTIONS}
-use Rattle.step_core.proofs.FirstTold.{four}
+use Rattle.step_core.proofs.FirstFault.{four}
 use Rattle.text_io.specs.declared.reading.TheConstants.{MAX_TEXT}
 use Rattle.plant_words.specs.Lines.{lines_of}
 use Rattle.connector_tree.proofs.TokenFaults.{fault-tree}
@@ -29,14 +29,14 @@ use Rattle.plant_text.specs.Meaning.{lines_row, nothing, with_an_atom, with_an_o
 use Rattle.plant_text.specs.declared.fault.Fault.TheVariants as fault
 use Rattle.plant_text.proofs.Numbered.{interactions_written}
 use Rattle.plant_words.proofs.Steps.{led_on, same_end}
-use Rattle.plant_text.proofs.SoundLists.{EachBehind, each_passes, each_mapped, none_told}
-use Rattle.plant_text.proofs.SoundWires.{SoundBehind}
+use Rattle.plant_text.proofs.SoundLists.{EachAfter, each_passes, each_mapped, none_told}
+use Rattle.plant_text.proofs.SoundWires.{SoundAfter}
 use Rattle.plant_text.proofs.SoundLines.{HasNewName, SoundText, text_sound}
 
 -- ---- the rules of plants
 
 -- a connector of which this holds as it is written breaks no rule of connectors
-wire_keeps : (atoms : List AtomDefinition) (before : List WireDefinition) (w : WireDefinition) → SoundBehind atoms (map wire_text_of before) (wire_text_of w) → fault_of_wire atoms before w ≡ None
+wire_keeps : (atoms : List AtomDefinition) (before : List WireDefinition) (w : WireDefinition) → SoundAfter atoms (map wire_text_of before) (wire_text_of w) → fault_of_wire atoms before w ≡ None
 wire_keeps atoms before w sound =
     let named : list_any (λ v. is_same_text v.name w.name) before ≡ false = sym (list_any-map (λ v. is_same_text v.name w.name) wire_text_of before) ∙ sound.name in
     let leaves = ports-tree w.connector in
@@ -48,10 +48,10 @@ wire_keeps atoms before w sound =
 module _ (plant : PlantDefinition) (sound : SoundText (text_of plant)) where
   -- what holds of a connector by those before it, all as they are written
   abbrev Holds : List WireDefinition → WireDefinition → Type 0
-  Holds before w = SoundBehind plant.atoms (map wire_text_of before) (wire_text_of w)
+  Holds before w = SoundAfter plant.atoms (map wire_text_of before) (wire_text_of w)
 
-  each : EachBehind Holds [] plant.wires
-  each = each_mapped (SoundBehind plant.atoms) wire_text_of [] plant.wires sound.wires
+  each : EachAfter Holds [] plant.wires
+  each = each_mapped (SoundAfter plant.atoms) wire_text_of [] plant.wires sound.wires
 
   within : 0 < length plant.atoms → is_within_limits plant ≡ true
   within some =
@@ -63,17 +63,17 @@ module _ (plant : PlantDefinition) (sound : SoundText (text_of plant)) where
 
   early_sound : 0 < length plant.atoms → early_fault plant ≡ None
   early_sound some =
-      let names : first_told (atom_fault plant.atoms) 0 plant.atoms ≡ None =
+      let names : first_fault_in (atom_fault plant.atoms) 0 plant.atoms ≡ None =
       none_told (atom_fault plant.atoms) HasNewName plant.atoms (λ n a new. ap (λ b. if b then Some (BadAtom n) else None) new) [] plant.atoms refl sound.names in
-      let trees : first_told tree_fault 0 plant.wires ≡ None =
+      let trees : first_fault_in tree_fault 0 plant.wires ≡ None =
       none_told tree_fault Holds plant.wires (λ k w holds. ap (option_map (BadConnector k)) (sym (fault-tree w.connector) ∙ holds.sound.tree)) [] plant.wires refl each in
-      ap (λ b. if not b then Some Limit else first_of (first_told (atom_fault plant.atoms) 0 plant.atoms) (first_told tree_fault 0 plant.wires)) (within some) ∙
-      ap (λ o. first_of o (first_told tree_fault 0 plant.wires)) names ∙ trees
+      ap (λ b. if not b then Some Limit else first_of (first_fault_in (atom_fault plant.atoms) 0 plant.atoms) (first_fault_in tree_fault 0 plant.wires)) (within some) ∙
+      ap (λ o. first_of o (first_fault_in tree_fault 0 plant.wires)) names ∙ trees
 
   late_sound : late_fault plant ≡ None
   late_sound =
       let all = choice.plant_interactions plant in
-      let wires : first_told (wire_fault plant.atoms plant.wires) 0 plant.wires ≡ None =
+      let wires : first_fault_in (wire_fault plant.atoms plant.wires) 0 plant.wires ≡ None =
       none_told (wire_fault plant.atoms plant.wires) Holds plant.wires (λ k w holds. ap (option_map (BadWire k)) (wire_keeps plant.atoms _ w holds)) [] plant.wires refl each in
       let count : length all ≡ length (interactions_of (text_of plant).wires) = sym (length-map all choice.named) ∙ ap length (interactions_written plant) in
       let few : length all ≤ MAX_INTERACTIONS = subst (λ n. n ≤ MAX_INTERACTIONS) (sym count) sound.few_interactions in

@@ -83,7 +83,7 @@ pub record Extends (atoms next : List AtomDefinition) : Type 0 where
   pub places : (at : At) → is_known_place atoms at ≡ true → is_known_place next at ≡ true
   pub exports : (p : Port) (e : ℕ) → is_exported atoms p e ≡ true → is_exported next p e ≡ true
 
--- a test of the one with a number, with more behind
+-- a test of the one with a number, with more after
 with_more : {X : Type 0} (test : X → Bool) (xs more : List X) (n : ℕ) → option_map_or test (slice_get xs n) false ≡ true →
     option_map_or test (slice_get (xs ++ more) n) false ≡ true
 with_more test [] more n passes = absurd (false≢true passes)
@@ -106,7 +106,7 @@ extended atoms a = record {
   exports = λ p e. with_more (λ b. nat_lt e (length (exports_of b p.port))) atoms (a ∷ []) p.atom;
 }
 
--- the variables that a port exports are the same with more ports behind
+-- the variables that a port exports are the same with more ports after
 exports-more : (e : ℕ) (ports more : List PortDefinition) (n : ℕ) →
     nat_lt e (length (option_map_or (λ p. p.exports) (slice_get ports n) [])) ≡ true →
     nat_lt e (length (option_map_or (λ p. p.exports) (slice_get (ports ++ more) n) [])) ≡ true

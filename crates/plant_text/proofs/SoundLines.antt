@@ -1,4 +1,4 @@
--- What holds of a plant that lines write, line by line, where none has a fault.
+-- What holds of a plant that lines write, line by line, if none has a fault.
 use Rattle.std.proofs.Common.{◌≡◌, ◌∙◌, refl, sym, ap, subst, ℕ, ◌+◌, ◌<◌, ◌≤◌, arith, Bool, true, false, List, [], ◌∷◌, ◌++◌, length, drop, Result, Ok, Err, lit≤}
 use Rattle.std.specs.Prelude.{nat_lt, is_none}
 use Rattle.std.specs.List.{list_all, list_any}
@@ -15,28 +15,29 @@ use Rattle.step_core.specs.declared.limits.TheConstants.{MAX_ATOMS, MAX_WIRES, M
 use Rattle.plant_words.specs.Lines.{is_legal_line}
 use Rattle.plant_words.specs.Words.{words_of, is_passed_over}
 use Rattle.plant_words.specs.Reading.{first_name, at_end, ◌>>=◌, check}
+use Rattle.plant_words.specs.LineKinds.{kind_in}
+use Rattle.plant_words.specs.declared.line_kind.AtomPart.{AtomPart}
+use Rattle.plant_words.specs.declared.line_kind.AtomPart.TheVariants.{Place, Variable, Port, Transition}
+use Rattle.plant_words.specs.declared.line_kind.WirePart.{WirePart}
+use Rattle.plant_words.specs.declared.line_kind.RuleKind.{RuleKind}
+use Rattle.plant_words.specs.declared.line_kind.LineKind.{LineKind}
+use Rattle.plant_words.specs.declared.line_kind.LineKind.TheVariants.{Atom, Connector, OfAtom, OfConnector, Rule as OfRule}
 use Rattle.atom_lines.proofs.Growing.{Grows, place_grows, variable_grows, port_grows, transition_grows}
 use Rattle.plant_words.proofs.Positions.{none-passes}
 use Rattle.connector_tree.specs.TokenMeaning.{interactions_in}
 use Rattle.plant_text.specs.Text.{WireText, PlantText}
 use Rattle.plant_text.specs.Interactions.{interactions_of}
-use Rattle.plant_text.specs.Names.{kind_in, atom_number}
+use Rattle.plant_text.specs.Names.{atom_number}
 use Rattle.plant_text.specs.Rows.{told, last_changed, atom_part_row, wire_part_row, atom_row, rule_in, rule_row, row_of, words_row, passed_row, line_row}
 use Rattle.plant_text.specs.Meaning.{on_line, lines_row, nothing}
-use Rattle.plant_text.specs.declared.kinds.AtomPart.{AtomPart}
-use Rattle.plant_text.specs.declared.kinds.AtomPart.TheVariants.{Place, Variable, Port, Transition}
-use Rattle.plant_text.specs.declared.kinds.WirePart.{WirePart}
-use Rattle.plant_text.specs.declared.kinds.RuleKind.{RuleKind}
-use Rattle.plant_text.specs.declared.kinds.LineKind.{LineKind}
-use Rattle.plant_text.specs.declared.kinds.LineKind.TheVariants.{Atom, Connector, OfAtom, OfConnector, Rule as OfRule}
 use Rattle.plant_text.specs.declared.fault.Fault.{Fault}
 use Rattle.plant_text.specs.declared.fault.Fault.TheVariants.{NotAscii, UnknownWord, Twice, Limit}
 use Rattle.plant_words.proofs.Exits.{room_for_one}
-use Rattle.plant_words.proofs.Steps.{led_on, passed, same_end, either_way}
-use Rattle.plant_text.proofs.SoundLists.{was_none, was_told, changed_last, EachBehind, each_of_none, each_and_one, each_before_last, each_weaker}
+use Rattle.plant_words.proofs.Steps.{adds_named, led_on, passed, same_end, either_way}
+use Rattle.plant_text.proofs.SoundLists.{was_none, was_found, changed_last, EachAfter, each_of_none, each_and_one, each_before_last, each_weaker}
 use Rattle.plant_text.proofs.SoundAtoms.{Extends, extended, extended_last, condition_stays}
 use Rattle.plant_text.proofs.SoundRules.{rule_known}
-use Rattle.plant_text.proofs.SoundWires.{SoundBehind, stays_behind, part_kept, connector_added, interactions_and_more, same_interactions}
+use Rattle.plant_text.proofs.SoundWires.{SoundAfter, stays_after, part_kept, connector_added, interactions_and_more, same_interactions}
 
 -- no atom before has the name of this one
 abbrev pub HasNewName : List AtomDefinition → AtomDefinition → Type 0
@@ -48,8 +49,8 @@ pub record SoundText (plant : PlantText) : Type 0 where
   pub few_wires : length plant.wires ≤ MAX_WIRES
   pub few_rules : length plant.rules ≤ MAX_RULES
   pub few_interactions : length (interactions_of plant.wires) ≤ MAX_INTERACTIONS
-  pub names : EachBehind HasNewName [] plant.atoms
-  pub wires : EachBehind (SoundBehind plant.atoms) [] plant.wires
+  pub names : EachAfter HasNewName [] plant.atoms
+  pub wires : EachAfter (SoundAfter plant.atoms) [] plant.wires
   pub conditions : list_all (is_known_condition plant.atoms) plant.rules ≡ true
 
 nothing_sound : SoundText nothing
@@ -59,7 +60,7 @@ nothing_sound = record {
   few_rules = lit≤ tt;
   few_interactions = lit≤ tt;
   names = each_of_none HasNewName [];
-  wires = each_of_none (SoundBehind []) [];
+  wires = each_of_none (SoundAfter []) [];
   conditions = refl;
 }
 
@@ -74,33 +75,28 @@ as_many bound front last changed few =
 
 -- what holds of the atoms, and of the connectors by them, with other atoms
 with_atoms : (plant : PlantText) (atoms : List AtomDefinition) → SoundText plant → Extends plant.atoms atoms →
-    length atoms ≤ MAX_ATOMS → EachBehind HasNewName [] atoms → SoundText (record plant { atoms = atoms })
+    length atoms ≤ MAX_ATOMS → EachAfter HasNewName [] atoms → SoundText (record plant { atoms = atoms })
 with_atoms plant atoms sound extends few names = record {
   few_atoms = few;
   few_wires = sound.few_wires;
   few_rules = sound.few_rules;
   few_interactions = sound.few_interactions;
   names = names;
-  wires = each_weaker (SoundBehind plant.atoms) (SoundBehind atoms) (stays_behind plant.atoms atoms extends) [] plant.wires sound.wires;
+  wires = each_weaker (SoundAfter plant.atoms) (SoundAfter atoms) (stays_after plant.atoms atoms extends) [] plant.wires sound.wires;
   conditions = all_weaker (is_known_condition plant.atoms) (is_known_condition atoms) (condition_stays plant.atoms atoms extends) plant.rules sound.conditions;
 }
 
 atom_sound : (words : List (List ℕ)) (plant next : PlantText) → SoundText plant → atom_row words plant ≡ Ok next → SoundText next
 atom_sound words plant next sound is =
-    let atom : List ℕ → AtomDefinition = λ name. definition_by name [] [] [] [] in
-    let made : List ℕ → Unit {0} → Result PlantText Fault = λ name end. Ok (record plant { atoms = plant.atoms ++ atom name ∷ [] }) in
-    let ended : List ℕ → Unit {0} → Result PlantText Fault = λ name new. told (at_end (drop 1 words)) >>= made name in
-    let named : List ℕ → Result PlantText Fault = λ name. check (is_none (atom_number plant.atoms name)) Twice >>= ended name in
-    let room = led_on (check (nat_lt (length plant.atoms) MAX_ATOMS) Limit) (λ _. told (first_name words) >>= named) next is in
-    let name = led_on (told (first_name words)) named next room.2 in
-    let new = led_on (check (is_none (atom_number plant.atoms name.0)) Twice) (ended name.0) next name.2 in
-    let end = led_on (told (at_end (drop 1 words))) (made name.0) next new.2 in
-    let same : record plant { atoms = plant.atoms ++ atom name.0 ∷ [] } ≡ next = same_end (record plant { atoms = plant.atoms ++ atom name.0 ∷ [] }) next end.2 in
-    let none = was_none (atom_number plant.atoms name.0) (passed (is_none (atom_number plant.atoms name.0)) Twice new.0 new.1) in
-    let few : length plant.atoms < MAX_ATOMS = ltb-true (length plant.atoms) MAX_ATOMS (passed (nat_lt (length plant.atoms) MAX_ATOMS) Limit room.0 room.1) in
+    let line = adds_named (nat_lt (length plant.atoms) MAX_ATOMS) Limit Twice (told (first_name words)) (λ name. is_none (atom_number plant.atoms name)) (told (at_end (drop 1 words)))
+    (λ name end. Ok (record plant { atoms = plant.atoms ++ definition_by name [] [] [] [] ∷ [] })) next is in
+    let atom : AtomDefinition = definition_by line.name [] [] [] [] in
+    let same : record plant { atoms = plant.atoms ++ atom ∷ [] } ≡ next = same_end (record plant { atoms = plant.atoms ++ atom ∷ [] }) next line.gives in
+    let none = was_none (atom_number plant.atoms line.name) line.new in
+    let few : length plant.atoms < MAX_ATOMS = ltb-true (length plant.atoms) MAX_ATOMS line.has_room in
     subst SoundText same
-    (with_atoms plant (plant.atoms ++ atom name.0 ∷ []) sound (extended plant.atoms (atom name.0)) (room_for_one MAX_ATOMS plant.atoms (atom name.0) few)
-    (each_and_one HasNewName [] plant.atoms (atom name.0) sound.names (none-passes (λ b. is_same_text b.name name.0) plant.atoms none)))
+    (with_atoms plant (plant.atoms ++ atom ∷ []) sound (extended plant.atoms atom) (room_for_one MAX_ATOMS plant.atoms atom few)
+    (each_and_one HasNewName [] plant.atoms atom sound.names (none-passes (λ b. is_same_text b.name line.name) plant.atoms none)))
 
 -- a part of an atom leaves its name and its ports
 part_grows : (part : AtomPart) (words : List (List ℕ)) (a grown : AtomDefinition) → atom_part_row part words a ≡ Ok grown → Grows a grown
@@ -112,7 +108,7 @@ part_grows Transition words a grown is = transition_grows words a grown is
 last_grown : (plant : PlantText) (front : List AtomDefinition) (a grown : AtomDefinition) → SoundText plant →
     plant.atoms ≡ front ++ a ∷ [] → Grows a grown → SoundText (record plant { atoms = front ++ grown ∷ [] })
 last_grown plant front a grown sound split grows =
-    let names = each_before_last HasNewName [] front a (subst (EachBehind HasNewName []) split sound.names) in
+    let names = each_before_last HasNewName [] front a (subst (EachAfter HasNewName []) split sound.names) in
     let new : HasNewName front grown = subst (λ name. list_any (λ b. is_same_text b.name name) front ≡ false) (sym grows.name) names.1 in
     with_atoms plant (front ++ grown ∷ []) sound
     (subst (λ atoms. Extends atoms (front ++ grown ∷ [])) (sym split) (extended_last front a grown grows))
@@ -133,7 +129,7 @@ atom_part_sound part words plant next sound is =
 
 -- with other connectors
 with_wires : (plant : PlantText) (wires : List WireText) → SoundText plant → length wires ≤ MAX_WIRES →
-    length (interactions_of wires) ≤ MAX_INTERACTIONS → EachBehind (SoundBehind plant.atoms) [] wires →
+    length (interactions_of wires) ≤ MAX_INTERACTIONS → EachAfter (SoundAfter plant.atoms) [] wires →
     SoundText (record plant { wires = wires })
 with_wires plant wires sound few few_interactions each = record {
   few_atoms = sound.few_atoms;
@@ -153,19 +149,19 @@ connector_sound words plant next sound is =
     leb-true (length (interactions_of plant.wires) + length (interactions_in adds.added.tree)) MAX_INTERACTIONS adds.has_room in
     subst SoundText adds.is
     (with_wires plant (plant.wires ++ adds.added ∷ []) sound (room_for_one MAX_WIRES plant.wires adds.added adds.room) (omega (arith, more, room))
-    (each_and_one (SoundBehind plant.atoms) [] plant.wires adds.added sound.wires adds.sound))
+    (each_and_one (SoundAfter plant.atoms) [] plant.wires adds.added sound.wires adds.sound))
 
 last_kept : (part : WirePart) (words : List (List ℕ)) (plant : PlantText) (front : List WireText) (last changed : WireText) →
     SoundText plant → plant.wires ≡ front ++ last ∷ [] → wire_part_row part plant.atoms words last ≡ Ok changed →
     SoundText (record plant { wires = front ++ changed ∷ [] })
 last_kept part words plant front last changed sound split by =
-    let behind = each_before_last (SoundBehind plant.atoms) [] front last (subst (EachBehind (SoundBehind plant.atoms) []) split sound.wires) in
+    let behind = each_before_last (SoundAfter plant.atoms) [] front last (subst (EachAfter (SoundAfter plant.atoms) []) split sound.wires) in
     let kept = part_kept part plant.atoms words last changed behind.1.sound by in
     let named : list_any (λ v. is_same_text v.name changed.name) front ≡ false = subst (λ name. list_any (λ v. is_same_text v.name name) front ≡ false) (sym kept.name) behind.1.name in
     with_wires plant (front ++ changed ∷ []) sound
     (as_many MAX_WIRES front last changed (subst (λ wires. length wires ≤ MAX_WIRES) split sound.few_wires))
     (subst (λ is. length is ≤ MAX_INTERACTIONS) (ap interactions_of split ∙ sym (same_interactions front last changed kept.tree)) sound.few_interactions)
-    (each_and_one (SoundBehind plant.atoms) [] front changed behind.0 (record { name = named; sound = kept.sound }))
+    (each_and_one (SoundAfter plant.atoms) [] front changed behind.0 (record { name = named; sound = kept.sound }))
 
 wire_part_sound : (part : WirePart) (words : List (List ℕ)) (plant next : PlantText) → SoundText plant →
     row_of (OfConnector part) words plant ≡ Ok next → SoundText next
@@ -193,7 +189,7 @@ rule_sound kind words plant next sound is =
     let rule = led_on (told (rule_in kind plant.atoms plant.wires words)) made next room.2 in
     let same : record plant { rules = plant.rules ++ rule.0 ∷ [] } ≡ next = same_end (record plant { rules = plant.rules ++ rule.0 ∷ [] }) next rule.2 in
     let few : length plant.rules < MAX_RULES = ltb-true (length plant.rules) MAX_RULES (passed (nat_lt (length plant.rules) MAX_RULES) Limit room.0 room.1) in
-    let known = rule_known plant.atoms kind plant.wires words rule.0 (was_told (rule_in kind plant.atoms plant.wires words) rule.0 rule.1) in
+    let known = rule_known plant.atoms kind plant.wires words rule.0 (was_found (rule_in kind plant.atoms plant.wires words) rule.0 rule.1) in
     subst SoundText same (record {
       few_atoms = sound.few_atoms;
       few_wires = sound.few_wires;
@@ -227,9 +223,9 @@ line_sound line plant next sound =
     (λ passed. let legal = led_on (check (is_legal_line line) NotAscii) (λ _. Ok plant) next passed in subst SoundText (same_end plant next legal.2) sound)
     (words_sound (words_of line) plant next sound)
 
-pub told_on_line : {A : Type 0} (number : ℕ) (r : Result A Fault) (x : A) → on_line number r ≡ Ok x → r ≡ Ok x
-told_on_line number (Ok y) x is = cc
-told_on_line number (Err fault) x is = absurd (cc)
+pub found_on_line : {A : Type 0} (number : ℕ) (r : Result A Fault) (x : A) → on_line number r ≡ Ok x → r ≡ Ok x
+found_on_line number (Ok y) x is = cc
+found_on_line number (Err fault) x is = absurd (cc)
 
 -- lines without a fault
 pub lines_sound : (number : ℕ) (lines : List (List ℕ)) (plant next : PlantText) → SoundText plant →
@@ -237,7 +233,7 @@ pub lines_sound : (number : ℕ) (lines : List (List ℕ)) (plant next : PlantTe
 lines_sound number [] plant next sound is = subst SoundText (same_end plant next is) sound
 lines_sound number (line ∷ lines) plant next sound is =
     let first = led_on (on_line number (line_row line plant)) (λ p. lines_row (number + 1) lines p) next is in
-    lines_sound (number + 1) lines first.0 next (line_sound line plant first.0 sound (told_on_line number (line_row line plant) first.0 first.1)) first.2
+    lines_sound (number + 1) lines first.0 next (line_sound line plant first.0 sound (found_on_line number (line_row line plant) first.0 first.1)) first.2
 
 pub text_sound : (number : ℕ) (lines : List (List ℕ)) (written : PlantText) → lines_row number lines nothing ≡ Ok written → SoundText written
 text_sound number lines written is = lines_sound number lines nothing written nothing_sound is

@@ -6,7 +6,7 @@ use Rattle.std.specs.Option.{option_map_or}
 use Rattle.std.proofs.lemmas.Bool.{and_from}
 use Rattle.std.proofs.lemmas.List.{length-append, map-append}
 use Rattle.std.proofs.Math.Seq.{set-append_seam, take-append_seam}
-use Rattle.step_core.specs.Rules.{first_of, first_told}
+use Rattle.step_core.specs.Rules.{first_of, first_fault_in}
 use Rattle.plant_words.specs.declared.line_fault.LineFault.{LineFault}
 use Rattle.plant_words.specs.Reading.{◌>>=◌}
 use Rattle.plant_words.proofs.Steps.{led_on, same_end}
@@ -22,9 +22,9 @@ was_none None told = refl
 was_none (Some x) told = absurd (cc)
 
 -- what words of a part had no fault
-pub was_told : {A : Type 0} (r : Result A LineFault) (x : A) → told r ≡ Ok x → r ≡ Ok x
-was_told (Ok y) x is = cc
-was_told (Err fault) x is = absurd (cc)
+pub was_found : {A : Type 0} (r : Result A LineFault) (x : A) → told r ≡ Ok x → r ≡ Ok x
+was_found (Ok y) x is = cc
+was_found (Err fault) x is = absurd (cc)
 
 -- ---- the last of a list
 
@@ -67,7 +67,7 @@ changed_of {A = A} row front last next is =
       changed = changed.0;
       before = refl;
       after = sym end ∙ ap (λ n. slice_set list n changed.0) (last_place front last) ∙ set-append_seam front last [] changed.0;
-      by = was_told (row last) changed.0 changed.1;
+      by = was_found (row last) changed.0 changed.1;
     }
 
 pub changed_last : {A : Type 0} (row : A → Result A LineFault) (list next : List A) → last_changed row list ≡ Ok next → ChangedLast row list next
@@ -79,27 +79,27 @@ changed_last row (x ∷ xs) next is =
 -- ---- what holds of each by those before it
 
 -- something holds of each element and of those before it, where these are before them all
-pub EachBehind : {X : Type 0} → (List X → X → Type 0) → List X → List X → Type 0
-EachBehind P before [] = Unit {0}
-EachBehind P before (x ∷ xs) = P before x × EachBehind P (before ++ x ∷ []) xs
+pub EachAfter : {X : Type 0} → (List X → X → Type 0) → List X → List X → Type 0
+EachAfter P before [] = Unit {0}
+EachAfter P before (x ∷ xs) = P before x × EachAfter P (before ++ x ∷ []) xs
 
 -- it holds of no elements
-pub each_of_none : {X : Type 0} (P : List X → X → Type 0) (before : List X) → EachBehind P before []
-unfolding EachBehind
+pub each_of_none : {X : Type 0} (P : List X → X → Type 0) (before : List X) → EachAfter P before []
+unfolding EachAfter
 each_of_none P before = tt
 
 -- it holds of the elements and one more
-pub each_and_one : {X : Type 0} (P : List X → X → Type 0) (before xs : List X) (y : X) → EachBehind P before xs →
-    P (before ++ xs) y → EachBehind P before (xs ++ y ∷ [])
-unfolding EachBehind
+pub each_and_one : {X : Type 0} (P : List X → X → Type 0) (before xs : List X) (y : X) → EachAfter P before xs →
+    P (before ++ xs) y → EachAfter P before (xs ++ y ∷ [])
+unfolding EachAfter
 each_and_one P before [] y each one = (subst (λ b. P b y) (append-nil before) one, tt)
 each_and_one P before (x ∷ xs) y each one =
     (each.0, each_and_one P (before ++ x ∷ []) xs y each.1 (subst (λ b. P b y) (sym (append_assoc before (x ∷ []) xs)) one))
 
 -- it holds of those before the last, and of the last
-pub each_before_last : {X : Type 0} (P : List X → X → Type 0) (before xs : List X) (y : X) → EachBehind P before (xs ++ y ∷ []) →
-    EachBehind P before xs × P (before ++ xs) y
-unfolding EachBehind
+pub each_before_last : {X : Type 0} (P : List X → X → Type 0) (before xs : List X) (y : X) → EachAfter P before (xs ++ y ∷ []) →
+    EachAfter P before xs × P (before ++ xs) y
+unfolding EachAfter
 each_before_last P before [] y each = (tt, subst (λ b. P b y) (sym (append-nil before)) each.0)
 each_before_last P before (x ∷ xs) y each =
     let rest = each_before_last P (before ++ x ∷ []) xs y each.1 in
@@ -107,37 +107,37 @@ each_before_last P before (x ∷ xs) y each =
 
 -- what is weaker holds too
 pub each_weaker : {X : Type 0} (P Q : List X → X → Type 0) → ((before : List X) (x : X) → P before x → Q before x) →
-    (before xs : List X) → EachBehind P before xs → EachBehind Q before xs
-unfolding EachBehind
+    (before xs : List X) → EachAfter P before xs → EachAfter Q before xs
+unfolding EachAfter
 each_weaker P Q weaker before [] each = tt
 each_weaker P Q weaker before (x ∷ xs) each = (weaker before x each.0, each_weaker P Q weaker (before ++ x ∷ []) xs each.1)
 
 -- a test that each passes of which it holds
 pub each_passes : {X : Type 0} (P : List X → X → Type 0) (test : X → Bool) →
-    ((before : List X) (x : X) → P before x → test x ≡ true) → (before xs : List X) → EachBehind P before xs → list_all test xs ≡ true
-unfolding EachBehind
+    ((before : List X) (x : X) → P before x → test x ≡ true) → (before xs : List X) → EachAfter P before xs → list_all test xs ≡ true
+unfolding EachAfter
 each_passes P test passes before [] each = refl
 each_passes P test passes before (x ∷ xs) each = and_from _ _ (passes before x each.0) (each_passes P test passes (before ++ x ∷ []) xs each.1)
 
 -- it holds of what a function makes of each
 pub each_mapped : {X Y : Type 0} (P : List Y → Y → Type 0) (v : X → Y) (before xs : List X) →
-    EachBehind P (map v before) (map v xs) → EachBehind (λ b x. P (map v b) (v x)) before xs
-unfolding EachBehind
+    EachAfter P (map v before) (map v xs) → EachAfter (λ b x. P (map v b) (v x)) before xs
+unfolding EachAfter
 each_mapped P v before [] each = tt
 each_mapped P v before (x ∷ xs) each =
-    (each.0, each_mapped P v (before ++ x ∷ []) xs (subst (λ b. EachBehind P b (map v xs)) (sym (map-append v before (x ∷ []))) each.1))
+    (each.0, each_mapped P v (before ++ x ∷ []) xs (subst (λ b. EachAfter P b (map v xs)) (sym (map-append v before (x ∷ []))) each.1))
 
--- where something holds of each by those before it that lets it tell nothing, nothing is told
+-- if something holds of each by those before it that lets it find nothing, nothing is found
 pub none_told : {X F : Type 0} (tell : ℕ → X → Option F) (P : List X → X → Type 0) (all : List X) →
     ((n : ℕ) (x : X) → P (take n all) x → tell n x ≡ None) →
-    (before xs : List X) → before ++ xs ≡ all → EachBehind P before xs → first_told tell (length before) xs ≡ None
-unfolding EachBehind
+    (before xs : List X) → before ++ xs ≡ all → EachAfter P before xs → first_fault_in tell (length before) xs ≡ None
+unfolding EachAfter
 none_told tell P all none before [] is each = refl
 none_told tell P all none before (x ∷ xs) is each =
     let taken : take (length before) all ≡ before = ap (take (length before)) (sym is) ∙ take-append_seam before (x ∷ xs) in
     let here : tell (length before) x ≡ None = none (length before) x (subst (λ b. P b x) (sym taken) each.0) in
     let longer : length (before ++ x ∷ []) ≡ length before + 1 = length-append before (x ∷ []) in
     let next : suc (length before) ≡ length (before ++ x ∷ []) = omega (arith, longer) in
-    ap (λ o. first_of o (first_told tell (suc (length before)) xs)) here ∙
-    ap (λ n. first_told tell n xs) next ∙
+    ap (λ o. first_of o (first_fault_in tell (suc (length before)) xs)) here ∙
+    ap (λ n. first_fault_in tell n xs) next ∙
     none_told tell P all none (before ++ x ∷ []) xs (append_assoc before (x ∷ []) xs ∙ is) each.1

@@ -15,6 +15,8 @@ use Rattle.step_core.specs.declared.limits.TheConstants.{MAX_WIRES}
 use Rattle.step_core.specs.declared.wire.Export.{Export}
 use Rattle.plant_words.specs.Reading.{first_name, ◌>>=◌, check}
 use Rattle.plant_words.specs.declared.line_fault.LineFault.{LineFault}
+use Rattle.plant_words.specs.declared.line_kind.WirePart.{WirePart}
+use Rattle.plant_words.specs.declared.line_kind.WirePart.TheVariants.{Guard, Transfer}
 use Rattle.plant_words.proofs.Positions.{none-passes}
 use Rattle.connector_tree.specs.TokenMeaning.{interactions_in}
 use Rattle.connector_tree.specs.Tokens.{ports_in}
@@ -28,12 +30,9 @@ use Rattle.connector_lines.proofs.Added.{SoundGuards, SoundTransfers, guards_sou
 use Rattle.plant_text.specs.Text.{WireText, PlantText}
 use Rattle.plant_text.specs.Interactions.{interactions_at, interactions_from, interactions_of, trees_of}
 use Rattle.plant_text.specs.Names.{wire_number, port_named}
-use Rattle.plant_text.specs.Rows.{told, told_tree, named_in, wire_part_row, has_room, connector_row}
-use Rattle.plant_text.specs.declared.kinds.WirePart.{WirePart}
-use Rattle.plant_text.specs.declared.kinds.WirePart.TheVariants.{Guard, Transfer}
-use Rattle.plant_text.specs.declared.fault.Fault.{Fault}
+use Rattle.plant_text.specs.Rows.{told, found_tree, named_in, wire_part_row, has_room, connector_row}
 use Rattle.plant_text.specs.declared.fault.Fault.TheVariants.{Twice, Limit}
-use Rattle.plant_words.proofs.Steps.{led_on, passed, same_end}
+use Rattle.plant_words.proofs.Steps.{adds_named, led_on, passed, same_end}
 use Rattle.plant_text.proofs.SoundLists.{was_none}
 use Rattle.plant_text.proofs.SoundAtoms.{Extends, port_known, variables_known, exports_stay, variables_weaker}
 
@@ -48,7 +47,7 @@ pub record SoundWire (atoms : List AtomDefinition) (w : WireText) : Type 0 where
   pub transfers : SoundTransfers (is_known_export atoms (ports_in w.tree)) w.transfers
 
 -- the same, and none before it has its name
-pub record SoundBehind (atoms : List AtomDefinition) (before : List WireText) (w : WireText) : Type 0 where
+pub record SoundAfter (atoms : List AtomDefinition) (before : List WireText) (w : WireText) : Type 0 where
   pub name : list_any (λ v. is_same_text v.name w.name) before ≡ false
   pub sound : SoundWire atoms w
 
@@ -76,9 +75,9 @@ wire_stays atoms next extends w sound =
       };
     }
 
-pub stays_behind : (atoms next : List AtomDefinition) → Extends atoms next → (before : List WireText) (w : WireText) →
-    SoundBehind atoms before w → SoundBehind next before w
-stays_behind atoms next extends before w sound = record { name = sound.name; sound = wire_stays atoms next extends w sound.sound }
+pub stays_after : (atoms next : List AtomDefinition) → Extends atoms next → (before : List WireText) (w : WireText) →
+    SoundAfter atoms before w → SoundAfter next before w
+stays_after atoms next extends before w sound = record { name = sound.name; sound = wire_stays atoms next extends w sound.sound }
 
 -- ---- a part more
 
@@ -127,7 +126,7 @@ pub record AddsWire (plant next : PlantText) : Type 0 where
   pub is : record plant { wires = plant.wires ++ added ∷ [] } ≡ next
   pub room : length plant.wires < MAX_WIRES
   pub has_room : has_room plant.wires added.tree ≡ true
-  pub sound : SoundBehind plant.atoms plant.wires added
+  pub sound : SoundAfter plant.atoms plant.wires added
 
 no_guards : (test : Export → Bool) → SoundGuards test []
 no_guards test = record { small = refl; passing = refl }
@@ -135,43 +134,38 @@ no_guards test = record { small = refl; passing = refl }
 no_transfers : (test : Export → Bool) → SoundTransfers test []
 no_transfers test = record { small = refl; passing = refl; once = refl }
 
-pub tree_told : (read : Reading) (tokens : List Token) → told_tree read ≡ Ok tokens → read ≡ Ok tokens
-tree_told (Ok other) tokens is = cc
-tree_told (Err fault) tokens is = absurd (cc)
+pub tree_found : (read : Reading) (tokens : List Token) → found_tree read ≡ Ok tokens → read ≡ Ok tokens
+tree_found (Ok other) tokens is = cc
+tree_found (Err fault) tokens is = absurd (cc)
 
 pub connector_added : (words : List (List ℕ)) (plant next : PlantText) → connector_row words plant ≡ Ok next → AddsWire plant next
 connector_added words plant next is =
-    let wire : List ℕ → List Token → WireText = λ name tree. record { name = name; tree = tree; guards = []; transfers = [] } in
-    let made : List ℕ → List Token → Unit {0} → Result PlantText Fault = λ name tree room. Ok (record plant { wires = plant.wires ++ wire name tree ∷ [] }) in
-    let roomy : List ℕ → List Token → Result PlantText Fault = λ name tree. check (has_room plant.wires tree) Limit >>= made name tree in
-    let treed : List ℕ → Unit {0} → Result PlantText Fault = λ name new. told_tree (tree_in (port_named plant.atoms) (drop 1 words)) >>= roomy name in
-    let named : List ℕ → Result PlantText Fault = λ name. check (is_none (wire_number plant.wires name)) Twice >>= treed name in
-    let few = led_on (check (nat_lt (length plant.wires) MAX_WIRES) Limit) (λ _. told (first_name words) >>= named) next is in
-    let name = led_on (told (first_name words)) named next few.2 in
-    let new = led_on (check (is_none (wire_number plant.wires name.0)) Twice) (treed name.0) next name.2 in
-    let tree = led_on (told_tree (tree_in (port_named plant.atoms) (drop 1 words))) (roomy name.0) next new.2 in
-    let room = led_on (check (has_room plant.wires tree.0) Limit) (made name.0 tree.0) next tree.2 in
-    let read = tree_told (tree_in (port_named plant.atoms) (drop 1 words)) tree.0 tree.1 in
-    let none = was_none (wire_number plant.wires name.0) (passed (is_none (wire_number plant.wires name.0)) Twice new.0 new.1) in
+    let line = adds_named (nat_lt (length plant.wires) MAX_WIRES) Limit Twice (told (first_name words)) (λ name. is_none (wire_number plant.wires name)) (found_tree (tree_in (port_named plant.atoms) (drop 1 words)))
+    (λ name tree. check (has_room plant.wires tree) Limit >>= λ _. Ok (record plant { wires = plant.wires ++ record { name = name; tree = tree; guards = []; transfers = [] } ∷ [] })) next is in
+    let tree = line.value in
+    let wire : WireText = record { name = line.name; tree = tree; guards = []; transfers = [] } in
+    let room = led_on (check (has_room plant.wires tree) Limit) (λ _. Ok (record plant { wires = plant.wires ++ wire ∷ [] })) next line.gives in
+    let read = tree_found (tree_in (port_named plant.atoms) (drop 1 words)) tree line.valued in
+    let none = was_none (wire_number plant.wires line.name) line.new in
     record {
-      added = wire name.0 tree.0;
-      is = same_end (record plant { wires = plant.wires ++ wire name.0 tree.0 ∷ [] }) next room.2;
-      room = ltb-true (length plant.wires) MAX_WIRES (passed (nat_lt (length plant.wires) MAX_WIRES) Limit few.0 few.1);
-      has_room = passed (has_room plant.wires tree.0) Limit room.0 room.1;
+      added = wire;
+      is = same_end (record plant { wires = plant.wires ++ wire ∷ [] }) next room.2;
+      room = ltb-true (length plant.wires) MAX_WIRES line.has_room;
+      has_room = passed (has_room plant.wires tree) Limit room.0 room.1;
       sound = record {
-        name = none-passes (λ v. is_same_text v.name name.0) plant.wires none;
+        name = none-passes (λ v. is_same_text v.name line.name) plant.wires none;
         sound = record {
-          tree = tree-sound (port_named plant.atoms) (drop 1 words) tree.0 read;
-          ports = ports-pass (is_known_port plant.atoms) (port_named plant.atoms) (port_known plant.atoms) (drop 1 words) tree.0 read;
-          guards = no_guards (is_known_export plant.atoms (ports_in tree.0));
-          transfers = no_transfers (is_known_export plant.atoms (ports_in tree.0));
+          tree = tree-sound (port_named plant.atoms) (drop 1 words) tree read;
+          ports = ports-pass (is_known_port plant.atoms) (port_named plant.atoms) (port_known plant.atoms) (drop 1 words) tree read;
+          guards = no_guards (is_known_export plant.atoms (ports_in tree));
+          transfers = no_transfers (is_known_export plant.atoms (ports_in tree));
         };
       };
     }
 
 -- ---- interactions
 
--- one tree more has its interactions behind the others
+-- one tree more has its interactions after the others
 more_interactions : (k : ℕ) (trees : List (List Token)) (tree : List Token) →
     length (interactions_from k (trees ++ tree ∷ [])) ≡ length (interactions_from k trees) + length (interactions_in tree)
 more_interactions k [] tree =

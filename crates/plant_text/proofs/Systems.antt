@@ -24,7 +24,7 @@ use Rattle.plant_text.specs.Parts.{plant_drafted, wire_defined}
 use Rattle.plant_text.specs.Text.{PlantText, wire_text_of, text_of}
 use Rattle.plant_text.specs.declared.fault.Fault.TheVariants.{Order, Memory}
 use Rattle.plant_text.specs.declared.listed.ListedWire.{ListedWire}
-use Rattle.plant_text.proofs.Numbered.{order_told, order_sound}
+use Rattle.plant_text.proofs.Numbered.{order_found, order_sound}
 use Rattle.plant_text.proofs.Sound.{sound_but_order}
 
 -- atoms and wires that are those of drafts are written as the drafts are
@@ -44,7 +44,7 @@ ordered_as_written plant written sound is =
 -- a plant whose rules are at fault has no order, as it is written
 unordered_as_written : (plant : PlantDefinition) (written : PlantText) (fault : OrderFault) → fault_of plant ≡ Some (system.Order fault) → text_of plant ≡ written → with_an_order written ≡ Err (of_no_line (Order fault))
 unordered_as_written plant written fault told is =
-    ap with_an_order (sym is) ∙ ap (λ (o : Option OrderFault). option_map_or (λ fault. Err (of_no_line (Order fault))) o (Ok (text_of plant))) (order_told plant fault told)
+    ap with_an_order (sym is) ∙ ap (λ (o : Option OrderFault). option_map_or (λ fault. Err (of_no_line (Order fault))) o (Ok (text_of plant))) (order_found plant fault told)
 
 -- whether the fault is one of the order
 abbrev is_of_order : SystemFault → Bool
@@ -58,9 +58,9 @@ no_other (Some told) fault other is =
     let same : true ≡ is_of_order fault = ap (λ (o : Option SystemFault). option_map_or is_of_order o true) is in
     absurd (cc)
 
--- the fault of a system that lines write is that of the order, told as one of no line
-pub told_of_system : (fault : SystemFault) (plant : PlantDefinition) (written : PlantText) → IsWritten written → IsFaultOf fault plant → text_of plant ≡ written → of_no_line (of_system fault) ≢ of_no_line Memory → with_an_order written ≡ Err (of_no_line (of_system fault))
-told_of_system fault plant written by told is other = each fault told other
+-- the fault of a system that lines write is that of the order, as one of no line
+pub found_of_system : (fault : SystemFault) (plant : PlantDefinition) (written : PlantText) → IsWritten written → IsFaultOf fault plant → text_of plant ≡ written → of_no_line (of_system fault) ≢ of_no_line Memory → with_an_order written ≡ Err (of_no_line (of_system fault))
+found_of_system fault plant written by told is other = each fault told other
   where
     of_the_order : (f : SystemFault) → fault_of plant ≡ Some f → option_map system.Order (order_fault plant.rules (map named (plant_interactions plant))) ≡ Some f
     of_the_order f told = sym (sound_but_order by.0 1 written plant by.1 by.2 is) ∙ told

@@ -1,4 +1,4 @@
--- What is told where a text is no plant.
+-- The faults of a text that is no plant.
 use Rattle.std.specs.Prelude.{◌≡◌, ◌≢◌, ℕ, ◌==◌, if◌then◌else◌, List, ◌++◌, codes, Option, Some, None, Result, Err}
 use Rattle.std.specs.Fmt.{decimal}
 use Rattle.connector_tree.specs.Faults as connector
@@ -60,7 +60,7 @@ order_subject_of (order.Cycle interaction) = Some interaction
 order_subject_of (order.UnknownName rule) = Some rule
 order_subject_of order.Memory = None
 
--- the number that a fault speaks of, which programs print behind its name
+-- the number that a fault speaks of, which programs print after its name
 abbrev pub subject_of : Fault → Option ℕ
 subject_of (Order fault) = order_subject_of fault
 subject_of fault = None
@@ -152,6 +152,6 @@ abbrev pub placed : ℕ → Fault → PlantFault
 placed number Memory = of_no_line Memory
 placed number fault = record { line = number; fault = fault }
 
--- a fault that is told is the one of what was read, or that memory ran out
+-- a fault that is answered is the one of what was read, or that memory ran out
 abbrev pub IsFaultOf : {A : Type 0} → Result A Fault → Fault → Type 0
 IsFaultOf read fault = fault ≢ Memory → read ≡ Err fault

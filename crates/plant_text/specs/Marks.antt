@@ -4,12 +4,12 @@ use Rattle.plant_text.specs.Text.{PlantText}
 use Rattle.plant_text.specs.Rows.{line_row}
 use Rattle.plant_text.specs.declared.fault.Fault.{Fault}
 
--- the line, where what it says is a fault; and else what is found behind it
+-- the line, where what it says is a fault; and else what is found after it
 abbrev pub if_refused : Result PlantText Fault → List ℕ → (PlantText → Option (List ℕ)) → Option (List ℕ)
 if_refused (Ok next) line behind = behind next
 if_refused (Err fault) line behind = Some line
 
--- the first of the lines with a fault, behind lines that wrote this much
+-- the first of the lines with a fault, after lines that wrote this much
 abbrev pub faulty_line : List (List ℕ) → PlantText → Option (List ℕ)
 faulty_line [] plant = None
 faulty_line (line ∷ lines) plant = if_refused (line_row line plant) line (faulty_line lines)

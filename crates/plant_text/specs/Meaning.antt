@@ -13,7 +13,7 @@ use Rattle.plant_text.specs.declared.fault.Fault.{Fault}
 use Rattle.plant_text.specs.declared.fault.Fault.TheVariants.{TooLong, NoAtom, Order}
 use Rattle.plant_text.specs.declared.fault.PlantFault.{PlantFault}
 
--- what a line says, with its fault told by its number
+-- what a line says, with its fault, placed at its number
 abbrev pub on_line : {A : Type 0} → ℕ → Result A Fault → Result A PlantFault
 on_line number (Ok x) = Ok x
 on_line number (Err fault) = Err (record { line = number; fault = fault })
@@ -36,14 +36,14 @@ with_an_order plant =
 abbrev pub nothing : PlantText
 nothing = record { atoms = []; wires = []; rules = [] }
 
--- what the lines of a text write, numbered from 1, one after the other; a text that is too long is told before them, and behind
+-- what the lines of a text write, numbered from 1, one after the other; a text that is too long is a fault before them, and after
 -- them that no atom stands in it
 abbrev pub written_in : List ℕ → Result PlantText PlantFault
 written_in text =
     if nat_lt MAX_TEXT (length text) then Err (of_no_line TooLong) else
     (lines_row 1 (lines_of text) nothing >>= with_an_atom)
 
--- What a text means: what its lines write, or the first line with a fault. Behind all lines it is told that the rules put no
+-- What a text means: what its lines write, or the first line with a fault. After all lines it is a fault that the rules put no
 -- order on the interactions.
 abbrev pub meaning : List ℕ → Result PlantText PlantFault
 meaning text = written_in text >>= with_an_order

@@ -1,31 +1,11 @@
--- What names and first words mean in a plant text.
-use Rattle.std.specs.Prelude.{ℕ, if◌then◌else◌, List, codes, slice_get, position, Option, Some, None, option_map}
+-- What names mean in a plant text.
+use Rattle.std.specs.Prelude.{ℕ, List, slice_get, position, Option, option_map}
 use Rattle.std.specs.Option.{option_and_then}
 use Rattle.petri_atom.specs.Name.{is_same_text}
 use Rattle.petri_atom.specs.Definition.{AtomDefinition}
 use Rattle.connector_tree.specs.declared.tree.Port.{Port}
 use Rattle.atom_lines.specs.Lookup.{place_number, port_number, export_number}
 use Rattle.plant_text.specs.Text.{WireText}
-use Rattle.plant_text.specs.declared.kinds.AtomPart.TheVariants.{Place, Variable, Port as PortPart, Transition}
-use Rattle.plant_text.specs.declared.kinds.WirePart.TheVariants.{Guard, Transfer}
-use Rattle.plant_text.specs.declared.kinds.RuleKind.TheVariants.{Priority, Maximal}
-use Rattle.plant_text.specs.declared.kinds.LineKind.{LineKind}
-use Rattle.plant_text.specs.declared.kinds.LineKind.TheVariants.{Atom, Connector, OfAtom, OfConnector, Rule}
-
--- what kind of line begins with a word
-abbrev pub kind_in : List ℕ → Option LineKind
-kind_in word =
-    if is_same_text word (codes "atom") then Some Atom
-    else if is_same_text word (codes "connector") then Some Connector
-    else if is_same_text word (codes "place") then Some (OfAtom Place)
-    else if is_same_text word (codes "var") then Some (OfAtom Variable)
-    else if is_same_text word (codes "port") then Some (OfAtom PortPart)
-    else if is_same_text word (codes "trans") then Some (OfAtom Transition)
-    else if is_same_text word (codes "guard") then Some (OfConnector Guard)
-    else if is_same_text word (codes "move") then Some (OfConnector Transfer)
-    else if is_same_text word (codes "prio") then Some (Rule Priority)
-    else if is_same_text word (codes "maximal") then Some (Rule Maximal)
-    else None
 
 -- the number of the first atom with the name
 abbrev pub atom_number : List AtomDefinition → List ℕ → Option ℕ

@@ -9,6 +9,15 @@ use Rattle.plant_words.specs.Lines.{is_legal_line}
 use Rattle.plant_words.specs.Words.{words_of, is_passed_over}
 use Rattle.plant_words.specs.declared.line_fault.LineFault.{LineFault}
 use Rattle.plant_words.specs.Reading.{◌>>=◌, check, first_name, at_end}
+use Rattle.plant_words.specs.LineKinds.{kind_in}
+use Rattle.plant_words.specs.declared.line_kind.AtomPart.{AtomPart}
+use Rattle.plant_words.specs.declared.line_kind.AtomPart.TheVariants.{Place, Variable, Port, Transition}
+use Rattle.plant_words.specs.declared.line_kind.WirePart.{WirePart}
+use Rattle.plant_words.specs.declared.line_kind.WirePart.TheVariants.{Guard, Transfer}
+use Rattle.plant_words.specs.declared.line_kind.RuleKind.{RuleKind}
+use Rattle.plant_words.specs.declared.line_kind.RuleKind.TheVariants.{Priority, Maximal}
+use Rattle.plant_words.specs.declared.line_kind.LineKind.{LineKind}
+use Rattle.plant_words.specs.declared.line_kind.LineKind.TheVariants.{Atom, Connector, OfAtom, OfConnector, Rule as OfRule}
 use Rattle.atom_lines.specs.Rows.{place_row, variable_row, port_row}
 use Rattle.atom_lines.specs.Transitions.{transition_row}
 use Rattle.connector_tree.specs.declared.token.Token.{Token}
@@ -21,16 +30,8 @@ use Rattle.connector_lines.specs.Exports.{variable_in}
 use Rattle.connector_lines.specs.Rows.{Named, guards_with, transfers_with}
 use Rattle.plant_text.specs.Text.{WireText, PlantText}
 use Rattle.plant_text.specs.Interactions.{interactions_of, has_interaction}
-use Rattle.plant_text.specs.Names.{kind_in, atom_number, wire_number, port_named, place_named, export_named}
+use Rattle.plant_text.specs.Names.{atom_number, wire_number, port_named, place_named, export_named}
 use Rattle.plant_text.specs.Fault.{of_line, of_tree}
-use Rattle.plant_text.specs.declared.kinds.AtomPart.{AtomPart}
-use Rattle.plant_text.specs.declared.kinds.AtomPart.TheVariants.{Place, Variable, Port, Transition}
-use Rattle.plant_text.specs.declared.kinds.WirePart.{WirePart}
-use Rattle.plant_text.specs.declared.kinds.WirePart.TheVariants.{Guard, Transfer}
-use Rattle.plant_text.specs.declared.kinds.RuleKind.{RuleKind}
-use Rattle.plant_text.specs.declared.kinds.RuleKind.TheVariants.{Priority, Maximal}
-use Rattle.plant_text.specs.declared.kinds.LineKind.{LineKind}
-use Rattle.plant_text.specs.declared.kinds.LineKind.TheVariants.{Atom, Connector, OfAtom, OfConnector, Rule as OfRule}
 use Rattle.plant_text.specs.declared.fault.Fault.{Fault}
 use Rattle.plant_text.specs.declared.fault.Fault.TheVariants.{NotAscii, UnknownWord, Misplaced, Twice, Limit}
 
@@ -40,9 +41,9 @@ told (Ok x) = Ok x
 told (Err fault) = Err (of_line fault)
 
 -- the same of a tree
-abbrev pub told_tree : Reading → Result (List Token) Fault
-told_tree (Ok tokens) = Ok tokens
-told_tree (Err fault) = Err (of_tree fault)
+abbrev pub found_tree : Reading → Result (List Token) Fault
+found_tree (Ok tokens) = Ok tokens
+found_tree (Err fault) = Err (of_tree fault)
 
 -- the list with this in the place of its last
 abbrev pub with_last : {A : Type 0} → List A → A → List A
@@ -53,7 +54,7 @@ abbrev pub last_changed : {A : Type 0} → (A → Result A LineFault) → List A
 last_changed row list =
     option_map_or (λ last. told (row last) >>= λ changed. Ok (with_last list changed)) (slice_get list (length list - 1)) (Err Misplaced)
 
--- a line `place`, `var`, `port` or `trans`, by the words behind its first
+-- a line `place`, `var`, `port` or `trans`, by the words after its first
 abbrev pub atom_part_row : AtomPart → List (List ℕ) → AtomDefinition → Result AtomDefinition LineFault
 atom_part_row Place = place_row
 atom_part_row Variable = variable_row
@@ -64,7 +65,7 @@ atom_part_row Transition = transition_row
 abbrev pub named_in : List AtomDefinition → WireText → Named
 named_in atoms w = variable_in (atom_number atoms) (export_named atoms) (ports_in w.tree)
 
--- a line `guard` or `move`, by the words behind its first
+-- a line `guard` or `move`, by the words after its first
 abbrev pub wire_part_row : WirePart → List AtomDefinition → List (List ℕ) → WireText → Result WireText LineFault
 wire_part_row Guard atoms words w = guards_with (named_in atoms w) words w.guards >>= λ guards. Ok (record w { guards = guards })
 wire_part_row Transfer atoms words w = transfers_with (named_in atoms w) words w.transfers >>= λ transfers. Ok (record w { transfers = transfers })
@@ -88,11 +89,11 @@ connector_row words plant = do
   _ ← check (nat_lt (length plant.wires) MAX_WIRES) Limit
   name ← told (first_name words)
   _ ← check (is_none (wire_number plant.wires name)) Twice
-  tree ← told_tree (tree_in (port_named plant.atoms) (drop 1 words))
+  tree ← found_tree (tree_in (port_named plant.atoms) (drop 1 words))
   _ ← check (has_room plant.wires tree) Limit
   Ok (record plant { wires = plant.wires ++ record { name = name; tree = tree; guards = []; transfers = [] } ∷ [] })
 
--- the rule that a line `prio` or `maximal` writes over the atoms and connectors so far, by the words behind its first
+-- the rule that a line `prio` or `maximal` writes over the atoms and connectors so far, by the words after its first
 abbrev pub rule_in : RuleKind → List AtomDefinition → List WireText → List (List ℕ) → Result Rule LineFault
 rule_in Priority atoms wires = priority_in (wire_number wires) (has_interaction wires) (atom_number atoms) (place_named atoms)
 rule_in Maximal atoms wires = maximal_in (wire_number wires)
@@ -104,7 +105,7 @@ rule_row kind words plant = do
   rule ← told (rule_in kind plant.atoms plant.wires words)
   Ok (record plant { rules = plant.rules ++ rule ∷ [] })
 
--- a line of a kind, by the words behind its first: a part is one of the latest atom or connector
+-- a line of a kind, by the words after its first: a part is one of the latest atom or connector
 abbrev pub row_of : LineKind → List (List ℕ) → PlantText → Result PlantText Fault
 row_of Atom words plant = atom_row words plant
 row_of Connector words plant = connector_row words plant
@@ -126,7 +127,7 @@ passed_row line plant = do
   _ ← check (is_legal_line line) NotAscii
   Ok plant
 
--- A line: empty lines and comments say nothing. An illegal byte of another line is told where it stands, by the word that it is in, so
--- where an earlier word is at fault that one is told.
+-- A line: empty lines and comments say nothing. An illegal byte of another line is found where it stands, by the word that it is in, so
+-- if an earlier word is at fault, that one is found.
 abbrev pub line_row : List ℕ → PlantText → Result PlantText Fault
 line_row line plant = if is_passed_over line then passed_row line plant else words_row (words_of line) plant

@@ -1,4 +1,4 @@
-//! The plant as its lines have told it so far.
+//! The plant as its lines have written it so far.
 ghost use Rattle.std.specs.Prelude.{◌≡◌, ◌<◌, ◌≤◌, [], ◌∷◌, ◌++◌, length, map, false, is_ok, IfOk, IfErr, IfNone, IfSome, OnOk, Ok, None};
 ghost use Rattle.petri_atom.specs.Parts.{definition_by};
 ghost use Rattle.step_core.specs.declared.limits.TheConstants.{MAX_ATOMS, MAX_WIRES, MAX_RULES};
@@ -12,10 +12,9 @@ ghost use Rattle.plant_text.specs.Fault.{IsFaultOf};
 ghost use Rattle.plant_text.specs.Index.{names_of_atoms, names_of_wires};
 ghost use Rattle.plant_text.specs.Names.{atom_number, wire_number, port_named};
 ghost use Rattle.plant_text.specs.Parts.{wire_listed};
-ghost use Rattle.plant_text.specs.Rows.{told_tree, atom_row, connector_row, rule_row, row_of, words_row, line_row};
+ghost use Rattle.plant_text.specs.Rows.{found_tree, atom_row, connector_row, rule_row, row_of, words_row, line_row};
 
 use crate::fault::Fault;
-use crate::kinds::{AtomPart, LineKind, RuleKind, WirePart};
 use crate::listed::ListedWire;
 use crate::marks::Mark;
 use crate::names::AtomTable;
@@ -26,12 +25,16 @@ use connector_lines::read_tree;
 use connector_tree::Connector;
 use petri_atom::Name;
 use plant_words::reading::{check, end, next_name};
-use plant_words::{NameIndex, Words, is_legal, is_passed_over};
+use plant_words::{
+    AtomPart, LineKind, NameIndex, RuleKind, WirePart, Words, is_legal, is_passed_over,
+};
 use priority_filter::Rule;
 use std::alloc::{AllocError, Global};
 use step_core::{MAX_ATOMS, MAX_RULES, MAX_WIRES};
 
 /// A plant to which lines add parts.
+///
+/// The `ghost` lines are for contracts alone: the lists are within the limits, and each index has the names of its list.
 #[derive(Drop)]
 pub(crate) struct PlantDraft {
     pub(crate) alloc: Global,
@@ -65,7 +68,7 @@ impl PlantDraft {
         }
     }
 
-    /// What a line says. Behind a fault nothing is said of the plant.
+    /// What a line says. After a fault nothing is said of the plant.
     pub(crate) fn add_line(&mut self, line: &[u8]) -> Result<(), Fault>
         ensures added { OnOk result (line_row line.now (drafted self.old) ≡ Ok (drafted self.new)) }
         ensures fault { IfErr result (IsFaultOf (line_row line.now (drafted self.old))) }
@@ -73,7 +76,7 @@ impl PlantDraft {
         self.add_read(line, &mut Words::new(line))
     }
 
-    /// What a line says, that is read by these words of it. Behind a fault nothing is said of the plant.
+    /// What a line says, that is read by these words of it. After a fault nothing is said of the plant.
     fn add_read(&mut self, line: &[u8], words: &mut Words) -> Result<(), Fault>
         requires { words.old ≡ words_of line.now }
         ensures added { OnOk result (line_row line.now (drafted self.old) ≡ Ok (drafted self.new)) }
@@ -112,7 +115,7 @@ impl PlantDraft {
         self.add_of_kind(kind, words)
     }
 
-    /// What a line of the kind says, by the words behind its first.
+    /// What a line of the kind says, by the words after its first.
     fn add_of_kind(&mut self, kind: LineKind, words: &mut Words) -> Result<(), Fault>
         ensures added { OnOk result (row_of kind words.old (drafted self.old) ≡ Ok (drafted self.new)) }
         ensures fault { IfErr result (IsFaultOf (row_of kind words.old (drafted self.old))) }
@@ -126,7 +129,7 @@ impl PlantDraft {
         }
     }
 
-    /// Adds the atom of a line `atom NAME`, by the words behind its first.
+    /// Adds the atom of a line `atom NAME`, by the words after its first.
     fn add_atom(&mut self, words: &mut Words) -> Result<(), Fault>
         ensures added { OnOk result (atom_row words.old (drafted self.old) ≡ Ok (drafted self.new)) }
         ensures fault { IfErr result (IsFaultOf (atom_row words.old (drafted self.old))) }
@@ -140,8 +143,8 @@ impl PlantDraft {
         Ok(())
     }
 
-    /// Puts an atom with a new name and no parts behind the others. It comes into the list and into the index of names, or,
-    /// where there is no memory, into neither: so the list has its room first.
+    /// Puts an atom with a new name and no parts after the others. It comes into the list and into the index of names, or,
+    /// if there is no memory, into neither: so the list has its room first.
     fn push_atom(&mut self, name: Name) -> Result<(), AllocError>
         requires few { length self.old.atoms.items < MAX_ATOMS }
         requires new { atom_number (drafted self.old).atoms name ≡ None }
@@ -153,7 +156,7 @@ impl PlantDraft {
         Ok(())
     }
 
-    /// Adds a part to the latest atom, by the words behind the line's first.
+    /// Adds a part to the latest atom, by the words after the line's first.
     fn add_atom_part(&mut self, part: AtomPart, words: &mut Words) -> Result<(), Fault>
         ensures added { OnOk result (row_of (LineKind.OfAtom part) words.old (drafted self.old) ≡ Ok (drafted self.new)) }
         ensures fault { IfErr result (IsFaultOf (row_of (LineKind.OfAtom part) words.old (drafted self.old))) }
@@ -165,7 +168,7 @@ impl PlantDraft {
         Ok(())
     }
 
-    /// Adds the connector of a line `connector NAME TREE`, by the words behind its first.
+    /// Adds the connector of a line `connector NAME TREE`, by the words after its first.
     fn add_connector(&mut self, words: &mut Words) -> Result<(), Fault>
         ensures added { OnOk result (connector_row words.old (drafted self.old) ≡ Ok (drafted self.new)) }
         ensures fault { IfErr result (IsFaultOf (connector_row words.old (drafted self.old))) }
@@ -181,7 +184,7 @@ impl PlantDraft {
         Ok(())
     }
 
-    /// Puts a connector with a new name behind the others, into the list and into the index of names, or into neither.
+    /// Puts a connector with a new name after the others, into the list and into the index of names, or into neither.
     fn push_wire(&mut self, wire: ListedWire) -> Result<(), AllocError>
         requires few { length self.old.wires.items < MAX_WIRES }
         requires new { wire_number (drafted self.old).wires (wire_listed wire).name ≡ None }
@@ -215,14 +218,14 @@ impl PlantDraft {
 
     /// The tree that the words are, over ports of the atoms so far.
     fn read_tree(&self, words: &mut Words) -> Result<Connector, Fault>
-        ensures tree { IfOk result (λ connector. told_tree (tree_in (port_named (drafted self.now).atoms) words.old) ≡ Ok (tokens_of (tree_of connector))) }
-        ensures fault { IfErr result (IsFaultOf (told_tree (tree_in (port_named (drafted self.now).atoms) words.old))) }
+        ensures tree { IfOk result (λ connector. found_tree (tree_in (port_named (drafted self.now).atoms) words.old) ≡ Ok (tokens_of (tree_of connector))) }
+        ensures fault { IfErr result (IsFaultOf (found_tree (tree_in (port_named (drafted self.now).atoms) words.old))) }
         ensures sound { IfOk result (λ connector. fault_of (tree_of connector) ≡ None) }
     {
         Ok(read_tree(self.alloc, words, &self.table())?)
     }
 
-    /// Adds a part to the latest connector, by the words behind the line's first.
+    /// Adds a part to the latest connector, by the words after the line's first.
     fn add_wire_part(&mut self, part: WirePart, words: &mut Words) -> Result<(), Fault>
         ensures added { OnOk result (row_of (LineKind.OfConnector part) words.old (drafted self.old) ≡ Ok (drafted self.new)) }
         ensures fault { IfErr result (IsFaultOf (row_of (LineKind.OfConnector part) words.old (drafted self.old))) }
@@ -238,7 +241,7 @@ impl PlantDraft {
         Ok(())
     }
 
-    /// Adds the rule of a line `prio SIDE < SIDE ..` or `maximal NAME`, by the words behind its first.
+    /// Adds the rule of a line `prio SIDE < SIDE ..` or `maximal NAME`, by the words after its first.
     fn add_rule(&mut self, kind: RuleKind, words: &mut Words) -> Result<(), Fault>
         ensures added { OnOk result (rule_row kind words.old (drafted self.old) ≡ Ok (drafted self.new)) }
         ensures fault { IfErr result (IsFaultOf (rule_row kind words.old (drafted self.old))) }

@@ -39,7 +39,7 @@ pub enum Fault {
     /// The tree of a connector breaks a rule of trees; never its `Memory`.
     Tree(TreeFault),
     /// The rules of the text put no order on its interactions: the least number of one that is below itself, where they are
-    /// numbered from 0 by connector and then by mask. It is told at no line.
+    /// numbered from 0 by connector and then by mask. It is found at no line.
     Order(OrderFault),
     /// The plant, an atom, a port, a transition or a connector would have more parts than it may.
     Limit,
@@ -100,7 +100,7 @@ impl Fault {
         }
     }
 
-    /// The number that the fault speaks of, which programs print in parentheses behind its name: of a cycle the interaction
+    /// The number that the fault speaks of, which programs print in parentheses after its name: of a cycle the interaction
     /// that is below itself, of the order's unknown name the rule.
     pub fn subject(&self) -> Option<usize>
         ensures { result ≡ subject_of self.now }

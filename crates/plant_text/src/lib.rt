@@ -10,7 +10,7 @@
 //! | `guard ..`, `move ..` | a part of the latest connector, as `connector_lines` reads it |
 //! | `prio ..`, `maximal ..` | a priority rule over the connectors and atoms so far, the 1,024th at most, as `connector_lines` reads it |
 //!
-//! Parts of the latest atom may stand behind lines of connectors. Empty lines and comments say nothing, and count as
+//! Parts of the latest atom may stand after lines of connectors. Empty lines and comments say nothing, and count as
 //! lines. Each byte must be printed ASCII, a space or a tab, also in a comment.
 //!
 //! What a text means is one definition, `meaning` (`specs/Meaning.antt`): the plant as it was written, or the first line
@@ -20,19 +20,24 @@
 //! SHA-256 of the text as its digest.
 //!
 //! - A fault ([`PlantFault`]) is the one of the text's meaning, or want of memory, or that the reader failed. Within a
-//!   line the first word from the left that is at fault is told, and a word with an illegal byte is; one atom, connector or
-//!   rule too many before all else; a connector with too many interactions behind all its words.
-//! - That the rules put an interaction below itself is told behind all lines, at no line.
+//!   line the first word from the left that is at fault is the one found, and a word with an illegal byte is at fault; one atom, connector or
+//!   rule too many before all else; a connector with too many interactions after all its words.
+//! - That the rules put an interaction below itself is found after all lines, at no line.
 //!
-//! - `read`: the text, its lines and its system. `draft`: the plant so far, and its lines. `making`: the system of a draft.
-//! - `kinds`: the kinds of lines. `parts`: an atom, changed by a line. `listed`: a connector with its interactions.
-//! - `names`: the atoms by the names that connectors and conditions use. `wires`: the connectors by the names that rules use.
-//! - `fault`: what is wrong with a text. `marks`: where in its line. `laws`: what follows of the meaning.
+//! - `read`: a text, from its lines to its system ([`read_plant`], [`plant_of_text`]).
+//! - `draft`: the plant so far, and its lines.
+//! - `making`: the system of a draft.
+//! - `parts`: an atom, changed by a line.
+//! - `listed`: a connector with its interactions.
+//! - `names`: the atoms by the names that connectors and conditions use.
+//! - `wires`: the connectors by the names that rules use.
+//! - `fault`: what is wrong with a text ([`Fault`], [`PlantFault`]).
+//! - `marks`: where in its line a fault is ([`Mark`], [`find_mark`]).
+//! - [`laws`]: what follows of the meaning.
 #![tactic(auto)]
 
 mod draft;
 mod fault;
-mod kinds;
 pub mod laws;
 mod listed;
 mod making;

@@ -11,15 +11,14 @@ ghost use Rattle.plant_text.specs.Rows.{wire_part_row};
 ghost use Rattle.plant_text.specs.declared.fault.Fault.TheVariants as fault;
 
 use crate::fault::Fault;
-use crate::kinds::WirePart;
 use crate::names::AtomTable;
 use connector_lines::WireDraft;
 use connector_tree::{Connector, Mask, interactions};
 use petri_atom::Name;
-use plant_words::{LineFault, Words};
+use plant_words::{LineFault, WirePart, Words};
 use std::alloc::Global;
 
-/// A connector so far, with its interactions.
+/// A connector so far, with its interactions. The `ghost` line is for contracts alone: the masks are the interactions of the connector's tree.
 #[derive(Drop)]
 pub(crate) struct ListedWire {
     pub(crate) draft: WireDraft,
@@ -41,7 +40,7 @@ impl ListedWire {
         Ok(ListedWire { draft, masks })
     }
 
-    /// Adds a part to the connector, by the words behind the line's first.
+    /// Adds a part to the connector, by the words after the line's first.
     pub(crate) fn add_part(
         &mut self,
         part: WirePart,
@@ -68,7 +67,7 @@ fn masks_of(alloc: Global, connector: &Connector) -> Result<Vec<Mask>, Fault>
     }
 }
 
-/// Adds a part to the connector, by the words behind the line's first.
+/// Adds a part to the connector, by the words after the line's first.
 fn change_wire(
     wire: &mut WireDraft,
     part: WirePart,

@@ -24,7 +24,7 @@ pub struct Mark<'a> {
     pub len: usize,
 }
 
-/// Where the first line with a fault has it, or `None` where no line has one: then the fault is of no line, or there is none.
+/// Where the first line with a fault has it, or `None` if no line has one: then the fault is of no line, or there is none.
 ///
 /// The part that is marked is the first word that is at fault, or of a word with a byte that may not stand in a text, that byte.
 /// Where a word is missing it is the end of the line. Where a tree breaks a rule it is the leaf or the bracket with which it comes to break it,
@@ -74,7 +74,7 @@ impl<'a> Mark<'a> {
         }
     }
 
-    /// The end of the line, behind its last word.
+    /// The end of the line, after its last word.
     fn of_end(line: &'a [u8]) -> Self
         ensures { result.line.now ≡ line.now }
     {
@@ -189,7 +189,7 @@ fn has_atom(part: &[u8], atom: &[u8]) -> bool {
     false
 }
 
-/// The part of a tree from the first bracket's end on that stands directly behind the bracket's begin.
+/// The part of a tree from the first bracket's end on that stands directly after the bracket's begin.
 fn from_end_of_empty_bracket(tree: &[u8]) -> &[u8] {
     let mut words = Words::new(tree);
     let mut is_open = false;

@@ -11,7 +11,7 @@ use connector_tree::Port;
 use plant_words::NameIndex;
 use step_core::MAX_ATOMS;
 
-/// The atoms so far, numbered from 0.
+/// The atoms so far, numbered from 0. The `ghost` lines are for contracts alone: there are few enough, and `names` has their names.
 #[derive(Drop)]
 pub(crate) struct AtomTable<'a> {
     pub(crate) drafts: &'a [AtomDraft],

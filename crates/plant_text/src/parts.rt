@@ -4,11 +4,10 @@ ghost use Rattle.atom_lines.specs.Draft.{drafted};
 ghost use Rattle.plant_words.specs.LineFaults.{IsFaultOf};
 ghost use Rattle.plant_text.specs.Rows.{atom_part_row};
 
-use crate::kinds::AtomPart;
 use atom_lines::AtomDraft;
-use plant_words::{LineFault, Words};
+use plant_words::{AtomPart, LineFault, Words};
 
-/// Adds a part to the atom, by the words behind the line's first.
+/// Adds a part to the atom, by the words after the line's first.
 pub(crate) fn change_atom(
     atom: &mut AtomDraft,
     part: AtomPart,

@@ -24,7 +24,7 @@ use text_io::{MAX_TEXT, digest_of, read_text};
 
 /// Reads a plant text to the reader's end, and gives its system.
 ///
-/// A fault of a line is told when the reader is at its end. A reader that has more than a text may have is read up to one byte past
+/// A fault of a line is answered when the reader is at its end. A reader that has more than a text may have is read up to one byte past
 /// that, so at most 1,048,578 reads are made: each but the last gives a byte. Any error of the reader is [`Fault::Read`], also one
 /// that asks to try again.
 #[tactic(auto, using(crate::proofs::Taking::few_with_a_text, crate::proofs::Taking::few_without_a_text))]

@@ -8,11 +8,10 @@ ghost use Rattle.plant_text.specs.Names.{wire_number};
 ghost use Rattle.plant_text.specs.Parts.{wire_listed};
 ghost use Rattle.plant_text.specs.Rows.{rule_in};
 
-use crate::kinds::RuleKind;
 use crate::listed::ListedWire;
 use crate::names::AtomTable;
 use connector_lines::{Connectors, read_maximal, read_priority};
-use plant_words::{LineFault, NameIndex, Words};
+use plant_words::{LineFault, NameIndex, RuleKind, Words};
 use priority_filter::Rule;
 use step_core::{MAX_INTERACTIONS, MAX_WIRES};
 
@@ -28,7 +27,7 @@ pub(crate) fn have_room(wires: &[ListedWire], more: usize) -> bool
     total <= MAX_INTERACTIONS as u128
 }
 
-/// The connectors so far, numbered from 0.
+/// The connectors so far, numbered from 0. The `ghost` lines are for contracts alone: there are few enough, and `names` has their names.
 #[derive(Drop)]
 pub(crate) struct WireTable<'a> {
     pub(crate) wires: &'a [ListedWire],
@@ -69,7 +68,7 @@ impl Connectors for WireTable<'_> {
     }
 }
 
-/// The rule that the words write over these connectors and atoms, behind the line's first.
+/// The rule that the words write over these connectors and atoms, after the line's first.
 pub(crate) fn read_rule(
     kind: RuleKind,
     words: &mut Words,

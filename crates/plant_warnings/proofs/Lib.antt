@@ -1,5 +1,5 @@
-pub mod Warned
-pub mod Mapped
-pub mod Leaves
-pub mod Within
+mod Warned
+mod Mapped
+mod Leaves
+mod Within
 mod Rows

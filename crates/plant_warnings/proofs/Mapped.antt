@@ -26,6 +26,6 @@ module _ {X Y : Type 0} (p : Y → Bool) (f : X → Y) (xs : List X) (i : ℕ) (
   pub any-now : p (f x) ≡ true → true ≡ all
   any-now passed = sym (ap (λ b. b || list_any p (map f (drop (i + 1) xs))) passed) ∙ from-here
 
-  -- or it does not, and one behind it may
+  -- or it does not, and one after it may
   pub any-later : p (f x) ≡ false → list_any p (map f (drop (i + 1) xs)) ≡ all
   any-later failed = sym (ap (λ b. b || list_any p (map f (drop (i + 1) xs))) failed) ∙ from-here

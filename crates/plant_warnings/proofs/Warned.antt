@@ -6,33 +6,33 @@ use Rattle.std.proofs.KnownBytes.{Appends-trans}
 use Rattle.std.proofs.lemmas.Grind.{flat_map-append}
 use Rattle.std.proofs.lemmas.List.{drop_more, get_or-map, length-map}
 use Rattle.text_io.specs.Numbered.{numbered}
-use Rattle.text_io.proofs.Leading.{Leads, leads-more, leads-same, numbered-left, told-last}
+use Rattle.text_io.proofs.Leading.{Leads, leads-more, leads-same, numbered-left, printed-last}
 use Rattle.plant_warnings.specs.Lines.{warned_if}
 use Rattle.plant_warnings.specs.declared.warning.Warning.{Warning}
 
--- a warning is told if it applies, by a test that is the same
-pub told-if : (say : Warning → List ℕ) (now next : Option (List ℕ)) (applies known : Bool) (w : Warning)
+-- a warning is printed if it applies, by a test that is the same
+pub warned-if : (say : Warning → List ℕ) (now next : Option (List ℕ)) (applies known : Bool) (w : Warning)
     → applies ≡ known → Appends now next (flat_map say (warned_if applies w)) → Appends now next (flat_map say (warned_if known w))
-told-if say now next applies known w same told = subst (λ b. Appends now next (flat_map say (warned_if b w))) same told
+warned-if say now next applies known w same printed = subst (λ b. Appends now next (flat_map say (warned_if b w))) same printed
 
 -- the same, where the last call tells it
-pub told-if_last : {T E : Type 0} (say : Warning → List ℕ) (result : Result T E) (now next : Option (List ℕ)) (applies known : Bool) (w : Warning)
+pub warned-if_last : {T E : Type 0} (say : Warning → List ℕ) (result : Result T E) (now next : Option (List ℕ)) (applies known : Bool) (w : Warning)
     → applies ≡ known → OnOk result (Appends now next (flat_map say (warned_if applies w))) → OnOk result (Appends now next (flat_map say (warned_if known w)))
-told-if_last say result now next applies known w same told = subst (λ b. OnOk result (Appends now next (flat_map say (warned_if b w)))) same told
+warned-if_last say result now next applies known w same printed = subst (λ b. OnOk result (Appends now next (flat_map say (warned_if b w)))) same printed
 
--- two lists of warnings are told, one after the other
-pub told-on : (say : Warning → List ℕ) (start now next : Option (List ℕ)) (xs ys : List Warning)
+-- two lists of warnings are printed, one after the other
+pub warned-on : (say : Warning → List ℕ) (start now next : Option (List ℕ)) (xs ys : List Warning)
     → Appends start now (flat_map say xs) → Appends now next (flat_map say ys) → Appends start next (flat_map say (xs ++ ys))
-told-on say start now next xs ys first second =
+warned-on say start now next xs ys first second =
     subst (Appends start next) (sym (flat_map-append say xs ys)) (Appends-trans start now next (flat_map say xs) (flat_map say ys) first second)
 
 -- the same, where the last call tells the second
-pub told-end : {T E : Type 0} (say : Warning → List ℕ) (result : Result T E) (start now after : Option (List ℕ)) (xs ys : List Warning)
+pub warned-end : {T E : Type 0} (say : Warning → List ℕ) (result : Result T E) (start now after : Option (List ℕ)) (xs ys : List Warning)
     → Appends start now (flat_map say xs) → OnOk result (Appends now after (flat_map say ys)) → OnOk result (Appends start after (flat_map say (xs ++ ys)))
-told-end say result start now after xs ys first ends =
-    subst (λ text. OnOk result (Appends start after text)) (sym (flat_map-append say xs ys)) (told-last result start now after (flat_map say xs) (flat_map say ys) first ends)
+warned-end say result start now after xs ys first ends =
+    subst (λ text. OnOk result (Appends start after text)) (sym (flat_map-append say xs ys)) (printed-last result start now after (flat_map say xs) (flat_map say ys) first ends)
 
--- the warnings of a numbered element are told, and those of the elements behind it are left
+-- the warnings of a numbered element are printed, and those of the elements after it are left
 pub leads-warned : {D : Type 0} (give : ℕ → D → List Warning) (say : Warning → List ℕ) (xs : List D) (i : ℕ) (x : D) (start now next : Option (List ℕ)) (all : List ℕ)
     → i < length xs → x ≡ get_or xs i x → Leads start now (flat_map say (numbered give i (drop i xs))) all → Appends now next (flat_map say (give i x))
     → Leads start next (flat_map say (numbered give (i + 1) (drop (i + 1) xs))) all

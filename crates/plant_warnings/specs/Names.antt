@@ -1,10 +1,10 @@
--- The names of the parts of a plant with these numbers; empty where a part is not there.
+-- The names of the parts of a plant with these numbers; empty if a part is not there.
 use Rattle.std.specs.Prelude.{ℕ, List, [], slice_get}
 use Rattle.std.specs.Option.{option_map_or}
 use Rattle.petri_atom.specs.Definition.{AtomDefinition, port_name, variable_name}
 use Rattle.step_core.specs.Plant.{PlantDefinition}
 
--- what is said of the atom with a number; nothing where it is not there
+-- what is said of the atom with a number; nothing if it is not there
 abbrev pub of_atom : PlantDefinition → ℕ → (AtomDefinition → List ℕ) → List ℕ
 of_atom plant atom say = option_map_or say (slice_get plant.atoms atom) []
 

@@ -1,12 +1,12 @@
 //! The warnings of atoms, and of their parts.
-ghost use Rattle.std.specs.Prelude.{◌≡◌, OnOk, flat_map, map};
-ghost use Rattle.std.specs.Io.KnownBytes.{Appends};
+ghost use Rattle.std.specs.Prelude.{◌≡◌, map};
 ghost use Rattle.std.specs.List.{list_any};
 ghost use Rattle.petri_atom.specs.Atom.{definition_of};
 ghost use Rattle.step_core.specs.System.{plant_of};
 ghost use Rattle.text_io.specs.Numbered.{numbered};
+ghost use Rattle.text_io.specs.Printing.{Prints};
 ghost use Rattle.plant_warnings.specs.Atoms.{atom_warnings, has_no_marked_place, place_warnings, port_warnings, variable_warnings, warnings_of_port, warnings_of_variable};
-ghost use Rattle.plant_warnings.specs.Report.{told_in};
+ghost use Rattle.plant_warnings.specs.Report.{Warns};
 
 use crate::places::is_never_marked;
 use crate::ports::{has_no_transition, is_in_no_connector};
@@ -23,8 +23,7 @@ pub(crate) fn print_of_atoms<W: Write>(
     atoms: &[Atom],
     output: &mut W,
 ) -> Result<(), WriteFault>
-    ensures { OnOk result (Appends (W.contents output.old) (W.contents output.new)
-        (flat_map (told_in report.now) (numbered (atom_warnings (plant_of report.now.system.now)) 0 (map definition_of atoms.now)))) }
+    ensures { Warns result (W.contents output.old) (W.contents output.new) report.now (numbered (atom_warnings (plant_of report.now.system.now)) 0 (map definition_of atoms.now)) }
 {
     for (number, atom) in atoms.iter().enumerate() {
         print_of_atom(report, number, atom, output)?;
@@ -39,8 +38,7 @@ fn print_of_atom<W: Write>(
     atom: &Atom,
     output: &mut W,
 ) -> Result<(), WriteFault>
-    ensures { OnOk result (Appends (W.contents output.old) (W.contents output.new)
-        (flat_map (told_in report.now) (atom_warnings (plant_of report.now.system.now) number (definition_of atom.now)))) }
+    ensures { Warns result (W.contents output.old) (W.contents output.new) report.now (atom_warnings (plant_of report.now.system.now) number (definition_of atom.now)) }
 {
     print_if(
         report,
@@ -74,8 +72,7 @@ fn print_of_ports<W: Write>(
     atom: &Atom,
     output: &mut W,
 ) -> Result<(), WriteFault>
-    ensures { OnOk result (Appends (W.contents output.old) (W.contents output.new)
-        (flat_map (told_in report.now) (numbered (port_warnings (plant_of report.now.system.now) number (definition_of atom.now)) 0 (definition_of atom.now).ports))) }
+    ensures { Warns result (W.contents output.old) (W.contents output.new) report.now (numbered (port_warnings (plant_of report.now.system.now) number (definition_of atom.now)) 0 (definition_of atom.now).ports) }
 {
     for (port, _) in atom.ports().iter().enumerate() {
         print_of_port(report, number, atom, port, output)?;
@@ -91,8 +88,7 @@ fn print_of_port<W: Write>(
     port: usize,
     output: &mut W,
 ) -> Result<(), WriteFault>
-    ensures { OnOk result (Appends (W.contents output.old) (W.contents output.new)
-        (flat_map (told_in report.now) (warnings_of_port (plant_of report.now.system.now) number (definition_of atom.now) port))) }
+    ensures { Warns result (W.contents output.old) (W.contents output.new) report.now (warnings_of_port (plant_of report.now.system.now) number (definition_of atom.now) port) }
 {
     print_if(
         report,
@@ -115,8 +111,7 @@ fn print_of_places<W: Write>(
     atom: &Atom,
     output: &mut W,
 ) -> Result<(), WriteFault>
-    ensures { OnOk result (Appends (W.contents output.old) (W.contents output.new)
-        (flat_map (told_in report.now) (numbered (place_warnings number (definition_of atom.now)) 0 (definition_of atom.now).places))) }
+    ensures { Warns result (W.contents output.old) (W.contents output.new) report.now (numbered (place_warnings number (definition_of atom.now)) 0 (definition_of atom.now).places) }
 {
     for (place, made) in atom.places().iter().enumerate() {
         print_of_place(report, number, atom, place, made, output)?;
@@ -133,8 +128,7 @@ fn print_of_place<W: Write>(
     made: &Place,
     output: &mut W,
 ) -> Result<(), WriteFault>
-    ensures { OnOk result (Appends (W.contents output.old) (W.contents output.new)
-        (flat_map (told_in report.now) (place_warnings number (definition_of atom.now) place made.now))) }
+    ensures { Warns result (W.contents output.old) (W.contents output.new) report.now (place_warnings number (definition_of atom.now) place made.now) }
 {
     print_if(
         report,
@@ -154,8 +148,7 @@ fn print_of_variables<W: Write>(
     atom: &Atom,
     output: &mut W,
 ) -> Result<(), WriteFault>
-    ensures { OnOk result (Appends (W.contents output.old) (W.contents output.new)
-        (flat_map (told_in report.now) (numbered (variable_warnings (plant_of report.now.system.now) number (definition_of atom.now)) 0 (definition_of atom.now).variables))) }
+    ensures { Warns result (W.contents output.old) (W.contents output.new) report.now (numbered (variable_warnings (plant_of report.now.system.now) number (definition_of atom.now)) 0 (definition_of atom.now).variables) }
 {
     for (variable, _) in atom.variables().iter().enumerate() {
         print_of_variable(report, number, atom, variable, output)?;
@@ -171,8 +164,7 @@ fn print_of_variable<W: Write>(
     variable: usize,
     output: &mut W,
 ) -> Result<(), WriteFault>
-    ensures { OnOk result (Appends (W.contents output.old) (W.contents output.new)
-        (flat_map (told_in report.now) (warnings_of_variable (plant_of report.now.system.now) number (definition_of atom.now) variable))) }
+    ensures { Warns result (W.contents output.old) (W.contents output.new) report.now (warnings_of_variable (plant_of report.now.system.now) number (definition_of atom.now) variable) }
 {
     print_if(
         report,

@@ -1,13 +1,13 @@
 //! The warnings of connectors.
-ghost use Rattle.std.specs.Prelude.{◌≡◌, OnOk, flat_map, map};
-ghost use Rattle.std.specs.Io.KnownBytes.{Appends};
+ghost use Rattle.std.specs.Prelude.{◌≡◌, map};
 ghost use Rattle.std.specs.List.{list_any};
 ghost use Rattle.petri_atom.specs.Expression.{tree_of};
 ghost use Rattle.step_core.specs.System.{plant_of};
 ghost use Rattle.step_core.specs.Wire.{wire_of};
 ghost use Rattle.text_io.specs.Numbered.{numbered};
+ghost use Rattle.text_io.specs.Printing.{Prints};
 ghost use Rattle.plant_warnings.specs.Connectors.{connector_warnings, guard_warnings, has_zero_guard, is_dead, is_zero};
-ghost use Rattle.plant_warnings.specs.Report.{told_in};
+ghost use Rattle.plant_warnings.specs.Report.{Warns};
 
 use crate::report::{Report, print_if};
 use crate::warning::Warning;
@@ -22,8 +22,7 @@ pub(crate) fn print_of_wires<W: Write>(
     wires: &[Wire],
     output: &mut W,
 ) -> Result<(), WriteFault>
-    ensures { OnOk result (Appends (W.contents output.old) (W.contents output.new)
-        (flat_map (told_in report.now) (numbered connector_warnings 0 (map wire_of wires.now)))) }
+    ensures { Warns result (W.contents output.old) (W.contents output.new) report.now (numbered connector_warnings 0 (map wire_of wires.now)) }
 {
     for (number, wire) in wires.iter().enumerate() {
         print_of_guards(report, number, &wire.guards, output)?;
@@ -38,8 +37,7 @@ fn print_of_guards<W: Write>(
     guards: &[Expression<Export>],
     output: &mut W,
 ) -> Result<(), WriteFault>
-    ensures { OnOk result (Appends (W.contents output.old) (W.contents output.new)
-        (flat_map (told_in report.now) (numbered (guard_warnings number) 0 (map tree_of guards.now)))) }
+    ensures { Warns result (W.contents output.old) (W.contents output.new) report.now (numbered (guard_warnings number) 0 (map tree_of guards.now)) }
 {
     for (guard, clause) in guards.iter().enumerate() {
         print_of_guard(report, number, guard, clause, output)?;
@@ -55,8 +53,7 @@ fn print_of_guard<W: Write>(
     clause: &Expression<Export>,
     output: &mut W,
 ) -> Result<(), WriteFault>
-    ensures { OnOk result (Appends (W.contents output.old) (W.contents output.new)
-        (flat_map (told_in report.now) (guard_warnings number guard (tree_of clause.now)))) }
+    ensures { Warns result (W.contents output.old) (W.contents output.new) report.now (guard_warnings number guard (tree_of clause.now)) }
 {
     print_if(
         report,

@@ -17,11 +17,12 @@
 //! | a priority with a side of a connector that can't be fired, since a guard is 0 | `rule orders nothing: connector c can't be fired` | the rule |
 //!
 //! First come the warnings of each atom: of itself, its ports, its places and its variables; then those of each connector, and then
-//! those of each rule. LINE is 0 where the table of lines has none for the part, as that of a text which is not the plant's.
+//! those of each rule. LINE is 0 if the table of lines has none for the part, as that of a text which is not the plant's.
 //!
 //! - `print`: the warnings of a whole plant. `atoms`, `connectors`, `rules`: those of each.
-//! - `ports`, `places`, `reads`: what the parts of an atom are tested for.
-//! - `warning`: the warnings. `message`, `names`: what they say. `report`: the lines on which they are printed.
+//! - `ports`, `places`, `reads`: what the ports, the places and the variables of an atom are tested for.
+//! - `warning`: the warnings, as data, and the line of each. `message`: what a warning says. `names`: the names of the parts that it is about.
+//! - `report`: what warnings are printed about, and the line of one.
 //!
 //! Nothing here takes memory.
 #![tactic(auto)]

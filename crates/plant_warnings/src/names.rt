@@ -1,4 +1,4 @@
-//! The names of the parts with these numbers; empty where a part is not there.
+//! The names of the parts with these numbers; empty if a part is not there.
 ghost use Rattle.std.specs.Prelude.{◌≡◌};
 ghost use Rattle.petri_atom.specs.Atom.{definition_of};
 ghost use Rattle.petri_atom.specs.Definition.{port_name, variable_name};

@@ -5,7 +5,7 @@ ghost use Rattle.petri_atom.specs.Atom.{definition_of};
 ghost use Rattle.petri_atom.specs.Transition.{transition_of};
 ghost use Rattle.connector_tree.specs.Tree.{leaves};
 ghost use Rattle.connector_tree.specs.declared.tree.TheConstants.{MAX_LEAVES};
-ghost use Rattle.step_core.specs.Rules.{first_told, tree_fault};
+ghost use Rattle.step_core.specs.Rules.{first_fault_in, tree_fault};
 ghost use Rattle.step_core.specs.System.{plant_of};
 ghost use Rattle.step_core.specs.Wire.{wire_of};
 ghost use Rattle.plant_warnings.specs.Ports.{has_leaf, has_no_transition, is_in_no_connector};
@@ -40,7 +40,7 @@ pub(crate) fn is_in_no_connector(system: &System, atom: usize, port: usize) -> b
 
 /// Whether the port stands in one of the connectors.
 fn is_in_some(wires: &[Wire], atom: usize, port: usize) -> bool
-    requires { first_told tree_fault 0 (map wire_of wires.now) ≡ None }
+    requires { first_fault_in tree_fault 0 (map wire_of wires.now) ≡ None }
     ensures { result ≡ list_any (has_leaf atom port) (map wire_of wires.now) }
 {
     for wire in wires {

@@ -1,7 +1,6 @@
 //! The warnings of a whole plant.
-ghost use Rattle.std.specs.Prelude.{OnOk};
-ghost use Rattle.std.specs.Io.KnownBytes.{Appends};
 ghost use Rattle.step_core.specs.System.{plant_of};
+ghost use Rattle.text_io.specs.Printing.{Prints};
 ghost use Rattle.plant_warnings.specs.Warnings.{warnings_text};
 
 use crate::atoms::print_of_atoms;
@@ -15,15 +14,14 @@ use text_io::WriteFault;
 
 /// Prints a line `PATH:LINE: warning: MESSAGE` for each warning of the plant: those of its atoms, then those of its
 /// connectors, and then those of its rules. LINE is the one on which the part stands that the warning is about, as `lines` tell it,
-/// and 0 where they tell none.
+/// and 0 if they tell none.
 pub fn print_warnings<W: Write>(
     system: &System,
     lines: &PartLines,
     path: &[u8],
     output: &mut W,
 ) -> Result<(), WriteFault>
-    ensures { OnOk result (Appends (W.contents output.old) (W.contents output.new)
-        (warnings_text (plant_of system.now) lines.now path.now)) }
+    ensures { Prints result (W.contents output.old) (W.contents output.new) (warnings_text (plant_of system.now) lines.now path.now) }
 {
     let report = Report {
         system,

@@ -7,7 +7,7 @@ ghost use Rattle.petri_atom.specs.Transition.{transition_of};
 ghost use Rattle.petri_atom.specs.Update.{update_of};
 ghost use Rattle.connector_tree.specs.Tree.{leaves};
 ghost use Rattle.connector_tree.specs.declared.tree.TheConstants.{MAX_LEAVES};
-ghost use Rattle.step_core.specs.Rules.{first_told, tree_fault};
+ghost use Rattle.step_core.specs.Rules.{first_fault_in, tree_fault};
 ghost use Rattle.step_core.specs.System.{plant_of};
 ghost use Rattle.step_core.specs.Wire.{transfer_of, wire_of};
 ghost use Rattle.plant_warnings.specs.Reads.{has_export, has_variable, is_never_read, is_read_by_leaf, is_read_in, is_read_inside, reads_export, reads_variable};
@@ -81,7 +81,7 @@ impl VariableTest<u8> for OtherVariable {
 
 /// Whether one of the connectors reads the variable.
 fn is_read_in_some(wires: &[Wire], number: usize, atom: &Atom, variable: usize) -> bool
-    requires { first_told tree_fault 0 (map wire_of wires.now) ≡ None }
+    requires { first_fault_in tree_fault 0 (map wire_of wires.now) ≡ None }
     ensures { result ≡ list_any (is_read_in number (definition_of atom.now) variable) (map wire_of wires.now) }
 {
     for wire in wires {

@@ -1,8 +1,7 @@
 //! The lines on which warnings are printed.
-ghost use Rattle.std.specs.Prelude.{OnOk, flat_map};
-ghost use Rattle.std.specs.Io.KnownBytes.{Appends};
+ghost use Rattle.text_io.specs.Printing.{Prints};
 ghost use Rattle.plant_warnings.specs.Lines.{position_text, warned_if};
-ghost use Rattle.plant_warnings.specs.Report.{told_in};
+ghost use Rattle.plant_warnings.specs.Report.{Warns, line_in};
 
 use crate::message::print_message;
 use crate::warning::Warning;
@@ -25,8 +24,7 @@ pub(crate) fn print_warning<W: Write>(
     warning: Warning,
     output: &mut W,
 ) -> Result<(), WriteFault>
-    ensures { OnOk result (Appends (W.contents output.old) (W.contents output.new)
-        (told_in report.now warning)) }
+    ensures { Prints result (W.contents output.old) (W.contents output.new) (line_in report.now warning) }
 {
     print_position(report, warning, output)?;
     print_text(output, b": warning: ")?;
@@ -40,8 +38,7 @@ fn print_position<W: Write>(
     warning: Warning,
     output: &mut W,
 ) -> Result<(), WriteFault>
-    ensures { OnOk result (Appends (W.contents output.old) (W.contents output.new)
-        (position_text report.now.lines.now report.now.path.now warning)) }
+    ensures { Prints result (W.contents output.old) (W.contents output.new) (position_text report.now.lines.now report.now.path.now warning) }
 {
     print_text(output, report.path)?;
     print_text(output, b":")?;
@@ -55,8 +52,7 @@ pub(crate) fn print_if<W: Write>(
     warning: Warning,
     output: &mut W,
 ) -> Result<(), WriteFault>
-    ensures { OnOk result (Appends (W.contents output.old) (W.contents output.new)
-        (flat_map (told_in report.now) (warned_if applies warning))) }
+    ensures { Warns result (W.contents output.old) (W.contents output.new) report.now (warned_if applies warning) }
 {
     if applies {
         print_warning(report, warning, output)

@@ -1,12 +1,12 @@
 //! The warnings of priority rules.
-ghost use Rattle.std.specs.Prelude.{◌≡◌, ◌==◌, ◌&&◌, OnOk, flat_map};
-ghost use Rattle.std.specs.Io.KnownBytes.{Appends};
+ghost use Rattle.std.specs.Prelude.{◌≡◌, ◌==◌, ◌&&◌};
 ghost use Rattle.std.specs.List.{list_any};
 ghost use Rattle.priority_filter.specs.Decided.{is_proper_subset};
 ghost use Rattle.priority_filter.specs.declared.rule.Rule.TheVariants.{Under};
 ghost use Rattle.step_core.specs.System.{plant_of};
 ghost use Rattle.text_io.specs.Numbered.{numbered};
-ghost use Rattle.plant_warnings.specs.Report.{told_in};
+ghost use Rattle.text_io.specs.Printing.{Prints};
+ghost use Rattle.plant_warnings.specs.Report.{Warns};
 ghost use Rattle.plant_warnings.specs.Rules.{dead_side, orders_within, rule_warnings, side_connector};
 
 use crate::connectors::is_dead;
@@ -24,8 +24,7 @@ pub(crate) fn print_of_rules<W: Write>(
     rules: &[Rule],
     output: &mut W,
 ) -> Result<(), WriteFault>
-    ensures { OnOk result (Appends (W.contents output.old) (W.contents output.new)
-        (flat_map (told_in report.now) (numbered (rule_warnings (plant_of report.now.system.now)) 0 rules.now))) }
+    ensures { Warns result (W.contents output.old) (W.contents output.new) report.now (numbered (rule_warnings (plant_of report.now.system.now)) 0 rules.now) }
 {
     for (number, rule) in rules.iter().enumerate() {
         print_of_rule(report, number, *rule, output)?;
@@ -40,8 +39,7 @@ fn print_of_rule<W: Write>(
     rule: Rule,
     output: &mut W,
 ) -> Result<(), WriteFault>
-    ensures { OnOk result (Appends (W.contents output.old) (W.contents output.new)
-        (flat_map (told_in report.now) (rule_warnings (plant_of report.now.system.now) number rule))) }
+    ensures { Warns result (W.contents output.old) (W.contents output.new) report.now (rule_warnings (plant_of report.now.system.now) number rule) }
 {
     match rule {
         Rule::Under(left, right) | Rule::UnderAt(left, right, _) => {
@@ -67,8 +65,7 @@ fn print_of_sides<W: Write>(
     right: Side,
     output: &mut W,
 ) -> Result<(), WriteFault>
-    ensures { OnOk result (Appends (W.contents output.old) (W.contents output.new)
-        (flat_map (told_in report.now) (rule_warnings (plant_of report.now.system.now) number (Under left right)))) }
+    ensures { Warns result (W.contents output.old) (W.contents output.new) report.now (rule_warnings (plant_of report.now.system.now) number (Under left right)) }
 {
     match dead_side(report.system, left, right) {
         Some(connector) => print_warning(

@@ -3,6 +3,7 @@ ghost use Rattle.std.specs.Prelude.{◌≡◌, unwrap_or};
 ghost use Rattle.plant_warnings.specs.Lines.{line_of};
 
 use part_lines::PartLines;
+use plant_words::{AtomPart, WirePart};
 
 /// Something in a plant that is probably a mistake. Parts are numbered from 0, in the order in which they are written.
 #[derive(Clone, Copy, Debug, PartialEq, Eq)]
@@ -26,17 +27,37 @@ pub enum Warning {
 }
 
 impl Warning {
-    /// The line of the part that the warning is about; 0 where it stands on no line.
+    /// The line of the part that the warning is about; 0 if it stands on no line.
     pub(crate) fn line(self, lines: &PartLines) -> u32
         ensures { result ≡ line_of lines.now self }
     {
         let line = match self {
             Warning::NoMarkedPlace { atom } => lines.atom(atom),
-            Warning::PortInNoConnector { atom, port } => lines.port(atom, port),
-            Warning::PortWithoutTransition { atom, port } => lines.port(atom, port),
-            Warning::PlaceNeverMarked { atom, place } => lines.place(atom, place),
-            Warning::VariableNeverRead { atom, variable } => lines.variable(atom, variable),
-            Warning::ZeroGuard { connector, guard } => lines.guard(connector, guard),
+            Warning::PortInNoConnector { atom, port } => lines.part_of_atom(
+                atom,
+                AtomPart::Port,
+                port,
+            ),
+            Warning::PortWithoutTransition { atom, port } => lines.part_of_atom(
+                atom,
+                AtomPart::Port,
+                port,
+            ),
+            Warning::PlaceNeverMarked { atom, place } => lines.part_of_atom(
+                atom,
+                AtomPart::Place,
+                place,
+            ),
+            Warning::VariableNeverRead { atom, variable } => lines.part_of_atom(
+                atom,
+                AtomPart::Variable,
+                variable,
+            ),
+            Warning::ZeroGuard { connector, guard } => lines.part_of_connector(
+                connector,
+                WirePart::Guard,
+                guard,
+            ),
             Warning::NothingWithin { rule, .. } => lines.rule(rule),
             Warning::DeadSide { rule, .. } => lines.rule(rule),
         };

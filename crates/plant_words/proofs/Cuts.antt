@@ -36,7 +36,7 @@ before_line_feed line (part ∷ parts) some = refl
 abbrev is_line_feed : ℕ → Bool
 is_line_feed byte = byte == 10
 
--- the first line of a text with a line feed, and the lines behind it
+-- the first line of a text with a line feed, and the lines after it
 pub lines_of-first : (text : List ℕ) → position_or_len is_line_feed text < length text →
     lines_of text ≡ strip_carriage_return (take (position_or_len is_line_feed text) text) ∷ lines_of (drop (position_or_len is_line_feed text + 1) text)
 lines_of-first text within =
@@ -93,12 +93,12 @@ blank-first : (byte : ℕ) (bytes : List ℕ) → is_blank byte ≡ true → wor
 blank-first byte bytes blank = ap (filter is_filled) (slice_split-cons_yes is_blank byte bytes blank)
 
 -- nor do all blanks in front
-pub words_of-behind_blanks : (line : List ℕ) → words_of (drop (prefix_len is_blank line) line) ≡ words_of line
-words_of-behind_blanks [] = refl
-words_of-behind_blanks (byte ∷ bytes) =
+pub words_of-after_blanks : (line : List ℕ) → words_of (drop (prefix_len is_blank line) line) ≡ words_of line
+words_of-after_blanks [] = refl
+words_of-after_blanks (byte ∷ bytes) =
     let n = prefix_len is_blank bytes in
     (elim (is_blank byte) as (λ b. is_blank byte ≡ b → words_of (drop (cond b (1 + n) 0) (byte ∷ bytes)) ≡ words_of (byte ∷ bytes)) [
-      | true ↦ λ blank. let one : 1 + n ≡ suc n = omega arith in ap (λ (k : ℕ). words_of (drop k (byte ∷ bytes))) one ∙ words_of-behind_blanks bytes ∙ sym (blank-first byte bytes blank)
+      | true ↦ λ blank. let one : 1 + n ≡ suc n = omega arith in ap (λ (k : ℕ). words_of (drop k (byte ∷ bytes))) one ∙ words_of-after_blanks bytes ∙ sym (blank-first byte bytes blank)
       | false ↦ λ other. refl
     ]) refl
 
@@ -107,13 +107,13 @@ filled : (word : List ℕ) → 0 < length word → is_filled word ≡ true
 filled [] some = absurd (omega (arith, some))
 filled (byte ∷ bytes) some = refl
 
--- what stands behind the blanks begins with a word
-pub word-behind_blanks : (line : List ℕ) → 0 < length (drop (prefix_len is_blank line) line) → 0 < position_or_len is_blank (drop (prefix_len is_blank line) line)
-word-behind_blanks [] some = some
-word-behind_blanks (byte ∷ bytes) some =
+-- what stands after the blanks begins with a word
+pub word-after_blanks : (line : List ℕ) → 0 < length (drop (prefix_len is_blank line) line) → 0 < position_or_len is_blank (drop (prefix_len is_blank line) line)
+word-after_blanks [] some = some
+word-after_blanks (byte ∷ bytes) some =
     let n = prefix_len is_blank bytes in
     (elim (is_blank byte) as (λ b. is_blank byte ≡ b → 0 < length (drop (cond b (1 + n) 0) (byte ∷ bytes)) → 0 < position_or_len is_blank (drop (cond b (1 + n) 0) (byte ∷ bytes))) [
-      | true ↦ λ blank behind. let one : 1 + n ≡ suc n = omega arith in rw one (word-behind_blanks bytes (rw one at behind))
+      | true ↦ λ blank behind. let one : 1 + n ≡ suc n = omega arith in rw one (word-after_blanks bytes (rw one at behind))
       | false ↦ λ other behind. rw other (omega arith)
     ]) refl some
 
@@ -143,8 +143,8 @@ pub first_word : (line behind_blanks word behind : List ℕ) (n m : ℕ) → n �
     m ≡ position_or_len is_blank behind_blanks → word ≡ take m behind_blanks → behind ≡ drop m behind_blanks → words_of line ≡ word ∷ words_of behind
 first_word line behind_blanks word behind n m blanks back some value front rest =
     let place : behind_blanks ≡ drop (prefix_len is_blank line) line = back ∙ ap (λ (k : ℕ). drop k line) blanks in
-    let same : words_of behind_blanks ≡ words_of line = ap words_of place ∙ words_of-behind_blanks line in
-    let begins : 0 < position_or_len is_blank behind_blanks = rw place (word-behind_blanks line (rw place at some)) in
+    let same : words_of behind_blanks ≡ words_of line = ap words_of place ∙ words_of-after_blanks line in
+    let begins : 0 < position_or_len is_blank behind_blanks = rw place (word-after_blanks line (rw place at some)) in
     let cut = words_of-first behind_blanks begins in
     let first : word ≡ take (position_or_len is_blank behind_blanks) behind_blanks = front ∙ ap (λ (k : ℕ). take k behind_blanks) value in
     let left : words_of behind ≡ words_of (drop (position_or_len is_blank behind_blanks) behind_blanks) = ap words_of (rest ∙ ap (λ (k : ℕ). drop k behind_blanks) value) in
@@ -152,7 +152,7 @@ first_word line behind_blanks word behind n m blanks back some value front rest 
 
 -- a line of blanks alone has no words
 pub no_words : (line behind_blanks : List ℕ) (n : ℕ) → n ≡ prefix_len is_blank line → behind_blanks ≡ drop n line → length behind_blanks ≡ 0 → words_of line ≡ []
-no_words line [] n blanks back none = sym (words_of-behind_blanks line) ∙ sym (ap words_of (back ∙ ap (λ (k : ℕ). drop k line) blanks))
+no_words line [] n blanks back none = sym (words_of-after_blanks line) ∙ sym (ap words_of (back ∙ ap (λ (k : ℕ). drop k line) blanks))
 no_words line (byte ∷ bytes) n blanks back none = absurd (omega (arith, none))
 
 -- one more byte makes at most one more word

@@ -1,4 +1,4 @@
--- Steps of a reading that take no memory, so that none of them tells of want of it.
+-- Steps of a reading that take no memory, so that none of them answers want of it.
 use Rattle.std.proofs.Common.{◌≡◌, ◌≢◌, ◌∙◌, refl, sym, ap, subst, if◌then◌else◌, Bool, true, false, ℕ, List, [], ◌∷◌, Option, Some, None, Result, Ok, Err}
 use Rattle.std.specs.Prelude.{IfErr, IsOk}
 use Rattle.std.specs.Option.{ok_or}
@@ -13,7 +13,7 @@ use Rattle.plant_words.specs.declared.expression_fault.ExpressionFault.TheVarian
 use Rattle.plant_words.specs.declared.line_fault.LineFault.{LineFault}
 use Rattle.plant_words.specs.declared.line_fault.LineFault.TheVariants.{NotAscii, BadName, Shape, Memory}
 
--- a step that tells of no want of memory
+-- a step that answers no want of memory
 abbrev pub TakesNone : {A : Type 0} → Result A LineFault → Type 0
 TakesNone {A} step = step ≢ Err Memory
 
@@ -25,7 +25,7 @@ pub or_takes_none : {A : Type 0} (found : Option A) (fault : LineFault) → faul
 or_takes_none (Some x) fault other is = absurd (cc)
 or_takes_none None fault other is = let e : fault ≡ Memory = cc in other e
 
--- one step behind the other
+-- one step after the other
 pub then_takes_none : {A B : Type 0} (first : Result A LineFault) (next : A → Result B LineFault) → TakesNone first → ((x : A) → TakesNone (next x)) → TakesNone (first >>= next)
 then_takes_none (Ok x) next before behind = behind x
 then_takes_none (Err fault) next before behind = λ is. let e : fault ≡ Memory = cc in before (ap Err e)
@@ -53,19 +53,19 @@ end_takes_none [] = λ is. absurd (cc)
 end_takes_none (word ∷ words) = left_over_takes_none (is_legal_line word)
 
 -- so the fault of such a step is no want of memory
-pub told_before : {A B C : Type 0} (read : Result A LineFault) (step : Result C LineFault) (result : Result B LineFault) (fault : LineFault) → IsErrAnd result (λ told. told ≡ fault) → step ≡ Err fault → TakesNone step → IfErr result (IsLast read)
-told_before read step (Ok x) fault left is none = tt
-told_before read step (Err told) fault left is none = λ memory. absurd (none (is ∙ ap Err (sym left ∙ memory)))
+pub found_before : {A B C : Type 0} (read : Result A LineFault) (step : Result C LineFault) (result : Result B LineFault) (fault : LineFault) → IsErrAnd result (λ told. told ≡ fault) → step ≡ Err fault → TakesNone step → IfErr result (IsLast read)
+found_before read step (Ok x) fault left is none = tt
+found_before read step (Err told) fault left is none = λ memory. absurd (none (is ∙ ap Err (sym left ∙ memory)))
 
 -- the fault of a step is no want of memory unless nothing else is at fault
-pub told_behind : {A B : Type 0} (read : Result A LineFault) (result : Result B LineFault) (fault : LineFault) → IsErrAnd result (λ told. told ≡ fault) → (fault ≡ Memory → IsOk read) → IfErr result (IsLast read)
-told_behind read (Ok x) fault left well = tt
-told_behind read (Err told) fault left well = λ memory. well (sym left ∙ memory)
+pub found_after : {A B : Type 0} (read : Result A LineFault) (result : Result B LineFault) (fault : LineFault) → IsErrAnd result (λ told. told ≡ fault) → (fault ≡ Memory → IsOk read) → IfErr result (IsLast read)
+found_after read (Ok x) fault left well = tt
+found_after read (Err told) fault left well = λ memory. well (sym left ∙ memory)
 
 -- and where what was read has no fault, memory may be wanting
-pub told_last : {A B : Type 0} (read : Result A LineFault) (x : A) (result : Result B LineFault) → read ≡ Ok x → IfErr result (IsLast read)
-told_last read x (Ok y) is = tt
-told_last read x (Err told) is = λ memory. subst IsOk (sym is) refl
+pub found_last : {A B : Type 0} (read : Result A LineFault) (x : A) (result : Result B LineFault) → read ≡ Ok x → IfErr result (IsLast read)
+found_last read x (Ok y) is = tt
+found_last read x (Err told) is = λ memory. subst IsOk (sym is) refl
 
 -- an expression
 fault_is_no_want : (fault : ExpressionFault) → line_fault fault ≢ Memory

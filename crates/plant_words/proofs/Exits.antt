@@ -17,14 +17,14 @@ pub passes : {A B F : Type 0} {first : Result A F} {x : A} {last : Result B F} (
 passes next is rest = ap (λ step. step >>= next) is ∙ rest
 
 -- the fault that leaves a function is the one of what was read, unless it is that memory ran out
-pub told_fault : {A B F : Type 0} (memory : F) (read : Result A F) (result : Result B F) (fault : F) → IsErrAnd result (λ told. told ≡ fault) → (fault ≢ memory → read ≡ Err fault) → IfErr result (λ told. told ≢ memory → read ≡ Err told)
-told_fault memory read (Ok x) fault left is = tt
-told_fault memory read (Err told) fault left is = λ other. is (λ wants. other (left ∙ wants)) ∙ ap Err (sym left)
+pub found_fault : {A B F : Type 0} (memory : F) (read : Result A F) (result : Result B F) (fault : F) → IsErrAnd result (λ told. told ≡ fault) → (fault ≢ memory → read ≡ Err fault) → IfErr result (λ told. told ≢ memory → read ≡ Err told)
+found_fault memory read (Ok x) fault left is = tt
+found_fault memory read (Err told) fault left is = λ other. is (λ wants. other (left ∙ wants)) ∙ ap Err (sym left)
 
 -- want of memory is the fault of nothing that was read
-pub told_memory : {A B F : Type 0} (memory : F) (read : Result A F) (result : Result B F) → IsErrAnd result (λ told. told ≡ memory) → IfErr result (λ told. told ≢ memory → read ≡ Err told)
-told_memory memory read (Ok x) left = tt
-told_memory memory read (Err told) left = λ other. absurd (other left)
+pub found_memory : {A B F : Type 0} (memory : F) (read : Result A F) (result : Result B F) → IsErrAnd result (λ told. told ≡ memory) → IfErr result (λ told. told ≢ memory → read ≡ Err told)
+found_memory memory read (Ok x) left = tt
+found_memory memory read (Err told) left = λ other. absurd (other left)
 
 -- what holds in any case holds at a fault
 pub at_fault : {A F P : Type 0} (result : Result A F) → P → OnErr result P
@@ -35,7 +35,7 @@ at_fault (Err fault) holds = holds
 pub room_for : {A B F : Type 0} (list : List A) (part : A → B) (limit count : ℕ) (full : F) (end : Result (Unit {0}) F) → count ≡ length list → end ≡ check (nat_lt count limit) full → check (nat_lt (length (map part list)) limit) full ≡ end
 room_for list part limit count full end counted is = ap (λ n. check (nat_lt n limit) full) (length-map list part ∙ sym counted) ∙ sym is
 
--- no more than a bound, where there was room for one
+-- no more than a bound, if there was room for one
 pub room_for_one : {X : Type 0} (bound : ℕ) (xs : List X) (x : X) → length xs < bound → length (xs ++ x ∷ []) ≤ bound
 room_for_one bound xs x room = let more : length (xs ++ x ∷ []) ≡ length xs + 1 = length-append xs (x ∷ []) in omega (arith, more, room)
 

@@ -11,7 +11,7 @@ use Rattle.plant_words.specs.declared.expression_word.Word.{Word}
 use Rattle.plant_words.specs.declared.expression_word.Word.TheVariants.{Number, Variable, Negation, Operation}
 use Rattle.plant_words.specs.declared.expression_fault.ExpressionFault.TheVariants.{NotAscii}
 use Rattle.plant_words.specs.ExpressionWords.{number_in, variable_found, operator_in, could_be_variable, legal_word_in, word_in}
-use Rattle.plant_words.specs.Expressions.{Reading, expressions_in, expression_in, led_by, wanted_behind, on_trees, behind, only}
+use Rattle.plant_words.specs.Expressions.{Reading, expressions_in, expression_in, led_by, wanted_after, on_trees, behind, only}
 use Rattle.petri_atom.specs.Name.{is_same_text}
 use Rattle.plant_words.specs.Lines.{is_legal_line}
 use Rattle.plant_words.specs.Numbers.{is_numeric, int_in}
@@ -34,18 +34,18 @@ only-ok {V = V} (Ok ((e ∷ trees), words)) tree rest read =
 only-ok (Ok ([], words)) tree rest read = absurd (cc)
 only-ok (Err fault) tree rest read = absurd (cc)
 
--- what holds of the expressions behind each word holds of those that a word leads
+-- what holds of the expressions after each word holds of those that a word leads
 led_has : {V : Type 0} (named : List ℕ → Option V) (P : ℕ → List (Tree V) → Type 0) (limit more : ℕ) (text : List ℕ) (r : Result (Word V) ExpressionFault) (read : ℕ → Reading V) (trees : List (Tree V)) (rest : List (List ℕ)) →
     word_in named text ≡ r →
     ((word : Word V) (before : List (Tree V)) → word_in named text ≡ Ok word → P limit before → P (suc limit) (led_by word before)) →
     ((wanted : ℕ) (before : List (Tree V)) (left : List (List ℕ)) → read wanted ≡ Ok (before, left) → P limit before) →
     behind r more read ≡ Ok (trees, rest) → P (suc limit) trees
 led_has named P limit more text (Ok word) read trees rest says next later said =
-    let found = on_trees-ok (led_by word) (read (wanted_behind word more)) trees rest said in
-    subst (P (suc limit)) found.2 (next word found.0 says (later (wanted_behind word more) found.0 rest found.1))
+    let found = on_trees-ok (led_by word) (read (wanted_after word more)) trees rest said in
+    subst (P (suc limit)) found.2 (next word found.0 says (later (wanted_after word more) found.0 rest found.1))
 led_has named P limit more text (Err fault) read trees rest says next later said = absurd (cc)
 
--- What holds of no expressions, and of those that a word leads where it holds of those behind it, holds of each row
+-- What holds of no expressions, and of those that a word leads where it holds of those after it, holds of each row
 -- that is read. The number is how many words the row may have.
 row_has : {V : Type 0} (named : List ℕ → Option V) (P : ℕ → List (Tree V) → Type 0) →
     ((limit : ℕ) → P limit []) →
@@ -66,7 +66,7 @@ abbrev words_in : {V : Type 0} → List (Tree V) → ℕ
 words_in [] = 0
 words_in (e ∷ trees) = word_count e + words_in trees
 
--- a word adds one to the words of the expressions behind it, at most
+-- a word adds one to the words of the expressions after it, at most
 words_led_by : {V : Type 0} (word : Word V) (trees : List (Tree V)) → words_in (led_by word trees) ≤ words_in trees + 1
 words_led_by (Number n) trees = let same : 1 + words_in trees ≤ words_in trees + 1 = omega arith in same
 words_led_by (Variable v) trees = let same : 1 + words_in trees ≤ words_in trees + 1 = omega arith in same

@@ -8,7 +8,7 @@ use Rattle.petri_atom.specs.declared.expression.Operator.{Operator}
 use Rattle.plant_words.specs.declared.expression_word.Word.{Word}
 use Rattle.plant_words.specs.declared.expression_word.Word.TheVariants.{Negation, Operation}
 use Rattle.plant_words.specs.declared.expression_fault.ExpressionFault.{ExpressionFault}
-use Rattle.plant_words.specs.Expressions.{Reading, expressions_in, expression_in, on_trees, led_by, wanted_behind, only, words_left, Stands}
+use Rattle.plant_words.specs.Expressions.{Reading, expressions_in, expression_in, on_trees, led_by, wanted_after, only, words_left, Stands}
 
 -- an expression that stands first in words is the only one of a row of one
 alone : {V : Type 0} (named : List ℕ → Option V) (left : ℕ) (words rest : List (List ℕ)) (read : Result (Expression V) AllocError) (s : Stands named MAX_WORDS left words rest read) →
@@ -20,13 +20,13 @@ only_one : {V : Type 0} (named : List ℕ → Option V) (left : ℕ) (words rest
 only_one named left words rest (Ok e) s = alone named left words rest (Ok e) s ∙ ap (λ tree. Ok (tree, rest)) (sym s.is_made)
 only_one named left words rest (Err f) s = tt
 
--- so it is the one that was made, where there was memory for it
+-- so it is the one that was made, if there was memory for it
 pub only_made : {V : Type 0} (named : List ℕ → Option V) (left : ℕ) (words rest : List (List ℕ)) (result : Result (Result (Expression V) AllocError) ExpressionFault) → IfOk result (Stands named MAX_WORDS left words rest) →
     IfOk result (λ read. IfOk read (λ e. expression_in named words ≡ Ok (tree_of e, rest)))
 only_made named left words rest (Ok read) s = only_one named left words rest read s
 only_made named left words rest (Err f) s = tt
 
--- and the words behind it are left
+-- and the words after it are left
 pub only_left : {V : Type 0} (named : List ℕ → Option V) (left : ℕ) (words rest : List (List ℕ)) (result : Result (Result (Expression V) AllocError) ExpressionFault) → IfOk result (Stands named MAX_WORDS left words rest) →
     OnOk result (words_left (expression_in named words) ≡ Ok rest)
 only_left named left words rest (Ok read) s = ap words_left (alone named left words rest read s)
@@ -50,26 +50,26 @@ operated : {V : Type 0} (o : Operator) (left right : Tree V) (r : Reading V) →
 operated o left right (Ok reading) = refl
 operated o left right (Err fault) = refl
 
--- `!` takes the expression behind it
+-- `!` takes the expression after it
 pub reads_negation : {V : Type 0} (before between after : ℕ → Reading V) (word : Word V) (operand whole : Tree V) →
     word ≡ Negation →
-    ((more : ℕ) → before (suc more) ≡ on_trees (led_by word) (between (wanted_behind word more))) →
+    ((more : ℕ) → before (suc more) ≡ on_trees (led_by word) (between (wanted_after word more))) →
     ((more : ℕ) → between (suc more) ≡ on_trees (λ trees. operand ∷ trees) (after more)) →
     whole ≡ negation operand →
     (more : ℕ) → before (suc more) ≡ on_trees (λ trees. whole ∷ trees) (after more)
 reads_negation before between after word operand whole which first read is more =
-    first more ∙ ap (λ w. on_trees (led_by w) (between (wanted_behind w more))) which ∙ ap (on_trees (led_by Negation)) (read more) ∙ negated operand (after more) ∙ ap (λ e. on_trees (λ trees. e ∷ trees) (after more)) (sym is)
+    first more ∙ ap (λ w. on_trees (led_by w) (between (wanted_after w more))) which ∙ ap (on_trees (led_by Negation)) (read more) ∙ negated operand (after more) ∙ ap (λ e. on_trees (λ trees. e ∷ trees) (after more)) (sym is)
 
--- an operator takes the two expressions behind it
+-- an operator takes the two expressions after it
 pub reads_operation : {V : Type 0} (before first second after : ℕ → Reading V) (word : Word V) (o : Operator) (left right whole : Tree V) →
     word ≡ Operation o →
-    ((more : ℕ) → before (suc more) ≡ on_trees (led_by word) (first (wanted_behind word more))) →
+    ((more : ℕ) → before (suc more) ≡ on_trees (led_by word) (first (wanted_after word more))) →
     ((more : ℕ) → first (suc more) ≡ on_trees (λ trees. left ∷ trees) (second more)) →
     ((more : ℕ) → second (suc more) ≡ on_trees (λ trees. right ∷ trees) (after more)) →
     whole ≡ operation o left right →
     (more : ℕ) → before (suc more) ≡ on_trees (λ trees. whole ∷ trees) (after more)
 reads_operation before first second after word o left right whole which says one two is more =
-    says more ∙ ap (λ w. on_trees (led_by w) (first (wanted_behind w more))) which ∙ ap (on_trees (led_by (Operation o))) (one (suc more) ∙ ap (on_trees (λ trees. left ∷ trees)) (two more)) ∙
+    says more ∙ ap (λ w. on_trees (led_by w) (first (wanted_after w more))) which ∙ ap (on_trees (led_by (Operation o))) (one (suc more) ∙ ap (on_trees (λ trees. left ∷ trees)) (two more)) ∙
     operated o left right (after more) ∙ ap (λ e. on_trees (λ trees. e ∷ trees) (after more)) (sym is)
 
 -- the expression of an operator is made of those that were made of its operands
@@ -86,10 +86,10 @@ made_of_two o first second (Ok l) (Err f) (Ok e) one other is = absurd is
 made_of_two o first second (Err f) right (Ok e) one other is = absurd is
 made_of_two o first second left right (Err f) one other is = tt
 
--- `!` stands before the expression behind it
+-- `!` stands before the expression after it
 pub negation_stands : {V : Type 0} (named : List ℕ → Option V) (limit middle left : ℕ) (words behind rest : List (List ℕ)) (word : Word V) (operand made : Result (Expression V) AllocError) →
     word ≡ Negation →
-    ((more : ℕ) → expressions_in named limit (suc more) words ≡ on_trees (led_by word) (expressions_in named middle (wanted_behind word more) behind)) →
+    ((more : ℕ) → expressions_in named limit (suc more) words ≡ on_trees (led_by word) (expressions_in named middle (wanted_after word more) behind)) →
     Stands named middle left behind rest operand →
     IfOk made (λ e. IsOkAnd operand (λ inner. tree_of e ≡ negation (tree_of inner))) →
     Stands named limit left words rest made
@@ -100,10 +100,10 @@ negation_stands named limit middle left words behind rest word operand made whic
   is_made = made_of_one s.tree operand made s.is_made is;
 }
 
--- an operator stands before the two expressions behind it
+-- an operator stands before the two expressions after it
 pub operation_stands : {V : Type 0} (named : List ℕ → Option V) (limit first second left : ℕ) (words behind between rest : List (List ℕ)) (word : Word V) (o : Operator) (one other made : Result (Expression V) AllocError) →
     word ≡ Operation o →
-    ((more : ℕ) → expressions_in named limit (suc more) words ≡ on_trees (led_by word) (expressions_in named first (wanted_behind word more) behind)) →
+    ((more : ℕ) → expressions_in named limit (suc more) words ≡ on_trees (led_by word) (expressions_in named first (wanted_after word more) behind)) →
     Stands named first second behind between one → Stands named second left between rest other →
     IfOk made (λ e. IsOkAnd one (λ l. IsOkAnd other (λ r. tree_of e ≡ operation o (tree_of l) (tree_of r)))) →
     Stands named limit left words rest made

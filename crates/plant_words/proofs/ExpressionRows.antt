@@ -12,7 +12,7 @@ use Rattle.plant_words.specs.Expressions.{expression_in}
 named : List ℕ → Option ℕ
 named word = if is_same_text word (codes "n") then Some 0 else None
 
--- the expression of a line and the words behind it, or its first fault
+-- the expression of a line and the words after it, or its first fault
 read : List ℕ → Result (Tree ℕ × List (List ℕ)) ExpressionFault
 unfolding named
 read line = expression_in named (words_of line)
@@ -34,9 +34,9 @@ a_negative_number : read (codes "-3") ≡ Ok (number (negsuc 2), [])
 unfolding read
 a_negative_number = refl
 
-words_behind_are_left : read (codes "+ n 1 do m") ≡ Ok (operation Add (variable 0) (number (pos 1)), codes "do" ∷ codes "m" ∷ [])
+words_after_are_left : read (codes "+ n 1 do m") ≡ Ok (operation Add (variable 0) (number (pos 1)), codes "do" ∷ codes "m" ∷ [])
 unfolding read
-words_behind_are_left = refl
+words_after_are_left = refl
 
 no_words : read [] ≡ Err BadExpression
 unfolding read
@@ -90,22 +90,22 @@ an_illegal_byte_in_a_word : read (codes "+ n" ++ 128 ∷ codes " x") ≡ Err Not
 unfolding read
 an_illegal_byte_in_a_word = refl
 
-an_illegal_byte_behind_a_fault : read (codes "+ x " ++ 128 ∷ []) ≡ Err UnknownName
+an_illegal_byte_after_a_fault : read (codes "+ x " ++ 128 ∷ []) ≡ Err UnknownName
 unfolding read
-an_illegal_byte_behind_a_fault = refl
+an_illegal_byte_after_a_fault = refl
 
-an_illegal_byte_behind_the_expression : read (codes "n " ++ 128 ∷ []) ≡ Ok (variable 0, (128 ∷ []) ∷ [])
+an_illegal_byte_after_the_expression : read (codes "n " ++ 128 ∷ []) ≡ Ok (variable 0, (128 ∷ []) ∷ [])
 unfolding read
-an_illegal_byte_behind_the_expression = refl
+an_illegal_byte_after_the_expression = refl
 
--- an expression of so many words `!` and a variable behind them
+-- an expression of so many words `!` and a variable after them
 denied : ℕ → List (List ℕ)
 denied count = replicate count (codes "!") ++ codes "n" ∷ []
 
 -- the fault, if it is one
-fault_told : Result (Tree ℕ × List (List ℕ)) ExpressionFault → Option ExpressionFault
-fault_told (Ok reading) = None
-fault_told (Err fault) = Some fault
+fault_of_result : Result (Tree ℕ × List (List ℕ)) ExpressionFault → Option ExpressionFault
+fault_of_result (Ok reading) = None
+fault_of_result (Err fault) = Some fault
 
 -- how many words the expression has, or 0 for a fault
 words_read : Result (Tree ℕ × List (List ℕ)) ExpressionFault → ℕ
@@ -116,14 +116,14 @@ sixty_four_words_are_read : words_read (expression_in named (denied 63)) ≡ 64
 unfolding named denied words_read
 sixty_four_words_are_read = refl
 
-sixty_four_words_are_no_fault : fault_told (expression_in named (denied 63)) ≡ None
-unfolding named denied fault_told
+sixty_four_words_are_no_fault : fault_of_result (expression_in named (denied 63)) ≡ None
+unfolding named denied fault_of_result
 sixty_four_words_are_no_fault = refl
 
-sixty_five_words : fault_told (expression_in named (denied 64)) ≡ Some Limit
-unfolding named denied fault_told
+sixty_five_words : fault_of_result (expression_in named (denied 64)) ≡ Some Limit
+unfolding named denied fault_of_result
 sixty_five_words = refl
 
-sixty_four_words_without_an_end : fault_told (expression_in named (replicate 64 (codes "!"))) ≡ Some BadExpression
-unfolding named fault_told
+sixty_four_words_without_an_end : fault_of_result (expression_in named (replicate 64 (codes "!"))) ≡ Some BadExpression
+unfolding named fault_of_result
 sixty_four_words_without_an_end = refl

@@ -13,7 +13,7 @@ use Rattle.plant_words.specs.Names.{name_in}
 use Rattle.plant_words.specs.Words.{is_blank, is_filled, words_of}
 use Rattle.plant_words.specs.Reading.{◌>>=◌, check, first_word, first_name, first_keyword, at_end, leads, on_line}
 use Rattle.plant_words.specs.ExpressionWords.{legal_word_in, word_in}
-use Rattle.plant_words.specs.Expressions.{Reading, expressions_in, expression_in, behind, led_by, wanted_behind}
+use Rattle.plant_words.specs.Expressions.{Reading, expressions_in, expression_in, behind, led_by, wanted_after}
 use Rattle.plant_words.specs.declared.expression_word.Word.{Word}
 use Rattle.plant_words.specs.declared.expression_fault.ExpressionFault.{ExpressionFault}
 use Rattle.plant_words.specs.declared.expression_fault.ExpressionFault.TheVariants as expression
@@ -66,7 +66,7 @@ taken_is_legal : (legal : Bool) (word told : List ℕ) → ◌≡◌ {A = Result
 taken_is_legal true word told is = refl
 taken_is_legal false word told is = absurd (cc)
 
--- the words from one on that was taken, where those behind it are legal
+-- the words from one on that was taken, where those after it are legal
 pub word_is_legal : (words : List (List ℕ)) (word : List ℕ) → first_word words ≡ Ok word → are_legal (drop 1 words) ≡ true → are_legal words ≡ true
 word_is_legal [] word told rest = absurd (cc)
 word_is_legal (first ∷ words) word told rest = and_from (is_legal_line first) (are_legal words) (taken_is_legal (is_legal_line first) first word told) rest
@@ -84,21 +84,21 @@ leading_is_legal keyword [] legal leads rest = refl
 leading_is_legal keyword (word ∷ words) legal leads rest =
     and_from (is_legal_line word) (are_legal words) (ap is_legal_line ((bytes_eq-Decides word keyword).0 leads) ∙ legal) rest
 
--- no word is left behind the end
+-- no word is left after the end
 pub end_is_legal : (words : List (List ℕ)) (u : Unit {0}) → at_end words ≡ Ok u → are_legal words ≡ true
 end_is_legal [] u told = refl
 end_is_legal (word ∷ words) u told = absurd (cc)
 
 -- ---- expressions
 
-word_behind : {V P : Type 0} (legal : Bool) (said : Result (Word V) ExpressionFault) (more : ℕ) (read : ℕ → Reading V) (trees : List (Tree V)) (rest : List (List ℕ)) →
+word_after : {V P : Type 0} (legal : Bool) (said : Result (Word V) ExpressionFault) (more : ℕ) (read : ℕ → Reading V) (trees : List (Tree V)) (rest : List (List ℕ)) →
     ((wanted : ℕ) (before : List (Tree V)) → read wanted ≡ Ok (before, rest) → P) →
     behind (if legal then said else Err expression.NotAscii) more read ≡ Ok (trees, rest) → (legal ≡ true) × P
-word_behind false said more read trees rest later told = absurd (cc)
-word_behind true (Err fault) more read trees rest later told = absurd (cc)
-word_behind true (Ok word) more read trees rest later told =
-    let found = on_trees-ok (led_by word) (read (wanted_behind word more)) trees rest told in
-    (refl, later (wanted_behind word more) found.0 found.1)
+word_after false said more read trees rest later told = absurd (cc)
+word_after true (Err fault) more read trees rest later told = absurd (cc)
+word_after true (Ok word) more read trees rest later told =
+    let found = on_trees-ok (led_by word) (read (wanted_after word more)) trees rest told in
+    (refl, later (wanted_after word more) found.0 found.1)
 
 row_is_legal : {V : Type 0} (named : List ℕ → Option V) (limit more : ℕ) (words : List (List ℕ)) (trees : List (Tree V)) (rest : List (List ℕ)) →
     are_legal rest ≡ true → expressions_in named limit more words ≡ Ok (trees, rest) → are_legal words ≡ true
@@ -108,7 +108,7 @@ row_is_legal {V = V} named limit zero words trees rest legal told =
 row_is_legal named limit (suc more) [] trees rest legal told = refl
 row_is_legal named zero (suc more) (word ∷ words) trees rest legal told = absurd (cc)
 row_is_legal named (suc limit) (suc more) (word ∷ words) trees rest legal told =
-    let both = word_behind (is_legal_line word) (legal_word_in named word) more (λ wanted. expressions_in named limit wanted words) trees rest
+    let both = word_after (is_legal_line word) (legal_word_in named word) more (λ wanted. expressions_in named limit wanted words) trees rest
     (λ wanted before read. row_is_legal named limit wanted words before rest legal read) told in
     and_from (is_legal_line word) (are_legal words) both.0 both.1
 
@@ -118,14 +118,14 @@ expression_is_legal named words rest tree told legal =
     let found = only-ok (expressions_in named MAX_WORDS 1 words) tree rest told in
     row_is_legal named MAX_WORDS 1 words (tree ∷ found.0) rest legal found.1
 
-told_on_line : {A : Type 0} (r : Result A ExpressionFault) (x : A) → on_line r ≡ Ok x → r ≡ Ok x
-told_on_line (Ok y) x told = ap Ok (same_end y x told)
-told_on_line (Err fault) x told = absurd (cc)
+found_on_line : {A : Type 0} (r : Result A ExpressionFault) (x : A) → on_line r ≡ Ok x → r ≡ Ok x
+found_on_line (Ok y) x told = ap Ok (same_end y x told)
+found_on_line (Err fault) x told = absurd (cc)
 
--- the words of an expression in a line, where those behind it are legal
+-- the words of an expression in a line, where those after it are legal
 pub read_is_legal : {V : Type 0} (named : List ℕ → Option V) (words : List (List ℕ)) (read : Tree V × List (List ℕ)) →
     on_line (expression_in named words) ≡ Ok read → are_legal read.1 ≡ true → are_legal words ≡ true
-read_is_legal named words read told legal = expression_is_legal named words read.1 read.0 (told_on_line (expression_in named words) read told) legal
+read_is_legal named words read told legal = expression_is_legal named words read.1 read.0 (found_on_line (expression_in named words) read told) legal
 
 -- ---- names
 

@@ -3,10 +3,10 @@ pub mod Indexed
 pub mod Once
 pub mod Cuts
 pub mod Decimals
-pub mod Sides
+mod Sides
 mod Rows
 pub mod ExpressionReading
-pub mod ExpressionPassing
+mod ExpressionPassing
 pub mod ExpressionParts
 mod ExpressionRows
 pub mod Steps

@@ -30,7 +30,7 @@ any-first : {X : Type 0} (test : X → Bool) (xs : List X) → list_any test xs 
 any-first test [] some = absurd (false≢true some)
 any-first test (x ∷ xs) some = first_or_later (test x) (list_any test xs) (position_or_len test xs) (length xs) (λ later. any-first test xs later) some
 
--- where none is first, none passes
+-- if none is first, none passes
 pub none-passes : {X : Type 0} (test : X → Bool) (xs : List X) → position test xs ≡ None → list_any test xs ≡ false
 none-passes test xs none =
     false_from_ne_true (list_any test xs)

@@ -1,14 +1,16 @@
 -- Worked examples of the definitions, as computed facts.
-use Rattle.std.proofs.Common.{◌≡◌, true, false, refl, [], ◌∷◌, codes, ◌++◌, Some, None, pos, negsuc, Ok, Err}
+use Rattle.std.proofs.Common.{◌≡◌, true, false, refl, [], ◌∷◌, codes, ◌++◌, map, Some, None, pos, negsuc, Ok, Err}
 use Rattle.std.specs.Prelude.{position}
 use Rattle.petri_atom.specs.Name.{is_same_text}
 use Rattle.plant_words.specs.Lines.{lines_of, is_legal_line}
+use Rattle.plant_words.specs.LineKinds.{keyword_of, kind_in}
 use Rattle.plant_words.specs.Words.{words_of, is_passed_over}
 use Rattle.plant_words.specs.Numbers.{is_numeric, int_in, pick_in}
 use Rattle.plant_words.specs.Names.{name_in}
 use Rattle.plant_words.specs.Splits.{port_parts, export_parts, named_mask_in}
 use Rattle.plant_words.specs.Reading.{first_word, first_name, first_keyword, at_end}
 use Rattle.plant_words.specs.declared.line_fault.LineFault.TheVariants.{NotAscii, BadName, Shape}
+use Rattle.plant_words.specs.declared.line_kind.TheConstants.{LINE_KINDS}
 use Rattle.plant_words.specs.declared.numbers.TheConstants.{MAX_DIGITS}
 
 -- ---- lines
@@ -19,8 +21,8 @@ no_line_in_the_empty_text = refl
 the_last_line_may_lack_its_line_feed : lines_of (codes "ab\nc") ≡ codes "ab" ∷ codes "c" ∷ []
 the_last_line_may_lack_its_line_feed = refl
 
-no_line_behind_the_last_line_feed : lines_of (codes "ab\nc\n") ≡ codes "ab" ∷ codes "c" ∷ []
-no_line_behind_the_last_line_feed = refl
+no_line_after_the_last_line_feed : lines_of (codes "ab\nc\n") ≡ codes "ab" ∷ codes "c" ∷ []
+no_line_after_the_last_line_feed = refl
 
 empty_lines_count : lines_of (codes "\n\na\n") ≡ [] ∷ [] ∷ codes "a" ∷ []
 empty_lines_count = refl
@@ -204,8 +206,8 @@ no_named_mask_without_a_colon = refl
 an_illegal_byte_in_a_word : first_word (words_of (codes "a" ++ 228 ∷ codes "b c")) ≡ Err NotAscii
 an_illegal_byte_in_a_word = refl
 
-an_illegal_byte_behind_a_word : first_word (words_of (codes "a " ++ 228 ∷ [])) ≡ Ok (codes "a")
-an_illegal_byte_behind_a_word = refl
+an_illegal_byte_after_a_word : first_word (words_of (codes "a " ++ 228 ∷ [])) ≡ Ok (codes "a")
+an_illegal_byte_after_a_word = refl
 
 a_name_with_an_illegal_byte : first_name (words_of (codes "to" ++ 128 ∷ [])) ≡ Err NotAscii
 a_name_with_an_illegal_byte = refl
@@ -232,3 +234,11 @@ a_name_by_its_place = refl
 
 the_empty_name_has_no_place : position (λ known. is_same_text known []) (codes "q2" ∷ codes "q" ∷ []) ≡ None
 the_empty_name_has_no_place = refl
+
+-- ---- kinds of lines
+
+each_kind_is_known_by_its_keyword : map (λ kind. kind_in (keyword_of kind)) LINE_KINDS ≡ map Some LINE_KINDS
+each_kind_is_known_by_its_keyword = refl
+
+a_longer_word_begins_no_line : kind_in (codes "places") ≡ None
+a_longer_word_begins_no_line = refl

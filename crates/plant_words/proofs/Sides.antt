@@ -13,7 +13,7 @@ three_parts : (left right : List ℕ) (parts : List (List ℕ)) → 0 < length p
 three_parts left right [] some = absurd (omega (arith, some))
 three_parts left right (third ∷ more) some = refl
 
--- a first part and the parts of what is behind it are two where that is uncut
+-- a first part and the parts of what is after it are two where that is uncut
 both_once : (is_cut : ℕ → Bool) (left right : List ℕ) (m : ℕ) → m ≡ position_or_len is_cut right →
     both_of (left ∷ slice_split is_cut right) ≡ (if (m == length right) && is_filled left && is_filled right then Some (left, right) else None)
 both_once is_cut left right m only =

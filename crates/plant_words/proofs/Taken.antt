@@ -11,13 +11,13 @@ use Rattle.plant_words.specs.declared.line_fault.LineFault.{LineFault}
 pub same_fault : {A : Type 0} (result : Result A LineFault) (fault : LineFault) → IsErrAnd result (λ told. told ≡ fault) → result ≡ Err fault
 same_fault result fault left = let told = err_from_is_err_and result left in told.1 ∙ ap Err told.2
 
--- the words behind the one that was taken
-pub rest_behind : (words rest : List (List ℕ)) (word : List ℕ) → words ≡ word ∷ rest → rest ≡ drop 1 words
-rest_behind words rest word taken = sym (ap (drop 1) taken)
+-- the words after the one that was taken
+pub rest_after : (words rest : List (List ℕ)) (word : List ℕ) → words ≡ word ∷ rest → rest ≡ drop 1 words
+rest_after words rest word taken = sym (ap (drop 1) taken)
 
--- where none was left, none is behind it
-pub none_behind : (words rest : List (List ℕ)) → words ≡ [] → rest ≡ [] → rest ≡ drop 1 words
-none_behind words rest none end = end ∙ sym (ap (drop 1) none)
+-- if none was left, none is after it
+pub none_after : (words rest : List (List ℕ)) → words ≡ [] → rest ≡ [] → rest ≡ drop 1 words
+none_after words rest none end = end ∙ sym (ap (drop 1) none)
 
 -- what the first word says, where there must be one: nothing else is at fault where there is none
 module _ {A : Type 0} (words : List (List ℕ)) (says : List ℕ → Option A) (wrong : LineFault) where

@@ -1,3 +1,4 @@
+-- What one word of an expression says.
 use Rattle.std.specs.Prelude.{ℕ, Bool, ℤ, ◌&&◌, if◌then◌else◌, List, codes, Option, Some, None, Result, Ok, Err}
 use Rattle.std.specs.Option.{option_map_or}
 use Rattle.petri_atom.specs.Name.{is_name, is_same_text}
@@ -31,7 +32,7 @@ operator_in word =
 abbrev pub are_names : List ℕ × List ℕ → Bool
 are_names parts = is_name parts.0 && is_name parts.1
 
--- a word that is written as a variable's name is, alone or behind its atom's: `NAME` or `NAME.NAME`
+-- a word that is written as a variable's name is, alone or after its atom's: `NAME` or `NAME.NAME`
 abbrev pub could_be_variable : List ℕ → Bool
 could_be_variable word = option_map_or are_names (export_parts word) (is_name word)
 

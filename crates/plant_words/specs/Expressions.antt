@@ -1,3 +1,4 @@
+-- Rows of words as expressions.
 use Rattle.std.specs.Prelude.{ℕ, zero, suc, ◌≤◌, ◌≡◌, Bool, true, List, [], ◌∷◌, ◌++◌, length, Option, Result, Ok, Err, is_ok, IfOk}
 use Rattle.std.specs.List.{list_all}
 use Rattle.std.specs.declared.alloc.AllocError.{AllocError}
@@ -10,14 +11,14 @@ use Rattle.plant_words.specs.declared.expression_word.Word.{Word}
 use Rattle.plant_words.specs.declared.expression_word.Word.TheVariants.{Number, Variable, Negation, Operation}
 use Rattle.plant_words.specs.ExpressionWords.{word_in}
 
--- how many expressions are wanted behind a word: its operands, and so many more
-abbrev pub wanted_behind : {V : Type 0} → Word V → ℕ → ℕ
-wanted_behind (Number n) more = more
-wanted_behind (Variable v) more = more
-wanted_behind Negation more = suc more
-wanted_behind (Operation o) more = suc (suc more)
+-- how many expressions are wanted after a word: its operands, and so many more
+abbrev pub wanted_after : {V : Type 0} → Word V → ℕ → ℕ
+wanted_after (Number n) more = more
+wanted_after (Variable v) more = more
+wanted_after Negation more = suc more
+wanted_after (Operation o) more = suc (suc more)
 
--- what a word makes of the expressions that stand behind it: it takes the first ones as its operands, which are there
+-- what a word makes of the expressions that stand after it: it takes the first ones as its operands, which are there
 abbrev pub led_by : {V : Type 0} → Word V → List (Tree V) → List (Tree V)
 led_by (Number n) trees = number n ∷ trees
 led_by (Variable v) trees = variable v ∷ trees
@@ -34,13 +35,13 @@ abbrev pub on_trees : {V : Type 0} → (List (Tree V) → List (Tree V)) → Rea
 on_trees change (Ok reading) = Ok (change reading.0, reading.1)
 on_trees change (Err fault) = Err fault
 
--- a word, and what is read behind it
+-- a word, and what is read after it
 abbrev pub behind : {V : Type 0} → Result (Word V) ExpressionFault → ℕ → (ℕ → Reading V) → Reading V
 behind (Err fault) more read = Err fault
-behind (Ok word) more read = on_trees (led_by word) (read (wanted_behind word more))
+behind (Ok word) more read = on_trees (led_by word) (read (wanted_after word more))
 
 -- So many expressions in a row, in prefix form, of at most so many words: each word takes the expressions directly
--- behind it as its operands.
+-- after it as its operands.
 abbrev pub expressions_in : {V : Type 0} → (List ℕ → Option V) → ℕ → ℕ → List (List ℕ) → Reading V
 expressions_in named limit zero words = Ok ([], words)
 expressions_in named limit (suc more) [] = Err BadExpression
@@ -63,8 +64,8 @@ abbrev pub words_left : {A : Type 0} → Result (A × List (List ℕ)) Expressio
 words_left (Ok reading) = Ok reading.1
 words_left (Err fault) = Err fault
 
--- An expression that stands first in the words, before those that are left: whatever is wanted behind it, it stands in
--- front of that. Where there was memory for it, it is the one that was made.
+-- An expression that stands first in the words, before those that are left: whatever is wanted after it, it stands in
+-- front of that. If there was memory for it, it is the one that was made.
 pub record Stands {V : Type 0} (named : List ℕ → Option V) (limit left : ℕ) (words rest : List (List ℕ)) (made : Result (Expression V) AllocError) : Type 0 where
   pub tree : Tree V
   pub says : (more : ℕ) → expressions_in named limit (suc more) words ≡ on_trees (λ trees. tree ∷ trees) (expressions_in named left more rest)
@@ -74,7 +75,7 @@ pub record Stands {V : Type 0} (named : List ℕ → Option V) (limit left : ℕ
 abbrev pub has_meaning : {V : Type 0} → (List ℕ → Option V) → List ℕ → Bool
 has_meaning named word = is_ok (word_in named word)
 
--- words of which the first ones, at most so many and each with a meaning, were passed over, and the words behind them
+-- words of which the first ones, at most so many and each with a meaning, were passed over, and the words after them
 pub record PassesOver {V : Type 0} (named : List ℕ → Option V) (limit : ℕ) (words rest : List (List ℕ)) : Type 0 where
   pub passed : List (List ℕ)
   pub splits : words ≡ passed ++ rest

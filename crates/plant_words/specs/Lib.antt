@@ -8,3 +8,4 @@ pub mod ExpressionWords
 pub mod Expressions
 pub mod LineFaults
 pub mod Reading
+pub mod LineKinds

@@ -1,10 +1,11 @@
+-- Why a line is refused, and what that says to a person.
 use Rattle.std.specs.Prelude.{◌≡◌, ◌≢◌, ℕ, List, codes, Result, Err, IsOk}
 use Rattle.plant_words.specs.declared.expression_fault.ExpressionFault.{ExpressionFault}
 use Rattle.plant_words.specs.declared.expression_fault.ExpressionFault.TheVariants as expression
 use Rattle.plant_words.specs.declared.line_fault.LineFault.{LineFault}
 use Rattle.plant_words.specs.declared.line_fault.LineFault.TheVariants.{NotAscii, BadName, Twice, UnknownName, BadExpression, BadNumber, Shape, Limit, Memory}
 
--- a fault that is told is the one of what was read, or that memory ran out
+-- a fault that is answered is the one of what was read, or that memory ran out
 abbrev pub IsFaultOf : {A : Type 0} → Result A LineFault → LineFault → Type 0
 IsFaultOf read fault = fault ≢ Memory → read ≡ Err fault
 

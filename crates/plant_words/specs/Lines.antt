@@ -1,9 +1,10 @@
+-- The lines of a text.
 use Rattle.std.specs.Prelude.{ℕ, Bool, ◌&&◌, ◌||◌, List, nat_le, ◌==◌}
 use Rattle.std.specs.List.{list_all}
 use Rattle.std.specs.Str.Lines.{lines}
 
 -- The lines of a text: what stands before each LF (10), without the one CR (13) that may stand directly before
--- it, and what stands behind the last LF, where there is something.
+-- it, and what stands after the last LF, if there is something.
 abbrev pub lines_of : List ℕ → List (List ℕ)
 lines_of text = lines text
 

@@ -1,3 +1,4 @@
+-- Words that are names.
 use Rattle.std.specs.Prelude.{ℕ, if◌then◌else◌, List, Option, Some, None}
 use Rattle.petri_atom.specs.Name.{is_name}
 

@@ -1,3 +1,4 @@
+-- Words that are numbers.
 use Rattle.std.specs.Prelude.{ℕ, ℤ, pos, neg_ℤ, ◌+◌, ◌-◌, ◌*◌, ◌^◌, Bool, ◌&&◌, if◌then◌else◌, List, [], ◌∷◌, length, drop, Option, Some, None, nat_le, nat_lt}
 use Rattle.std.specs.List.{list_all}
 use Rattle.std.specs.Option.{option_map}
@@ -16,7 +17,7 @@ has_digits_alone word = is_filled word && list_all is_digit word
 abbrev pub is_numeric : List ℕ → Bool
 is_numeric word = has_digits_alone (if begins_with 45 word then drop 1 word else word)
 
--- what digits write: the sum of each one, times ten as often as there are digits behind it
+-- what digits write: the sum of each one, times ten as often as there are digits after it
 abbrev pub decimal_value : List ℕ → ℕ
 decimal_value [] = 0
 decimal_value (digit ∷ digits) = (digit - 48) * 10 ^ length digits + decimal_value digits

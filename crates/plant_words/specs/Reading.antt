@@ -36,7 +36,7 @@ first_keyword keyword words = do
   word ← first_word words
   check (is_same_text word keyword) Shape
 
--- no word may be left over; where one is, an illegal byte in it is told first
+-- no word may be left over; if one is, an illegal byte in it is found first
 abbrev pub at_end : List (List ℕ) → Result (Unit {0}) LineFault
 at_end [] = Ok tt
 at_end (word ∷ words) = Err (if is_legal_line word then Shape else NotAscii)

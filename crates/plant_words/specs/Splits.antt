@@ -1,3 +1,4 @@
+-- Words of several parts.
 use Rattle.std.specs.Prelude.{ℕ, ◌-◌, Bool, ◌&&◌, if◌then◌else◌, ◌==◌, List, [], ◌∷◌, length, take, slice_index, Option, Some, None}
 use Rattle.std.specs.List.{slice_split}
 use Rattle.std.specs.Option.{option_map}
@@ -26,7 +27,7 @@ named_mask_in word = sides_in 58 word
 abbrev pub is_quoted : List ℕ → Bool
 is_quoted word = slice_index word (length word - 1) == 39
 
--- the word without the one quote at its end, where it has one
+-- the word without the one quote at its end, if it has one
 abbrev pub without_quote : List ℕ → List ℕ
 without_quote word = if is_quoted word then take (length word - 1) word else word
 

@@ -1,3 +1,4 @@
+-- The words of a line.
 use Rattle.std.specs.Prelude.{ℕ, Bool, true, false, ◌||◌, List, [], ◌∷◌, ◌==◌, filter}
 use Rattle.std.specs.List.{slice_split}
 
@@ -10,7 +11,7 @@ abbrev pub is_filled : List ℕ → Bool
 is_filled [] = false
 is_filled (byte ∷ bytes) = true
 
--- the words of a line: what stands between its spaces and tabs, where there is something
+-- the words of a line: what stands between its spaces and tabs, if there is something
 abbrev pub words_of : List ℕ → List (List ℕ)
 words_of line = filter is_filled (slice_split is_blank line)
 

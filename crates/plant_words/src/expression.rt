@@ -2,7 +2,7 @@
 ghost use Rattle.std.specs.Prelude.{◌≡◌, ℕ, suc, ◌-◌, ◌≤◌, ◌<◌, Ok, IfOk, IfErr, IsOkAnd, OnOk};
 ghost use Rattle.petri_atom.specs.Expression.{tree_of, negation, operation};
 ghost use Rattle.petri_atom.specs.declared.parts.TheConstants.{MAX_WORDS};
-ghost use Rattle.plant_words.specs.Expressions.{expression_in, expressions_in, on_trees, led_by, wanted_behind, words_left, PassesOver, Stands};
+ghost use Rattle.plant_words.specs.Expressions.{expression_in, expressions_in, on_trees, led_by, wanted_after, words_left, PassesOver, Stands};
 
 use crate::expression_fault::ExpressionFault;
 use crate::expression_word::{Variables, Word, read_word};
@@ -11,7 +11,7 @@ use petri_atom::{Expression, MAX_WORDS, Operator};
 use std::alloc::{AllocError, Global};
 
 /// The expression that stands first in the words, as far as there is memory for it; or the first fault from the left.
-/// The words behind the expression stay, also where memory is wanting; of a fault it is not said which words stay, but
+/// The words after the expression stay, also if memory is wanting; of a fault it is not said which words stay, but
 /// that each one before them means something.
 pub fn read_expression<V: Drop, N: Variables<V>>(
     alloc: Global,
@@ -29,7 +29,7 @@ pub fn read_expression<V: Drop, N: Variables<V>>(
 }
 
 /// The expression that stands first in the words, of at most so many, as far as there is memory for it; the limit falls
-/// by the words that it has. Where memory is wanting the words are read on all the same, so that their fault is told.
+/// by the words that it has. If memory is wanting the words are read on all the same, so that their fault is found.
 #[tactic(auto, using(crate::proofs::ExpressionPassing::passes_both))]
 fn read_operand<V: Drop, N: Variables<V>>(
     alloc: Global,
@@ -67,7 +67,7 @@ fn next_word<V, N: Variables<V>>(
     ensures word { IfOk result (λ word. (more : ℕ) →
         expressions_in (N.variable_named names.now) limit.old (suc more) words.old
         ≡ on_trees (led_by word)
-        (expressions_in (N.variable_named names.now) limit.new (wanted_behind word more) words.new)) }
+        (expressions_in (N.variable_named names.now) limit.new (wanted_after word more) words.new)) }
     ensures fault { IfErr result (λ fault. (more : ℕ) →
         expressions_in (N.variable_named names.now) limit.old (suc more) words.old ≡ Err fault) }
     ensures falls { OnOk result (limit.new < limit.old) }
@@ -82,7 +82,7 @@ fn next_word<V, N: Variables<V>>(
     Ok(meaning)
 }
 
-/// The negation of an operand, where there was memory for it.
+/// The negation of an operand, if there was memory for it.
 fn negation<V: Drop>(
     alloc: Global,
     operand: Result<Expression<V>, AllocError>,
@@ -92,7 +92,7 @@ fn negation<V: Drop>(
     Ok(Expression::Not(Box::new(alloc, operand?)?))
 }
 
-/// An operator over its operands, where there was memory for them.
+/// An operator over its operands, if there was memory for them.
 fn operation<V: Drop>(
     alloc: Global,
     operator: Operator,

@@ -58,7 +58,7 @@ pub(crate) fn read_word<V, N: Variables<V>>(
 }
 
 /// The operator with two operands that the word is.
-fn operator(word: &[u8]) -> Option<Operator>
+pub fn operator(word: &[u8]) -> Option<Operator>
     ensures { result ≡ operator_in word.now }
 {
     match word {

@@ -40,7 +40,7 @@ impl NameIndex {
         self.names.get_index_of(name)
     }
 
-    /// Puts a new name behind the others. It holds a copy of the name's bytes.
+    /// Puts a new name after the others. It holds a copy of the name's bytes.
     pub fn add(&mut self, name: &[u8]) -> Result<(), AllocError>
         requires { position (λ known. is_same_text known name.now) self.old ≡ None }
         ensures added { OnOk result (self.new ≡ self.old ++ name.now ∷ []) }

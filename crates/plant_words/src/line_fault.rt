@@ -8,7 +8,7 @@ use std::alloc::{AllocError, AllocFailed};
 use std::fmt;
 use thiserror::Error;
 
-/// The fault of a line of an atom, of a connector or of a rule, told by its first word from the left that is at fault, or that memory ran
+/// The fault of a line of an atom, of a connector or of a rule: that of its first word from the left that is at fault, or that memory ran
 /// out.
 #[derive(Clone, Copy, Debug, PartialEq, Eq, Error)]
 pub enum LineFault {

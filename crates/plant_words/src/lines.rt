@@ -63,7 +63,7 @@ fn line_len(text: &[u8]) -> usize
     text.iter().take_while(|byte| **byte != LINE_FEED).count()
 }
 
-/// The line without the carriage return at its end, where it has one.
+/// The line without the carriage return at its end, if it has one.
 fn without_return(line: &[u8]) -> &[u8]
     ensures { result.now ≡ strip_carriage_return line.now }
 {

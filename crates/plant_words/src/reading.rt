@@ -1,4 +1,4 @@
-//! Steps of reading a line, whatever kind of line it is: each takes words, or tells the fault of one.
+//! Steps of reading a line, whatever kind of line it is: each takes words, or answers the fault of one.
 ghost use Rattle.std.specs.Prelude.{◌≡◌, drop, if◌then◌else◌, IfOk, IfErr, Ok, Err};
 ghost use Rattle.plant_words.specs.Reading.{check, first_word, first_name, first_keyword, at_end, leads};
 
@@ -72,7 +72,7 @@ pub fn skip_word(words: &mut Words, keyword: &[u8]) -> bool
     leads
 }
 
-/// No word is left. One that is left over tells of an illegal byte in it first.
+/// No word is left. Of one that is left over, an illegal byte is found first.
 pub fn end(words: &mut Words) -> Result<(), LineFault>
     ensures { result ≡ at_end words.old }
 {

@@ -7,7 +7,7 @@ use std::marker::Model;
 
 /// Reads a line word by word. In a contract it is the list of the words that are left.
 ///
-/// It remembers where it looked last, so that one who tells a fault can show the word that is at fault.
+/// It remembers where it looked last, so that who shows a fault can show the word that is at fault.
 #[derive(Drop)]
 pub struct Words<'a> {
     rest: &'a [u8],
@@ -36,7 +36,7 @@ impl<'a> Words<'a> {
         }
     }
 
-    /// The next word, or `None` where none is left.
+    /// The next word, or `None` if none is left.
     pub fn next_word(&mut self) -> Option<&'a [u8]>
         ensures word { MatchOption result (self.old ≡ []) (λ word. self.old ≡ word.now ∷ self.new) }
         ensures end { IfNone result (self.new ≡ []) }
@@ -51,7 +51,7 @@ impl<'a> Words<'a> {
         Some(word)
     }
 
-    /// The next word, which stays the next, or `None` where none is left. There are no more words than bytes in a line.
+    /// The next word, which stays the next, or `None` if none is left. There are no more words than bytes in a line.
     #[tactic(auto, using(crate::proofs::Cuts::words_of_count))]
     pub fn peek(&mut self) -> Option<&'a [u8]>
         ensures word { MatchOption result (self.old ≡ []) (λ word. self.old ≡ word.now ∷ drop 1 self.old) }
@@ -64,7 +64,7 @@ impl<'a> Words<'a> {
         word
     }
 
-    /// The end of the line that begins with the word that was asked for last, by `next_word` or `peek`; empty where none
+    /// The end of the line that begins with the word that was asked for last, by `next_word` or `peek`; empty if none
     /// was left, and the whole line before the first question.
     pub fn seen(&self) -> &'a [u8] {
         self.seen

@@ -30,7 +30,7 @@ in_both_from_word xs ys k fits some =
       eq-eqb _ 1 (ap (λ j. bit_at (get_or ys j 0) ((64 * k + t) % 64)) word ∙ ap (bit_at y) place ∙ y_bit),
     )
 
--- where no two of the first words have a bit in common nothing of theirs is in both rows
+-- if no two of the first words have a bit in common nothing of theirs is in both rows
 pub none_in_both : (xs ys : List ℕ) (n : ℕ) → ((j : ℕ) → j < n → bit_and (get_or xs j 0) (get_or ys j 0) ≡ 0) → (a : ℕ) → a < 64 * n → IsTrue (holds xs a) → IsTrue (holds ys a) → ⊥
 none_in_both xs ys n none a within in_x in_y =
     let x : ℕ = get_or xs (a / 64) 0 in
@@ -65,7 +65,7 @@ in_one_from_word xs ys k small fits some =
       ap (λ j. has_bit (get_or ys j 0) ((64 * k + t) % 64)) word ∙ ap (has_bit y) place ∙ not-true (has_bit y t) bits.1,
     )
 
--- where the first word has no bit that the other lacks
+-- if the first word has no bit that the other lacks
 pub in_other_too : (xs ys : List ℕ) (k : ℕ) → get_or ys k 0 < 2 ^ 64 → bit_and (get_or xs k 0) (bit_not w64 (get_or ys k 0)) ≡ 0
     → ((a : ℕ) → a < 64 * k → IsTrue (holds xs a) → IsTrue (holds ys a)) → (a : ℕ) → a < 64 * (k + 1) → IsTrue (holds xs a) → IsTrue (holds ys a)
 in_other_too xs ys k small none so_far a below in_x =
@@ -129,7 +129,7 @@ members_of-united xs ys zs n of_x of_y of_z united =
     (cases_lt (q / 64) n)
     ∙ sym (fin.contains-union nat_cmp_total (members_of xs) (members_of ys) q ∙ ap (λ b. b || fin.contains (members_of ys) q) (contains-members_of xs q) ∙ ap (λ b. holds xs q || b) (contains-members_of ys q)))
 
--- where the first words are united, what is in either set is in, among the numbers of these words, and all else is as it was
+-- if the first words are united, what is in either set is in, among the numbers of these words, and all else is as it was
 module _ (xs ys zs : List ℕ) (count : ℕ) where
   pub united-within : ((k : ℕ) → k < count → get_or zs k 0 ≡ bit_or (get_or xs k 0) (get_or ys k 0)) → (n : ℕ) → n < 64 * count → fin.contains (members_of zs) n ≡ (fin.contains (members_of xs) n || fin.contains (members_of ys) n)
   united-within united n below =

@@ -53,17 +53,17 @@ module _ (Step : ℕ → ℕ → Type 0) where
   weaker k a b leads = record { stations = leads.stations; chain = weaker_chain k a leads.stations b leads.chain }
 
   -- the test of chains through stations below k tells whether there is one
-  told_below : (step : ℕ → ℕ → Bool) → ((a b : ℕ) → IsTrue (step a b) ↔ Step a b)
+  decides_below : (step : ℕ → ℕ → Bool) → ((a b : ℕ) → IsTrue (step a b) ↔ Step a b)
       → (k a b : ℕ) → IsTrue (leads_below step k a b) ↔ LeadsBelow Step k a b
-  told_below step told zero a b = (
-    λ yes. record { stations = []; chain = (told a b).0 yes },
-    λ leads. (told a b).1 (one_step a leads.stations b leads.chain),
+  decides_below step decides zero a b = (
+    λ yes. record { stations = []; chain = (decides a b).0 yes },
+    λ leads. (decides a b).1 (one_step a leads.stations b leads.chain),
   )
-  told_below step told (suc k) a b =
+  decides_below step decides (suc k) a b =
       let next : k + 1 ≡ suc k = omega arith in
-      let round = told_below step told k a b in
-      let up = told_below step told k a k in
-      let on = told_below step told k k b in (
+      let round = decides_below step decides k a b in
+      let up = decides_below step decides k a k in
+      let on = decides_below step decides k k b in (
         λ yes. subst (λ n. LeadsBelow Step n a b) next
             (⊎_elim
             (λ passed. weaker k a b (round.0 passed))
@@ -80,7 +80,7 @@ module _ (Step : ℕ → ℕ → Type 0) where
             (split_at k a wide.stations b wide.chain),
       )
 
-  -- where each step begins below n each station is below n
+  -- if each step begins below n each station is below n
   all_below : (n : ℕ) → ((a b : ℕ) → Step a b → a < n) → (a : ℕ) (stations : List ℕ) (b : ℕ) → Chain Step a stations b → ChainBelow Step n a stations b
   all_below n range a [] b chain = chain
   all_below n range a (s ∷ stations) b chain = (first_below n range s stations b chain.1, (chain.0, all_below n range s stations b chain.1))
@@ -93,11 +93,11 @@ module _ (Step : ℕ → ℕ → Type 0) where
   forget_bound k a [] b chain = chain
   forget_bound k a (s ∷ stations) b chain = (chain.1.0, forget_bound k s stations b chain.1.1)
 
-  -- where each step begins below n, the test of chains through stations below n tells whether a chain leads
-  pub told_leads : (n : ℕ) → ((a b : ℕ) → Step a b → a < n) → (step : ℕ → ℕ → Bool) → ((a b : ℕ) → IsTrue (step a b) ↔ Step a b)
+  -- if each step begins below n, the test of chains through stations below n tells whether a chain leads
+  pub decides_leads : (n : ℕ) → ((a b : ℕ) → Step a b → a < n) → (step : ℕ → ℕ → Bool) → ((a b : ℕ) → IsTrue (step a b) ↔ Step a b)
       → (a b : ℕ) → IsTrue (leads_below step n a b) ↔ Leads Step a b
-  told_leads n range step told a b =
-      let below = told_below step told n a b in (
+  decides_leads n range step decides a b =
+      let below = decides_below step decides n a b in (
         λ yes.
             let leads : LeadsBelow Step n a b = below.0 yes in
             record { stations = leads.stations; chain = forget_bound n a leads.stations b leads.chain },

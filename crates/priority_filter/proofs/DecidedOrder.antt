@@ -14,54 +14,54 @@ use Rattle.priority_filter.specs.Order.{interaction_at, rule_at, IsRuleStep, IsB
 use Rattle.priority_filter.specs.Decided.{is_on, is_proper_subset, puts, is_rule_step, is_below, is_overruled, is_known_side, is_known_place, is_known, first_unknown, first_cyclic, fault_from, order_fault}
 use Rattle.priority_filter.proofs.MaskLaws.{subset_and, proper_differs, proper_from_and}
 use Rattle.priority_filter.proofs.Chains.{Leads-within}
-use Rattle.priority_filter.proofs.DecidedTests.{told_eq, told_lt, told_and, told_not, told_any, told_any_below, told_least, told_none}
-use Rattle.priority_filter.proofs.DecidedChains.{told_leads}
+use Rattle.priority_filter.proofs.DecidedTests.{decides_eq, decides_lt, decides_and, decides_not, decides_any, decides_any_below, decides_least, decides_none}
+use Rattle.priority_filter.proofs.DecidedChains.{decides_leads}
 
 -- ---- one rule
 
-pub told_on : (side : Side) (i : ℕ × ℕ) → IsTrue (is_on side i) ↔ IsOn side i
-told_on (Whole connector) i = told_eq i.0 connector
-told_on (One connector mask) i =
-    told_and (eqb i.0 connector) (eqb i.1 mask) (i.0 ≡ connector) (i.1 ≡ mask) (told_eq i.0 connector) (told_eq i.1 mask)
+pub decides_on : (side : Side) (i : ℕ × ℕ) → IsTrue (is_on side i) ↔ IsOn side i
+decides_on (Whole connector) i = decides_eq i.0 connector
+decides_on (One connector mask) i =
+    decides_and (eqb i.0 connector) (eqb i.1 mask) (i.0 ≡ connector) (i.1 ≡ mask) (decides_eq i.0 connector) (decides_eq i.1 mask)
 
-pub told_subset : (m n : ℕ) → IsTrue (is_proper_subset m n) ↔ IsProperSubset m n
-told_subset m n =
-    let parts = told_and (eqb (bit_and m n) m) (not (eqb m n)) (bit_and m n ≡ m) (m ≢ n) (told_eq (bit_and m n) m) (told_not (eqb m n) (m ≡ n) (told_eq m n)) in (
+pub decides_subset : (m n : ℕ) → IsTrue (is_proper_subset m n) ↔ IsProperSubset m n
+decides_subset m n =
+    let parts = decides_and (eqb (bit_and m n) m) (not (eqb m n)) (bit_and m n ≡ m) (m ≢ n) (decides_eq (bit_and m n) m) (decides_not (eqb m n) (m ≡ n) (decides_eq m n)) in (
       λ yes. proper_from_and m n (parts.0 yes).0 (parts.0 yes).1,
       λ proper. parts.1 (subset_and m n proper.0, proper_differs m n proper),
     )
 
-pub told_puts : (rule : Rule) (i j : ℕ × ℕ) → IsTrue (puts rule i j) ↔ Puts rule i j
-told_puts (Under left right) i j =
-    told_and (is_on left i) (is_on right j) (IsOn left i) (IsOn right j) (told_on left i) (told_on right j)
-told_puts (UnderAt left right at) i j =
-    told_and (is_on left i) (is_on right j) (IsOn left i) (IsOn right j) (told_on left i) (told_on right j)
-told_puts (Maximal connector) i j =
-    let larger = told_and (eqb j.0 connector) (is_proper_subset i.1 j.1) (j.0 ≡ connector) (IsProperSubset i.1 j.1) (told_eq j.0 connector) (told_subset i.1 j.1) in
-    let parts = told_and (eqb i.0 connector) (eqb j.0 connector && is_proper_subset i.1 j.1) (i.0 ≡ connector) ((j.0 ≡ connector) × IsProperSubset i.1 j.1) (told_eq i.0 connector) larger in (
+pub decides_puts : (rule : Rule) (i j : ℕ × ℕ) → IsTrue (puts rule i j) ↔ Puts rule i j
+decides_puts (Under left right) i j =
+    decides_and (is_on left i) (is_on right j) (IsOn left i) (IsOn right j) (decides_on left i) (decides_on right j)
+decides_puts (UnderAt left right at) i j =
+    decides_and (is_on left i) (is_on right j) (IsOn left i) (IsOn right j) (decides_on left i) (decides_on right j)
+decides_puts (Maximal connector) i j =
+    let larger = decides_and (eqb j.0 connector) (is_proper_subset i.1 j.1) (j.0 ≡ connector) (IsProperSubset i.1 j.1) (decides_eq j.0 connector) (decides_subset i.1 j.1) in
+    let parts = decides_and (eqb i.0 connector) (eqb j.0 connector && is_proper_subset i.1 j.1) (i.0 ≡ connector) ((j.0 ≡ connector) × IsProperSubset i.1 j.1) (decides_eq i.0 connector) larger in (
       λ yes. let both = parts.0 yes in (both.0, both.1.0, both.1.1),
       λ put. parts.1 (put.0, (put.1, put.2)),
     )
 
 -- ---- steps and chains
 
-pub told_step : (rules : List Rule) (interactions : List (ℕ × ℕ)) (a b : ℕ) → IsTrue (is_rule_step rules interactions a b) ↔ IsRuleStep rules interactions a b
-told_step rules interactions a b =
+pub decides_step : (rules : List Rule) (interactions : List (ℕ × ℕ)) (a b : ℕ) → IsTrue (is_rule_step rules interactions a b) ↔ IsRuleStep rules interactions a b
+decides_step rules interactions a b =
     let size : ℕ = length interactions in
     let i : ℕ × ℕ = interaction_at interactions a in
     let j : ℕ × ℕ = interaction_at interactions b in
-    let inside = told_and (ltb a size) (ltb b size) (a < size) (b < size) (told_lt a size) (told_lt b size) in
-    let written = told_any (λ rule. puts rule i j) (λ rule. Puts rule i j) (λ rule. told_puts rule i j) rules (Under (Whole 0) (Whole 0)) in
-    let parts = told_and (ltb a size && ltb b size) (list_any (λ rule. puts rule i j) rules) ((a < size) × (b < size)) ((k : ℕ) × (k < length rules) × Puts (rule_at rules k) i j) inside written in (
+    let inside = decides_and (ltb a size) (ltb b size) (a < size) (b < size) (decides_lt a size) (decides_lt b size) in
+    let written = decides_any (λ rule. puts rule i j) (λ rule. Puts rule i j) (λ rule. decides_puts rule i j) rules (Under (Whole 0) (Whole 0)) in
+    let parts = decides_and (ltb a size && ltb b size) (list_any (λ rule. puts rule i j) rules) ((a < size) × (b < size)) ((k : ℕ) × (k < length rules) × Puts (rule_at rules k) i j) inside written in (
       λ yes. let both = parts.0 yes in record { from = both.0.0; to = both.0.1; rule = both.1.0; written = both.1.1; puts = both.1.2 },
       λ step. parts.1 ((step.from, step.to), (step.rule, step.written, step.puts)),
     )
 
 -- the computed order is the order
-pub told_below : (rules : List Rule) (interactions : List (ℕ × ℕ)) (a b : ℕ) → IsTrue (is_below rules interactions a b) ↔ IsBelow rules interactions a b
+pub decides_below : (rules : List Rule) (interactions : List (ℕ × ℕ)) (a b : ℕ) → IsTrue (is_below rules interactions a b) ↔ IsBelow rules interactions a b
 unfolding is_below
-told_below rules interactions =
-    told_leads (IsRuleStep rules interactions) (length interactions) (λ a b step. step.from) (is_rule_step rules interactions) (told_step rules interactions)
+decides_below rules interactions =
+    decides_leads (IsRuleStep rules interactions) (length interactions) (λ a b step. step.from) (is_rule_step rules interactions) (decides_step rules interactions)
 
 -- what is below something is of the list, and so is what it is below
 pub below_inside : (rules : List Rule) (interactions : List (ℕ × ℕ)) (a b : ℕ) → IsBelow rules interactions a b → (a < length interactions) × (b < length interactions)
@@ -72,47 +72,47 @@ below_inside rules interactions =
 -- ---- overruled
 
 -- some number that passes is above
-pub told_overruled : (rules : List Rule) (interactions : List (ℕ × ℕ)) (possible : ℕ → Bool) (a : ℕ)
+pub decides_overruled : (rules : List Rule) (interactions : List (ℕ × ℕ)) (possible : ℕ → Bool) (a : ℕ)
     → IsTrue (is_overruled rules interactions possible a) ↔ ((b : ℕ) × IsTrue (possible b) × IsBelow rules interactions a b)
 unfolding is_overruled
-told_overruled rules interactions possible a =
+decides_overruled rules interactions possible a =
     let each : (b : ℕ) → IsTrue (possible b && is_below rules interactions a b) ↔ (IsTrue (possible b) × IsBelow rules interactions a b)
-    = λ b. told_and (possible b) (is_below rules interactions a b) (IsTrue (possible b)) (IsBelow rules interactions a b) (λ yes. yes, λ yes. yes) (told_below rules interactions a b) in
-    let some = told_any_below (λ b. possible b && is_below rules interactions a b) (length interactions) in (
+    = λ b. decides_and (possible b) (is_below rules interactions a b) (IsTrue (possible b)) (IsBelow rules interactions a b) (λ yes. yes, λ yes. yes) (decides_below rules interactions a b) in
+    let some = decides_any_below (λ b. possible b && is_below rules interactions a b) (length interactions) in (
       λ yes. let found = some.0 yes in let both = (each found.0).0 found.2 in (found.0, both.0, both.1),
       λ above. some.1 (above.0, (below_inside rules interactions a above.0 above.2).1, (each above.0).1 (above.1, above.2)),
     )
 
 -- ---- names
 
-told_side : (interactions : List (ℕ × ℕ)) (side : Side) → IsTrue (is_known_side interactions side) ↔ IsKnownSide interactions side
-told_side interactions side = told_any (is_on side) (IsOn side) (told_on side) interactions (0, 0)
+decides_side : (interactions : List (ℕ × ℕ)) (side : Side) → IsTrue (is_known_side interactions side) ↔ IsKnownSide interactions side
+decides_side interactions side = decides_any (is_on side) (IsOn side) (decides_on side) interactions (0, 0)
 
-told_place : (at : At) → IsTrue (is_known_place at) ↔ IsKnownPlace at
-told_place at =
-    told_and (ltb at.atom SEEN_ATOMS) (ltb at.place SEEN_PLACES) (at.atom < SEEN_ATOMS) (at.place < SEEN_PLACES) (told_lt at.atom SEEN_ATOMS) (told_lt at.place SEEN_PLACES)
+decides_place : (at : At) → IsTrue (is_known_place at) ↔ IsKnownPlace at
+decides_place at =
+    decides_and (ltb at.atom SEEN_ATOMS) (ltb at.place SEEN_PLACES) (at.atom < SEEN_ATOMS) (at.place < SEEN_PLACES) (decides_lt at.atom SEEN_ATOMS) (decides_lt at.place SEEN_PLACES)
 
-pub told_known : (interactions : List (ℕ × ℕ)) (rule : Rule) → IsTrue (is_known interactions rule) ↔ IsKnown interactions rule
-told_known interactions (Under left right) =
-    told_and (is_known_side interactions left) (is_known_side interactions right) (IsKnownSide interactions left) (IsKnownSide interactions right) (told_side interactions left) (told_side interactions right)
-told_known interactions (UnderAt left right at) =
+pub decides_known : (interactions : List (ℕ × ℕ)) (rule : Rule) → IsTrue (is_known interactions rule) ↔ IsKnown interactions rule
+decides_known interactions (Under left right) =
+    decides_and (is_known_side interactions left) (is_known_side interactions right) (IsKnownSide interactions left) (IsKnownSide interactions right) (decides_side interactions left) (decides_side interactions right)
+decides_known interactions (UnderAt left right at) =
     let Sides : Type 0 = IsKnownSide interactions left × IsKnownSide interactions right in
-    let sides : IsTrue (is_known_side interactions left && is_known_side interactions right) ↔ Sides = told_and (is_known_side interactions left) (is_known_side interactions right) (IsKnownSide interactions left) (IsKnownSide interactions right) (told_side interactions left) (told_side interactions right) in
-    let all = told_and (is_known_side interactions left && is_known_side interactions right) (is_known_place at) Sides (IsKnownPlace at) sides (told_place at) in (
+    let sides : IsTrue (is_known_side interactions left && is_known_side interactions right) ↔ Sides = decides_and (is_known_side interactions left) (is_known_side interactions right) (IsKnownSide interactions left) (IsKnownSide interactions right) (decides_side interactions left) (decides_side interactions right) in
+    let all = decides_and (is_known_side interactions left && is_known_side interactions right) (is_known_place at) Sides (IsKnownPlace at) sides (decides_place at) in (
       λ yes. let both = all.0 yes in (both.0.0, both.0.1, both.1),
       λ known. all.1 ((known.0, known.1), known.2),
     )
-told_known interactions (Maximal connector) = told_side interactions (Whole connector)
+decides_known interactions (Maximal connector) = decides_side interactions (Whole connector)
 
 module _ (rules : List Rule) (interactions : List (ℕ × ℕ)) where
   known_at : (k : ℕ) → IsTrue (is_known interactions (rule_at rules k)) ↔ IsKnown interactions (rule_at rules k)
-  known_at k = told_known interactions (rule_at rules k)
+  known_at k = decides_known interactions (rule_at rules k)
 
   -- the index that is found is of the first unknown rule
-  pub told_first_unknown : (k : ℕ) → (first_unknown rules interactions ≡ Some k) ↔ IsFirstUnknown rules interactions k
-  told_first_unknown k =
-      let found = told_least (λ j. not (is_known interactions (rule_at rules j))) (length rules) k in
-      let denied = told_not (is_known interactions (rule_at rules k)) (IsKnown interactions (rule_at rules k)) (known_at k) in (
+  pub decides_first_unknown : (k : ℕ) → (first_unknown rules interactions ≡ Some k) ↔ IsFirstUnknown rules interactions k
+  decides_first_unknown k =
+      let found = decides_least (λ j. not (is_known interactions (rule_at rules j))) (length rules) k in
+      let denied = decides_not (is_known interactions (rule_at rules k)) (IsKnown interactions (rule_at rules k)) (known_at k) in (
         λ same. let facts = found.0 same in record {
           within = facts.0;
           unknown = denied.0 facts.1;
@@ -121,15 +121,15 @@ module _ (rules : List Rule) (interactions : List (ℕ × ℕ)) where
         λ first. found.1 (first.within, denied.1 first.unknown, λ j earlier. not_from_true (is_known interactions (rule_at rules j)) ((known_at j).1 (first.before j earlier))),
       )
 
-  pub told_all_known : (first_unknown rules interactions ≡ None) ↔ AreKnown rules interactions
-  told_all_known =
-      let none = told_none (λ j. not (is_known interactions (rule_at rules j))) (length rules) in (
+  pub decides_all_known : (first_unknown rules interactions ≡ None) ↔ AreKnown rules interactions
+  decides_all_known =
+      let none = decides_none (λ j. not (is_known interactions (rule_at rules j))) (length rules) in (
         λ same j within. (known_at j).0 (not-false (is_known interactions (rule_at rules j)) (none.0 same j within)),
         λ known. none.1 (λ j within. not_from_true (is_known interactions (rule_at rules j)) ((known_at j).1 (known j within))),
       )
 
   below_itself : (a : ℕ) → IsTrue (is_below rules interactions a a) ↔ IsBelow rules interactions a a
-  below_itself a = told_below rules interactions a a
+  below_itself a = decides_below rules interactions a a
 
   not_below : (a : ℕ) → ¬ IsBelow rules interactions a a → is_below rules interactions a a ≡ false
   not_below a denied = false_from_ne_true (is_below rules interactions a a) (λ yes. denied ((below_itself a).0 yes))
@@ -138,9 +138,9 @@ module _ (rules : List Rule) (interactions : List (ℕ × ℕ)) where
   is_not_below a fails below = both_ways (is_below rules interactions a a) fails ((below_itself a).1 below)
 
   -- the number that is found is the first that is below itself
-  pub told_first_cyclic : (a : ℕ) → (first_cyclic rules interactions ≡ Some a) ↔ IsFirstCyclic rules interactions a
-  told_first_cyclic a =
-      let found = told_least (λ b. is_below rules interactions b b) (length interactions) a in (
+  pub decides_first_cyclic : (a : ℕ) → (first_cyclic rules interactions ≡ Some a) ↔ IsFirstCyclic rules interactions a
+  decides_first_cyclic a =
+      let found = decides_least (λ b. is_below rules interactions b b) (length interactions) a in (
         λ same. let facts = found.0 same in record {
           cyclic = (below_itself a).0 facts.1;
           before = λ b earlier. is_not_below b (facts.2 b earlier);
@@ -148,9 +148,9 @@ module _ (rules : List Rule) (interactions : List (ℕ × ℕ)) where
         λ first. found.1 ((below_inside rules interactions a a first.cyclic).0, (below_itself a).1 first.cyclic, λ b earlier. not_below b (first.before b earlier)),
       )
 
-  pub told_strict : (first_cyclic rules interactions ≡ None) ↔ IsStrict rules interactions
-  told_strict =
-      let none = told_none (λ b. is_below rules interactions b b) (length interactions) in (
+  pub decides_strict : (first_cyclic rules interactions ≡ None) ↔ IsStrict rules interactions
+  decides_strict =
+      let none = decides_none (λ b. is_below rules interactions b b) (length interactions) in (
         λ same a below. is_not_below a (none.0 same a (below_inside rules interactions a a below).0) below,
         λ strict. none.1 (λ b within. not_below b (strict b)),
       )
@@ -181,31 +181,31 @@ tells_no_memory None (Some b) same = cc
 tells_no_memory None None same = cc
 
 module _ (rules : List Rule) (interactions : List (ℕ × ℕ)) where
-  -- an unknown name is told exactly where it is the first
-  pub told_unknown_fault : (k : ℕ) → (order_fault rules interactions ≡ Some (UnknownName k)) ↔ IsFirstUnknown rules interactions k
+  -- the computed fault is an unknown name exactly if it is the first
+  pub decides_unknown_fault : (k : ℕ) → (order_fault rules interactions ≡ Some (UnknownName k)) ↔ IsFirstUnknown rules interactions k
   unfolding order_fault
-  told_unknown_fault k =
-      let told = tells_unknown (first_unknown rules interactions) (first_cyclic rules interactions) k in
-      let first = told_first_unknown rules interactions k in
-      (λ same. first.0 (told.0 same), λ is. told.1 (first.1 is))
+  decides_unknown_fault k =
+      let decides = tells_unknown (first_unknown rules interactions) (first_cyclic rules interactions) k in
+      let first = decides_first_unknown rules interactions k in
+      (λ same. first.0 (decides.0 same), λ is. decides.1 (first.1 is))
 
-  -- a cycle is told exactly where each name is known and it is the first
-  pub told_cycle_fault : (a : ℕ) → (order_fault rules interactions ≡ Some (Cycle a)) ↔ (AreKnown rules interactions × IsFirstCyclic rules interactions a)
+  -- it is a cycle exactly if each name is known and it is the first
+  pub decides_cycle_fault : (a : ℕ) → (order_fault rules interactions ≡ Some (Cycle a)) ↔ (AreKnown rules interactions × IsFirstCyclic rules interactions a)
   unfolding order_fault
-  told_cycle_fault a =
-      let told = tells_cycle (first_unknown rules interactions) (first_cyclic rules interactions) a in
-      let known = told_all_known rules interactions in
-      let first = told_first_cyclic rules interactions a in
-      (λ same. (known.0 (told.0 same).0, first.0 (told.0 same).1), λ is. told.1 (known.1 is.0, first.1 is.1))
+  decides_cycle_fault a =
+      let decides = tells_cycle (first_unknown rules interactions) (first_cyclic rules interactions) a in
+      let known = decides_all_known rules interactions in
+      let first = decides_first_cyclic rules interactions a in
+      (λ same. (known.0 (decides.0 same).0, first.0 (decides.0 same).1), λ is. decides.1 (known.1 is.0, first.1 is.1))
 
-  -- no fault is told exactly where each name is known and the order is strict
-  pub told_no_fault : (order_fault rules interactions ≡ None) ↔ (AreKnown rules interactions × IsStrict rules interactions)
+  -- there is none exactly if each name is known and the order is strict
+  pub decides_no_fault : (order_fault rules interactions ≡ None) ↔ (AreKnown rules interactions × IsStrict rules interactions)
   unfolding order_fault
-  told_no_fault =
-      let told = tells_none (first_unknown rules interactions) (first_cyclic rules interactions) in
-      let known = told_all_known rules interactions in
-      let strict = told_strict rules interactions in
-      (λ same. (known.0 (told.0 same).0, strict.0 (told.0 same).1), λ is. told.1 (known.1 is.0, strict.1 is.1))
+  decides_no_fault =
+      let decides = tells_none (first_unknown rules interactions) (first_cyclic rules interactions) in
+      let known = decides_all_known rules interactions in
+      let strict = decides_strict rules interactions in
+      (λ same. (known.0 (decides.0 same).0, strict.0 (decides.0 same).1), λ is. decides.1 (known.1 is.0, strict.1 is.1))
 
   -- want of memory is no fault of the rules
   pub memory_is_no_fault : order_fault rules interactions ≢ Some Memory

@@ -13,7 +13,7 @@ Decided P = P ⊎ ¬ P
 
 -- what a test tells is decided
 pub decided_by : (t : Bool) (P : Type 0) → (IsTrue t ↔ P) → Decided P
-decided_by t P told = ⊎_elim (λ yes. inl (told.0 yes)) (λ no. inr (λ fact. both_ways t no (told.1 fact))) (cases_Bool t)
+decided_by t P decides = ⊎_elim (λ yes. inl (decides.0 yes)) (λ no. inr (λ fact. both_ways t no (decides.1 fact))) (cases_Bool t)
 
 -- two tests that tell the same fact
 pub same_answer : (s t : Bool) (P : Type 0) → (IsTrue s ↔ P) → (IsTrue t ↔ P) → s ≡ t
@@ -23,22 +23,22 @@ same_answer s t P one other =
     (λ no. no ∙ sym (false_from_ne_true t (λ yes. both_ways s no (one.1 (other.0 yes)))))
     (cases_Bool s)
 
-pub told_eq : (a b : ℕ) → IsTrue (eqb a b) ↔ (a ≡ b)
-told_eq a b = (eqb-true a b, eq-eqb a b)
+pub decides_eq : (a b : ℕ) → IsTrue (eqb a b) ↔ (a ≡ b)
+decides_eq a b = (eqb-true a b, eq-eqb a b)
 
-pub told_lt : (a b : ℕ) → IsTrue (ltb a b) ↔ (a < b)
-told_lt a b = (ltb-true a b, lt-ltb a b)
+pub decides_lt : (a b : ℕ) → IsTrue (ltb a b) ↔ (a < b)
+decides_lt a b = (ltb-true a b, lt-ltb a b)
 
-pub told_and : (s t : Bool) (P Q : Type 0) → (IsTrue s ↔ P) → (IsTrue t ↔ Q) → IsTrue (s && t) ↔ (P × Q)
-told_and s t P Q one other = (
+pub decides_and : (s t : Bool) (P Q : Type 0) → (IsTrue s ↔ P) → (IsTrue t ↔ Q) → IsTrue (s && t) ↔ (P × Q)
+decides_and s t P Q one other = (
   λ yes. let both = and_parts s t yes in (one.0 both.0, other.0 both.1),
   λ facts. and_from s t (one.1 facts.0) (other.1 facts.1),
 )
 
-pub told_not : (t : Bool) (P : Type 0) → (IsTrue t ↔ P) → IsTrue (not t) ↔ ¬ P
-told_not t P told = (
-  λ denied fact. both_ways t (not-true t denied) (told.1 fact),
-  λ denied. not_from_false t (false_from_ne_true t (λ yes. denied (told.0 yes))),
+pub decides_not : (t : Bool) (P : Type 0) → (IsTrue t ↔ P) → IsTrue (not t) ↔ ¬ P
+decides_not t P decides = (
+  λ denied fact. both_ways t (not-true t denied) (decides.1 fact),
+  λ denied. not_from_false t (false_from_ne_true t (λ yes. denied (decides.0 yes))),
 )
 
 -- ---- some entry passes
@@ -51,12 +51,12 @@ place_of p (x ∷ xs) d some =
     (λ later. let rest = place_of p xs d later in (suc rest.0, omega (arith, rest.1), rest.2))
     (or_cases (p x) (list_any p xs) some)
 
--- some entry passes, told by its place
-pub told_any : {X : Type 0} (p : X → Bool) (P : X → Type 0) → ((x : X) → IsTrue (p x) ↔ P x)
+-- some entry passes, said by its place
+pub decides_any : {X : Type 0} (p : X → Bool) (P : X → Type 0) → ((x : X) → IsTrue (p x) ↔ P x)
     → (xs : List X) (d : X) → IsTrue (list_any p xs) ↔ ((k : ℕ) × (k < length xs) × P (get_or xs k d))
-told_any p P told xs d = (
-  λ yes. let found = place_of p xs d yes in (found.0, found.1, (told (get_or xs found.0 d)).0 found.2),
-  λ some. list_any_at p xs some.0 d some.1 ((told (get_or xs some.0 d)).1 some.2),
+decides_any p P decides xs d = (
+  λ yes. let found = place_of p xs d yes in (found.0, found.1, (decides (get_or xs found.0 d)).0 found.2),
+  λ some. list_any_at p xs some.0 d some.1 ((decides (get_or xs some.0 d)).1 some.2),
 )
 
 pub any_in_range : (p : ℕ → Bool) (from n : ℕ) → IsTrue (list_any p (range_with_len from n)) → (b : ℕ) × (b < from + n) × IsTrue (p b)
@@ -76,8 +76,8 @@ in_range_any p from (suc n) b low high passes =
     (cases_eq b from)
 
 -- some number below n passes
-pub told_any_below : (p : ℕ → Bool) (n : ℕ) → IsTrue (list_any p (range_with_len 0 n)) ↔ ((b : ℕ) × (b < n) × IsTrue (p b))
-told_any_below p n = (
+pub decides_any_below : (p : ℕ → Bool) (n : ℕ) → IsTrue (list_any p (range_with_len 0 n)) ↔ ((b : ℕ) × (b < n) × IsTrue (p b))
+decides_any_below p n = (
   λ yes. let found = any_in_range p 0 n yes in (found.0, omega (arith, found.1), found.2),
   λ some. in_range_any p 0 n some.0 (omega arith) (omega (arith, some.1)) some.2,
 )
@@ -122,14 +122,14 @@ first_is_one p n (Some x) (Some y) is is_too =
     (cases_order x y)
 
 -- the least number below n that passes, and that there is none
-pub told_least : (p : ℕ → Bool) (n x : ℕ) → (least_below n p ≡ Some x) ↔ ((x < n) × IsTrue (p x) × ((b : ℕ) → b < x → p b ≡ false))
-told_least p n x = (
+pub decides_least : (p : ℕ → Bool) (n x : ℕ) → (least_below n p ≡ Some x) ↔ ((x < n) × IsTrue (p x) × ((b : ℕ) → b < x → p b ≡ false))
+decides_least p n x = (
   λ same. let first : IsFirst p 0 n (Some x) = subst (IsFirst p 0 n) same (find_is_first p 0 n) in (omega (arith, first.1), first.2, λ b less. first.3 b (omega arith) less),
   λ facts. first_is_one p n (least_below n p) (Some x) (find_is_first p 0 n) (omega arith, omega (arith, facts.0), facts.1, λ b low less. facts.2 b less),
 )
 
-pub told_none : (p : ℕ → Bool) (n : ℕ) → (least_below n p ≡ None) ↔ ((b : ℕ) → b < n → p b ≡ false)
-told_none p n = (
+pub decides_none : (p : ℕ → Bool) (n : ℕ) → (least_below n p ≡ None) ↔ ((b : ℕ) → b < n → p b ≡ false)
+decides_none p n = (
   λ same b less. let none : IsFirst p 0 n None = subst (IsFirst p 0 n) same (find_is_first p 0 n) in none b (omega arith) (omega arith),
   λ fails. first_is_one p n (least_below n p) None (find_is_first p 0 n) (λ b low less. fails b (omega arith)),
 )

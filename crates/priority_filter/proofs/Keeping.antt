@@ -81,31 +81,33 @@ module _ (rows : List (FinSet nat_cmp)) (on : FinSet nat_cmp) where
   )
 
   module _ (interactions : List (ℕ × ℕ)) (side : Side) (is_side : IsSideSet interactions side on) where
-    pub up-all : (k : ℕ) → length rows ≤ k → ((a b : ℕ) → Above rows a b → a < length rows) → (found : FinSet nat_cmp) → HasUpTo rows on k found
-        → (n : ℕ) → IsTrue (contains found n) ↔ IsUpTo (Above rows) interactions side n
-    up-all k all inside found has n = (
+    -- a set of those on the side, and of those from which a relation leads to one of these
+    all-leading : (Up : ℕ → ℕ → Type 0) (found : FinSet nat_cmp) → ((n : ℕ) → IsTrue (contains found n) ↔ (IsTrue (contains on n) ⊎ ((x : ℕ) × IsTrue (contains on x) × Up n x)))
+        → (n : ℕ) → IsTrue (contains found n) ↔ IsUpTo Up interactions side n
+    all-leading Up found has n = (
       λ there. ⊎_elim
           (λ is. let here = (is_side n).0 is in (n, here.0, here.1, inl refl))
-          (λ up. let here = (is_side up.1.0).0 up.1.1 in (up.1.0, here.0, here.1, inr up.1.2))
+          (λ up. let here = (is_side up.0).0 up.1 in (up.0, here.0, here.1, inr up.2))
           ((has n).0 there),
       λ some. (has n).1 (⊎_elim
           (λ same. inl (subst (λ j. IsTrue (contains on j)) (sym same) ((is_side some.0).1 (some.1, some.2))))
-          (λ above. inr (omega (arith, inside n some.0 above), (some.0, (is_side some.0).1 (some.1, some.2), above)))
+          (λ up. inr (some.0, (is_side some.0).1 (some.1, some.2), up))
           some.3),
     )
 
+    pub up-all : (k : ℕ) → length rows ≤ k → ((a b : ℕ) → Above rows a b → a < length rows) → (found : FinSet nat_cmp) → HasUpTo rows on k found
+        → (n : ℕ) → IsTrue (contains found n) ↔ IsUpTo (Above rows) interactions side n
+    up-all k all inside found has = all-leading (Above rows) found (λ n. (
+      λ there. ⊎_elim (λ is. inl is) (λ up. inr up.1) ((has n).0 there),
+      λ some. (has n).1 (⊎_elim (λ is. inl is) (λ up. inr (omega (arith, inside n up.0 up.2), up)) some),
+    ))
+
     pub from-all : (k : ℕ) → length rows ≤ k → ((a b : ℕ) → Above rows a b → a < length rows) → (found : FinSet nat_cmp) → HasFrom rows on k found
         → (n : ℕ) → IsTrue (contains found n) ↔ IsFrom (Above rows) interactions side n
-    from-all k all inside found has n = (
-      λ there. ⊎_elim
-          (λ is. let here = (is_side n).0 is in (n, here.0, here.1, inl refl))
-          (λ up. let here = (is_side up.0).0 up.2 in (up.0, here.0, here.1, inr up.3))
-          ((has n).0 there),
-      λ some. (has n).1 (⊎_elim
-          (λ same. inl (subst (λ j. IsTrue (contains on j)) (sym same) ((is_side some.0).1 (some.1, some.2))))
-          (λ above. inr (some.0, omega (arith, inside some.0 n above), (is_side some.0).1 (some.1, some.2), above))
-          some.3),
-    )
+    from-all k all inside found has = all-leading (λ n x. Above rows x n) found (λ n. (
+      λ there. ⊎_elim (λ is. inl is) (λ up. inr (up.0, up.2, up.3)) ((has n).0 there),
+      λ some. (has n).1 (⊎_elim (λ is. inl is) (λ up. inr (up.0, omega (arith, inside up.0 n up.2), up.1, up.2)) some),
+    ))
 
 -- ---- all of them
 
@@ -169,7 +171,7 @@ module _ (rules : List Rule) (interactions : List (ℕ × ℕ)) where
     all = λ left right at there. has.all there.0 left right at (omega (arith, there.1)) (sym (get_or_default rules there.0 (UnderAt left right at) (Under (Whole 0) (Whole 0)) there.1) ∙ there.2);
   }
 
--- the relation by which the sets are told may be exchanged for one that says the same
+-- the relation by which the sets are said may be exchanged for one that says the same
 pub up-same : (Up Other : ℕ → ℕ → Type 0) → ((a b : ℕ) → Up a b ↔ Other a b) → (interactions : List (ℕ × ℕ)) (side : Side) (n : ℕ) → IsUpTo Up interactions side n ↔ IsUpTo Other interactions side n
 up-same Up Other same interactions side n = (
   λ some. (some.0, some.1, some.2, ⊎_elim (λ is. inl is) (λ up. inr ((same n some.0).0 up)) some.3),
@@ -177,10 +179,7 @@ up-same Up Other same interactions side n = (
 )
 
 pub from-same : (Up Other : ℕ → ℕ → Type 0) → ((a b : ℕ) → Up a b ↔ Other a b) → (interactions : List (ℕ × ℕ)) (side : Side) (n : ℕ) → IsFrom Up interactions side n ↔ IsFrom Other interactions side n
-from-same Up Other same interactions side n = (
-  λ some. (some.0, some.1, some.2, ⊎_elim (λ is. inl is) (λ up. inr ((same some.0 n).0 up)) some.3),
-  λ some. (some.0, some.1, some.2, ⊎_elim (λ is. inl is) (λ up. inr ((same some.0 n).1 up)) some.3),
-)
+from-same Up Other same = up-same (λ n x. Up x n) (λ n x. Other x n) (λ n x. same x n)
 
 -- none of them speaks of a number past the list
 pub within-list : (rules : List Rule) (interactions : List (ℕ × ℕ)) (conditions : List Condition) → AreConditions rules interactions conditions → (bound : ℕ) → length interactions ≤ bound → AreWithin conditions bound

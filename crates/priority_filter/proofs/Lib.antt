@@ -1,17 +1,17 @@
-pub mod DecidedTests
-pub mod MemberLaws
-pub mod CommonMembers
-pub mod Chains
-pub mod TableLaws
-pub mod MaskLaws
-pub mod DecidedChains
+mod DecidedTests
+mod MemberLaws
+mod CommonMembers
+mod Chains
+mod TableLaws
+mod MaskLaws
+mod DecidedChains
 pub mod DecidedOrder
 pub mod Counting
-pub mod Overruling
+mod Overruling
 pub mod NoDeadlock
-pub mod Rows
+mod Rows
 pub mod Words
-pub mod Fewer
-pub mod Lowering
-pub mod Keeping
-pub mod Watching
+mod Fewer
+mod Lowering
+mod Keeping
+mod Watching

@@ -5,7 +5,7 @@ use Rattle.std.proofs.lemmas.Bool.{cases_eq}
 use Rattle.std.proofs.lemmas.Nat.Bits.{and_pow, bit_at_and, bit_at-lt, same_from_bits}
 use Rattle.priority_filter.specs.Rule.{HasLeaf, IsSubset, IsProperSubset}
 
--- a leaf takes part where its bit is 1
+-- a leaf takes part if its bit is 1
 leaf_bit : (mask leaf : ℕ) → HasLeaf mask leaf → bit_at mask leaf ≡ 1
 leaf_bit mask leaf has =
     ⊎_elim
@@ -18,7 +18,7 @@ bit_leaf mask leaf bit none =
     let value : 1 * 2 ^ leaf ≡ 0 = sym (and_pow mask leaf ∙ ap (λ b. b * 2 ^ leaf) bit) ∙ none in
     absurd (omega (arith, pow_pos leaf))
 
--- `m & n` is m where each leaf of m is one of n
+-- `m & n` is m if each leaf of m is one of n
 pub subset_and : (m n : ℕ) → IsSubset m n → bit_and m n ≡ m
 subset_and m n subset =
     same_from_bits (bit_and m n) m (λ leaf.

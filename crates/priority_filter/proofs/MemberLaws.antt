@@ -1,4 +1,4 @@
--- What a set of interactions holds, told by the bits of its words, and what a write to one word does to it.
+-- What a set of interactions holds, by the bits of its words, and what a write to one word does to it.
 use Rattle.std.proofs.Common.{◌≡◌, ◌≢◌, ◌↔◌, ℕ, suc, ◌+◌, ◌*◌, ◌/◌, ◌%◌, ◌^◌, ◌<◌, ◌≤◌, Bool, true, false, not, ◌&&◌, ◌||◌, eqb, List, [], ◌∷◌, length, get_or, set, replicate, filter, sym, ap, ◌∙◌, ⊎_elim, zero, bit_and, bit_or, w64, arith, get_or-set_same, get_or-set_other, IsTrue}
 use Rattle.std.specs.List.{range_with_len, list_any}
 use Rattle.std.specs.Int.{bit_at, bit_not}
@@ -14,7 +14,7 @@ use Rattle.std.proofs.lemmas.Nat.Bits.{bit_at-zero, bit_at_set_same, bit_at_set_
 use Rattle.priority_filter.specs.Members.{holds, members_of}
 use Rattle.priority_filter.proofs.DecidedTests.{any_in_range}
 
--- a number is among those that pass where it passes and is among them
+-- a number is among those that pass if it passes and is among them
 any-filter : (p : ℕ → Bool) (q : ℕ) (xs : List ℕ) → list_any (λ y. eqb y q) (filter p xs) ≡ (p q && list_any (λ y. eqb y q) xs)
 any-filter p q [] = sym (and-false (p q))
 any-filter p q (x ∷ xs) = grind (arith, nat_tests, any-filter p q xs, cases_Bool (p x), cases_Bool (p q), cases_eq x q)
@@ -27,13 +27,13 @@ any-range q a (suc n) low high = grind (arith, nat_tests, any-range q (a + 1) n,
 -- the set of all numbers below n that pass
 pub contains_passing : (p : ℕ → Bool) (n q : ℕ) → IsTrue (fin.contains (from_list {R = nat_cmp} (filter p (range_with_len 0 n))) q) ↔ (IsTrue (p q) × (q < n))
 contains_passing p n q =
-    let told : fin.contains (from_list {R = nat_cmp} (filter p (range_with_len 0 n))) q ≡ (p q && list_any (λ y. eqb y q) (range_with_len 0 n))
+    let answer : fin.contains (from_list {R = nat_cmp} (filter p (range_with_len 0 n))) q ≡ (p q && list_any (λ y. eqb y q) (range_with_len 0 n))
     = contains-from_list_nat (filter p (range_with_len 0 n)) q ∙ any-filter p q (range_with_len 0 n) in (
       λ yes.
-          let both = and_parts (p q) (list_any (λ y. eqb y q) (range_with_len 0 n)) (sym told ∙ yes) in
+          let both = and_parts (p q) (list_any (λ y. eqb y q) (range_with_len 0 n)) (sym answer ∙ yes) in
           let found = any_in_range (λ y. eqb y q) 0 n both.1 in
           (both.0, omega (arith, found.1, eqb-true found.0 q found.2)),
-      λ facts. told ∙ and_from (p q) (list_any (λ y. eqb y q) (range_with_len 0 n)) facts.0 (any-range q 0 n (omega arith) (omega (arith, facts.1))),
+      λ facts. answer ∙ and_from (p q) (list_any (λ y. eqb y q) (range_with_len 0 n)) facts.0 (any-range q 0 n (omega arith) (omega (arith, facts.1))),
     )
 
 -- past the words no bit is set

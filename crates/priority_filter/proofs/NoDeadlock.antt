@@ -14,7 +14,7 @@ use Rattle.priority_filter.proofs.Chains.{Leads-join}
 use Rattle.priority_filter.proofs.MemberLaws.{contains-remove_other, contains_passing}
 use Rattle.priority_filter.proofs.DecidedTests.{decided_by}
 use Rattle.priority_filter.proofs.Counting.{strict-counted}
-use Rattle.priority_filter.proofs.DecidedOrder.{told_overruled, told_no_fault, below_inside}
+use Rattle.priority_filter.proofs.DecidedOrder.{decides_overruled, decides_no_fault, below_inside}
 
 -- ---- the ascent
 
@@ -53,21 +53,21 @@ module _ (rules : List Rule) (interactions : List (ℕ × ℕ)) (possible : FinS
       (decided_by
       (is_overruled rules interactions (contains possible) a)
       ((b : ℕ) × IsTrue (contains possible b) × IsBelow rules interactions a b)
-      (told_overruled rules interactions (contains possible) a))
+      (decides_overruled rules interactions (contains possible) a))
 
   pub has_top : (a : ℕ) → IsTrue (contains possible a) → HasTop rules interactions possible
   has_top a is_possible = ascend (len possible) possible (omega arith) a is_possible (λ b possible_too below. possible_too)
 
 -- ---- in computed words
 
--- where rules without fault leave something possible, something possible is not overruled, whichever conditions hold
+-- if rules without fault leave something possible, something possible is not overruled, whichever conditions hold
 pub top_is_not_overruled : (rules : List Rule) (interactions : List (ℕ × ℕ)) (holds : At → Bool) (possible : ℕ → Bool) → order_fault rules interactions ≡ None
     → (a : ℕ) → a < length interactions → IsTrue (possible a)
     → (top : ℕ) × (top < length interactions) × IsTrue (possible top) × (is_overruled (active holds rules) interactions possible top ≡ false)
 top_is_not_overruled rules interactions holds possible sound a within is_possible =
     let n : ℕ = length interactions in
     let members : FinSet nat_cmp = from_list (filter possible (range_with_len 0 n)) in
-    let strict : IsStrict (active holds rules) interactions = strict-counted rules interactions holds ((told_no_fault rules interactions).0 sound).1 in
+    let strict : IsStrict (active holds rules) interactions = strict-counted rules interactions holds ((decides_no_fault rules interactions).0 sound).1 in
     let found : HasTop (active holds rules) interactions members = has_top (active holds rules) interactions members strict a ((contains_passing possible n a).1 (is_possible, within)) in
     let top : ℕ = found.0 in
     let facts = (contains_passing possible n top).0 found.1 in (
@@ -75,6 +75,6 @@ top_is_not_overruled rules interactions holds possible sound a within is_possibl
       facts.1,
       facts.0,
       false_from_ne_true (is_overruled (active holds rules) interactions possible top) (λ yes.
-          let above = (told_overruled (active holds rules) interactions possible top).0 yes in
+          let above = (decides_overruled (active holds rules) interactions possible top).0 yes in
           found.2 above.0 ((contains_passing possible n above.0).1 (above.1, (below_inside (active holds rules) interactions top above.0 above.2).1)) above.2),
     )

@@ -12,7 +12,7 @@ use Rattle.priority_filter.specs.Conditions.{IsUpTo, IsFrom, IsWritten, IsKept, 
 use Rattle.priority_filter.proofs.Chains.{Leads-step, Leads-join}
 use Rattle.priority_filter.proofs.Counting.{IsStepAt, step-parts, step-by, below-always}
 use Rattle.priority_filter.proofs.DecidedTests.{same_answer}
-use Rattle.priority_filter.proofs.DecidedOrder.{told_overruled}
+use Rattle.priority_filter.proofs.DecidedOrder.{decides_overruled}
 
 module _ (rules : List Rule) (interactions : List (ℕ × ℕ)) (conditions : List Condition) (kept : AreConditions rules interactions conditions) (holds : At → Bool) (rivals : ℕ → Bool) where
   abbrev Up : ℕ → ℕ → Type 0
@@ -24,8 +24,8 @@ module _ (rules : List Rule) (interactions : List (ℕ × ℕ)) (conditions : Li
   abbrev HasRival : (ℕ → ℕ → Type 0) → ℕ → Type 0
   HasRival Over a = (b : ℕ) × IsTrue (rivals b) × Over a b
 
-  told : (a : ℕ) → IsTrue (is_overruled (active holds rules) interactions rivals a) ↔ HasRival Below a
-  told a = told_overruled (active holds rules) interactions rivals a
+  decides : (a : ℕ) → IsTrue (is_overruled (active holds rules) interactions rivals a) ↔ HasRival Below a
+  decides a = decides_overruled (active holds rules) interactions rivals a
 
   always : (a b : ℕ) → Up a b → Below a b
   always = below-always rules interactions holds
@@ -54,9 +54,9 @@ module _ (rules : List Rule) (interactions : List (ℕ × ℕ)) (conditions : Li
   overruled-closed c there hit m lower =
       let n : ℕ = hit.1.0 in
       let below : Below m n = across c there hit.0 m n lower hit.1.1 in
-      (told m).1 (⊎_elim
+      (decides m).1 (⊎_elim
       (λ rival. (n, rival, below))
-      (λ over. let above : HasRival Below n = (told n).0 over in (above.0, above.1, join m n above.0 below above.2))
+      (λ over. let above : HasRival Below n = (decides n).0 over in (above.0, above.1, join m n above.0 below above.2))
       (or_cases (rivals n) (is_overruled (active holds rules) interactions rivals n) hit.1.2))
 
   -- ---- what is overruled is in each closed set
@@ -125,19 +125,19 @@ module _ (rules : List Rule) (interactions : List (ℕ × ℕ)) (conditions : Li
 
   -- ---- both
 
-  -- an interaction is below a rival by the rules that count exactly where it is by those without a condition, or in the least closed set
-  pub over-told : (set : ℕ → Bool) → IsLeastClosed conditions holds rivals set → (n : ℕ)
+  -- an interaction is below a rival by the rules that count exactly if it is by those without a condition, or in the least closed set
+  pub over-decides : (set : ℕ → Bool) → IsLeastClosed conditions holds rivals set → (n : ℕ)
       → is_overruled (active holds rules) interactions rivals n ≡ (is_overruled (unconditional rules) interactions rivals n || set n)
-  over-told set least n =
+  over-decides set least n =
       let plain : Bool = is_overruled (unconditional rules) interactions rivals n in
-      let plain_told = told_overruled (unconditional rules) interactions rivals n in
-      same_answer (is_overruled (active holds rules) interactions rivals n) (plain || set n) (HasRival Below n) (told n) (
+      let plain_decides = decides_overruled (unconditional rules) interactions rivals n in
+      same_answer (is_overruled (active holds rules) interactions rivals n) (plain || set n) (HasRival Below n) (decides n) (
         λ some. ⊎_elim
-            (λ yes. let above : HasRival Up n = plain_told.0 yes in (above.0, above.1, always n above.0 above.2))
-            (λ in_set. (told n).0 (least.least (is_overruled (active holds rules) interactions rivals) overruled-closed n in_set))
+            (λ yes. let above : HasRival Up n = plain_decides.0 yes in (above.0, above.1, always n above.0 above.2))
+            (λ in_set. (decides n).0 (least.least (is_overruled (active holds rules) interactions rivals) overruled-closed n in_set))
             (or_cases plain (set n) some),
         λ above. ⊎_elim
-            (λ rival. or_left plain (set n) (plain_told.1 rival))
+            (λ rival. or_left plain (set n) (plain_decides.1 rival))
             (λ lowered. or_right plain (set n) (in-set set least.closed n lowered))
             (reached set least.closed n above.2.stations above.0 above.2.chain above.1),
       )

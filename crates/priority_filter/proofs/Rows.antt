@@ -162,7 +162,7 @@ computed_past_itself : (is_below ladder plant 3 3 ≡ false) × (is_below ladder
 unfolding is_below is_overruled
 computed_past_itself = (refl, refl, refl)
 
--- where no rule stands nothing is below anything
+-- if no rule stands nothing is below anything
 computed_no_rules : (is_below [] plant 0 1 ≡ false) × (is_below [] plant 0 2 ≡ false) × (is_below [] plant 1 2 ≡ false) × (order_fault [] plant ≡ None)
 unfolding is_below order_fault
 computed_no_rules = (refl, refl, refl, refl)
@@ -188,7 +188,7 @@ computed_maximal_of_five = refl
 computed_one_below_two : put_above (Under (One 4 5) (Whole 5)) ≡ [] ∷ [] ∷ ((5, 1) ∷ (5, 3) ∷ []) ∷ [] ∷ [] ∷ [] ∷ [] ∷ []
 computed_one_below_two = refl
 
--- tick is overruled where stop is possible, with send or without; by itself it is not, and nothing overrules stop
+-- tick is overruled if stop is possible, with send or without; by itself it is not, and nothing overrules stop
 computed_overruled : (is_overruled ladder plant (λ b. b == 2) 0 ≡ true) × (is_overruled ladder plant (λ b. b == 0) 0 ≡ false) × (is_overruled ladder plant (λ b. true) 2 ≡ false)
 unfolding is_below is_overruled
 computed_overruled = (refl, refl, refl)
@@ -217,7 +217,7 @@ computed_stop_under_stop : order_fault (Under (Whole 2) (Whole 2) ∷ []) plant 
 unfolding is_below order_fault
 computed_stop_under_stop = refl
 
--- connector 3 has no interaction, and an unknown name is told before a cycle
+-- connector 3 has no interaction, and an unknown name comes before a cycle
 computed_unknown : (order_fault (Maximal 1 ∷ Maximal 3 ∷ []) plant ≡ Some (UnknownName 1)) × (order_fault (Under (Whole 2) (Whole 2) ∷ Under (Whole 0) (Whole 3) ∷ []) plant ≡ Some (UnknownName 1))
 unfolding is_below order_fault
 computed_unknown = (refl, refl)

@@ -222,7 +222,7 @@ pub nothing_past : (now inside : Priorities) (rows : List (FinSet nat_cmp)) (a :
 nothing_past now inside rows a same exact past b below =
     let within : a < length rows = above_within rows a b ((exact a b).1 (subst (λ p. IsBelow p.rules p.interactions a b) (sym same) below)) in omega arith
 
--- the rules that a value tells are without fault where those of its fields are
+-- the rules that a value tells are without fault if those of its fields are
 pub sound_at_value : (now inside : Priorities) → inside ≡ now → order_fault inside.rules inside.interactions ≡ None → order_fault now.rules now.interactions ≡ None
 sound_at_value now inside same sound = subst (λ p. order_fault p.rules p.interactions ≡ None) same sound
 
@@ -235,7 +235,7 @@ first_cyclic_from_rows rules interactions rows given a same exact here before = 
   before = λ b earlier below. before b earlier (subst (λ t. Above t b b) (sym same) ((exact b b).1 below));
 }
 
--- where no row holds its own number no interaction is below itself
+-- if no row holds its own number no interaction is below itself
 pub strict_from_rows : (rules : List Rule) (interactions : List (ℕ × ℕ)) (rows given : List (FinSet nat_cmp)) → given ≡ rows
     → ((x y : ℕ) → Above rows x y ↔ IsBelow rules interactions x y)
     → ((a : ℕ) → ¬ Above given a a) → IsStrict rules interactions

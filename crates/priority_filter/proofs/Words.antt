@@ -10,23 +10,14 @@ use Rattle.std.proofs.lemmas.Nat.{and_le_l}
 use Rattle.std.proofs.lemmas.Nat.Bits.{bit_at_and, bit_at_or, bit_at_not, bit_at-lt, bit_at_clear_same, bit_at_clear_other, bit_at-trailing_zeros}
 use Rattle.priority_filter.specs.Members.{has_bit}
 
-both_bits : (x y : ℕ) → x < 2 → y < 2 → eqb (min x y) 1 ≡ (eqb x 1 && eqb y 1)
-both_bits x y p q = grind (arith, nat_tests)
-
-either_bit : (x y : ℕ) → x < 2 → y < 2 → eqb (max x y) 1 ≡ (eqb x 1 || eqb y 1)
-either_bit x y p q = grind (arith, nat_tests)
-
-other_bit : (x : ℕ) → x < 2 → eqb (1 - x) 1 ≡ not (eqb x 1)
-other_bit x p = grind (arith, nat_tests)
-
 pub bit-and : (a b k : ℕ) → has_bit (bit_and a b) k ≡ (has_bit a k && has_bit b k)
-bit-and a b k = ap (λ x. eqb x 1) (bit_at_and a b k) ∙ both_bits _ _ (bit_at-lt a k) (bit_at-lt b k)
+bit-and a b k = grind (arith, nat_tests, bit_at_and a b k, bit_at-lt a k, bit_at-lt b k)
 
 bit-or : (a b k : ℕ) → has_bit (bit_or a b) k ≡ (has_bit a k || has_bit b k)
-bit-or a b k = ap (λ x. eqb x 1) (bit_at_or a b k) ∙ either_bit _ _ (bit_at-lt a k) (bit_at-lt b k)
+bit-or a b k = grind (arith, nat_tests, bit_at_or a b k, bit_at-lt a k, bit_at-lt b k)
 
 pub bit-not : (a k : ℕ) → a < 2 ^ 64 → k < 64 → has_bit (bit_not w64 a) k ≡ not (has_bit a k)
-bit-not a k p q = ap (λ x. eqb x 1) (bit_at_not w64 a k p q) ∙ other_bit _ (bit_at-lt a k)
+bit-not a k p q = grind (arith, nat_tests, bit_at_not w64 a k p q, bit_at-lt a k)
 
 -- a word of 64 bits has no bit past them
 pub no-bit-past : (a k : ℕ) → a < 2 ^ 64 → 64 ≤ k → has_bit a k ≡ false
@@ -42,9 +33,9 @@ picked true false over never = refl
 picked true true over never = sym (ap not (never refl))
 
 pub word-picked : (here free rest k : ℕ) (over : Bool) → here < 2 ^ 64 → bit_and here free < 2 ^ 64 → k < 64 → (has_bit free k ≡ true → over ≡ false) → has_bit rest k ≡ (has_bit (bit_and here (bit_not w64 (bit_and here free))) k && not over) → has_bit (bit_or (bit_and here free) rest) k ≡ (has_bit here k && not over)
-word-picked here free rest k over small low below never told =
+word-picked here free rest k over small low below never answer =
     bit-or (bit_and here free) rest k ∙
-    ap (λ b. has_bit (bit_and here free) k || b) (told ∙ ap (λ b. b && not over) (bit-and here (bit_not w64 (bit_and here free)) k ∙ ap (λ b. has_bit here k && b) (bit-not (bit_and here free) k low below))) ∙
+    ap (λ b. has_bit (bit_and here free) k || b) (answer ∙ ap (λ b. b && not over) (bit-and here (bit_not w64 (bit_and here free)) k ∙ ap (λ b. has_bit here k && b) (bit-not (bit_and here free) k low below))) ∙
     ap (λ b. b || (has_bit here k && not b) && not over) (bit-and here free k) ∙
     picked (has_bit here k) (has_bit free k) over never
 
@@ -69,8 +60,8 @@ module _ (left : ℕ) (some : 0 < left) (small : left < 2 ^ 64) where
 
   -- one more is asked of, and kept or not
   module _ (over : ℕ → Bool) (set kept : ℕ) (so_far : (k : ℕ) → k < 64 → has_bit kept k ≡ (has_bit set k && (has_bit left k || not (over k)))) where
-    behind : (k : ℕ) → k < 64 → (has_bit left k ≡ true → lowest ≡ k → over k ≡ false) → (has_bit set k && (has_bit left k || not (over k))) ≡ (has_bit set k && (has_bit rest k || not (over k)))
-    behind k below holds =
+    past_lowest : (k : ℕ) → k < 64 → (has_bit left k ≡ true → lowest ≡ k → over k ≡ false) → (has_bit set k && (has_bit left k || not (over k))) ≡ (has_bit set k && (has_bit rest k || not (over k)))
+    past_lowest k below holds =
         ⊎_elim
         (λ same. ap (λ b. has_bit set k && (b || not (over k))) (ap (has_bit left) same ∙ ap (λ x. eqb x 1) there) ∙
         sym (ap (λ b. has_bit set k && (has_bit rest k || not b)) (holds (ap (has_bit left) same ∙ ap (λ x. eqb x 1) there) (sym same)) ∙ ap (λ b. has_bit set k && b) (or_true (has_bit rest k))))
@@ -82,15 +73,15 @@ module _ (left : ℕ) (some : 0 < left) (small : left < 2 ^ 64) where
         or_true false = refl
 
     pub asked-kept : over lowest ≡ false → (k : ℕ) → k < 64 → has_bit kept k ≡ (has_bit set k && (has_bit rest k || not (over k)))
-    asked-kept told k below = so_far k below ∙ behind k below (λ _ same. ap over (sym same) ∙ told)
+    asked-kept answer k below = so_far k below ∙ past_lowest k below (λ _ same. ap over (sym same) ∙ answer)
 
     pub asked-left : over lowest ≡ true → (k : ℕ) → k < 64 → has_bit (bit_and kept (bit_not w64 (1 * 2 ^ lowest % 2 ^ 64))) k ≡ (has_bit set k && (has_bit rest k || not (over k)))
-    asked-left told k below =
+    asked-left answer k below =
         ⊎_elim
         (λ same. ap (has_bit (bit_and kept (bit_not w64 (1 * 2 ^ lowest % 2 ^ 64)))) same ∙ ap (λ x. eqb x 1) (bit_at_clear_same w64 kept lowest lowest-below) ∙
         sym (ap (λ j. has_bit set j && (has_bit rest j || not (over j))) same ∙
         ap (λ x. has_bit set lowest && (eqb x 1 || not (over lowest))) (bit_at_clear_same w64 left lowest lowest-below) ∙
-        ap (λ b. has_bit set lowest && not b) told ∙ and-false (has_bit set lowest)))
+        ap (λ b. has_bit set lowest && not b) answer ∙ and-false (has_bit set lowest)))
         (λ other. ap (λ x. eqb x 1) (bit_at_clear_other w64 kept lowest lowest-below k below other) ∙ so_far k below ∙
         ap (λ x. has_bit set k && (eqb x 1 || not (over k))) (sym (bit_at_clear_other w64 left lowest lowest-below k below other)))
         (cases_eq k lowest)

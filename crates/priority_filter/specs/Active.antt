@@ -1,4 +1,4 @@
--- Which rules count where some places are marked.
+-- Which rules count when some places are marked.
 use Rattle.std.specs.Prelude.{◌≡◌, Bool, true, false, not, ◌||◌, List, filter, slice_get, Contains}
 use Rattle.std.specs.Option.{option_map_or}
 use Rattle.priority_filter.specs.declared.rule.Side.{Side}
@@ -8,7 +8,7 @@ use Rattle.priority_filter.specs.declared.seen.At.{At}
 use Rattle.priority_filter.specs.declared.seen.Seen.{Seen}
 use Rattle.priority_filter.specs.Members.{has_bit}
 
--- a rule counts where it has no condition, or its condition holds
+-- a rule counts if it has no condition, or its condition holds
 abbrev pub is_active : (At → Bool) → Rule → Bool
 is_active holds (Under left right) = true
 is_active holds (UnderAt left right at) = holds at

@@ -54,7 +54,7 @@ pub record AreConditions (rules : List Rule) (interactions : List (ℕ × ℕ)) 
 abbrev pub IsHit : Condition → (At → Bool) → (ℕ → Bool) → (ℕ → Bool) → Type 0
 IsHit c holds rivals set = IsTrue (holds c.at) × ((n : ℕ) × IsTrue (contains c.above n) × IsTrue (rivals n || set n))
 
--- where it is hit, all below the rule is in the set
+-- if it is hit, all below the rule is in the set
 abbrev pub IsClosedBy : Condition → (At → Bool) → (ℕ → Bool) → (ℕ → Bool) → Type 0
 IsClosedBy c holds rivals set = IsHit c holds rivals set → (n : ℕ) → IsTrue (contains c.below n) → IsTrue (set n)
 

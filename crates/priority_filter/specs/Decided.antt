@@ -79,7 +79,7 @@ first_unknown rules interactions = least_below (length rules) (λ k. not (is_kno
 abbrev pub first_cyclic : List Rule → List (ℕ × ℕ) → Option ℕ
 first_cyclic rules interactions = least_below (length interactions) (λ a. is_below rules interactions a a)
 
--- an unknown name is told before a cycle
+-- an unknown name comes before a cycle
 abbrev pub fault_from : Option ℕ → Option ℕ → Option OrderFault
 fault_from (Some rule) cyclic = Some (UnknownName rule)
 fault_from None (Some interaction) = Some (Cycle interaction)

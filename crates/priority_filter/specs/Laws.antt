@@ -21,7 +21,7 @@ BelowIsTransitive =
     (rules : List Rule) (interactions : List (ℕ × ℕ)) (a b c : ℕ)
     → IsBelow rules interactions a b → IsBelow rules interactions b c → IsBelow rules interactions a c
 
--- under a strict order, where something is possible, some possible interaction has no possible one above it
+-- under a strict order, if something is possible, some possible interaction has no possible one above it
 abbrev pub PrioritiesBringNoDeadlock : Type 0
 PrioritiesBringNoDeadlock =
     (rules : List Rule) (interactions : List (ℕ × ℕ)) (possible : FinSet nat_cmp)
@@ -35,14 +35,14 @@ BelowIsComputed =
     (rules : List Rule) (interactions : List (ℕ × ℕ)) (a b : ℕ)
     → IsTrue (is_below rules interactions a b) ↔ IsBelow rules interactions a b
 
--- an interaction is overruled in the computed order where something that passes is above it
+-- an interaction is overruled in the computed order if something that passes is above it
 abbrev pub OverruledIsComputed : Type 0
 OverruledIsComputed =
     (rules : List Rule) (interactions : List (ℕ × ℕ)) (possible : ℕ → Bool) (a : ℕ)
     → IsTrue (is_overruled rules interactions possible a) ↔ ((b : ℕ) × IsTrue (possible b) × IsBelow rules interactions a b)
 
 -- the computed fault is the first unknown name, or with all names known the first cycle; and there is none
--- where all names are known and the order is strict
+-- if all names are known and the order is strict
 pub record FaultIsComputed : Type 0 where
   pub unknown : (rules : List Rule) (interactions : List (ℕ × ℕ)) (k : ℕ)
       → (order_fault rules interactions ≡ Some (UnknownName k)) ↔ IsFirstUnknown rules interactions k
@@ -52,7 +52,7 @@ pub record FaultIsComputed : Type 0 where
       → (order_fault rules interactions ≡ None) ↔ (AreKnown rules interactions × IsStrict rules interactions)
   pub memory : (rules : List Rule) (interactions : List (ℕ × ℕ)) → order_fault rules interactions ≢ Some Memory
 
--- what is below something by the rules that count is so still where more conditions hold
+-- what is below something by the rules that count is so still if more conditions hold
 abbrev pub MoreCountsMore : Type 0
 MoreCountsMore =
     (rules : List Rule) (interactions : List (ℕ × ℕ)) (holds more : At → Bool) (a b : ℕ)
@@ -65,13 +65,13 @@ WhatCountsIsBelow =
     (rules : List Rule) (interactions : List (ℕ × ℕ)) (holds : At → Bool) (a b : ℕ)
     → IsBelow (active holds rules) interactions a b → IsBelow rules interactions a b
 
--- an order that is strict where all rules count is strict whichever conditions hold
+-- an order that is strict if all rules count is strict whichever conditions hold
 abbrev pub IsStrictInEveryState : Type 0
 IsStrictInEveryState =
     (rules : List Rule) (interactions : List (ℕ × ℕ)) (holds : At → Bool)
     → IsStrict rules interactions → IsStrict (active holds rules) interactions
 
--- under rules without fault, where something of the list is possible, something possible is not overruled, whichever conditions hold
+-- under rules without fault, if something of the list is possible, something possible is not overruled, whichever conditions hold
 abbrev pub SomethingIsNotOverruled : Type 0
 SomethingIsNotOverruled =
     (rules : List Rule) (interactions : List (ℕ × ℕ)) (holds : At → Bool) (possible : ℕ → Bool)

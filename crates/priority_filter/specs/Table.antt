@@ -39,7 +39,7 @@ PutsIn interactions rule a b =
 abbrev pub Gains : List (ℕ × ℕ) → Rule → List (FinSet nat_cmp) → List (FinSet nat_cmp) → Type 0
 Gains interactions rule old new = (a b : ℕ) → Above new a b ↔ (Above old a b ⊎ PutsIn interactions rule a b)
 
--- the row with all that stands above the station, where the station is in it
+-- the row with all that stands above the station, if the station is in it
 abbrev pub row_through : ℕ → FinSet nat_cmp → FinSet nat_cmp → FinSet nat_cmp
 row_through station through row = if contains row station then union row through else row
 
@@ -50,7 +50,7 @@ pub record IsOrderTable (rules : List Rule) (interactions : List (ℕ × ℕ)) (
   pub exact : (a b : ℕ) → Above rows a b ↔ IsBelow (unconditional rules) interactions a b
   pub sound : order_fault rules interactions ≡ None
 
--- no interaction is above one of the set, where all rules count
+-- no interaction is above one of the set, if all rules count
 abbrev pub AreFree : List Rule → List (ℕ × ℕ) → FinSet nat_cmp → Type 0
 AreFree rules interactions set = (n : ℕ) → contains set n ≡ true → (b : ℕ) → ¬ IsBelow rules interactions n b
 

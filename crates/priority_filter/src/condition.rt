@@ -34,7 +34,7 @@ impl Condition {
             && (self.above.meets(rivals, words) || self.above.meets(over, words))
     }
 
-    /// Puts in what is below the rule, where it is hit. Says whether anything came in.
+    /// Puts in what is below the rule, if it is hit. Says whether anything came in.
     fn lower(
         &self,
         seen: &[Seen; SEEN_ATOMS],

@@ -11,7 +11,7 @@ use crate::order::Order;
 use crate::seen::{SEEN_ATOMS, Seen};
 
 impl Order {
-    /// Says of each interaction of the first words, 64 for each word, whether it is in `kept`: it is where it is a candidate and no
+    /// Says of each interaction of the first words, 64 for each word, whether it is in `kept`: it is there if it is a candidate and no
     /// rival is above it, by the rules that count as far as is seen. What `kept` has past the words stays.
     pub fn filter(
         &self,

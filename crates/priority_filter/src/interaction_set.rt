@@ -87,7 +87,7 @@ impl InteractionSet {
         unite(&mut self.words, &other.words, words);
     }
 
-    /// Which of the 64 interactions from 64 times the place on are in the set, bit k for the one with k behind these.
+    /// Which of the 64 interactions from 64 times the place on are in the set, bit k for the one with k after these.
     pub fn word(&self, place: usize) -> u64
         requires { place < ROW_WORDS }
         ensures { (n : ℕ) → n / 64 ≡ place → has_bit result (n % 64) ≡ set.contains self.now n }
@@ -95,7 +95,7 @@ impl InteractionSet {
         self.words[place]
     }
 
-    /// Puts in, of the 64 interactions from 64 times the place on, those whose bit is set, bit k for the one with k behind these,
+    /// Puts in, of the 64 interactions from 64 times the place on, those whose bit is set, bit k for the one with k after these,
     /// and takes the others of them out.
     pub fn set_word(&mut self, place: usize, word: u64)
         requires { place < ROW_WORDS }

@@ -11,7 +11,7 @@ pub fn below_is_transitive()
     ensures { BelowIsTransitive }
 {}
 
-/// Where something is possible, some possible interaction has no possible one above it.
+/// If something is possible, some possible interaction has no possible one above it.
 pub fn priorities_bring_no_deadlock()
     ensures { PrioritiesBringNoDeadlock }
 {}
@@ -31,7 +31,7 @@ pub fn fault_is_computed()
     ensures { FaultIsComputed }
 {}
 
-/// What is below something is so still where more conditions hold.
+/// What is below something is so still if more conditions hold.
 pub fn more_counts_more()
     ensures { MoreCountsMore }
 {}
@@ -46,7 +46,7 @@ pub fn a_written_order_is_strict_in_every_state()
     ensures { IsStrictInEveryState }
 {}
 
-/// Where rules without fault leave something possible, something possible is not overruled, whichever conditions hold.
+/// If rules without fault leave something possible, something possible is not overruled, whichever conditions hold.
 pub fn something_is_not_overruled()
     ensures { SomethingIsNotOverruled }
 {}

@@ -48,8 +48,8 @@ impl Model for Order {
 impl Order {
     /// The order of the rules on the interactions, each a connector and a leaf mask.
     ///
-    /// An unknown name is told before a cycle, and of each kind the first. An unknown name takes no memory to find, so want of
-    /// memory is told only where all names are known. A cycle is told as if all conditions held.
+    /// An unknown name is found before a cycle, and of each kind the first. An unknown name takes no memory to find, so want of
+    /// memory is answered only if all names are known. A cycle is found as if all conditions held.
     pub fn new(
         alloc: Global,
         rules: &[Rule],
@@ -79,7 +79,7 @@ impl Order {
         Ok(Order::of(alloc, rules, interactions, above)?)
     }
 
-    /// The order of rules without fault, where this is the table of all of them.
+    /// The order of rules without fault, if this is the table of all of them.
     fn of(
         alloc: Global,
         rules: &[Rule],
@@ -139,7 +139,7 @@ impl Order {
     }
 
     /// Whether a chain of rules leads from interaction a up to interaction b, by the rules that count as far as is seen: those
-    /// without a condition, and those whose place is marked or not known. None does where either number is of no interaction of
+    /// without a condition, and those whose place is marked or not known. None does if either number is of no interaction of
     /// the order.
     pub fn below_at(&self, a: u16, b: u16, seen: &[Seen; SEEN_ATOMS]) -> bool
         ensures below { IsTrue result ↔ IsBelow (active (may_be_marked seen.now) self.now.rules) self.now.interactions a b }
@@ -188,7 +188,7 @@ impl Order {
         }
     }
 
-    /// Those of 64 interactions that nothing is above, where all rules count.
+    /// Those of 64 interactions that nothing is above, if all rules count.
     pub(crate) fn free_word(&self, place: usize) -> u64
         requires { place < ROW_WORDS }
         ensures { (n : ℕ) → n / 64 ≡ place → has_bit result (n % 64) ≡ true → (rivals : ℕ → Bool) → is_overruled (unconditional self.now.rules) self.now.interactions rivals n ≡ false }

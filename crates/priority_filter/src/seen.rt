@@ -32,7 +32,7 @@ impl At {
         usize::from(self.atom) < SEEN_ATOMS && usize::from(self.place) < SEEN_PLACES
     }
 
-    /// Whether the place is marked as far as is seen. It may be where nothing is known of its atom.
+    /// Whether the place is marked as far as is seen. It may be if nothing is known of its atom.
     pub fn may_be_marked(self, seen: &[Seen; SEEN_ATOMS]) -> bool
         ensures { result ≡ may_be_marked seen.now self }
     {

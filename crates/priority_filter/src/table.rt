@@ -118,24 +118,18 @@ fn is_repeated(rules: &[Rule], k: usize) -> bool
     false
 }
 
-/// The table of the rule steps. A rule that stands twice is added once.
-fn rule_steps(
-    alloc: Global,
-    rules: &[Rule],
-    interactions: &[(u16, u16)],
-) -> Result<Vec<InteractionSet>, AllocError>
-    requires { length interactions.now ≤ INTERACTION_LIMIT }
-    ensures size { IfOk result (λ rows. vec_len rows ≡ length interactions.now) }
-    ensures steps { IfOk result (λ rows. (a b : ℕ) →
-        Above rows.items a b ↔ IsRuleStep rules.now interactions.now a b) }
+/// Fills an empty table with the rule steps. A rule that stands twice is added once.
+fn add_rules(rows: &mut [InteractionSet], interactions: &[(u16, u16)], rules: &[Rule])
+    requires size { length rows.old ≡ length interactions.now }
+    requires limit { length interactions.now ≤ INTERACTION_LIMIT }
+    requires empty { (a : ℕ) → row_at rows.old a ≡ set.empty }
+    ensures { (a b : ℕ) → Above rows.new a b ↔ IsRuleStep rules.now interactions.now a b }
 {
-    let mut rows = empty_table(alloc, interactions.len())?;
     for k in 0..rules.len() {
         if !is_repeated(rules, k) {
-            add_rule(&mut rows, interactions, rules[k]);
+            add_rule(rows, interactions, rules[k]);
         }
     }
-    Ok(rows)
 }
 
 /// Whatever stands above the station comes to stand above all that the station stands above.
@@ -173,7 +167,8 @@ pub fn order_table(
     ensures below { IfOk result (λ rows. (a b : ℕ) →
         Above rows.items a b ↔ IsBelow rules.now interactions.now a b) }
 {
-    let mut rows = rule_steps(alloc, rules, interactions)?;
+    let mut rows = empty_table(alloc, interactions.len())?;
+    add_rules(&mut rows, interactions, rules);
     close(&mut rows);
     Ok(rows)
 }
@@ -213,7 +208,7 @@ fn rules_without_condition(alloc: Global, rules: &[Rule]) -> Result<Vec<Rule>, A
     Ok(kept)
 }
 
-/// The table of the order by the rules without a condition, where this is the one by all of them.
+/// The table of the order by the rules without a condition, if this is the one by all of them.
 pub fn table_without_conditions(
     alloc: Global,
     rules: &[Rule],

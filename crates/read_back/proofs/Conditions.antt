@@ -13,7 +13,7 @@ use Rattle.plant_words.specs.declared.line_fault.LineFault.{LineFault}
 use Rattle.plant_words.specs.declared.line_fault.LineFault.TheVariants as line
 use Rattle.plant_words.proofs.Exits.{passes}
 use Rattle.atom_lines.specs.Lookup.{place_number}
-use Rattle.connector_lines.specs.Conditions.{condition_in, condition_behind}
+use Rattle.connector_lines.specs.Conditions.{condition_in, condition_after}
 use Rattle.plant_text.specs.Names.{atom_number, place_named}
 use Rattle.part_text.specs.Rule.{atom_name, place_name, name_of_place, condition_text}
 use Rattle.read_back.specs.Names.{are_named}
@@ -25,7 +25,7 @@ use Rattle.read_back.proofs.Words.{IsBehind, is_one_word, word_alone, word_befor
 pub first_legal : (word : List ℕ) (rest : List (List ℕ)) → is_legal_line word ≡ true → first_word (word ∷ rest) ≡ Ok word
 first_legal word rest legal = ap (λ (b : Bool). if b then Ok word else Err line.NotAscii) legal
 
--- a place that is there, of atoms that names tell apart, and so the places of its atom
+-- a place that is there, of atoms whose names differ, and so the places of its atom
 pub record IsPlaced (atoms : List AtomDefinition) (at : At) : Type 0 where
   pub atom : AtomDefinition
   pub there : slice_get atoms at.atom ≡ Some atom
@@ -93,9 +93,9 @@ module _ (plant : PlantDefinition) (at : At) (is : IsPlaced plant.atoms at) wher
   abbrev words : List (List ℕ)
   words = atom ∷ codes "at" ∷ place ∷ []
 
-  -- the condition may stand behind a word
-  pub words_behind : IsBehind (condition_text plant at) (codes "when" ∷ words)
-  words_behind word one =
+  -- the condition may stand after a word
+  pub words_after : IsBehind (condition_text plant at) (codes "when" ∷ words)
+  words_after word one =
       word_before word (codes "when " ++ atom ++ codes " at " ++ place) one
       ∙ ap (λ (rest : List (List ℕ)). word ∷ rest) (word_before (codes "when") (atom ++ codes " at " ++ place) refl)
       ∙ ap (λ (text : List ℕ). word ∷ codes "when" ∷ words_of text) (append_assoc atom (codes " at ") place)
@@ -117,5 +117,5 @@ module _ (plant : PlantDefinition) (at : At) (is : IsPlaced plant.atoms at) wher
       (passes (known at.atom) (first_legal place [] place_legal)
       (passes (ended at.atom) (ap (λ (found : Option ℕ). ok_or found line.UnknownName) place_found) refl)))
 
-  pub condition_read : condition_behind (atom_number plant.atoms) (place_named plant.atoms) (codes "when" ∷ words) ≡ Ok at
+  pub condition_read : condition_after (atom_number plant.atoms) (place_named plant.atoms) (codes "when" ∷ words) ≡ Ok at
   condition_read = place_read

@@ -24,7 +24,7 @@ use Rattle.part_text.specs.Expression.{expression_text}
 use Rattle.read_back.specs.Expressions.{is_over_ports}
 use Rattle.read_back.specs.Names.{are_named, names_its_parts, are_named_atoms}
 use Rattle.read_back.specs.ReadBack.{IsFoundAtPorts, IsReadAtPorts}
-use Rattle.read_back.proofs.Words.{is_one_word, IsBehind, nothing_behind, space_behind}
+use Rattle.read_back.proofs.Words.{is_one_word, IsBehind, nothing_after, space_after}
 use Rattle.read_back.proofs.Bytes.{IsOfName}
 use Rattle.read_back.proofs.ExpressionWords.{variable_reads}
 use Rattle.read_back.proofs.Expressions.{text_read}
@@ -82,7 +82,7 @@ module _ (a : AtomDefinition) (formed : is_well_formed a ≡ true) (port : ℕ) 
 
 -- ---- exported variables
 
--- the parts that an exported variable is told and found by
+-- the parts that an exported variable is written and found by
 record IsAt (atoms : List AtomDefinition) (ports : List Port) (e : Export) : Type 0 where
   port : Port
   atom : AtomDefinition
@@ -130,7 +130,7 @@ module _ (atoms : List AtomDefinition) (ports : List Port) (named : are_named_at
     own_name : IsOfName at.declared.name
     own_name = named_at (λ v. v.name) at.atom.variables (variables_named at.port.atom at.atom at.there) at.variable at.declared at.is
 
-    -- it is told by the names of its atom and its own
+    -- it is written by the names of its atom and its own
     told : export_name atoms ports e ≡ dotted at.atom.name at.declared.name
     told =
         ap (λ (o : Option Port). option_map_or (λ p. variable_of_port atoms p e.export) o []) at.leaf
@@ -176,7 +176,7 @@ module _ (atoms : List AtomDefinition) (ports : List Port) (named : are_named_at
       let at = found_at e known in
       ap is_one_word (told e at) ∙ dotted_is_one_word at.atom.name at.declared.name (atom_name e at) (own_name e at)
 
-  -- an expression over exported variables is read back, and the words behind it are left
+  -- an expression over exported variables is read back, and the words after it are left
   expression_read : (e : Tree Export) → is_over_ports atoms ports e ≡ true → (text : List ℕ) (words : List (List ℕ)) → IsBehind text words →
       expression_in (variable_in (atom_number atoms) (export_named atoms) ports) (words_of (expression_text (export_name atoms ports) e ++ text)) ≡ Ok (e, words)
   expression_read e held text words behind =
@@ -188,10 +188,10 @@ module _ (atoms : List AtomDefinition) (ports : List Port) (named : are_named_at
   pub read_alone : (e : Tree Export) → is_over_ports atoms ports e ≡ true → IsReadAtPorts atoms ports e
   read_alone e held =
       ap (λ text. expression_in (variable_in (atom_number atoms) (export_named atoms) ports) (words_of text)) (sym (append-nil (expression_text (export_name atoms ports) e)))
-      ∙ expression_read e held [] [] nothing_behind
+      ∙ expression_read e held [] [] nothing_after
 
   pub read_before : (e : Tree Export) (behind : List ℕ) → is_over_ports atoms ports e ≡ true →
       expression_in (variable_in (atom_number atoms) (export_named atoms) ports) (words_of (expression_text (export_name atoms ports) e ++ codes " " ++ behind)) ≡ Ok (e, words_of behind)
   read_before e behind held =
       ap (λ text. expression_in (variable_in (atom_number atoms) (export_named atoms) ports) (words_of text)) (append_assoc (expression_text (export_name atoms ports) e) (codes " ") behind)
-      ∙ expression_read e held (32 ∷ behind) (words_of behind) (space_behind behind)
+      ∙ expression_read e held (32 ∷ behind) (words_of behind) (space_after behind)

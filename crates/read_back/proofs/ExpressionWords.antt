@@ -64,14 +64,13 @@ legal_says named word legal = ap (λ (b : Bool). if b then legal_word_in named w
 
 -- ---- numbers
 
--- what a word says that is no operator and writes a number
-as_number : {S : Type 0} (negation digits others : S) (operation : Operator → S) (negates : Bool) (operator : Option Operator) (numeric : Bool) →
-    negates ≡ false → operator ≡ None → numeric ≡ true →
-    (if negates then negation else option_map_or operation operator (if numeric then digits else others)) ≡ digits
-as_number negation digits others operation true operator numeric n o u = absurd (true≢false n)
-as_number negation digits others operation false (Some other) numeric n o u = absurd (cc)
-as_number negation digits others operation false None false n o u = absurd (false≢true u)
-as_number negation digits others operation false None true n o u = refl
+-- what a word says that is no operator: a number if it is numeric, and else what other words say
+as_operand : {S : Type 0} (negation digits others : S) (operation : Operator → S) (negates : Bool) (operator : Option Operator) (numeric is : Bool) →
+    negates ≡ false → operator ≡ None → numeric ≡ is →
+    (if negates then negation else option_map_or operation operator (if numeric then digits else others)) ≡ (if is then digits else others)
+as_operand negation digits others operation true operator numeric is n o u = absurd (true≢false n)
+as_operand negation digits others operation false (Some other) numeric is n o u = absurd (cc)
+as_operand negation digits others operation false None numeric is n o u = ap (λ (b : Bool). if b then digits else others) u
 
 -- digits are no operator
 digits_other : (word : List ℕ) → begins_by is_digit word ≡ true → IsOther word
@@ -87,7 +86,7 @@ digits_other word begins NotEqual = other_first is_digit word 33 (codes "=") beg
 digits_other word begins And = other_first is_digit word 38 (codes "&") begins refl
 digits_other word begins Or = other_first is_digit word 124 (codes "|") begins refl
 
--- nor are digits behind a sign
+-- nor are digits after a sign
 no_end : (bytes : List ℕ) → is_filled bytes ≡ true → is_same_text bytes [] ≡ false
 no_end [] some = absurd (false≢true some)
 no_end (byte ∷ bytes) some = refl
@@ -124,19 +123,10 @@ pub number_reads : {V : Type 0} (named : List ℕ → Option V) (z : ℤ) → is
 number_reads named z fits =
     let word : List ℕ = signed_decimal z in
     legal_says named word (number_is_legal z fits)
-    ∙ as_number _ (number_in (int_in word)) (variable_found (could_be_variable word) (named word)) _ (is_same_text word (codes "!")) (operator_in word) (is_numeric word) (number_negates_none z fits) (no_operator word (number_other z fits)) (number_is_numeric z fits)
+    ∙ as_operand _ (number_in (int_in word)) (variable_found (could_be_variable word) (named word)) _ (is_same_text word (codes "!")) (operator_in word) (is_numeric word) true (number_negates_none z fits) (no_operator word (number_other z fits)) (number_is_numeric z fits)
     ∙ ap number_in (number_read z fits)
 
 -- ---- variables
-
--- what a word says that is no operator and no number
-as_variable : {S : Type 0} (negation digits others : S) (operation : Operator → S) (negates : Bool) (operator : Option Operator) (numeric : Bool) →
-    negates ≡ false → operator ≡ None → numeric ≡ false →
-    (if negates then negation else option_map_or operation operator (if numeric then digits else others)) ≡ others
-as_variable negation digits others operation true operator numeric n o u = absurd (true≢false n)
-as_variable negation digits others operation false (Some other) numeric n o u = absurd (cc)
-as_variable negation digits others operation false None true n o u = absurd (true≢false u)
-as_variable negation digits others operation false None false n o u = refl
 
 -- a word that can only be a variable's: it begins with a letter, is no operator, and may stand in a text
 pub record IsPlain (word : List ℕ) : Type 0 where
@@ -167,6 +157,6 @@ no_number (byte ∷ bytes) begins =
 pub variable_reads : {V : Type 0} (named : List ℕ → Option V) (word : List ℕ) (v : V) → IsPlain word → named word ≡ Some v → word_in named word ≡ variable_found true (Some v)
 variable_reads named word v plain found =
     legal_says named word plain.legal
-    ∙ as_variable _ (number_in (int_in word)) (variable_found (could_be_variable word) (named word)) _ (is_same_text word (codes "!")) (operator_in word) (is_numeric word)
+    ∙ as_operand _ (number_in (int_in word)) (variable_found (could_be_variable word) (named word)) _ (is_same_text word (codes "!")) (operator_in word) (is_numeric word) false
     (other_first is_letter word 33 [] plain.begins refl) (no_operator word (plain_other word plain)) (no_number word plain.begins)
     ∙ ap (variable_found (could_be_variable word)) found

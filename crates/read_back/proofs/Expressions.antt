@@ -40,14 +40,14 @@ module _ {V : Type 0} (named : List ℕ → Option V) (limit left more : ℕ) (t
   first_read : expressions_in named limit (suc more) (text ∷ words) ≡ behind (word_in named text) more (λ wanted. expressions_in named left wanted words)
   first_read = ap (λ (n : ℕ). expressions_in named n (suc more) (text ∷ words)) one
 
-  -- a number and a variable stand in front of what is read behind them
+  -- a number and a variable stand in front of what is read after them
   number_first : (n : ℤ) → word_in named text ≡ number_in (Some n) → expressions_in named limit (suc more) (text ∷ words) ≡ on_trees (λ trees. number n ∷ trees) (expressions_in named left more words)
   number_first n says = first_read ∙ ap (λ word. behind word more (λ wanted. expressions_in named left wanted words)) says
 
   variable_first : (v : V) → word_in named text ≡ variable_found true (Some v) → expressions_in named limit (suc more) (text ∷ words) ≡ on_trees (λ trees. variable v ∷ trees) (expressions_in named left more words)
   variable_first v says = first_read ∙ ap (λ word. behind word more (λ wanted. expressions_in named left wanted words)) says
 
--- an operator takes the two expressions behind it
+-- an operator takes the two expressions after it
 module _ {V : Type 0} (named : List ℕ → Option V) (e f : Tree V) (before first second after : ℕ → Reading V) where
   operator_first : (op : Operator) → ((more : ℕ) → before (suc more) ≡ behind (word_in named (operator_word op)) more first) → ((more : ℕ) → first (suc more) ≡ on_trees (λ trees. e ∷ trees) (second more)) →
       ((more : ℕ) → second (suc more) ≡ on_trees (λ trees. f ∷ trees) (after more)) → (more : ℕ) → before (suc more) ≡ on_trees (λ trees. operation op e f ∷ trees) (after more)
@@ -65,7 +65,7 @@ module _ {V : Type 0} (named : List ℕ → Option V) (e f : Tree V) (before fir
 
 -- of variables that pass the test, each is one word that says the variable
 module _ {V : Type 0} (name : V → List ℕ) (named : List ℕ → Option V) (test : V → Bool) (says : (v : V) → test v ≡ true → word_in named (name v) ≡ variable_found true (Some v)) (whole : (v : V) → test v ≡ true → is_one_word (name v) ≡ true) where
-  -- the words of an expression stand before those behind it
+  -- the words of an expression stand before those after it
   words_stand : (e : Tree V) → has_numbers_in_range e ≡ true → all_variables test e ≡ true → (text : List ℕ) (words : List (List ℕ)) → IsBehind text words →
       words_of (expression_text name e ++ text) ≡ expression_words name e ++ words
   words_stand (number n) numbers variables text words behind = behind (signed_decimal n) (number_is_one_word n numbers)
@@ -119,7 +119,7 @@ module _ {V : Type 0} (name : V → List ℕ) (named : List ℕ → Option V) (t
       (λ m. words_read f in_range.1 known.1 last left m words refl)
       more
 
-  -- so the text of an expression is read as the expression, and the words behind it are left
+  -- so the text of an expression is read as the expression, and the words after it are left
   pub text_read : (e : Tree V) → word_count e ≤ MAX_WORDS → has_numbers_in_range e ≡ true → all_variables test e ≡ true → (text : List ℕ) (words : List (List ℕ)) → IsBehind text words →
       expression_in named (words_of (expression_text name e ++ text)) ≡ Ok (e, words)
   text_read e small numbers variables text words behind =

@@ -29,7 +29,7 @@ pub passing : {X : Type 0} (test : X → Bool) (found : Option X) → option_map
 passing test None passes = absurd (false≢true passes)
 passing test (Some x) passes = (x, refl, passes)
 
--- where none passes, none at a place does
+-- if none passes, none at a place does
 none_at : {X : Type 0} (test : X → Bool) (xs : List X) (k : ℕ) (x : X) → list_any test xs ≡ false → slice_get xs k ≡ Some x → test x ≡ false
 none_at test [] k x none there = absurd (none-some x there)
 none_at test (y ∷ ys) zero x none there = ap test (sym (same_Some y x there)) ∙ (or_parts (test y) (list_any test ys) none).0
@@ -89,7 +89,7 @@ module _ {X : Type 0} (name_of : X → List ℕ) (parts : List X) (named : are_n
 
 -- ---- ports
 
--- a leaf is found by its atom, where no other is of that atom
+-- a leaf is found by its atom, if no other is of that atom
 pub leaf_found : (ports : List Port) (k : ℕ) (p : Port) → has_repeat (atoms ports) ≡ false → slice_get ports k ≡ Some p → position (λ q. q.atom == p.atom) ports ≡ Some k
 leaf_found ports k p unique there =
     let atom_of : Port → ℕ = λ q. q.atom in

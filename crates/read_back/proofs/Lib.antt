@@ -1,17 +1,17 @@
-pub mod Words
-pub mod Bytes
-pub mod Decimals
-pub mod ExpressionWords
-pub mod Expressions
-pub mod Found
-pub mod Dotted
-pub mod Variables
-pub mod Exports
-pub mod Tokens
-pub mod Trees
-pub mod Conditions
-pub mod Sides
-pub mod OwnRules
-pub mod OnePart
-pub mod Plants
+mod Words
+mod Bytes
+mod Decimals
+mod ExpressionWords
+mod Expressions
+mod Found
+mod Dotted
+mod Variables
+mod Exports
+mod Tokens
+mod Trees
+mod Conditions
+mod Sides
+mod OwnRules
+mod OnePart
+mod Plants
 mod Rows

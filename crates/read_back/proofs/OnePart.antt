@@ -14,7 +14,7 @@ use Rattle.priority_filter.specs.declared.rule.Rule.{Rule}
 use Rattle.priority_filter.specs.declared.rule.Rule.TheVariants.{Under, UnderAt, Maximal}
 use Rattle.step_core.specs.Choice.{plant_interactions}
 use Rattle.step_core.specs.Plant.{WireDefinition, PlantDefinition}
-use Rattle.step_core.specs.Rules.{first_of, first_told, is_known_condition, first_broken, atom_fault, tree_fault, wire_fault, fault_of_wire, fault_of_wires, fault_of_count, fault_of_order, is_within_limits, early_fault, late_fault, fault_of, is_known_port, is_known_export, names_known}
+use Rattle.step_core.specs.Rules.{first_of, first_fault_in, is_known_condition, first_broken, atom_fault, tree_fault, wire_fault, fault_of_wire, fault_of_wires, fault_of_count, fault_of_order, is_within_limits, early_fault, late_fault, fault_of, is_known_port, is_known_export, names_known}
 use Rattle.step_core.specs.declared.fault.SystemFault.{SystemFault}
 use Rattle.step_core.specs.declared.fault.SystemFault.TheVariants.{Limit, BadAtom, BadWire}
 use Rattle.step_core.specs.declared.fault.WireFault.{WireFault}
@@ -26,7 +26,7 @@ use Rattle.read_back.proofs.Found.{passing}
 
 -- ---- names that none before has
 
--- a name that is none of those behind it
+-- a name that is none of those after it
 none_later : {X : Type 0} (name_of : X → List ℕ) (x : X) (xs : List X) → ((k : ℕ) (y : X) → slice_get xs k ≡ Some y → is_same_text (name_of x) (name_of y) ≡ false) →
     list_any (λ y. is_same_text (name_of y) (name_of x)) xs ≡ false
 none_later name_of x [] differ = refl
@@ -34,15 +34,15 @@ none_later name_of x (y ∷ ys) differ =
     or_from (is_same_text (name_of y) (name_of x)) (list_any (λ z. is_same_text (name_of z) (name_of x)) ys)
     (nat_list_eq_equiv.symm (name_of y) (name_of x) ∙ differ zero y refl) (none_later name_of x ys (λ k z there. differ (suc k) z there))
 
--- where no name is one of those before it, each stands once
-once_behind : {X : Type 0} (name_of : X → List ℕ) (xs : List X) → ((k : ℕ) (x : X) → slice_get xs k ≡ Some x → list_any (λ b. is_same_text (name_of b) (name_of x)) (take k xs) ≡ false) →
+-- if no name is one of those before it, each stands once
+once_after : {X : Type 0} (name_of : X → List ℕ) (xs : List X) → ((k : ℕ) (x : X) → slice_get xs k ≡ Some x → list_any (λ b. is_same_text (name_of b) (name_of x)) (take k xs) ≡ false) →
     is_each_once (λ x y. is_same_text (name_of x) (name_of y)) xs ≡ true
-once_behind name_of [] new = refl
-once_behind name_of (x ∷ xs) new =
+once_after name_of [] new = refl
+once_after name_of (x ∷ xs) new =
     and_from (not (list_any (λ y. is_same_text (name_of y) (name_of x)) xs)) (is_each_once (λ a b. is_same_text (name_of a) (name_of b)) xs)
     (not_from_false (list_any (λ y. is_same_text (name_of y) (name_of x)) xs)
     (none_later name_of x xs (λ k y there. (or_parts (is_same_text (name_of x) (name_of y)) (list_any (λ b. is_same_text (name_of b) (name_of y)) (take k xs)) (new (suc k) y there)).0)))
-    (once_behind name_of xs (λ k y there. (or_parts (is_same_text (name_of x) (name_of y)) (list_any (λ b. is_same_text (name_of b) (name_of y)) (take k xs)) (new (suc k) y there)).1))
+    (once_after name_of xs (λ k y there. (or_parts (is_same_text (name_of x) (name_of y)) (list_any (λ b. is_same_text (name_of b) (name_of y)) (take k xs)) (new (suc k) y there)).1))
 
 -- ---- atoms
 
@@ -109,32 +109,32 @@ unbroken false false variables targets none = absurd (cc)
 unbroken false true false targets none = absurd (cc)
 unbroken false true true targets none = (refl, refl, refl)
 
--- where the early rules tell nothing, the limits are kept and no names are told
+-- if the early rules find nothing, the limits are kept and no names are at fault
 early_names : (kept : Bool) (names trees : Option SystemFault) → (if not kept then Some Limit else first_of names trees) ≡ None → (kept ≡ true) × (names ≡ None)
 early_names true names trees none = (refl, first_none names trees none)
 early_names false names trees none = absurd (cc)
 
--- where no element tells something, none tells something at its place
-untold_at : {X F : Type 0} (tell : ℕ → X → Option F) (n : ℕ) (xs : List X) → first_told tell n xs ≡ None → (k : ℕ) (x : X) → slice_get xs k ≡ Some x → tell (n + k) x ≡ None
-untold_at tell n [] none k x there = absurd (none-some x there)
-untold_at tell n (y ∷ ys) none zero x there =
+-- if no element has a fault, none has one at its place
+unfound_at : {X F : Type 0} (tell : ℕ → X → Option F) (n : ℕ) (xs : List X) → first_fault_in tell n xs ≡ None → (k : ℕ) (x : X) → slice_get xs k ≡ Some x → tell (n + k) x ≡ None
+unfound_at tell n [] none k x there = absurd (none-some x there)
+unfound_at tell n (y ∷ ys) none zero x there =
     let same : n + zero ≡ n = omega arith in
-    ap (λ (m : ℕ). tell m x) same ∙ ap (tell n) (sym (same_Some y x there)) ∙ first_none (tell n y) (first_told tell (suc n) ys) none
-untold_at tell n (y ∷ ys) none (suc k) x there =
+    ap (λ (m : ℕ). tell m x) same ∙ ap (tell n) (sym (same_Some y x there)) ∙ first_none (tell n y) (first_fault_in tell (suc n) ys) none
+unfound_at tell n (y ∷ ys) none (suc k) x there =
     let same : n + suc k ≡ suc n + k = omega arith in
-    ap (λ (m : ℕ). tell m x) same ∙ untold_at tell (suc n) ys (second_none (tell n y) (first_told tell (suc n) ys) none) k x there
+    ap (λ (m : ℕ). tell m x) same ∙ unfound_at tell (suc n) ys (second_none (tell n y) (first_fault_in tell (suc n) ys) none) k x there
 
-told_at : {X F : Type 0} (tell : ℕ → X → Option F) (xs : List X) → first_told tell 0 xs ≡ None → (k : ℕ) (x : X) → slice_get xs k ≡ Some x → tell k x ≡ None
+told_at : {X F : Type 0} (tell : ℕ → X → Option F) (xs : List X) → first_fault_in tell 0 xs ≡ None → (k : ℕ) (x : X) → slice_get xs k ≡ Some x → tell k x ≡ None
 told_at tell xs none k x there =
     let number : k ≡ 0 + k = omega arith in
-    ap (λ (n : ℕ). tell n x) number ∙ untold_at tell 0 xs none k x there
+    ap (λ (n : ℕ). tell n x) number ∙ unfound_at tell 0 xs none k x there
 
 module _ (plant : PlantDefinition) (valid : fault_of plant ≡ None) where
   pub early : early_fault plant ≡ None
   early = first_none (early_fault plant) (first_of (late_fault plant) (fault_of_order plant)) valid
 
-  early_keeps : (is_within_limits plant ≡ true) × (first_told (atom_fault plant.atoms) 0 plant.atoms ≡ None)
-  early_keeps = early_names (is_within_limits plant) (first_told (atom_fault plant.atoms) 0 plant.atoms) (first_told tree_fault 0 plant.wires) early
+  early_keeps : (is_within_limits plant ≡ true) × (first_fault_in (atom_fault plant.atoms) 0 plant.atoms ≡ None)
+  early_keeps = early_names (is_within_limits plant) (first_fault_in (atom_fault plant.atoms) 0 plant.atoms) (first_fault_in tree_fault 0 plant.wires) early
 
   pub within_limits : is_within_limits plant ≡ true
   within_limits = early_keeps.0
@@ -158,7 +158,7 @@ module _ (plant : PlantDefinition) (valid : fault_of plant ≡ None) where
   new_wire k w there = (wire_keeps k w there).0
 
   pub wires_named : plant_has_names plant ≡ true → are_named (λ w. w.name) plant.wires ≡ true
-  wires_named names = and_from (have_names (λ w. w.name) plant.wires) _ (and_parts _ _ names).1 (once_behind (λ w. w.name) plant.wires new_wire)
+  wires_named names = and_from (have_names (λ w. w.name) plant.wires) _ (and_parts _ _ names).1 (once_after (λ w. w.name) plant.wires new_wire)
 
   pub atoms_named : plant_has_names plant ≡ true → list_all is_well_formed plant.atoms ≡ true → are_named_atoms plant.atoms ≡ true
   atoms_named names formed =
@@ -166,7 +166,7 @@ module _ (plant : PlantDefinition) (valid : fault_of plant ≡ None) where
       let own : have_names (λ a. a.name) plant.atoms ≡ true =
       all_weaker has_names (λ a. is_name a.name) (λ a all. (and_parts _ _ (and_parts _ _ (and_parts _ _ all).0).0).0) plant.atoms legal in
       and_from (are_named (λ a. a.name) plant.atoms) (list_all names_its_parts plant.atoms)
-      (and_from (have_names (λ a. a.name) plant.atoms) _ own (once_behind (λ a. a.name) plant.atoms new_atom))
+      (and_from (have_names (λ a. a.name) plant.atoms) _ own (once_after (λ a. a.name) plant.atoms new_atom))
       (all_both is_well_formed has_names names_its_parts parts_named plant.atoms formed legal)
 
   -- the conditions of its rules are over its atoms and places

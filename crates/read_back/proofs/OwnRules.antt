@@ -20,12 +20,12 @@ use Rattle.priority_filter.specs.declared.rule.Rule.{Rule}
 use Rattle.priority_filter.specs.declared.rule.Rule.TheVariants.{Under, UnderAt, Maximal}
 use Rattle.priority_filter.specs.declared.rule.Side.{Side}
 use Rattle.priority_filter.specs.declared.rule.Side.TheVariants.{Whole, One}
-use Rattle.priority_filter.proofs.DecidedOrder.{told_no_fault}
+use Rattle.priority_filter.proofs.DecidedOrder.{decides_no_fault}
 use Rattle.step_core.specs.Choice.{Interaction, named, plant_interactions}
 use Rattle.step_core.specs.Laws.{IsInteractionOf}
 use Rattle.step_core.specs.Plant.{PlantDefinition}
 use Rattle.step_core.specs.Rules.{fault_of, is_known_condition, is_known_place}
-use Rattle.step_core.proofs.Alive.{order-sound}
+use Rattle.step_core.proofs.NoDeadlock.{order-sound}
 use Rattle.step_core.proofs.Membership.{all-in, from-filter}
 use Rattle.step_core.proofs.OfInteractions.{interaction-of, sound-tree}
 use Rattle.plant_text.specs.Interactions.{has_interaction}
@@ -92,6 +92,6 @@ module _ (plant : PlantDefinition) (valid : fault_of plant ≡ None) where
 
   pub own_rule : (rule : Rule) → Contains plant.rules rule → is_rule_of plant rule ≡ true
   own_rule rule at =
-      let all = ((told_no_fault plant.rules interactions).0 (order-sound plant valid)).0 in
+      let all = ((decides_no_fault plant.rules interactions).0 (order-sound plant valid)).0 in
       let same : rule_at plant.rules at.0 ≡ rule = get_or_default plant.rules at.0 (Under (Whole 0) (Whole 0)) rule at.1 ∙ at.2 in
       known_rule rule (subst (IsKnown interactions) same (all at.0 at.1)) (all-in (is_known_condition plant.atoms) plant.rules (conditions_known plant valid) rule at)

@@ -24,7 +24,7 @@ use Rattle.plant_words.specs.declared.line_fault.LineFault.{LineFault}
 use Rattle.plant_words.specs.declared.line_fault.LineFault.TheVariants as line
 use Rattle.plant_words.proofs.Exits.{passes}
 use Rattle.plant_words.proofs.Positions.{position_of_mapped}
-use Rattle.connector_lines.specs.Conditions.{AtomsNamed, PlacesNamed, rule_behind}
+use Rattle.connector_lines.specs.Conditions.{AtomsNamed, PlacesNamed, rule_after}
 use Rattle.connector_lines.specs.Rules.{priority_in, maximal_in}
 use Rattle.connector_lines.specs.Sides.{whole_of, one_of, side_of, side_in}
 use Rattle.plant_text.specs.Interactions.{has_interaction}
@@ -36,13 +36,13 @@ use Rattle.plant_text.specs.declared.fault.Fault.TheVariants as fault
 use Rattle.part_text.specs.Rule.{atom_name, name_of_place, condition_text, side_word, sides_text, rule_text}
 use Rattle.read_back.specs.Names.{are_named}
 use Rattle.read_back.specs.Rules.{is_side_of, is_rule_of, has_named_condition, with_rules}
-use Rattle.read_back.proofs.Conditions.{first_legal, IsPlaced, placed, words_behind, condition_read}
+use Rattle.read_back.proofs.Conditions.{first_legal, IsPlaced, placed, words_after, condition_read}
 use Rattle.read_back.proofs.Words.{is_one_word, one_word_more, no_sides, two_sides, word_alone, word_before}
 use Rattle.read_back.proofs.Bytes.{none_is, none_blank, begins_filled, digits_are_legal, IsOfName, name_is_one_word, name_is_legal}
 use Rattle.read_back.proofs.Decimals.{all_digits, some_digit, pick_read}
 use Rattle.read_back.proofs.Found.{there_at, named_at, found_by_name}
 
--- what passes a test behind a map is there before it
+-- what passes a test after a map is there before it
 unmapped : {X Y : Type 0} (f : X → Y) (test : Y → Bool) (found : Option X) → option_map_or test (option_map f found) false ≡ true → (x : X) × (found ≡ Some x)
 unmapped f test None passes = absurd (false≢true passes)
 unmapped f test (Some x) passes = (x, refl)
@@ -98,7 +98,7 @@ module _ (plant : PlantDefinition) (named : are_named (λ w. w.name) plant.wires
         ∙ passes known (first_legal w.name [] (name_is_legal w.name own_name))
         (passes ended (ap (λ (found : Option ℕ). ok_or found line.UnknownName) wire_found) refl)
 
-    -- with a mask behind it, it is read as one interaction
+    -- with a mask after it, it is read as one interaction
     module _ (mask : ℕ) (small : nat_lt mask (2 ^ 16) ≡ true) where
       within : mask < 2 ^ 64
       within = let low : mask < 2 ^ 16 = ltb-true mask (2 ^ 16) small in omega (arith, low)
@@ -157,28 +157,22 @@ module _ (plant : PlantDefinition) (named : are_named (λ w. w.name) plant.wires
       let w = wire_at k mask parts.1 in
       one_read k w.0 w.1 mask parts.0 parts.1
 
-  -- it is one word
+  -- it is one word, which may stand in a text
+  side_stands : (side : Side) → is_side_of plant side ≡ true → (is_one_word (side_word plant side) ≡ true) × (is_legal_line (side_word plant side) ≡ true)
+  side_stands (Whole k) held =
+      let w = there_at plant.wires k (ltb-true k (length plant.wires) held) in
+      (name_alone k w.0 w.1, name_legal k w.0 w.1)
+  side_stands (One k mask) held =
+      let parts = and_parts (nat_lt mask (2 ^ 16)) (by_mask k mask) held in
+      let w = wire_at k mask parts.1 in
+      (masked_alone k w.0 w.1 mask parts.0, masked_legal k w.0 w.1 mask parts.0)
+
   side_alone : (side : Side) → is_side_of plant side ≡ true → is_one_word (side_word plant side) ≡ true
-  side_alone (Whole k) held =
-      let w = there_at plant.wires k (ltb-true k (length plant.wires) held) in
-      name_alone k w.0 w.1
-  side_alone (One k mask) held =
-      let parts = and_parts (nat_lt mask (2 ^ 16)) (by_mask k mask) held in
-      let w = wire_at k mask parts.1 in
-      masked_alone k w.0 w.1 mask parts.0
+  side_alone side held = (side_stands side held).0
 
-  -- that may stand in a text, so it is read as the first one
-  side_legal : (side : Side) → is_side_of plant side ≡ true → is_legal_line (side_word plant side) ≡ true
-  side_legal (Whole k) held =
-      let w = there_at plant.wires k (ltb-true k (length plant.wires) held) in
-      name_legal k w.0 w.1
-  side_legal (One k mask) held =
-      let parts = and_parts (nat_lt mask (2 ^ 16)) (by_mask k mask) held in
-      let w = wire_at k mask parts.1 in
-      masked_legal k w.0 w.1 mask parts.0
-
+  -- so it is read as the first word
   side_first : (side : Side) (rest : List (List ℕ)) → is_side_of plant side ≡ true → side_in by_name by_mask (side_word plant side ∷ rest) ≡ Ok side
-  side_first side rest held = passes (side_of by_name by_mask) (first_legal (side_word plant side) rest (side_legal side held)) (side_read side held)
+  side_first side rest held = passes (side_of by_name by_mask) (first_legal (side_word plant side) rest (side_stands side held).1) (side_read side held)
 
   -- ---- rules
 
@@ -194,18 +188,18 @@ module _ (plant : PlantDefinition) (named : are_named (λ w. w.name) plant.wires
         ∙ ap (λ (rest : List (List ℕ)). codes "prio" ∷ side_word plant left ∷ rest) (word_before (codes "<") (side_word plant right) refl)
         ∙ ap (λ (rest : List (List ℕ)). codes "prio" ∷ side_word plant left ∷ codes "<" ∷ rest) (word_alone (side_word plant right) (side_alone right upper))
 
-    -- the sides, and what stands behind them, are read as what that is behind them
-    behind_read : (rest : List (List ℕ)) (rule : Rule) → rule_behind by_atom by_place left right rest ≡ Ok rule →
+    -- the sides, and what stands after them, are read as what that is after them
+    after_read : (rest : List (List ℕ)) (rule : Rule) → rule_after by_atom by_place left right rest ≡ Ok rule →
         priority_in by_name by_mask by_atom by_place (side_word plant left ∷ codes "<" ∷ side_word plant right ∷ rest) ≡ Ok rule
-    behind_read rest rule told =
+    after_read rest rule told =
         let words : List (List ℕ) = side_word plant left ∷ codes "<" ∷ side_word plant right ∷ rest in
-        let ended : Side → Side → Result Rule LineFault = λ one other. rule_behind by_atom by_place one other rest in
+        let ended : Side → Side → Result Rule LineFault = λ one other. rule_after by_atom by_place one other rest in
         let second : Side → Unit {0} → Result Rule LineFault = λ one below. side_in by_name by_mask (drop 2 words) >>= ended one in
         let between : Side → Result Rule LineFault = λ one. first_keyword (codes "<") (drop 1 words) >>= second one in
         passes between (side_first left (codes "<" ∷ side_word plant right ∷ rest) lower) (passes (ended left) (side_first right rest upper) told)
 
     sides_read : priority_in by_name by_mask by_atom by_place sides ≡ Ok (Under left right)
-    sides_read = behind_read [] (Under left right) refl
+    sides_read = after_read [] (Under left right) refl
 
     -- the same with a condition
     module _ (at : At) (is : IsPlaced plant.atoms at) where
@@ -224,11 +218,11 @@ module _ (plant : PlantDefinition) (named : are_named (λ w. w.name) plant.wires
           ∙ ap (λ (text : List ℕ). codes "prio" ∷ words_of text) (append_assoc (lower_side ++ codes " < ") upper_side condition ∙ append_assoc lower_side (codes " < ") (upper_side ++ condition))
           ∙ ap (λ (rest : List (List ℕ)). codes "prio" ∷ rest) (word_before lower_side (60 ∷ 32 ∷ (upper_side ++ condition)) (side_alone left lower))
           ∙ ap (λ (rest : List (List ℕ)). codes "prio" ∷ lower_side ∷ rest) (word_before (codes "<") (upper_side ++ condition) refl)
-          ∙ ap (λ (rest : List (List ℕ)). codes "prio" ∷ lower_side ∷ codes "<" ∷ rest) (words_behind plant at is upper_side (side_alone right upper))
+          ∙ ap (λ (rest : List (List ℕ)). codes "prio" ∷ lower_side ∷ codes "<" ∷ rest) (words_after plant at is upper_side (side_alone right upper))
 
       conditional_read : priority_in by_name by_mask by_atom by_place sides_at ≡ Ok (UnderAt left right at)
       conditional_read =
-          behind_read conditions (UnderAt left right at) (passes (λ place. Ok (UnderAt left right place)) (condition_read plant at is) refl)
+          after_read conditions (UnderAt left right at) (passes (λ place. Ok (UnderAt left right place)) (condition_read plant at is) refl)
 
   module _ (k : ℕ) (held : is_side_of plant (Whole k) ≡ true) where
     name_is_words : words_of (rule_text plant (Maximal k)) ≡ codes "maximal" ∷ wire_name plant k ∷ []

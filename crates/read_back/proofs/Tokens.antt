@@ -111,7 +111,7 @@ module _ (first second : List ℕ) (one : IsOfName first) (other : IsOfName seco
 
 -- ---- ports
 
--- the parts that a port is told and found by
+-- the parts that a port is written and found by
 record IsAt (atoms : List AtomDefinition) (p : Port) : Type 0 where
   atom : AtomDefinition
   port : PortDefinition
@@ -144,7 +144,7 @@ module _ (atoms : List AtomDefinition) (named : are_named_atoms atoms ≡ true) 
     own_name : IsOfName at.port.name
     own_name = named_at (λ q. q.name) at.atom.ports ports_named p.port at.port at.is
 
-    -- it is told by the names of its atom and its own
+    -- it is written by the names of its atom and its own
     told : leaf_word atoms p ≡ dotted at.atom.name at.port.name
     told =
         ap (λ (o : Option AtomDefinition). option_map_or (λ a. a.name ++ codes "." ++ port_name a p.port) o []) at.there

@@ -6,7 +6,7 @@ use Rattle.std.proofs.lemmas.Bool.{and_parts, and_from, or_parts, false≢true}
 use Rattle.petri_atom.specs.Definition.{AtomDefinition}
 use Rattle.petri_atom.proofs.Fitting.{all_weaker}
 use Rattle.connector_tree.specs.Faults.{fault_of}
-use Rattle.connector_tree.specs.Tokens.{tokens_of, branch_tokens, ports_in, level_behind, is_balanced}
+use Rattle.connector_tree.specs.Tokens.{tokens_of, branch_tokens, ports_in, level_after, is_balanced}
 use Rattle.connector_tree.specs.Tree.{Tree, no_child, child, Branch, leaf, bracket, leaves, is_empty, has_empty_bracket}
 use Rattle.connector_tree.specs.declared.faults.TreeFault.{TreeFault}
 use Rattle.connector_tree.specs.declared.token.Token.{Token}
@@ -25,7 +25,7 @@ use Rattle.connector_lines.proofs.Readings.{tree_of_tokens}
 use Rattle.plant_text.specs.Names.{port_named}
 use Rattle.part_text.specs.Words.{token_word, spaced_word}
 use Rattle.read_back.specs.Names.{are_named_atoms}
-use Rattle.read_back.proofs.Words.{is_one_word, words_told}
+use Rattle.read_back.proofs.Words.{is_one_word, words_found}
 use Rattle.read_back.proofs.Tokens.{is_known_token, token_read, token_is_one_word}
 
 -- ---- the brackets of a tree
@@ -66,7 +66,7 @@ tokens_read named say known says [] level all closed = ap (λ (none : Bool). if 
 tokens_read named say known says (token ∷ tokens) level all closed =
     let parts = and_parts (known token) (list_all known tokens) all in
     ap (λ said. behind said level (λ next. tokens_in named next (map say tokens))) (says token parts.0)
-    ∙ led_on named (map say tokens) token tokens (λ next balanced. tokens_read named say known says tokens next parts.1 balanced) (level_behind token level) closed
+    ∙ led_on named (map say tokens) token tokens (λ next balanced. tokens_read named say known says tokens next parts.1 balanced) (level_after token level) closed
 
 -- ---- trees
 
@@ -102,9 +102,9 @@ module _ (atoms : List AtomDefinition) (named : are_named_atoms atoms ≡ true) 
   all_known = known_tokens atoms tokens (ap (list_all (is_known_port atoms)) (ports-tree tree) ∙ known)
 
   words_are : words_of text ≡ map (token_word atoms) tokens
-  words_are = words_told (token_word atoms) tokens (all_weaker (is_known_token atoms) (λ token. is_one_word (token_word atoms token)) (token_is_one_word atoms named) tokens all_known)
+  words_are = words_found (token_word atoms) tokens (all_weaker (is_known_token atoms) (λ token. is_one_word (token_word atoms token)) (token_is_one_word atoms named) tokens all_known)
 
-  -- the words of a tree with a child are read as its tokens, or its fault is told
+  -- the words of a tree with a child are read as its tokens, or its fault is found
   pub tree_or_fault : is_empty tree ≡ false → tree_in (port_named atoms) (words_of text) ≡ unless tokens (fault_of tree)
   tree_or_fault some =
       ap (tree_in (port_named atoms)) words_are
@@ -118,8 +118,8 @@ module _ (atoms : List AtomDefinition) (named : are_named_atoms atoms ≡ true) 
       tree_or_fault some.0 ∙ ap (unless tokens) none
 
   -- and one with one
-  pub fault_is_told : is_empty tree ≡ false → (told : TreeFault) → fault_of tree ≡ Some told → tree_in (port_named atoms) (words_of text) ≡ Err (fault.Tree told)
-  fault_is_told some told is = tree_or_fault some ∙ ap (unless tokens) is
+  pub fault_is_found : is_empty tree ≡ false → (told : TreeFault) → fault_of tree ≡ Some told → tree_in (port_named atoms) (words_of text) ≡ Err (fault.Tree told)
+  fault_is_found some told is = tree_or_fault some ∙ ap (unless tokens) is
 
   -- what is read is the tree
   pub one_is_read : (other : Tree) → tree_in (port_named atoms) (words_of text) ≡ Ok (tokens_of other) → other ≡ tree

@@ -14,7 +14,7 @@ use Rattle.part_text.specs.Expression.{expression_text}
 use Rattle.read_back.specs.Expressions.{is_over_atom}
 use Rattle.read_back.specs.Names.{are_named}
 use Rattle.read_back.specs.ReadBack.{IsFoundInAtom, IsReadInAtom}
-use Rattle.read_back.proofs.Words.{is_one_word, IsBehind, nothing_behind, space_behind}
+use Rattle.read_back.proofs.Words.{is_one_word, IsBehind, nothing_after, space_after}
 use Rattle.read_back.proofs.Bytes.{name_is_one_word}
 use Rattle.read_back.proofs.ExpressionWords.{variable_reads}
 use Rattle.read_back.proofs.Expressions.{text_read}
@@ -53,7 +53,7 @@ module _ (a : AtomDefinition) (named : are_named (λ v. v.name) a.variables ≡ 
       let found = there_at a.variables v (ltb-true v (length a.variables) known) in
       ap is_one_word (name_is v found.0 found.1) ∙ name_is_one_word found.0.name (named_at name_of a.variables named v found.0 found.1)
 
-  -- an expression over the variables is read back, and the words behind it are left
+  -- an expression over the variables is read back, and the words after it are left
   expression_read : (e : Tree ℕ) → is_over_atom a e ≡ true → (text : List ℕ) (words : List (List ℕ)) → IsBehind text words →
       expression_in (variable_number a) (words_of (expression_text (variable_name a) e ++ text)) ≡ Ok (e, words)
   expression_read e held text words behind =
@@ -65,10 +65,10 @@ module _ (a : AtomDefinition) (named : are_named (λ v. v.name) a.variables ≡ 
   pub read_alone : (e : Tree ℕ) → is_over_atom a e ≡ true → IsReadInAtom a e
   read_alone e held =
       ap (λ text. expression_in (variable_number a) (words_of text)) (sym (append-nil (expression_text (variable_name a) e)))
-      ∙ expression_read e held [] [] nothing_behind
+      ∙ expression_read e held [] [] nothing_after
 
   pub read_before : (e : Tree ℕ) (behind : List ℕ) → is_over_atom a e ≡ true →
       expression_in (variable_number a) (words_of (expression_text (variable_name a) e ++ codes " " ++ behind)) ≡ Ok (e, words_of behind)
   read_before e behind held =
       ap (λ text. expression_in (variable_number a) (words_of text)) (append_assoc (expression_text (variable_name a) e) (codes " ") behind)
-      ∙ expression_read e held (32 ∷ behind) (words_of behind) (space_behind behind)
+      ∙ expression_read e held (32 ∷ behind) (words_of behind) (space_after behind)

@@ -17,7 +17,7 @@ cut_at p (b ∷ bs) byte rest none cut =
     let parts = and_parts (not (p b)) (list_all (λ c. not (p c)) bs) none in
     slice_split-cons_no p b (bs ++ byte ∷ rest) (not-true (p b) parts.0) ∙ ap (onto_first b) (cut_at p bs byte rest parts.1 cut)
 
--- and not at all where none passes
+-- and not at all if none passes
 pub uncut : (p : ℕ → Bool) (bytes : List ℕ) → list_all (λ b. not (p b)) bytes ≡ true → slice_split p bytes ≡ bytes ∷ []
 uncut p [] none = refl
 uncut p (b ∷ bs) none =
@@ -31,7 +31,7 @@ two_sides byte left right none_left none_right some_left some_right =
     ap both_of (cut_at (λ b. b == byte) left byte right none_left (eq-eqb byte byte refl) ∙ ap (λ (parts : List (List ℕ)). left ∷ parts) (uncut (λ b. b == byte) right none_right))
     ∙ ap (λ (b : Bool). if b then Some (left, right) else None) (and_from (is_filled left) (is_filled right) some_left some_right)
 
--- and no sides where there is no such byte
+-- and no sides if there is no such byte
 pub no_sides : (byte : ℕ) (word : List ℕ) → list_all (λ b. not (b == byte)) word ≡ true → sides_in byte word ≡ None
 no_sides byte word none = ap both_of (uncut (λ b. b == byte) word none)
 
@@ -64,26 +64,26 @@ word_before word rest one =
     let parts = and_parts (is_filled word) (list_all (λ byte. not (is_blank byte)) word) one in
     ap (filter is_filled) (cut_at is_blank word 32 rest parts.1 refl) ∙ ap (λ (b : Bool). cond b (word ∷ words_of rest) (words_of rest)) parts.0
 
--- what may stand behind a word: nothing, or a space and more. The line's words are then the word and these.
+-- what may stand after a word: nothing, or a space and more. The line's words are then the word and these.
 abbrev pub IsBehind : List ℕ → List (List ℕ) → Type 0
 IsBehind text words = (word : List ℕ) → is_one_word word ≡ true → words_of (word ++ text) ≡ word ∷ words
 
-pub nothing_behind : IsBehind [] []
-nothing_behind word one = ap words_of (append-nil word) ∙ word_alone word one
+pub nothing_after : IsBehind [] []
+nothing_after word one = ap words_of (append-nil word) ∙ word_alone word one
 
-pub space_behind : (rest : List ℕ) → IsBehind (32 ∷ rest) (words_of rest)
-space_behind rest word one = word_before word rest one
+pub space_after : (rest : List ℕ) → IsBehind (32 ∷ rest) (words_of rest)
+space_after rest word one = word_before word rest one
 
--- words with a space before each may stand behind a word
-told_behind : {X : Type 0} (say : X → List ℕ) (xs : List X) → words_of (flat_map (λ x. codes " " ++ say x) xs) ≡ map say xs →
+-- words with a space before each may stand after a word
+found_after : {X : Type 0} (say : X → List ℕ) (xs : List X) → words_of (flat_map (λ x. codes " " ++ say x) xs) ≡ map say xs →
     IsBehind (flat_map (λ x. codes " " ++ say x) xs) (map say xs)
-told_behind say [] told word one = nothing_behind word one
-told_behind say (x ∷ xs) told word one = word_before word (say x ++ flat_map (λ y. codes " " ++ say y) xs) one ∙ ap (λ (words : List (List ℕ)). word ∷ words) told
+found_after say [] told word one = nothing_after word one
+found_after say (x ∷ xs) told word one = word_before word (say x ++ flat_map (λ y. codes " " ++ say y) xs) one ∙ ap (λ (words : List (List ℕ)). word ∷ words) told
 
 -- and they are the words of their line
-pub words_told : {X : Type 0} (say : X → List ℕ) (xs : List X) → list_all (λ x. is_one_word (say x)) xs ≡ true →
+pub words_found : {X : Type 0} (say : X → List ℕ) (xs : List X) → list_all (λ x. is_one_word (say x)) xs ≡ true →
     words_of (flat_map (λ x. codes " " ++ say x) xs) ≡ map say xs
-words_told say [] all = refl
-words_told say (x ∷ xs) all =
+words_found say [] all = refl
+words_found say (x ∷ xs) all =
     let parts = and_parts (is_one_word (say x)) (list_all (λ y. is_one_word (say y)) xs) all in
-    told_behind say xs (words_told say xs parts.1) (say x) parts.0
+    found_after say xs (words_found say xs parts.1) (say x) parts.0

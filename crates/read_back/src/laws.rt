@@ -60,7 +60,7 @@ pub fn an_expression_of_a_connector_is_read_back()
 {}
 
 /// The words of a connector's tree over ports of the atoms are read as its tokens, which are those of no other tree; or the fault of the
-/// tree is told, where it has one.
+/// tree is found, if it has one.
 pub fn a_tree_is_read_back()
     ensures read { (atoms : List AtomDefinition) (t : connectors.Tree) → are_named_atoms atoms ≡ true
         → list_all (is_known_port atoms) (connectors.leaves t) ≡ true → tree.fault_of t ≡ None → IsReadTree atoms t }
@@ -72,8 +72,8 @@ pub fn a_tree_is_read_back()
         → tree_in (port_named atoms) (tree_words atoms t) ≡ Err (words_fault.Tree fault) }
 {}
 
-/// A side of a rule is read back, and the words of a rule's line add that rule behind the others; of a rule with a condition in a plant in
-/// which names tell atoms apart, and the places of that atom.
+/// A side of a rule is read back, and the words of a rule's line add that rule after the others; of a rule with a condition in a plant in
+/// whose names differ, and the places of that atom.
 pub fn a_rule_is_read_back()
     ensures side { (plant : PlantDefinition) (side : Side) → are_named (λ w. w.name) plant.wires ≡ true → is_side_of plant side ≡ true
         → side_of (wire_number (text_of plant).wires) (has_interaction (text_of plant).wires) (side_word plant side) ≡ Ok side }

@@ -16,7 +16,7 @@
 //! rule, and whose names are names, keeps this ([`laws::a_plant_is_named_apart`]). So all that it holds is read back
 //! ([`laws::what_a_plant_holds_is_read_back`]): that its numbers are within 64 bits is all that is left to ask.
 //!
-//! Nothing here runs.
+//! - [`laws`]: the laws. Nothing here runs.
 #![tactic(auto)]
 
 pub mod laws;

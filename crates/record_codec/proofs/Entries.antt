@@ -6,27 +6,27 @@ use Rattle.std.proofs.lemmas.Bool.Decides.{nat_tests}
 use Rattle.record_codec.specs.declared.entry.Entry.{Entry}
 use Rattle.record_codec.specs.declared.layout.TheConstants.{MOST_EXPORTED, LONGEST_ENTRY, LAST_NUMBER}
 use Rattle.record_codec.specs.Bytes.{one_byte, two_bytes, eight_bytes, signed_bytes, two_byte_number, eight_byte_number, signed_number}
-use Rattle.record_codec.specs.Entry.{IsEntry, EntryFits, bit_of, mask_of, value_bytes, entry_bytes, bits_of, values_at, behind_values, mask_at, behind_mask, entry_at, behind_entry, entries_at, behind_entries}
+use Rattle.record_codec.specs.Entry.{IsEntry, EntryFits, bit_of, mask_of, value_bytes, entry_bytes, bits_of, values_at, after_values, mask_at, after_mask, entry_at, after_entry, entries_at, after_entries}
 use Rattle.record_codec.proofs.Numbers.{length-one_byte, length-two_bytes, length-eight_bytes, length-signed_bytes, drop-one_byte, drop-two_bytes, drop-eight_bytes, drop-signed_bytes, one_byte_number-one_byte, two_byte_number-two_bytes, eight_byte_number-eight_bytes, signed_number-signed_bytes}
 
 -- ---- one more entry
 
 pub length-entries_at : (n : ℕ) (bytes : List ℕ) → length (entries_at n bytes) ≡ n
 length-entries_at zero bytes = refl
-length-entries_at (suc n) bytes = ap suc (length-entries_at n (behind_entry bytes))
+length-entries_at (suc n) bytes = ap suc (length-entries_at n (after_entry bytes))
 
-pub entries_at_more : (n : ℕ) (bytes : List ℕ) → entries_at (n + 1) bytes ≡ entries_at n bytes ++ entry_at (behind_entries n bytes) ∷ []
+pub entries_at_more : (n : ℕ) (bytes : List ℕ) → entries_at (n + 1) bytes ≡ entries_at n bytes ++ entry_at (after_entries n bytes) ∷ []
 entries_at_more zero bytes = refl
 entries_at_more (suc n) bytes =
     let one_on : suc n + 1 ≡ suc (n + 1) = omega arith in
     ap (λ (k : ℕ). entries_at k bytes) one_on
-    ∙ ap (λ (entries : List Entry). entry_at bytes ∷ entries) (entries_at_more n (behind_entry bytes))
+    ∙ ap (λ (entries : List Entry). entry_at bytes ∷ entries) (entries_at_more n (after_entry bytes))
 
-pub behind_entries_more : (n : ℕ) (bytes : List ℕ) → behind_entries (n + 1) bytes ≡ behind_entry (behind_entries n bytes)
-behind_entries_more zero bytes = refl
-behind_entries_more (suc n) bytes =
+pub after_entries_more : (n : ℕ) (bytes : List ℕ) → after_entries (n + 1) bytes ≡ after_entry (after_entries n bytes)
+after_entries_more zero bytes = refl
+after_entries_more (suc n) bytes =
     let one_on : suc n + 1 ≡ suc (n + 1) = omega arith in
-    ap (λ (k : ℕ). behind_entries k bytes) one_on ∙ behind_entries_more n (behind_entry bytes)
+    ap (λ (k : ℕ). after_entries k bytes) one_on ∙ after_entries_more n (after_entry bytes)
 
 -- ---- values
 
@@ -37,30 +37,30 @@ even_mask m = grind (arith, nat_tests)
 odd_mask : (m : ℕ) → ((1 + 2 * m) % 2 == 1) ≡ true
 odd_mask m = grind (arith, nat_tests)
 
--- the values of a mask's bits are the values that were written, and what stood behind them is left
+-- the values of a mask's bits are the values that were written, and what stood after them is left
 pub record ReadsAgain (vs : List (Option ℤ)) (rest : List ℕ) : Type 0 where
   pub values : values_at (bits_of (length vs) (mask_of vs)) (flat_map value_bytes vs ++ rest) ≡ vs
-  pub behind : behind_values (bits_of (length vs) (mask_of vs)) (flat_map value_bytes vs ++ rest) ≡ rest
+  pub after : after_values (bits_of (length vs) (mask_of vs)) (flat_map value_bytes vs ++ rest) ≡ rest
 
 pub values_again : (vs : List (Option ℤ)) (rest : List ℕ) → All (λ v. IfSome v (FitsSigned w64)) vs → ReadsAgain vs rest
-values_again [] rest fits = record { values = refl; behind = refl }
+values_again [] rest fits = record { values = refl; after = refl }
 values_again (None ∷ vs) rest fits =
     let more = values_again vs rest (λ k d lt. fits (suc k) d (omega arith)) in
     let half : (0 + 2 * mask_of vs) / 2 ≡ mask_of vs = omega arith in
     record {
       values = rw (even_mask (mask_of vs), half, more.values) refl;
-      behind = rw (even_mask (mask_of vs), half, more.behind) refl;
+      after = rw (even_mask (mask_of vs), half, more.after) refl;
     }
 values_again (Some z ∷ vs) rest fits =
     let more = values_again vs rest (λ k d lt. fits (suc k) d (omega arith)) in
     let half : (1 + 2 * mask_of vs) / 2 ≡ mask_of vs = omega arith in
-    let behind : List ℕ = flat_map value_bytes vs ++ rest in
-    let grouped : (signed_bytes z ++ flat_map value_bytes vs) ++ rest ≡ signed_bytes z ++ behind = append_assoc (signed_bytes z) (flat_map value_bytes vs) rest in
-    let first : signed_number (signed_bytes z ++ behind) ≡ z = signed_number-signed_bytes z behind (fits 0 None (omega arith)) in
-    let left : drop 8 (signed_bytes z ++ behind) ≡ behind = drop-signed_bytes z behind in
+    let after : List ℕ = flat_map value_bytes vs ++ rest in
+    let grouped : (signed_bytes z ++ flat_map value_bytes vs) ++ rest ≡ signed_bytes z ++ after = append_assoc (signed_bytes z) (flat_map value_bytes vs) rest in
+    let first : signed_number (signed_bytes z ++ after) ≡ z = signed_number-signed_bytes z after (fits 0 None (omega arith)) in
+    let left : drop 8 (signed_bytes z ++ after) ≡ after = drop-signed_bytes z after in
     record {
       values = rw (odd_mask (mask_of vs), half, grouped, first, left, more.values) refl;
-      behind = rw (odd_mask (mask_of vs), half, grouped, left, more.behind) refl;
+      after = rw (odd_mask (mask_of vs), half, grouped, left, more.after) refl;
     }
 
 -- ---- entries
@@ -88,10 +88,10 @@ length-entries (e ∷ es) fits =
     let more = length-entries es (λ k d lt. fits (suc k) d (omega arith)) in
     omega (arith, length-append (entry_bytes e) (flat_map entry_bytes es), first, more)
 
--- the fields of a spelling are those of the entry that is spelled, and what stood behind it is left
+-- the fields of a spelling are those of the entry that is spelled, and what stood after it is left
 pub record EntryAgain (entry : Entry) (rest : List ℕ) : Type 0 where
   pub entry_is : entry_at (entry_bytes entry ++ rest) ≡ entry
-  pub behind : behind_entry (entry_bytes entry ++ rest) ≡ rest
+  pub after : after_entry (entry_bytes entry ++ rest) ≡ rest
 
 abbrev same_type : Entry → Entry → Type 0
 same_type x y = x ≡ y
@@ -101,7 +101,7 @@ same_entry : {a b c d e f : ℕ} {g i : List (Option ℤ)} → a ≡ b → c ≡
 same_entry p q r s = cc
 
 pub entry_again : (number : ℕ) (entry : Entry) (rest : List ℕ) → number ≤ LAST_NUMBER → IsEntry number entry → EntryFits entry → EntryAgain entry rest
-unfolding entry_bytes entry_at behind_entry
+unfolding entry_bytes entry_at after_entry
 entry_again number entry rest within h fits =
     let values : ReadsAgain entry.delivered rest = values_again entry.delivered rest fits.values in
     let count : ℕ = sum_by bit_of entry.delivered in
@@ -119,31 +119,31 @@ entry_again number entry rest within h fits =
     let mask_left : drop 1 from_count ≡ from_mask = drop-one_byte count from_mask in
     let values_left : drop 1 from_mask ≡ from_values = drop-one_byte mask from_values in
     let mask_is : mask_at bytes ≡ mask = rw (transition_left, participation_left, count_left, mask_left) (one_byte_number-one_byte mask from_values) in
-    let values_are : behind_mask bytes ≡ from_values = rw (transition_left, participation_left, count_left, mask_left, values_left) refl in
+    let values_are : after_mask bytes ≡ from_values = rw (transition_left, participation_left, count_left, mask_left, values_left) refl in
     let atom : two_byte_number bytes ≡ entry.atom = two_byte_number-two_bytes entry.atom from_transition (omega (arith, h.atom_within)) in
     let transition : two_byte_number (drop 2 bytes) ≡ entry.transition = rw transition_left (two_byte_number-two_bytes entry.transition from_participation (omega (arith, h.transition_within))) in
     let participation : eight_byte_number (drop 2 (drop 2 bytes)) ≡ entry.participation = rw (transition_left, participation_left) (eight_byte_number-eight_bytes entry.participation from_count (omega (arith, h.participation_within, within))) in
-    let delivered : values_at (bits_of MOST_EXPORTED (mask_at bytes)) (behind_mask bytes) ≡ entry.delivered =
-    ap (λ (m : ℕ). values_at (bits_of MOST_EXPORTED m) (behind_mask bytes)) mask_is
+    let delivered : values_at (bits_of MOST_EXPORTED (mask_at bytes)) (after_mask bytes) ≡ entry.delivered =
+    ap (λ (m : ℕ). values_at (bits_of MOST_EXPORTED m) (after_mask bytes)) mask_is
     ∙ ap (λ (left : List ℕ). values_at (bits_of MOST_EXPORTED mask) left) values_are
     ∙ subst (λ (n : ℕ). values_at (bits_of n mask) from_values ≡ entry.delivered) fits.places values.values in
-    let left : behind_values (bits_of MOST_EXPORTED (mask_at bytes)) (behind_mask bytes) ≡ rest =
-    ap (λ (m : ℕ). behind_values (bits_of MOST_EXPORTED m) (behind_mask bytes)) mask_is
-    ∙ ap (λ (from : List ℕ). behind_values (bits_of MOST_EXPORTED mask) from) values_are
-    ∙ subst (λ (n : ℕ). behind_values (bits_of n mask) from_values ≡ rest) fits.places values.behind in
+    let left : after_values (bits_of MOST_EXPORTED (mask_at bytes)) (after_mask bytes) ≡ rest =
+    ap (λ (m : ℕ). after_values (bits_of MOST_EXPORTED m) (after_mask bytes)) mask_is
+    ∙ ap (λ (from : List ℕ). after_values (bits_of MOST_EXPORTED mask) from) values_are
+    ∙ subst (λ (n : ℕ). after_values (bits_of n mask) from_values ≡ rest) fits.places values.after in
     record {
       entry_is = ap entry_at grouped ∙ same_entry atom transition participation delivered;
-      behind = ap behind_entry grouped ∙ left;
+      after = ap after_entry grouped ∙ left;
     }
 
 -- entries, one after the other, are read again
 pub entries_again : (number : ℕ) (entries : List Entry) (rest : List ℕ) → number ≤ LAST_NUMBER → All (IsEntry number) entries → All EntryFits entries → entries_at (length entries) (flat_map entry_bytes entries ++ rest) ≡ entries
 entries_again number [] rest within h fits = refl
 entries_again number (e ∷ es) rest within h fits =
-    let behind : List ℕ = flat_map entry_bytes es ++ rest in
-    let grouped : (entry_bytes e ++ flat_map entry_bytes es) ++ rest ≡ entry_bytes e ++ behind = append_assoc (entry_bytes e) (flat_map entry_bytes es) rest in
-    let again : EntryAgain e behind = entry_again number e behind within (h 0 e (omega arith)) (fits 0 e (omega arith)) in
+    let after : List ℕ = flat_map entry_bytes es ++ rest in
+    let grouped : (entry_bytes e ++ flat_map entry_bytes es) ++ rest ≡ entry_bytes e ++ after = append_assoc (entry_bytes e) (flat_map entry_bytes es) rest in
+    let again : EntryAgain e after = entry_again number e after within (h 0 e (omega arith)) (fits 0 e (omega arith)) in
     let first : entry_at ((entry_bytes e ++ flat_map entry_bytes es) ++ rest) ≡ e = ap entry_at grouped ∙ again.entry_is in
-    let left : behind_entry ((entry_bytes e ++ flat_map entry_bytes es) ++ rest) ≡ behind = ap behind_entry grouped ∙ again.behind in
-    let others : entries_at (length es) behind ≡ es = entries_again number es rest within (λ k d lt. h (suc k) d (omega arith)) (λ k d lt. fits (suc k) d (omega arith)) in
+    let left : after_entry ((entry_bytes e ++ flat_map entry_bytes es) ++ rest) ≡ after = ap after_entry grouped ∙ again.after in
+    let others : entries_at (length es) after ≡ es = entries_again number es rest within (λ k d lt. h (suc k) d (omega arith)) (λ k d lt. fits (suc k) d (omega arith)) in
     rw (first, left, others) refl

@@ -24,7 +24,7 @@ use Rattle.record_codec.proofs.Identities.{held_identity_is_spelled, spelled_ide
 use Rattle.record_codec.proofs.Records.{held_fired_is_spelled, spelled_fired_is_held, length-fired_bytes, IsFired-from_test, IsFiredUpTo-most}
 use Rattle.record_codec.proofs.Spelled.{if_spelled-some}
 
--- ---- zeros behind a body
+-- ---- zeros after a body
 
 -- what is padded twice is padded to the longer of the two lengths
 padded-padded : (len more : ℕ) (bytes : List ℕ) → length bytes ≤ len → len ≤ more → padded more (padded len bytes) ≡ padded more bytes
@@ -32,12 +32,12 @@ unfolding padded zeros
 padded-padded len more bytes fits longer =
     let size : length (padded len bytes) ≡ len = length-padded len bytes fits in
     append_assoc bytes (zeros (len - length bytes)) (zeros (more - length (padded len bytes)))
-    ∙ ap (λ (behind : List ℕ). bytes ++ behind) (replicate-append-replicate (len - length bytes) (more - length (padded len bytes)) 0 ∙ ap zeros (omega (arith, size)))
+    ∙ ap (λ (after : List ℕ). bytes ++ after) (replicate-append-replicate (len - length bytes) (more - length (padded len bytes)) 0 ∙ ap zeros (omega (arith, size)))
 
 take-padded : (len : ℕ) (body : List ℕ) → take (length body) (padded len body) ≡ body
 take-padded len body = ap (take (length body)) (padded_is len body) ∙ take_at body (zeros (len - length body)) (length body) refl
 
--- With zeros behind it a body is a spelling and zeros, exactly where it is so itself.
+-- With zeros after it a body is a spelling and zeros, exactly where it is so itself.
 pub spelled_with_zeros : (len : ℕ) (body bytes : List ℕ) → length bytes ≤ length body → length body ≤ len → body ≡ padded (length body) bytes → padded len body ≡ padded (length (padded len body)) bytes
 spelled_with_zeros len body bytes fits within spelled =
     ap (padded len) spelled ∙ padded-padded (length body) len bytes fits within ∙ ap (λ (n : ℕ). padded n bytes) (sym (length-padded len body within))
@@ -96,10 +96,10 @@ saved_in-todays_body body bytes size =
 version_in-padded : (len : ℕ) (body : List ℕ) → 6 ≤ length body → version_in (padded len body) ≡ version_in body
 unfolding version_in two_byte_number
 version_in-padded len body long =
-    let behind : List ℕ = zeros (len - length body) in
-    let magic : take 4 (body ++ behind) ≡ take 4 body = take-append-le 4 body behind (omega arith) in
-    let version : take 2 (drop 4 (body ++ behind)) ≡ take 2 (drop 4 body) =
-    ap (take 2) (drop-append-le 4 body behind (omega arith)) ∙ take-append-le 2 (drop 4 body) behind (omega (arith, length-drop 4 body)) in
+    let after : List ℕ = zeros (len - length body) in
+    let magic : take 4 (body ++ after) ≡ take 4 body = take-append-le 4 body after (omega arith) in
+    let version : take 2 (drop 4 (body ++ after)) ≡ take 2 (drop 4 body) =
+    ap (take 2) (drop-append-le 4 body after (omega arith)) ∙ take-append-le 2 (drop 4 body) after (omega (arith, length-drop 4 body)) in
     rw (padded_is len body, magic, version) refl
 
 -- the version of what is spelled so
@@ -120,12 +120,12 @@ record BeginsAs (version : ℕ) (body : List ℕ) : Type 0 where
 version_in-some : (body : List ℕ) (version : ℕ) → AreBytes body → 6 ≤ length body → version_in body ≡ Some version → BeginsAs version body
 unfolding version_in
 version_in-some body version bytes long e =
-    let told = given_if (bytes_eq MAGIC (take 4 body)) (two_byte_number (drop 4 body)) version e in
-    let magic : MAGIC ≡ take 4 body = (bytes_eq-Decides MAGIC (take 4 body)).0 told.0 in
+    let said = given_if (bytes_eq MAGIC (take 4 body)) (two_byte_number (drop 4 body)) version e in
+    let magic : MAGIC ≡ take 4 body = (bytes_eq-Decides MAGIC (take 4 body)).0 said.0 in
     let from_version : AreBytes (drop 4 body) = All-drop IsByte 4 body bytes in
-    let spelled : two_bytes version ≡ take 2 (drop 4 body) = ap two_bytes (sym told.1) ∙ two_bytes-two_byte_number (drop 4 body) from_version (omega (arith, length-drop 4 body)) in
+    let spelled : two_bytes version ≡ take 2 (drop 4 body) = ap two_bytes (sym said.1) ∙ two_bytes-two_byte_number (drop 4 body) from_version (omega (arith, length-drop 4 body)) in
     record {
-      fits = subst (λ (n : ℕ). n < 2 ^ 16) told.1 (two_byte_number_below (drop 4 body) from_version);
+      fits = subst (λ (n : ℕ). n < 2 ^ 16) said.1 (two_byte_number_below (drop 4 body) from_version);
       begins =
           sym (take-append-drop 4 body)
           ∙ ap (λ (front : List ℕ). front ++ drop 4 body) (sym magic)
@@ -140,32 +140,32 @@ first_of_todays : (version : ℕ) → todays_version version ≡ VERSION → ver
 first_of_todays version e = grind (arith, nat_tests)
 
 -- today's body of one that tells a version, and of one that does not
-todays_identity-told : (body : List ℕ) (told : Option ℕ) → version_in body ≡ told → todays_identity body ≡ padded BODY (with_version_changed told body)
+todays_identity-of_version : (body : List ℕ) (said : Option ℕ) → version_in body ≡ said → todays_identity body ≡ padded BODY (with_version_changed said body)
 unfolding todays_identity todays_body
-todays_identity-told body told e = ap (λ (t : Option ℕ). padded BODY (with_version_changed t body)) e
+todays_identity-of_version body said e = ap (λ (t : Option ℕ). padded BODY (with_version_changed t body)) e
 
 length-with_version : (version : ℕ) (body : List ℕ) → 6 ≤ length body → length (MAGIC ++ two_bytes version ++ drop 6 body) ≡ length body
 length-with_version version body long = omega (arith, length-append (two_bytes version) (drop 6 body), length-two_bytes version, length-drop 6 body)
 
-told_changed : (body : List ℕ) (told : Option ℕ) → AreBytes body → length body ≡ FIRST_BODY → version_in body ≡ told → version_in (todays_identity body) ≡ option_map todays_version told
-told_changed body None bytes size e = ap version_in (todays_identity-told body None e) ∙ version_in-padded BODY body (omega arith) ∙ e
-told_changed body (Some version) bytes size e =
+version_exchanged : (body : List ℕ) (said : Option ℕ) → AreBytes body → length body ≡ FIRST_BODY → version_in body ≡ said → version_in (todays_identity body) ≡ option_map todays_version said
+version_exchanged body None bytes size e = ap version_in (todays_identity-of_version body None e) ∙ version_in-padded BODY body (omega arith) ∙ e
+version_exchanged body (Some version) bytes size e =
     let h = version_in-some body version bytes (omega arith) e in
-    ap version_in (todays_identity-told body (Some version) e)
+    ap version_in (todays_identity-of_version body (Some version) e)
     ∙ version_in-padded BODY (MAGIC ++ two_bytes (todays_version version) ++ drop 6 body) (omega (arith, length-with_version (todays_version version) body (omega arith)))
     ∙ version_in-spelled (todays_version version) (drop 6 body) (todays_version-fits version h.fits)
 
 pub version_in-todays_identity : (body : List ℕ) → AreBytes body → length body ≡ FIRST_BODY → version_in (todays_identity body) ≡ option_map todays_version (version_in body)
-version_in-todays_identity body bytes size = told_changed body (version_in body) bytes size refl
+version_in-todays_identity body bytes size = version_exchanged body (version_in body) bytes size refl
 
 -- what follows the version in an identity's body
-abbrev behind_version : ℕ → IdentityFields → List ℕ
-behind_version len identity = two_bytes identity.atoms ++ (four_bytes identity.ring ++ (identity.digest ++ zeros (len - (12 + length identity.digest))))
+abbrev after_version : ℕ → IdentityFields → List ℕ
+after_version len identity = two_bytes identity.atoms ++ (four_bytes identity.ring ++ (identity.digest ++ zeros (len - (12 + length identity.digest))))
 
-identity_bytes_of-padded : (len version : ℕ) (identity : IdentityFields) → padded len (identity_bytes_of version identity) ≡ MAGIC ++ two_bytes version ++ behind_version len identity
+identity_bytes_of-padded : (len version : ℕ) (identity : IdentityFields) → padded len (identity_bytes_of version identity) ≡ MAGIC ++ two_bytes version ++ after_version len identity
 identity_bytes_of-padded len version identity =
-    let behind : List ℕ = zeros (len - (12 + length identity.digest)) in
-    let grouped : identity_bytes_of version identity ++ behind ≡ MAGIC ++ two_bytes version ++ behind_version len identity = simp append_assoc in
+    let after : List ℕ = zeros (len - (12 + length identity.digest)) in
+    let grouped : identity_bytes_of version identity ++ after ≡ MAGIC ++ two_bytes version ++ after_version len identity = simp append_assoc in
     padded_is len (identity_bytes_of version identity)
     ∙ ap (λ (n : ℕ). identity_bytes_of version identity ++ zeros (len - n)) (length-identity_bytes_of version identity)
     ∙ grouped
@@ -173,8 +173,8 @@ identity_bytes_of-padded len version identity =
 -- the same identity under another version
 version_changed : (len old new : ℕ) (rest : List ℕ) (identity : IdentityFields) → MAGIC ++ two_bytes old ++ rest ≡ padded len (identity_bytes_of old identity) → MAGIC ++ two_bytes new ++ rest ≡ padded len (identity_bytes_of new identity)
 version_changed len old new rest identity e =
-    let behind : List ℕ = behind_version len identity in
-    let same : rest ≡ behind = sym (drop-two_bytes old rest) ∙ ap (drop 6) (e ∙ identity_bytes_of-padded len old identity) ∙ drop-two_bytes old behind in
+    let after : List ℕ = after_version len identity in
+    let same : rest ≡ after = sym (drop-two_bytes old rest) ∙ ap (drop 6) (e ∙ identity_bytes_of-padded len old identity) ∙ drop-two_bytes old after in
     ap (λ (left : List ℕ). MAGIC ++ two_bytes new ++ left) same ∙ sym (identity_bytes_of-padded len new identity)
 
 -- a body of the first version, as today's
@@ -187,28 +187,28 @@ record IsOfFirst (body : List ℕ) : Type 0 where
   pub size : length (of_todays_version body) ≡ length body
 
 of_first : (body : List ℕ) → AreBytes body → length body ≡ FIRST_BODY → version_in body ≡ Some FIRST_VERSION → IsOfFirst body
-of_first body bytes size told =
-    let h = version_in-some body FIRST_VERSION bytes (omega arith) told in
-    record { begins = h.begins; todays = todays_identity-told body (Some FIRST_VERSION) told; size = length-with_version VERSION body (omega arith) }
+of_first body bytes size said =
+    let h = version_in-some body FIRST_VERSION bytes (omega arith) said in
+    record { begins = h.begins; todays = todays_identity-of_version body (Some FIRST_VERSION) said; size = length-with_version VERSION body (omega arith) }
 
 -- a version that today's body tells as today's is the first
-told_of_first : (told : Option ℕ) → option_map todays_version told ≡ Some VERSION → told ≡ Some FIRST_VERSION
-told_of_first None e = absurd cc
-told_of_first (Some version) e =
+first_if_todays : (said : Option ℕ) → option_map todays_version said ≡ Some VERSION → said ≡ Some FIRST_VERSION
+first_if_todays None e = absurd cc
+first_if_todays (Some version) e =
     let changed : todays_version version ≡ VERSION = cc in
     ap (λ (n : ℕ). Some n) (first_of_todays version changed)
 
 -- the version of an identity's body
 version_in-identity : (len version : ℕ) (identity : IdentityFields) (body : List ℕ) → version < 2 ^ 16 → body ≡ padded len (identity_bytes_of version identity) → version_in body ≡ Some version
 version_in-identity len version identity body fits e =
-    ap version_in (e ∙ identity_bytes_of-padded len version identity) ∙ version_in-spelled version (behind_version len identity) fits
+    ap version_in (e ∙ identity_bytes_of-padded len version identity) ∙ version_in-spelled version (after_version len identity) fits
 
 identity_from_todays : (body : List ℕ) (identity : IdentityFields) → AreBytes body → length body ≡ FIRST_BODY → identity_of VERSION (todays_identity body) ≡ Some identity → identity_of FIRST_VERSION body ≡ Some identity
 identity_from_todays body identity bytes size e =
     let today : List ℕ = of_todays_version body in
     let h = held_identity_is_spelled VERSION (todays_identity body) identity e in
     let tells : version_in (todays_identity body) ≡ Some VERSION = version_in-identity (length (todays_identity body)) VERSION identity (todays_identity body) (lit< tt) h.spelled in
-    let first = of_first body bytes size (told_of_first (version_in body) (sym (version_in-todays_identity body bytes size) ∙ tells)) in
+    let first = of_first body bytes size (first_if_todays (version_in body) (sym (version_in-todays_identity body bytes size) ∙ tells)) in
     let fits : length (identity_bytes_of VERSION identity) ≤ length today = omega (arith, length-identity_bytes_of VERSION identity, h.in_range.digest_len, first.size) in
     let within : length today ≤ BODY = omega (arith, first.size) in
     let spelled : padded BODY today ≡ padded (length (padded BODY today)) (identity_bytes_of VERSION identity) = subst (λ (b : List ℕ). b ≡ padded (length b) (identity_bytes_of VERSION identity)) first.todays h.spelled in

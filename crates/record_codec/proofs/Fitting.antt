@@ -8,7 +8,7 @@ use Rattle.std.proofs.lemmas.List.Elements.{All-nil, All-cons, All-take, All-dro
 use Rattle.std.proofs.Math.Facts.{sfits_to_z}
 use Rattle.record_codec.specs.declared.layout.TheConstants.{MOST_EXPORTED}
 use Rattle.record_codec.specs.Bytes.{AreBytes, two_bytes, two_byte_number, eight_byte_number, signed_number, signed_numbers}
-use Rattle.record_codec.specs.Entry.{EntryFits, bits_of, value_at, behind_value, values_at, behind_values, mask_at, behind_mask, entry_at, behind_entry, entries_at}
+use Rattle.record_codec.specs.Entry.{EntryFits, bits_of, value_at, after_value, values_at, after_values, mask_at, after_mask, entry_at, after_entry, entries_at}
 
 abbrev pub IsByte : ℕ → Type 0
 IsByte byte = byte < 256
@@ -59,21 +59,21 @@ value_fits : (given : Bool) (bytes : List ℕ) → AreBytes bytes → ValueFits 
 value_fits true bytes h = signed_number_fits bytes h
 value_fits false bytes h = tt
 
-AreBytes-behind_value : (given : Bool) (bytes : List ℕ) → AreBytes bytes → AreBytes (behind_value given bytes)
-AreBytes-behind_value true bytes h = AreBytes-drop 8 bytes h
-AreBytes-behind_value false bytes h = h
+AreBytes-after_value : (given : Bool) (bytes : List ℕ) → AreBytes bytes → AreBytes (after_value given bytes)
+AreBytes-after_value true bytes h = AreBytes-drop 8 bytes h
+AreBytes-after_value false bytes h = h
 
 values_fit : (bits : List Bool) (bytes : List ℕ) → AreBytes bytes → All ValueFits (values_at bits bytes)
 values_fit [] bytes h = All-nil ValueFits
 values_fit (given ∷ bits) bytes h =
-    All-cons ValueFits (value_at given bytes) (values_at bits (behind_value given bytes)) (value_fits given bytes h) (values_fit bits (behind_value given bytes) (AreBytes-behind_value given bytes h))
+    All-cons ValueFits (value_at given bytes) (values_at bits (after_value given bytes)) (value_fits given bytes h) (values_fit bits (after_value given bytes) (AreBytes-after_value given bytes h))
 
-AreBytes-behind_values : (bits : List Bool) (bytes : List ℕ) → AreBytes bytes → AreBytes (behind_values bits bytes)
-AreBytes-behind_values [] bytes h = h
-AreBytes-behind_values (given ∷ bits) bytes h = AreBytes-behind_values bits (behind_value given bytes) (AreBytes-behind_value given bytes h)
+AreBytes-after_values : (bits : List Bool) (bytes : List ℕ) → AreBytes bytes → AreBytes (after_values bits bytes)
+AreBytes-after_values [] bytes h = h
+AreBytes-after_values (given ∷ bits) bytes h = AreBytes-after_values bits (after_value given bytes) (AreBytes-after_value given bytes h)
 
-AreBytes-behind_mask : (bytes : List ℕ) → AreBytes bytes → AreBytes (behind_mask bytes)
-AreBytes-behind_mask bytes h =
+AreBytes-after_mask : (bytes : List ℕ) → AreBytes bytes → AreBytes (after_mask bytes)
+AreBytes-after_mask bytes h =
     let transition = AreBytes-drop 2 bytes h in
     let participation = AreBytes-drop 2 (drop 2 bytes) transition in
     let count = AreBytes-drop 8 (drop 2 (drop 2 bytes)) participation in
@@ -84,14 +84,14 @@ entry_fits : (bytes : List ℕ) → AreBytes bytes → EntryFits (entry_at bytes
 unfolding entry_at
 entry_fits bytes h = record {
   places = refl;
-  values = values_fit (bits_of MOST_EXPORTED (mask_at bytes)) (behind_mask bytes) (AreBytes-behind_mask bytes h);
+  values = values_fit (bits_of MOST_EXPORTED (mask_at bytes)) (after_mask bytes) (AreBytes-after_mask bytes h);
 }
 
-AreBytes-behind_entry : (bytes : List ℕ) → AreBytes bytes → AreBytes (behind_entry bytes)
-unfolding behind_entry
-AreBytes-behind_entry bytes h = AreBytes-behind_values (bits_of MOST_EXPORTED (mask_at bytes)) (behind_mask bytes) (AreBytes-behind_mask bytes h)
+AreBytes-after_entry : (bytes : List ℕ) → AreBytes bytes → AreBytes (after_entry bytes)
+unfolding after_entry
+AreBytes-after_entry bytes h = AreBytes-after_values (bits_of MOST_EXPORTED (mask_at bytes)) (after_mask bytes) (AreBytes-after_mask bytes h)
 
 pub entries_fit : (n : ℕ) (bytes : List ℕ) → AreBytes bytes → All EntryFits (entries_at n bytes)
 entries_fit zero bytes h = All-nil EntryFits
 entries_fit (suc n) bytes h =
-    All-cons EntryFits (entry_at bytes) (entries_at n (behind_entry bytes)) (entry_fits bytes h) (entries_fit n (behind_entry bytes) (AreBytes-behind_entry bytes h))
+    All-cons EntryFits (entry_at bytes) (entries_at n (after_entry bytes)) (entry_fits bytes h) (entries_fit n (after_entry bytes) (AreBytes-after_entry bytes h))

@@ -1,12 +1,12 @@
 pub mod Numbers
 pub mod Written
-pub mod Spelled
+mod Spelled
 pub mod Bases
 pub mod Identities
-pub mod SavedStates
-pub mod Entries
-pub mod Rising
-pub mod Fitting
-pub mod Records
+mod SavedStates
+mod Entries
+mod Rising
+mod Fitting
+mod Records
 pub mod FirstLayout
 mod Rows

@@ -1,4 +1,4 @@
--- A number that was written is read again, and the bytes behind it are left.
+-- A number that was written is read again, and the bytes after it are left.
 use Rattle.std.proofs.Common.{◌≡◌, ℕ, zero, suc, ◌+◌, ◌*◌, ◌^◌, ◌<◌, ℤ, pos, negsuc, List, [], ◌∷◌, ◌++◌, length, drop, refl, ap, ◌∙◌, arith, append_assoc, All, FitsSigned}
 use Rattle.std.specs.Int.{w16, w32, w64, to_be_bytes, from_be_bytes, cast_signed, cast_unsigned}
 use Rattle.std.specs.List.{flat_map}
@@ -33,7 +33,7 @@ pub length-signed_run : (zs : List ℤ) → length (flat_map signed_bytes zs) �
 length-signed_run [] = refl
 length-signed_run (z ∷ zs) = omega (arith, length-append (signed_bytes z) (flat_map signed_bytes zs), length-signed_bytes z, length-signed_run zs)
 
--- ---- the bytes behind each
+-- ---- the bytes after each
 
 pub drop-one_byte : (n : ℕ) (rest : List ℕ) → drop 1 (one_byte n ++ rest) ≡ rest
 drop-one_byte n rest = drop_at (one_byte n) rest 1 (length-one_byte n)
@@ -93,16 +93,16 @@ pub signed_numbers_more : (n : ℕ) (bytes : List ℕ) → signed_numbers (n + 1
 signed_numbers_more zero bytes = refl
 signed_numbers_more (suc n) bytes =
     let one_on : suc n + 1 ≡ suc (n + 1) = omega arith in
-    let behind : drop (8 * n) (drop 8 bytes) ≡ drop (8 * suc n) bytes = drop-drop (8 * n) 8 bytes ∙ ap (λ (k : ℕ). drop k bytes) (omega arith) in
+    let after : drop (8 * n) (drop 8 bytes) ≡ drop (8 * suc n) bytes = drop-drop (8 * n) 8 bytes ∙ ap (λ (k : ℕ). drop k bytes) (omega arith) in
     ap (λ (k : ℕ). signed_numbers k bytes) one_on
-    ∙ ap (λ (zs : List ℤ). signed_number bytes ∷ zs) (signed_numbers_more n (drop 8 bytes) ∙ ap (λ (left : List ℕ). signed_numbers n (drop 8 bytes) ++ signed_number left ∷ []) behind)
+    ∙ ap (λ (zs : List ℤ). signed_number bytes ∷ zs) (signed_numbers_more n (drop 8 bytes) ∙ ap (λ (left : List ℕ). signed_numbers n (drop 8 bytes) ++ signed_number left ∷ []) after)
 
 pub signed_numbers-run : (zs : List ℤ) (rest : List ℕ) → All (FitsSigned w64) zs → signed_numbers (length zs) (flat_map signed_bytes zs ++ rest) ≡ zs
 signed_numbers-run [] rest fits = refl
 signed_numbers-run (z ∷ zs) rest fits =
-    let behind : List ℕ = flat_map signed_bytes zs ++ rest in
-    let grouped : (signed_bytes z ++ flat_map signed_bytes zs) ++ rest ≡ signed_bytes z ++ behind = append_assoc (signed_bytes z) (flat_map signed_bytes zs) rest in
-    let first : signed_number ((signed_bytes z ++ flat_map signed_bytes zs) ++ rest) ≡ z = ap signed_number grouped ∙ signed_number-signed_bytes z behind (fits 0 z (omega arith)) in
-    let left : drop 8 ((signed_bytes z ++ flat_map signed_bytes zs) ++ rest) ≡ behind = ap (drop 8) grouped ∙ drop-signed_bytes z behind in
-    let others : signed_numbers (length zs) behind ≡ zs = signed_numbers-run zs rest (λ k d lt. fits (suc k) d (omega arith)) in
+    let after : List ℕ = flat_map signed_bytes zs ++ rest in
+    let grouped : (signed_bytes z ++ flat_map signed_bytes zs) ++ rest ≡ signed_bytes z ++ after = append_assoc (signed_bytes z) (flat_map signed_bytes zs) rest in
+    let first : signed_number ((signed_bytes z ++ flat_map signed_bytes zs) ++ rest) ≡ z = ap signed_number grouped ∙ signed_number-signed_bytes z after (fits 0 z (omega arith)) in
+    let left : drop 8 ((signed_bytes z ++ flat_map signed_bytes zs) ++ rest) ≡ after = ap (drop 8) grouped ∙ drop-signed_bytes z after in
+    let others : signed_numbers (length zs) after ≡ zs = signed_numbers-run zs rest (λ k d lt. fits (suc k) d (omega arith)) in
     rw (first, left, others) refl

@@ -9,7 +9,7 @@ use Rattle.record_codec.specs.Bytes.{one_byte, two_bytes, four_bytes, eight_byte
 use Rattle.record_codec.specs.Base.{base_in}
 use Rattle.record_codec.specs.Identity.{IdentityFields, identity_bytes_of, identity_bytes, identity_in, version_in}
 use Rattle.record_codec.specs.Saved.{SavedFields, saved_bytes, saved_in}
-use Rattle.record_codec.specs.Entry.{entry_bytes, entry_at, behind_entry}
+use Rattle.record_codec.specs.Entry.{entry_bytes, entry_at, after_entry}
 use Rattle.record_codec.specs.Fired.{FiredFields, fired_bytes, fired_in}
 use Rattle.record_codec.specs.FirstLayout.{todays_body, todays_version, todays_identity, todays_record}
 use Rattle.record_codec.specs.declared.entry.Entry.{Entry}
@@ -87,9 +87,9 @@ base_nine_is_read : base_in (0 ∷ 0 ∷ 0 ∷ 0 ∷ 0 ∷ 0 ∷ 0 ∷ 9 ∷ 0 �
 unfolding base_in eight_byte_number eight_bytes padded zeros
 base_nine_is_read = refl
 
-a_byte_behind_a_base_is_refused : base_in (0 ∷ 0 ∷ 0 ∷ 0 ∷ 0 ∷ 0 ∷ 0 ∷ 9 ∷ 0 ∷ 1 ∷ []) ≡ None
+a_byte_after_a_base_is_refused : base_in (0 ∷ 0 ∷ 0 ∷ 0 ∷ 0 ∷ 0 ∷ 0 ∷ 9 ∷ 0 ∷ 1 ∷ []) ≡ None
 unfolding base_in eight_byte_number eight_bytes padded zeros
-a_byte_behind_a_base_is_refused = refl
+a_byte_after_a_base_is_refused = refl
 
 base_zero_is_refused : base_in (0 ∷ 0 ∷ 0 ∷ 0 ∷ 0 ∷ 0 ∷ 0 ∷ 0 ∷ 0 ∷ []) ≡ None
 unfolding base_in eight_byte_number eight_bytes padded zeros
@@ -183,22 +183,22 @@ unfolding entry_bytes one_byte two_bytes eight_bytes signed_bytes
 a_record_is_spelled = refl
 
 a_record_is_read : fired_in (second_record_bytes ++ 0 ∷ 0 ∷ []) ≡ Some second_record
-unfolding fired_in entry_bytes entry_at behind_entry one_byte two_bytes eight_bytes signed_bytes one_byte_number two_byte_number eight_byte_number signed_number padded zeros
+unfolding fired_in entry_bytes entry_at after_entry one_byte two_bytes eight_bytes signed_bytes one_byte_number two_byte_number eight_byte_number signed_number padded zeros
 a_record_is_read = refl
 
 -- number 1 with participation number 2
 a_participation_past_the_number_is_refused : fired_in (0 ∷ 0 ∷ 0 ∷ 0 ∷ 0 ∷ 0 ∷ 0 ∷ 1 ∷ 0 ∷ 0 ∷ 1 ∷ 0 ∷ 0 ∷ 0 ∷ 0 ∷ 0 ∷ 0 ∷ 0 ∷ 0 ∷ 0 ∷ 0 ∷ 0 ∷ 2 ∷ 0 ∷ 0 ∷ 0 ∷ []) ≡ None
-unfolding fired_in entry_bytes entry_at behind_entry one_byte two_bytes eight_bytes signed_bytes one_byte_number two_byte_number eight_byte_number signed_number padded zeros
+unfolding fired_in entry_bytes entry_at after_entry one_byte two_bytes eight_bytes signed_bytes one_byte_number two_byte_number eight_byte_number signed_number padded zeros
 a_participation_past_the_number_is_refused = refl
 
 -- atoms 1 and 0 in this order
 atoms_out_of_order_are_refused : fired_in (0 ∷ 0 ∷ 0 ∷ 0 ∷ 0 ∷ 0 ∷ 0 ∷ 1 ∷ 0 ∷ 0 ∷ 2 ∷ 0 ∷ 1 ∷ 0 ∷ 0 ∷ 0 ∷ 0 ∷ 0 ∷ 0 ∷ 0 ∷ 0 ∷ 0 ∷ 1 ∷ 0 ∷ 0 ∷ 0 ∷ 0 ∷ 0 ∷ 0 ∷ 0 ∷ 0 ∷ 0 ∷ 0 ∷ 0 ∷ 0 ∷ 0 ∷ 1 ∷ 0 ∷ 0 ∷ 0 ∷ []) ≡ None
-unfolding fired_in entry_bytes entry_at behind_entry one_byte two_bytes eight_bytes signed_bytes one_byte_number two_byte_number eight_byte_number signed_number padded zeros
+unfolding fired_in entry_bytes entry_at after_entry one_byte two_bytes eight_bytes signed_bytes one_byte_number two_byte_number eight_byte_number signed_number padded zeros
 atoms_out_of_order_are_refused = refl
 
 -- mask 1 with 0 values counted
 a_count_of_values_that_is_not_the_ones_is_refused : fired_in (0 ∷ 0 ∷ 0 ∷ 0 ∷ 0 ∷ 0 ∷ 0 ∷ 1 ∷ 0 ∷ 0 ∷ 1 ∷ 0 ∷ 0 ∷ 0 ∷ 0 ∷ 0 ∷ 0 ∷ 0 ∷ 0 ∷ 0 ∷ 0 ∷ 0 ∷ 1 ∷ 0 ∷ 1 ∷ 0 ∷ 0 ∷ 0 ∷ 0 ∷ 0 ∷ 0 ∷ 0 ∷ 7 ∷ []) ≡ None
-unfolding fired_in entry_bytes entry_at behind_entry one_byte two_bytes eight_bytes signed_bytes one_byte_number two_byte_number eight_byte_number signed_number padded zeros
+unfolding fired_in entry_bytes entry_at after_entry one_byte two_bytes eight_bytes signed_bytes one_byte_number two_byte_number eight_byte_number signed_number padded zeros
 a_count_of_values_that_is_not_the_ones_is_refused = refl
 
 -- values to variables 1 and 3 make mask 10, and stand from the lower variable up
@@ -229,9 +229,9 @@ an_old_base_is_read : base_in (todays_body (0 ∷ 0 ∷ 0 ∷ 0 ∷ 0 ∷ 0 ∷ 
 unfolding todays_body base_in eight_byte_number eight_bytes padded zeros
 an_old_base_is_read = refl
 
-a_byte_behind_an_old_base_is_refused : base_in (todays_body (0 ∷ 0 ∷ 0 ∷ 0 ∷ 0 ∷ 0 ∷ 0 ∷ 9 ∷ 0 ∷ 1 ∷ [])) ≡ None
+a_byte_after_an_old_base_is_refused : base_in (todays_body (0 ∷ 0 ∷ 0 ∷ 0 ∷ 0 ∷ 0 ∷ 0 ∷ 9 ∷ 0 ∷ 1 ∷ [])) ≡ None
 unfolding todays_body base_in eight_byte_number eight_bytes padded zeros
-a_byte_behind_an_old_base_is_refused = refl
+a_byte_after_an_old_base_is_refused = refl
 
 an_old_saved_state_is_read : saved_in (todays_body (sample_saved_bytes ++ 0 ∷ 0 ∷ [])) ≡ Some sample_saved
 unfolding todays_body saved_in one_byte two_bytes eight_bytes signed_bytes one_byte_number two_byte_number eight_byte_number signed_number padded zeros
@@ -254,7 +254,7 @@ unfolding todays_identity todays_body version_in two_byte_number two_bytes padde
 an_old_body_without_the_magic_tells_no_version = refl
 
 an_old_record_is_read : fired_in (todays_record (second_record_bytes ++ 0 ∷ 0 ∷ [])) ≡ Some second_record
-unfolding todays_record todays_body fired_in entry_bytes entry_at behind_entry one_byte two_bytes eight_bytes signed_bytes one_byte_number two_byte_number eight_byte_number signed_number padded zeros
+unfolding todays_record todays_body fired_in entry_bytes entry_at after_entry one_byte two_bytes eight_bytes signed_bytes one_byte_number two_byte_number eight_byte_number signed_number padded zeros
 an_old_record_is_read = refl
 
 -- record 1, in which these atoms took part
@@ -276,13 +276,13 @@ unfolding eight_bytes two_bytes one_byte
 byte_10_says_how_many = refl
 
 an_old_record_of_eight_entries_is_read : fired_in (todays_record (fired_bytes of_eight)) ≡ Some of_eight
-unfolding todays_record todays_body fired_in entry_bytes entry_at behind_entry one_byte two_bytes eight_bytes signed_bytes one_byte_number two_byte_number eight_byte_number signed_number padded zeros
+unfolding todays_record todays_body fired_in entry_bytes entry_at after_entry one_byte two_bytes eight_bytes signed_bytes one_byte_number two_byte_number eight_byte_number signed_number padded zeros
 an_old_record_of_eight_entries_is_read = refl
 
 one_of_nine_is_read_today : fired_in (fired_bytes of_nine) ≡ Some of_nine
-unfolding fired_in entry_bytes entry_at behind_entry one_byte two_bytes eight_bytes signed_bytes one_byte_number two_byte_number eight_byte_number signed_number padded zeros
+unfolding fired_in entry_bytes entry_at after_entry one_byte two_bytes eight_bytes signed_bytes one_byte_number two_byte_number eight_byte_number signed_number padded zeros
 one_of_nine_is_read_today = refl
 
 an_old_one_of_nine_is_refused : fired_in (todays_record (fired_bytes of_nine)) ≡ None
-unfolding todays_record todays_body fired_in entry_bytes entry_at behind_entry one_byte two_bytes eight_bytes signed_bytes one_byte_number two_byte_number eight_byte_number signed_number padded zeros
+unfolding todays_record todays_body fired_in entry_bytes entry_at after_entry one_byte two_bytes eight_bytes signed_bytes one_byte_number two_byte_number eight_byte_number signed_number padded zeros
 an_old_one_of_nine_is_refused = refl

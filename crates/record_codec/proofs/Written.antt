@@ -1,4 +1,4 @@
--- What a writer holds: the bytes so far and zeros behind them.
+-- What a writer holds: the bytes so far and zeros after them.
 use Rattle.std.proofs.Common.{◌≡◌, ℕ, ◌+◌, ◌-◌, ◌≤◌, ◌<◌, List, ◌++◌, length, take, drop, get_or, refl, sym, ap, ◌∙◌, arith}
 use Rattle.std.proofs.lemmas.List.{drop-drop, drop-replicate, take-append-drop, length-take-le, length-append, length-replicate, flat_map_more, take_more}
 use Rattle.std.specs.List.{flat_map}
@@ -15,9 +15,9 @@ pub length-zeros : (n : ℕ) → length (zeros n) ≡ n
 unfolding zeros
 length-zeros n = length-replicate n 0
 
--- behind what is written at the end of the bytes so far stand zeros
-pub zeros_behind : (body bytes : List ℕ) (at len : ℕ) → length body ≡ len → at + length bytes ≤ len → drop at body ≡ zeros (len - at) → drop (at + length bytes) (put_mid at (at + length bytes - at) body bytes) ≡ zeros (len - (at + length bytes))
-zeros_behind body bytes at len is_len fits rest =
+-- after what is written at the end of the bytes so far stand zeros
+pub zeros_after : (body bytes : List ℕ) (at len : ℕ) → length body ≡ len → at + length bytes ≤ len → drop at body ≡ zeros (len - at) → drop (at + length bytes) (put_mid at (at + length bytes - at) body bytes) ≡ zeros (len - (at + length bytes))
+zeros_after body bytes at len is_len fits rest =
     let size : length bytes ≡ at + length bytes - at = omega arith in
     drop-put_mid at (at + length bytes - at) body bytes (at + length bytes) (omega arith) (omega arith) size
     ∙ sym (drop-drop (length bytes) at body)
@@ -30,7 +30,7 @@ pub written_then : (body bytes : List ℕ) (at : ℕ) → at + length bytes ≤ 
 written_then body bytes at fits =
     take-put_mid at (at + length bytes - at) body bytes (at + length bytes) refl (omega arith)
 
--- the bytes so far and the zeros behind them are the whole
+-- the bytes so far and the zeros after them are the whole
 pub padded-take : (body : List ℕ) (at len : ℕ) → length body ≡ len → at ≤ len → drop at body ≡ zeros (len - at) → body ≡ padded len (take at body)
 unfolding padded
 padded-take body at len is_len fits rest =
@@ -46,7 +46,7 @@ pub padded_is : (len : ℕ) (bytes : List ℕ) → padded len bytes ≡ bytes ++
 unfolding padded
 padded_is len bytes = refl
 
--- room behind the bytes so far is room behind the place where they end
+-- room after the bytes so far is room after the place where they end
 pub room_for : (body front : List ℕ) (at more len : ℕ) → length body ≡ len → at ≤ len → take at body ≡ front → length front + more ≤ len → at + more ≤ len
 room_for body front at more len is_len within is_front room =
     omega (arith, ap length is_front, length-take-le at body (omega arith))

@@ -56,7 +56,7 @@ signed_numbers (suc n) bytes = signed_number bytes ∷ signed_numbers n (drop 8 
 unfoldable pub zeros : ℕ → List ℕ
 zeros n = replicate n 0
 
--- the bytes, and zeros behind them up to the length
+-- the bytes, and zeros after them up to the length
 unfoldable pub padded : ℕ → List ℕ → List ℕ
 padded len bytes = bytes ++ zeros (len - length bytes)
 

@@ -46,29 +46,29 @@ abbrev pub bits_of : ℕ → ℕ → List Bool
 bits_of zero mask = []
 bits_of (suc n) mask = (mask % 2 == 1) ∷ bits_of n (mask / 2)
 
--- the value in the first eight bytes, where there is one, and the bytes behind it
+-- the value in the first eight bytes, where there is one, and the bytes after it
 abbrev pub value_at : Bool → List ℕ → Option ℤ
 value_at given bytes = if given then Some (signed_number bytes) else None
 
-abbrev pub behind_value : Bool → List ℕ → List ℕ
-behind_value given bytes = if given then drop 8 bytes else bytes
+abbrev pub after_value : Bool → List ℕ → List ℕ
+after_value given bytes = if given then drop 8 bytes else bytes
 
--- one after the other, a value for each bit that is set, and the bytes behind them
+-- one after the other, a value for each bit that is set, and the bytes after them
 abbrev pub values_at : List Bool → List ℕ → List (Option ℤ)
 values_at [] bytes = []
-values_at (given ∷ more) bytes = value_at given bytes ∷ values_at more (behind_value given bytes)
+values_at (given ∷ more) bytes = value_at given bytes ∷ values_at more (after_value given bytes)
 
-abbrev pub behind_values : List Bool → List ℕ → List ℕ
-behind_values [] bytes = bytes
-behind_values (given ∷ more) bytes = behind_values more (behind_value given bytes)
+abbrev pub after_values : List Bool → List ℕ → List ℕ
+after_values [] bytes = bytes
+after_values (given ∷ more) bytes = after_values more (after_value given bytes)
 
 -- the mask of the entry that the bytes begin with
 abbrev pub mask_at : List ℕ → ℕ
 mask_at bytes = one_byte_number (drop 1 (drop 8 (drop 2 (drop 2 bytes))))
 
--- what stands behind that mask
-abbrev pub behind_mask : List ℕ → List ℕ
-behind_mask bytes = drop 1 (drop 1 (drop 8 (drop 2 (drop 2 bytes))))
+-- what stands after that mask
+abbrev pub after_mask : List ℕ → List ℕ
+after_mask bytes = drop 1 (drop 1 (drop 8 (drop 2 (drop 2 bytes))))
 
 -- what the fields of an entry say
 unfoldable pub entry_at : List ℕ → Entry
@@ -76,18 +76,18 @@ entry_at bytes = record {
   atom = two_byte_number bytes;
   transition = two_byte_number (drop 2 bytes);
   participation = eight_byte_number (drop 2 (drop 2 bytes));
-  delivered = values_at (bits_of MOST_EXPORTED (mask_at bytes)) (behind_mask bytes);
+  delivered = values_at (bits_of MOST_EXPORTED (mask_at bytes)) (after_mask bytes);
 }
 
--- what stands behind them
-unfoldable pub behind_entry : List ℕ → List ℕ
-behind_entry bytes = behind_values (bits_of MOST_EXPORTED (mask_at bytes)) (behind_mask bytes)
+-- what stands after them
+unfoldable pub after_entry : List ℕ → List ℕ
+after_entry bytes = after_values (bits_of MOST_EXPORTED (mask_at bytes)) (after_mask bytes)
 
--- so many entries, one after the other, and the bytes behind them
+-- so many entries, one after the other, and the bytes after them
 abbrev pub entries_at : ℕ → List ℕ → List Entry
 entries_at zero bytes = []
-entries_at (suc n) bytes = entry_at bytes ∷ entries_at n (behind_entry bytes)
+entries_at (suc n) bytes = entry_at bytes ∷ entries_at n (after_entry bytes)
 
-abbrev pub behind_entries : ℕ → List ℕ → List ℕ
-behind_entries zero bytes = bytes
-behind_entries (suc n) bytes = behind_entries n (behind_entry bytes)
+abbrev pub after_entries : ℕ → List ℕ → List ℕ
+after_entries zero bytes = bytes
+after_entries (suc n) bytes = after_entries n (after_entry bytes)

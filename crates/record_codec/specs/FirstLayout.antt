@@ -14,7 +14,7 @@ todays_body body = padded BODY body
 abbrev pub todays_version : ℕ → ℕ
 todays_version version = if version == FIRST_VERSION then VERSION else if version == VERSION then FIRST_VERSION else version
 
--- the body, with the version changed where it tells one
+-- the body, with the version changed if it has one
 abbrev pub with_version_changed : Option ℕ → List ℕ → List ℕ
 with_version_changed None body = body
 with_version_changed (Some version) body = MAGIC ++ two_bytes (todays_version version) ++ drop (length MAGIC + 2) body

@@ -39,7 +39,7 @@ pub record IsIdentityBodyOf (version : ℕ) (body : List ℕ) (identity : Identi
 abbrev pub IsIdentityBody : List ℕ → IdentityFields → Type 0
 IsIdentityBody body identity = IsIdentityBodyOf VERSION body identity
 
--- what the fields behind the magic bytes and the version say
+-- what the fields after the magic bytes and the version say
 abbrev pub identity_fields : List ℕ → IdentityFields
 identity_fields body =
     let from_version = drop (length MAGIC) body in
@@ -54,6 +54,6 @@ identity_of version body = let identity = identity_fields body in if_spelled (is
 unfoldable pub identity_in : List ℕ → Option IdentityFields
 identity_in body = identity_of VERSION body
 
--- the version of the layout that a device is formatted with: what stands behind the magic bytes, if these are there
+-- the version of the layout that a device is formatted with: what stands after the magic bytes, if these are there
 unfoldable pub version_in : List ℕ → Option ℕ
 version_in body = if starts_with nat_eq body MAGIC then Some (two_byte_number (drop (length MAGIC) body)) else None

@@ -1,4 +1,5 @@
 pub mod Bytes
+pub mod Answers
 pub mod Base
 pub mod Identity
 pub mod Saved

@@ -1,5 +1,5 @@
--- Which cell of a device holds what: cell 0 the identity, cells 1 and 2 the bases, behind them two slots for each atom, and
--- behind these the ring, in which the records go round.
+-- Which cell of a device holds what: cell 0 the identity, cells 1 and 2 the bases, after them two slots for each atom, and
+-- after these the ring, in which the records go round.
 use Rattle.std.specs.Prelude.{◌≡◌, ℕ, ◌+◌, ◌*◌, ◌%◌}
 
 -- the cell of the identity
@@ -14,7 +14,7 @@ base_cell base = 1 + base
 abbrev pub slot_cell : ℕ → ℕ → ℕ
 slot_cell atom slot = 3 + 2 * atom + slot
 
--- the cell of the record with the number, in a ring of so many cells behind the slots of so many atoms
+-- the cell of the record with the number, in a ring of so many cells after the slots of so many atoms
 abbrev pub record_cell : ℕ → ℕ → ℕ → ℕ
 record_cell atoms ring number = 3 + 2 * atoms + number % ring
 

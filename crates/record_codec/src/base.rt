@@ -1,4 +1,6 @@
-ghost use Rattle.std.specs.Prelude.{◌≡◌, ◌≤◌, ℕ, IfSome, Some};
+//! The base: the number of the first record that is kept.
+ghost use Rattle.std.specs.Prelude.{◌≡◌, ◌≤◌, ℕ, Some};
+ghost use Rattle.record_codec.specs.Answers.{IsAnswer};
 ghost use Rattle.record_codec.specs.Bytes.{padded};
 ghost use Rattle.record_codec.specs.Base.{IsBase, IsBaseBody, base_bytes, base_in};
 
@@ -41,25 +43,8 @@ impl Base {
         self.number
     }
 
-    /// The body of a cell that holds this base.
-    pub fn to_body(&self) -> [u8; BODY]
-        ensures spelled { result ≡ padded BODY (base_bytes self.now) }
-        ensures reads_back { base_in result ≡ Some self.now }
-    {
-        self.spelled()
-    }
-
-    /// The base that the body holds, or `None` where it is no base's body.
-    pub fn from_body(body: &[u8; BODY]) -> Option<Base>
-        ensures exact { result ≡ base_in body.now }
-        ensures found { IfSome result (IsBaseBody body.now) }
-        ensures only { (number : ℕ) → IsBaseBody body.now number → result ≡ Some number }
-    {
-        Base::read(body)
-    }
-
-    /// The body of this length that holds this base.
-    pub(crate) fn spelled<const LENGTH: usize>(&self) -> [u8; LENGTH]
+    /// The body of a cell that holds this base, in a layout with bodies of this length.
+    pub fn to_body<const LENGTH: usize>(&self) -> [u8; LENGTH]
         requires room { 8 ≤ LENGTH }
         requires within { LENGTH ≤ BODY }
         ensures spelled { result ≡ padded LENGTH (base_bytes self.now) }
@@ -70,13 +55,11 @@ impl Base {
         writer.body()
     }
 
-    /// The base that a body of this length holds, or `None` where it is no base's body.
-    pub(crate) fn read<const LENGTH: usize>(body: &[u8; LENGTH]) -> Option<Base>
+    /// The base that the body holds, or `None` if it is no base's body.
+    pub fn from_body<const LENGTH: usize>(body: &[u8; LENGTH]) -> Option<Base>
         requires room { 8 ≤ LENGTH }
         requires within { LENGTH ≤ BODY }
-        ensures exact { result ≡ base_in body.now }
-        ensures found { IfSome result (IsBaseBody body.now) }
-        ensures only { (number : ℕ) → IsBaseBody body.now number → result ≡ Some number }
+        ensures { IsAnswer (base_in body.now) (IsBaseBody body.now) result }
     {
         Base::held(body)
     }
@@ -94,7 +77,7 @@ impl Base {
             return None;
         }
         let base = Base::new(number);
-        if base.spelled() == *body {
+        if base.to_body() == *body {
             Some(base)
         } else {
             None

@@ -1,3 +1,4 @@
+//! One entry of a record: what one participant did.
 ghost use Rattle.std.specs.Prelude.{◌≡◌, ◌≤◌};
 ghost use Rattle.std.specs.List.{sum_by};
 ghost use Rattle.record_codec.specs.Entry.{bit_of, mask_of, is_entry};
@@ -18,7 +19,7 @@ pub struct Entry {
 }
 
 impl Entry {
-    // What stands in the places of a record behind its last entry.
+    // What stands in the places of a record after its last entry.
     pub(crate) const NOTHING: Entry = Entry {
         atom: 0,
         transition: 0,

@@ -1,9 +1,11 @@
+//! The record of one fired interaction.
 ghost use Rattle.std.specs.Prelude.{◌≡◌, ◌+◌, ◌*◌, ◌≤◌, ℕ, IfSome, Some, length};
 ghost use Rattle.record_codec.specs.declared.layout.TheConstants.{LONGEST_ENTRY};
 ghost use Rattle.std.specs.List.{list_all};
+ghost use Rattle.record_codec.specs.Answers.{IsAnswer};
 ghost use Rattle.record_codec.specs.Bytes.{padded};
 ghost use Rattle.record_codec.specs.Entry.{is_entry};
-ghost use Rattle.record_codec.specs.Fired.{FiredFields, IsFired, IsFiredBody, IsFiredBodyUpTo, FiredFits, atoms_of, is_rising, is_fired_up_to, fired_bytes, fired_in, fired_up_to};
+ghost use Rattle.record_codec.specs.Fired.{IsFired, IsFiredBody, IsFiredBodyUpTo, FiredFits, atoms_of, is_rising, is_fired_up_to, fired_bytes, fired_in, fired_up_to};
 
 use crate::entry::Entry;
 use crate::layout::{BODY, LAST_NUMBER, MOST_CONNECTORS, MOST_ENTRIES};
@@ -84,12 +86,10 @@ impl Fired {
         self.spelled()
     }
 
-    /// The record that the body holds, or `None` where it is no record's body.
+    /// The record that the body holds, or `None` if it is no record's body.
     #[tactic(auto, unfolding(crate::specs::Fired::fired_in))]
     pub fn from_body(body: &[u8; BODY]) -> Option<Fired>
-        ensures exact { result ≡ fired_in body.now }
-        ensures found { IfSome result (IsFiredBody body.now) }
-        ensures only { (fired : FiredFields) → IsFiredBody body.now fired → result ≡ Some fired }
+        ensures { IsAnswer (fired_in body.now) (IsFiredBody body.now) result }
     {
         Fired::read(body, MOST_ENTRIES)
     }
@@ -111,14 +111,12 @@ impl Fired {
         writer.body()
     }
 
-    /// The record of at most so many entries that a body of this length holds, or `None` where it is no such record's body.
+    /// The record of at most so many entries that a body of this length holds, or `None` if it is no such record's body.
     pub(crate) fn read<const LENGTH: usize>(body: &[u8; LENGTH], most: usize) -> Option<Fired>
         requires few { most ≤ MOST_ENTRIES }
         requires room { 11 + LONGEST_ENTRY * most ≤ LENGTH }
         requires within { LENGTH ≤ BODY }
-        ensures exact { result ≡ fired_up_to most body.now }
-        ensures found { IfSome result (IsFiredBodyUpTo most body.now) }
-        ensures only { (fired : FiredFields) → IsFiredBodyUpTo most body.now fired → result ≡ Some fired }
+        ensures { IsAnswer (fired_up_to most body.now) (IsFiredBodyUpTo most body.now) result }
     {
         Fired::held(body, most)
     }

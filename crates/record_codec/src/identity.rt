@@ -1,6 +1,8 @@
-ghost use Rattle.std.specs.Prelude.{◌≡◌, ◌+◌, ◌≤◌, IfSome, Some, length};
+//! The identity: what a device was formatted for.
+ghost use Rattle.std.specs.Prelude.{◌≡◌, ◌+◌, ◌≤◌, Some, length};
+ghost use Rattle.record_codec.specs.Answers.{IsAnswer};
 ghost use Rattle.record_codec.specs.Bytes.{padded};
-ghost use Rattle.record_codec.specs.Identity.{IdentityFields, IsIdentity, IsIdentityBody, IsIdentityBodyOf, identity_bytes, identity_bytes_of, identity_in, identity_of, version_in};
+ghost use Rattle.record_codec.specs.Identity.{IsIdentity, IsIdentityBody, IsIdentityBodyOf, identity_bytes, identity_bytes_of, identity_in, identity_of, version_in};
 
 use crate::layout::{BODY, DIGEST, LEAST_RING, MAGIC, MOST_ATOMS, MOST_RING, VERSION};
 use crate::reader::Reader;
@@ -74,22 +76,20 @@ impl Identity {
         self.spelled(VERSION)
     }
 
-    /// The identity that the body holds, or `None` where it is no identity's body.
+    /// The identity that the body holds, or `None` if it is no identity's body.
     #[tactic(auto, unfolding(crate::specs::Identity::identity_in))]
     pub fn from_body(body: &[u8; BODY]) -> Option<Identity>
-        ensures exact { result ≡ identity_in body.now }
-        ensures found { IfSome result (IsIdentityBody body.now) }
-        ensures only { (identity : IdentityFields) → IsIdentityBody body.now identity → result ≡ Some identity }
+        ensures { IsAnswer (identity_in body.now) (IsIdentityBody body.now) result }
     {
         Identity::read(body, VERSION)
     }
 
-    /// The version of the layout that the device is formatted with, or `None` where the body does not begin
+    /// The version of the layout that the device is formatted with, or `None` if the body does not begin
     /// as an identity of any version does. Of another version nothing else can be read.
     pub fn version_in(body: &[u8; BODY]) -> Option<u16>
         ensures { result ≡ version_in body.now }
     {
-        Identity::version_told(body)
+        Identity::version_written(body)
     }
 
     /// The body of this length that holds this identity in a layout of the version.
@@ -108,20 +108,18 @@ impl Identity {
         writer.body()
     }
 
-    /// The identity that a body of this length holds in a layout of the version, or `None` where it is no identity's body of that version.
+    /// The identity that a body of this length holds in a layout of the version, or `None` if it is no identity's body of that version.
     pub(crate) fn read<const LENGTH: usize>(body: &[u8; LENGTH], version: u16) -> Option<Identity>
         requires room { 12 + DIGEST ≤ LENGTH }
         requires within { LENGTH ≤ BODY }
-        ensures exact { result ≡ identity_of version body.now }
-        ensures found { IfSome result (IsIdentityBodyOf version body.now) }
-        ensures only { (identity : IdentityFields) → IsIdentityBodyOf version body.now identity → result ≡ Some identity }
+        ensures { IsAnswer (identity_of version body.now) (IsIdentityBodyOf version body.now) result }
     {
         Identity::held(body, version)
     }
 
-    /// The version that a body of any length tells, or `None` where it does not begin as an identity does.
+    /// The version that a body of any length is written in, or `None` if it does not begin as an identity does.
     #[tactic(auto, unfolding(crate::specs::Identity::version_in))]
-    pub(crate) fn version_told(body: &[u8]) -> Option<u16>
+    pub(crate) fn version_written(body: &[u8]) -> Option<u16>
         requires { 6 ≤ length body.now }
         ensures { result ≡ version_in body.now }
     {

@@ -11,24 +11,24 @@ ghost use Rattle.record_codec.specs.Fired.{FiredFields, IsFiredBody, IsFiredBody
 ghost use Rattle.record_codec.specs.FirstLayout.{todays_body, todays_version, todays_identity, todays_record};
 ghost use Rattle.record_codec.specs.Ring.{AreSameSlot, identity_cell, base_cell, slot_cell, record_cell, device_cells};
 
-/// A body holds a base exactly where it is the base's spelling, and zeros.
+/// A body holds a base exactly if it is the base's spelling, and zeros.
 pub fn base_grammar()
     ensures { (body : List ℕ) (number : ℕ) → (base_in body ≡ Some number) ↔ IsBaseBody body number }
 {}
 
-/// A body holds an identity exactly where it is the identity's spelling, and zeros.
+/// A body holds an identity exactly if it is the identity's spelling, and zeros.
 pub fn identity_grammar()
     ensures this_layout { (body : List ℕ) (identity : IdentityFields) → (identity_in body ≡ Some identity) ↔ IsIdentityBody body identity }
     ensures any_layout { (version : ℕ) (body : List ℕ) (identity : IdentityFields)
         → (identity_of version body ≡ Some identity) ↔ IsIdentityBodyOf version body identity }
 {}
 
-/// A body holds a saved state exactly where it is the state's spelling, and zeros.
+/// A body holds a saved state exactly if it is the state's spelling, and zeros.
 pub fn saved_grammar()
     ensures { (body : List ℕ) (saved : SavedFields) → AreBytes body → ((saved_in body ≡ Some saved) ↔ IsSavedBody body saved) }
 {}
 
-/// A body holds a record exactly where it is the record's spelling, and zeros.
+/// A body holds a record exactly if it is the record's spelling, and zeros.
 pub fn fired_grammar()
     ensures this_layout { (body : List ℕ) (fired : FiredFields) → AreBytes body → ((fired_in body ≡ Some fired) ↔ IsFiredBody body fired) }
     ensures any_layout { (most : ℕ) (body : List ℕ) (fired : FiredFields) → AreBytes body
@@ -45,8 +45,8 @@ pub fn first_layout_saved_states()
     ensures { (body : List ℕ) → AreBytes body → length body ≡ FIRST_BODY → saved_in (todays_body body) ≡ saved_in body }
 {}
 
-/// Today's body of an identity of the first layout holds the identity that it held, or none. It tells the
-/// version that the old body told, with the first and today's exchanged.
+/// Today's body of an identity of the first layout holds the identity that it held, or none. It says the
+/// version that the old body said, with the first and today's exchanged.
 pub fn first_layout_identities()
     ensures identity { (body : List ℕ) → AreBytes body → length body ≡ FIRST_BODY
         → identity_in (todays_identity body) ≡ identity_of FIRST_VERSION body }

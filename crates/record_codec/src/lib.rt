@@ -12,7 +12,7 @@
 //!
 //! Numbers are big-endian, and values in two's complement. The types keep the ranges of the format, so a
 //! value always has a body: `to_body` writes it, and `from_body` answers it again. `from_body` answers
-//! `None` for every other body, one with a byte behind the last field among them.
+//! `None` for every other body, one with a byte after the last field among them.
 //!
 //! Contracts see a `Base` as its number, and each other value as a record of its fields. For each kind
 //! `specs/` has the ranges (`IsFired`), the spelling (`fired_bytes`), the format as a fact of a body and a

@@ -1,7 +1,8 @@
+//! Reading a body, one field after another.
 ghost use Rattle.std.specs.Prelude.{◌≡◌, ℕ, ◌+◌, ◌*◌, ◌≤◌, List, length, take, drop};
 ghost use Rattle.record_codec.specs.Bytes.{one_byte_number, two_byte_number, four_byte_number, eight_byte_number, signed_number, signed_numbers};
 ghost use Rattle.record_codec.specs.declared.layout.TheConstants.{DIGEST, MOST_EXPORTED, LONGEST_ENTRY};
-ghost use Rattle.record_codec.specs.Entry.{bits_of, value_at, behind_value, values_at, behind_values, entry_at, behind_entry, entries_at};
+ghost use Rattle.record_codec.specs.Entry.{bits_of, value_at, after_value, values_at, after_values, entry_at, after_entry, entries_at};
 
 use crate::entry::Entry;
 use crate::layout::{DIGEST, MOST_EXPORTED};
@@ -125,11 +126,11 @@ impl<'a> Reader<'a> {
         digest
     }
 
-    /// A value, where one was given.
+    /// A value, if one was given.
     pub(crate) fn value(&mut self, given: bool) -> Option<i64>
         requires { 8 ≤ length self.old }
         ensures value { result ≡ value_at given self.old }
-        ensures rest { self.new ≡ behind_value given self.old }
+        ensures rest { self.new ≡ after_value given self.old }
         ensures left { length self.old ≤ length self.new + 8 }
     {
         if given { Some(self.signed()) } else { None }
@@ -139,7 +140,7 @@ impl<'a> Reader<'a> {
     pub(crate) fn values(&mut self, mask: u8) -> [Option<i64>; MOST_EXPORTED]
         requires { 8 * MOST_EXPORTED ≤ length self.old }
         ensures value { result ≡ values_at (bits_of MOST_EXPORTED mask) self.old }
-        ensures rest { self.new ≡ behind_values (bits_of MOST_EXPORTED mask) self.old }
+        ensures rest { self.new ≡ after_values (bits_of MOST_EXPORTED mask) self.old }
         ensures left { length self.old ≤ length self.new + 8 * MOST_EXPORTED }
     {
         let half = mask / 2;
@@ -153,11 +154,11 @@ impl<'a> Reader<'a> {
     }
 
     // The number of values is not read: it follows from the mask, and the whole body is compared at the end.
-    #[tactic(auto, unfolding(crate::specs::Entry::entry_at, crate::specs::Entry::behind_entry))]
+    #[tactic(auto, unfolding(crate::specs::Entry::entry_at, crate::specs::Entry::after_entry))]
     pub(crate) fn entry(&mut self) -> Entry
         requires { LONGEST_ENTRY ≤ length self.old }
         ensures value { result ≡ entry_at self.old }
-        ensures rest { self.new ≡ behind_entry self.old }
+        ensures rest { self.new ≡ after_entry self.old }
         ensures left { length self.old ≤ length self.new + LONGEST_ENTRY }
     {
         let atom = self.two();

@@ -1,3 +1,4 @@
+//! Which cell of a device holds what.
 ghost use Rattle.std.specs.Prelude.{◌≡◌, ℕ, ◌<◌, ◌≤◌};
 ghost use Rattle.record_codec.specs.Ring.{identity_cell, base_cell, slot_cell, record_cell, device_cells};
 

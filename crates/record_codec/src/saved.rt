@@ -1,6 +1,8 @@
+//! The state of one atom as it was saved.
 ghost use Rattle.std.specs.Prelude.{◌≡◌, ◌+◌, ◌*◌, ◌≤◌, IfSome, Some};
+ghost use Rattle.record_codec.specs.Answers.{IsAnswer};
 ghost use Rattle.record_codec.specs.Bytes.{padded};
-ghost use Rattle.record_codec.specs.Saved.{SavedFields, IsSaved, IsSavedBody, SavedFits, saved_bytes, saved_in};
+ghost use Rattle.record_codec.specs.Saved.{IsSaved, IsSavedBody, SavedFits, saved_bytes, saved_in};
 
 use crate::layout::{BODY, LAST_NUMBER, MOST_ATOMS, MOST_VARIABLES};
 use crate::reader::Reader;
@@ -89,25 +91,8 @@ impl Saved {
         &self.values[..self.variables]
     }
 
-    /// The body of a slot that holds this state.
-    pub fn to_body(&self) -> [u8; BODY]
-        ensures spelled { result ≡ padded BODY (saved_bytes self.now) }
-        ensures reads_back { saved_in result ≡ Some self.now }
-    {
-        self.spelled()
-    }
-
-    /// The saved state that the body holds, or `None` where it is no saved state's body.
-    pub fn from_body(body: &[u8; BODY]) -> Option<Saved>
-        ensures exact { result ≡ saved_in body.now }
-        ensures found { IfSome result (IsSavedBody body.now) }
-        ensures only { (saved : SavedFields) → IsSavedBody body.now saved → result ≡ Some saved }
-    {
-        Saved::read(body)
-    }
-
-    /// The body of this length that holds this state.
-    pub(crate) fn spelled<const LENGTH: usize>(&self) -> [u8; LENGTH]
+    /// The body of a slot that holds this state, in a layout with bodies of this length.
+    pub fn to_body<const LENGTH: usize>(&self) -> [u8; LENGTH]
         requires room { 27 + 8 * MOST_VARIABLES ≤ LENGTH }
         requires within { LENGTH ≤ BODY }
         ensures spelled { result ≡ padded LENGTH (saved_bytes self.now) }
@@ -125,13 +110,11 @@ impl Saved {
         writer.body()
     }
 
-    /// The saved state that a body of this length holds, or `None` where it is no saved state's body.
-    pub(crate) fn read<const LENGTH: usize>(body: &[u8; LENGTH]) -> Option<Saved>
+    /// The saved state that the body holds, or `None` if it is no saved state's body.
+    pub fn from_body<const LENGTH: usize>(body: &[u8; LENGTH]) -> Option<Saved>
         requires room { 27 + 8 * MOST_VARIABLES ≤ LENGTH }
         requires within { LENGTH ≤ BODY }
-        ensures exact { result ≡ saved_in body.now }
-        ensures found { IfSome result (IsSavedBody body.now) }
-        ensures only { (saved : SavedFields) → IsSavedBody body.now saved → result ≡ Some saved }
+        ensures { IsAnswer (saved_in body.now) (IsSavedBody body.now) result }
     {
         Saved::held(body)
     }
@@ -160,7 +143,7 @@ impl Saved {
             return None;
         }
         let saved = Saved::new(atom, count, at, marking, values);
-        if saved.spelled() == *body {
+        if saved.to_body() == *body {
             Some(saved)
         } else {
             None

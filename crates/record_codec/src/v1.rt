@@ -1,24 +1,22 @@
 //! The bodies of the first layout: cells of 512 bytes, and records of at most eight entries. They hold the
-//! same values, spelled the same but for the version of an identity.
+//! same values, spelled the same but for the version of an identity. A base and a saved state are written and read by
+//! [`Base`](crate::Base) and [`Saved`](crate::Saved) in bodies of either length.
 //!
 //! `todays_body`, `todays_identity` and `todays_record` make today's body of one, so that an old device is
 //! read as today's is. `laws` says that the two hold the same, and refuse the same.
 
-ghost use Rattle.std.specs.Prelude.{◌≡◌, ◌≤◌, ℕ, IfSome, Some, length};
+ghost use Rattle.std.specs.Prelude.{◌≡◌, ◌≤◌, Some, length};
 ghost use Rattle.record_codec.specs.declared.v1.TheConstants.{BODY, VERSION, MOST_ENTRIES};
+ghost use Rattle.record_codec.specs.Answers.{IsAnswer};
 ghost use Rattle.record_codec.specs.Bytes.{padded};
-ghost use Rattle.record_codec.specs.Base.{IsBaseBody, base_bytes, base_in};
-ghost use Rattle.record_codec.specs.Identity.{IdentityFields, IsIdentityBodyOf, identity_bytes_of, identity_of};
-ghost use Rattle.record_codec.specs.Saved.{SavedFields, IsSavedBody, saved_bytes, saved_in};
-ghost use Rattle.record_codec.specs.Fired.{FiredFields, IsFiredBodyUpTo, fired_bytes, fired_up_to};
+ghost use Rattle.record_codec.specs.Identity.{IsIdentityBodyOf, identity_bytes_of, identity_of};
+ghost use Rattle.record_codec.specs.Fired.{IsFiredBodyUpTo, fired_bytes, fired_up_to};
 ghost use Rattle.record_codec.specs.FirstLayout.{todays_body, todays_version, todays_identity, todays_record};
 
-use crate::base::Base;
 use crate::fired::Fired;
 use crate::identity::Identity;
 use crate::layout;
 use crate::layout::{ENTRY_COUNT_AT, MAGIC};
-use crate::saved::Saved;
 use crate::writer::Writer;
 
 /// How many bytes a body has.
@@ -38,47 +36,11 @@ pub fn identity_to_body(identity: &Identity) -> [u8; BODY]
     identity.spelled(VERSION)
 }
 
-/// The identity that the body holds, or `None` where it is no identity's body.
+/// The identity that the body holds, or `None` if it is no identity's body.
 pub fn identity_from_body(body: &[u8; BODY]) -> Option<Identity>
-    ensures exact { result ≡ identity_of VERSION body.now }
-    ensures found { IfSome result (IsIdentityBodyOf VERSION body.now) }
-    ensures only { (identity : IdentityFields) → IsIdentityBodyOf VERSION body.now identity → result ≡ Some identity }
+    ensures { IsAnswer (identity_of VERSION body.now) (IsIdentityBodyOf VERSION body.now) result }
 {
     Identity::read(body, VERSION)
-}
-
-/// The body of a cell that holds the base.
-pub fn base_to_body(base: &Base) -> [u8; BODY]
-    ensures spelled { result ≡ padded BODY (base_bytes base.now) }
-    ensures reads_back { base_in result ≡ Some base.now }
-{
-    base.spelled()
-}
-
-/// The base that the body holds, or `None` where it is no base's body.
-pub fn base_from_body(body: &[u8; BODY]) -> Option<Base>
-    ensures exact { result ≡ base_in body.now }
-    ensures found { IfSome result (IsBaseBody body.now) }
-    ensures only { (number : ℕ) → IsBaseBody body.now number → result ≡ Some number }
-{
-    Base::read(body)
-}
-
-/// The body of a slot that holds the saved state.
-pub fn saved_to_body(saved: &Saved) -> [u8; BODY]
-    ensures spelled { result ≡ padded BODY (saved_bytes saved.now) }
-    ensures reads_back { saved_in result ≡ Some saved.now }
-{
-    saved.spelled()
-}
-
-/// The saved state that the body holds, or `None` where it is no saved state's body.
-pub fn saved_from_body(body: &[u8; BODY]) -> Option<Saved>
-    ensures exact { result ≡ saved_in body.now }
-    ensures found { IfSome result (IsSavedBody body.now) }
-    ensures only { (saved : SavedFields) → IsSavedBody body.now saved → result ≡ Some saved }
-{
-    Saved::read(body)
 }
 
 /// The body of a cell that holds the record.
@@ -90,11 +52,9 @@ pub fn fired_to_body(fired: &Fired) -> [u8; BODY]
     fired.spelled()
 }
 
-/// The record that the body holds, or `None` where it is no record's body.
+/// The record that the body holds, or `None` if it is no record's body.
 pub fn fired_from_body(body: &[u8; BODY]) -> Option<Fired>
-    ensures exact { result ≡ fired_up_to MOST_ENTRIES body.now }
-    ensures found { IfSome result (IsFiredBodyUpTo MOST_ENTRIES body.now) }
-    ensures only { (fired : FiredFields) → IsFiredBodyUpTo MOST_ENTRIES body.now fired → result ≡ Some fired }
+    ensures { IsAnswer (fired_up_to MOST_ENTRIES body.now) (IsFiredBodyUpTo MOST_ENTRIES body.now) result }
 {
     Fired::read(body, MOST_ENTRIES)
 }
@@ -115,14 +75,14 @@ pub fn todays_body(body: &[u8; BODY]) -> [u8; layout::BODY]
 pub fn todays_identity(body: &[u8; BODY]) -> [u8; layout::BODY]
     ensures { result ≡ todays_identity body.now }
 {
-    let Some(version) = Identity::version_told(body) else {
+    let Some(version) = Identity::version_written(body) else {
         return todays_body(body);
     };
-    let (_, behind_version) = body.split_at(MAGIC.len() + 2);
+    let (_, after_version) = body.split_at(MAGIC.len() + 2);
     let mut writer = Writer::new();
     writer.bytes(&MAGIC);
     writer.two(todays_version(version));
-    writer.bytes(behind_version);
+    writer.bytes(after_version);
     writer.body()
 }
 

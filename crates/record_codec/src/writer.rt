@@ -1,3 +1,4 @@
+//! Writing a body, one field after another.
 ghost use Rattle.std.specs.Prelude.{◌≡◌, ℕ, ◌+◌, ◌*◌, ◌-◌, ◌≤◌, List, [], ◌++◌, length, take, drop, All, IfSome, FitsSigned};
 ghost use Rattle.std.specs.Int.{w64};
 ghost use Rattle.std.specs.List.{flat_map};
@@ -8,7 +9,7 @@ ghost use Rattle.record_codec.specs.Bytes.{one_byte, two_bytes, four_bytes, eigh
 use crate::entry::Entry;
 use std::marker::Model;
 
-/// Writes a body from its front: what was written so far, and zeros behind it.
+/// Writes a body from its front: what was written so far, and zeros after it.
 #[derive(Drop)]
 pub(crate) struct Writer<const LENGTH: usize> {
     body: [u8; LENGTH],
@@ -110,7 +111,7 @@ impl<const LENGTH: usize> Writer<LENGTH> {
         self.body
     }
 
-    /// Writes a value, where there is one.
+    /// Writes a value, if there is one.
     pub(crate) fn value(&mut self, value: Option<i64>)
         requires { length self.old + 8 ≤ LENGTH }
         ensures written { self.new ≡ self.old ++ value_bytes value }

@@ -11,7 +11,7 @@ use Rattle.step_core.specs.Choice.{ChoiceDefinition}
 use Rattle.step_core.specs.Laws.{atoms_of}
 use Rattle.step_core.specs.declared.choice.Move.{Move}
 use Rattle.step_core.proofs.ByAtom.{none-of}
-use Rattle.record_replay.specs.Records.{count_of, counted_by, counted_from, counts_after, counts_behind}
+use Rattle.record_replay.specs.Records.{count_of, counted_by, counted_from, counts_after, counts_after_all}
 
 module _ (moves : List Move) where
   -- of an atom that is counted, by its number
@@ -59,20 +59,20 @@ module _ (moves : List Move) where
       (counted-within bound (suc n) ks (All-tail (λ (count : ℕ). count ≤ bound) k ks all))
 
 -- the same of choices
-pub length-behind : (cs : List ChoiceDefinition) (counts : List ℕ) → length (counts_behind cs counts) ≡ length counts
+pub length-behind : (cs : List ChoiceDefinition) (counts : List ℕ) → length (counts_after_all cs counts) ≡ length counts
 length-behind [] counts = refl
 length-behind (c ∷ cs) counts = length-behind cs (counts_after c counts) ∙ length-counted c.moves 0 counts
 
-pub behind-within : (cs : List ChoiceDefinition) (counts : List ℕ) (n : ℕ) → All (λ count. count ≤ n) counts → All (λ count. count ≤ n + length cs) (counts_behind cs counts)
+pub behind-within : (cs : List ChoiceDefinition) (counts : List ℕ) (n : ℕ) → All (λ count. count ≤ n) counts → All (λ count. count ≤ n + length cs) (counts_after_all cs counts)
 behind-within [] counts n all =
     let e : n ≡ n + 0 = omega arith in
     subst (λ b. All (λ (count : ℕ). count ≤ b) counts) e all
 behind-within (c ∷ cs) counts n all =
     let e : (n + 1) + length cs ≡ n + suc (length cs) = omega arith in
-    subst (λ b. All (λ (count : ℕ). count ≤ b) (counts_behind cs (counts_after c counts))) e
+    subst (λ b. All (λ (count : ℕ). count ≤ b) (counts_after_all cs (counts_after c counts))) e
     (behind-within cs (counts_after c counts) (n + 1) (counted-within c.moves n 0 counts all))
 
-pub behind-append : (xs ys : List ChoiceDefinition) (counts : List ℕ) → counts_behind (xs ++ ys) counts ≡ counts_behind ys (counts_behind xs counts)
+pub behind-append : (xs ys : List ChoiceDefinition) (counts : List ℕ) → counts_after_all (xs ++ ys) counts ≡ counts_after_all ys (counts_after_all xs counts)
 behind-append [] ys counts = refl
 behind-append (x ∷ xs) ys counts = behind-append xs ys (counts_after x counts)
 
@@ -98,7 +98,7 @@ module _ (moves : List Move) (m : Move) where
       ap (λ js. counted_by moves n k ∷ js) (others-counted (suc n) ks above)
 
   module _ (fresh : find (λ j. j.atom == m.atom) moves ≡ None) where
-    -- and its own by one, where it had none
+    -- and its own by one, if it had none
     counted-own : (k : ℕ) → counted_by (moves ++ m ∷ []) m.atom k ≡ k + 1
     counted-own k =
         ap (λ o. option_map_or (λ (j : Move). k + 1) o k) (find-append (λ (j : Move). j.atom == m.atom) moves (m ∷ [])) ∙

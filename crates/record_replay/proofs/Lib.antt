@@ -1,6 +1,6 @@
 pub mod OverRecords
 pub mod Counting
-pub mod Telling
+mod RecordEntries
 pub mod OnRuns
 pub mod OfPlants
 mod Rows

@@ -40,7 +40,7 @@ there-at [] k within = absurd (omega arith)
 there-at (x ∷ xs) zero within = (x, refl)
 there-at (x ∷ xs) (suc k) within = there-at xs k (omega arith)
 
--- where each value past a number is none, the row has none past it
+-- if each value past a number is none, the row has none past it
 none-past : (row : Row) (n : ℕ) → ((j : ℕ) → n ≤ j → delivered_value row j ≡ None) → has_none_past n row ≡ true
 none-past [] zero none = refl
 none-past [] (suc n) none = refl

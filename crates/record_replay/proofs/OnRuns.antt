@@ -19,7 +19,7 @@ use Rattle.step_core.proofs.Membership.{here, later}
 use Rattle.step_core.proofs.OfChoices.{taking}
 use Rattle.step_core.proofs.OfPorts.{port-of-move}
 use Rattle.step_core.proofs.OnRuns.{runs-cut}
-use Rattle.record_replay.specs.Records.{count_of, counted_by, counts_after, counts_behind, entry_by, record_by, records_of}
+use Rattle.record_replay.specs.Records.{count_of, counted_by, counts_after, counts_after_all, entry_by, record_by, records_of}
 use Rattle.record_replay.specs.Replay.{Position, ok_then, replay, replay_from, replay_record}
 use Rattle.record_replay.proofs.Counting.{counted-entry, counted-grows, length-counted}
 use Rattle.record_replay.proofs.OverRecords.{fires-entry, goes-onward, play, replay-anew, replay-append}
@@ -54,7 +54,7 @@ pub length-records : (plant : PlantDefinition) (states : List Local) (counts : L
 length-records plant states counts n [] = refl
 length-records plant states counts n (c ∷ cs) = ap suc (length-records plant (next plant states c) (counts_after c counts) (n + 1) cs)
 
-pub records-append : (plant : PlantDefinition) (xs ys : List ChoiceDefinition) (states : List Local) (counts : List ℕ) (n : ℕ) → records_of plant states counts n (xs ++ ys) ≡ records_of plant states counts n xs ++ records_of plant (fold plant states xs) (counts_behind xs counts) (n + length xs) ys
+pub records-append : (plant : PlantDefinition) (xs ys : List ChoiceDefinition) (states : List Local) (counts : List ℕ) (n : ℕ) → records_of plant states counts n (xs ++ ys) ≡ records_of plant states counts n xs ++ records_of plant (fold plant states xs) (counts_after_all xs counts) (n + length xs) ys
 records-append plant [] ys states counts n =
     let e : n ≡ n + 0 = omega arith in
     ap (λ (k : ℕ). records_of plant states counts k ys) e
@@ -63,7 +63,7 @@ records-append plant (x ∷ xs) ys states counts n =
     let after = next plant states x in
     let counted = counts_after x counts in
     ap (λ rs. record_by plant states counts (n + 1) x ∷ rs) (records-append plant xs ys after counted (n + 1)) ∙
-    ap (λ (k : ℕ). record_by plant states counts (n + 1) x ∷ (records_of plant after counted (n + 1) xs ++ records_of plant (fold plant after xs) (counts_behind xs counted) k ys)) e
+    ap (λ (k : ℕ). record_by plant states counts (n + 1) x ∷ (records_of plant after counted (n + 1) xs ++ records_of plant (fold plant after xs) (counts_after_all xs counted) k ys)) e
 
 module _ (plant : PlantDefinition) (atom : ℕ) (a : AtomDefinition) (its_atom : slice_get plant.atoms atom ≡ Some a) where
   -- a participant of an allowed choice fires a transition that its atom's state offers
@@ -80,7 +80,7 @@ module _ (plant : PlantDefinition) (atom : ℕ) (a : AtomDefinition) (its_atom :
       ap (λ o. option_map_or (λ w. is_of_port a p.port m.transition && offers_number a w m.transition) o false) its_state) ∙ parts.1 in
       (and_parts (is_of_port a p.port m.transition) (offers_number a s m.transition) both).1
 
-  -- where the atom is behind the first of its moves
+  -- where the atom is after the first of its moves
   abbrev after_move : (ℕ → Row) → Local → ℕ → Option Move → Position
   after_move delivered s count o = record {
     state = option_map_or (λ m. fired a m.transition (delivered atom) s) o s;
@@ -113,7 +113,7 @@ module _ (plant : PlantDefinition) (atom : ℕ) (a : AtomDefinition) (its_atom :
 
   -- so do those of a run
   pub leads-on : (cs : List ChoiceDefinition) (states end : List Local) (counts : List ℕ) (n saved : ℕ) (s e : Local) → IsRun plant states cs end → atom < length counts → slice_get states atom ≡ Some s → slice_get end atom ≡ Some e → saved ≤ count_of counts atom
-      → replay a atom saved (records_of plant states counts n cs) (record { state = s; count = count_of counts atom }) ≡ Ok (record { state = e; count = count_of (counts_behind cs counts) atom })
+      → replay a atom saved (records_of plant states counts n cs) (record { state = s; count = count_of counts atom }) ≡ Ok (record { state = e; count = count_of (counts_after_all cs counts) atom })
   leads-on [] states end counts n saved s e run counted its_state its_end from =
       let same : s ≡ e = same_Some s e (sym its_state ∙ ap (λ states. slice_get states atom) run ∙ its_end) in
       ap (λ w. Ok (record { state = w; count = count_of counts atom })) same
@@ -128,15 +128,15 @@ module _ (plant : PlantDefinition) (atom : ℕ) (a : AtomDefinition) (its_atom :
       ap (λ k. replay a atom saved (records_of plant after (counts_after c counts) (n + 1) cs) (record { state = w; count = k })) (sym its_count) ∙
       leads-on cs after end (counts_after c counts) (n + 1) saved w e run.1 many its_next its_end more
 
-  -- behind records that brought it to the state where the run begins
+  -- after records that brought it to the state where the run begins
   pub run-leads-on : (start end : List Local) (counts : List ℕ) (n : ℕ) (cs : List ChoiceDefinition) (saved : ℕ) (s e : Local) (rs : List FiredFields) (p : Position) → IsRun plant start cs end → atom < length counts → slice_get start atom ≡ Some s → slice_get end atom ≡ Some e → saved ≤ count_of counts atom → replay a atom saved rs p ≡ Ok (record { state = s; count = count_of counts atom })
-      → replay a atom saved (rs ++ records_of plant start counts n cs) p ≡ Ok (record { state = e; count = count_of (counts_behind cs counts) atom })
+      → replay a atom saved (rs ++ records_of plant start counts n cs) p ≡ Ok (record { state = e; count = count_of (counts_after_all cs counts) atom })
   run-leads-on start end counts n cs saved s e rs p run counted its_state its_end from there =
       replay-append a atom saved rs (records_of plant start counts n cs) p ∙
       ap (λ o. ok_then o (λ q. replay a atom saved (records_of plant start counts n cs) q)) there ∙
       leads-on cs start end counts n saved s e run counted its_state its_end from
 
-  -- a state behind choices has one before them
+  -- a state after choices has one before them
   state-before : (cs : List ChoiceDefinition) (start : List Local) (s : Local) → slice_get (fold plant start cs) atom ≡ Some s → (first : Local) × (slice_get start atom ≡ Some first)
   state-before [] start s there = (s, there)
   state-before (c ∷ cs) start s there =
@@ -149,7 +149,7 @@ module _ (plant : PlantDefinition) (atom : ℕ) (a : AtomDefinition) (its_atom :
 
   -- mixed counts
   pub run-replays : (start end : List Local) (counts : List ℕ) (n : ℕ) (xs ys : List ChoiceDefinition) (s e : Local) → IsRun plant start (xs ++ ys) end → atom < length counts → slice_get (fold plant start xs) atom ≡ Some s → slice_get end atom ≡ Some e
-      → replay_from a atom (record { state = s; count = count_of (counts_behind xs counts) atom }) (records_of plant start counts n (xs ++ ys)) ≡ Ok (record { state = e; count = count_of (counts_behind (xs ++ ys) counts) atom })
+      → replay_from a atom (record { state = s; count = count_of (counts_after_all xs counts) atom }) (records_of plant start counts n (xs ++ ys)) ≡ Ok (record { state = e; count = count_of (counts_after_all (xs ++ ys) counts) atom })
   run-replays start end counts n xs ys s e run counted its_state its_end =
       let parts = runs-cut plant xs ys start end run in
       let before = state-before xs start s its_state in
@@ -160,6 +160,6 @@ module _ (plant : PlantDefinition) (atom : ℕ) (a : AtomDefinition) (its_atom :
       let front = leads-on xs start (fold plant start xs) counts n saved first s parts.0 counted before.1 its_state same in
       let whole = leads-on (xs ++ ys) start end counts n saved first e run counted before.1 its_end same in
       let split = records-append plant xs ys start counts n in
-      ap (λ rs. replay_from a atom (record { state = s; count = count_of (counts_behind xs counts) atom }) rs) split ∙
-      replay-anew a atom saved (records_of plant start counts n xs) (records_of plant (fold plant start xs) (counts_behind xs counts) (n + length xs) ys) p (record { state = s; count = count_of (counts_behind xs counts) atom }) (record { state = e; count = count_of (counts_behind (xs ++ ys) counts) atom }) same front
+      ap (λ rs. replay_from a atom (record { state = s; count = count_of (counts_after_all xs counts) atom }) rs) split ∙
+      replay-anew a atom saved (records_of plant start counts n xs) (records_of plant (fold plant start xs) (counts_after_all xs counts) (n + length xs) ys) p (record { state = s; count = count_of (counts_after_all xs counts) atom }) (record { state = e; count = count_of (counts_after_all (xs ++ ys) counts) atom }) same front
       (ap (λ rs. replay a atom saved rs p) (sym split) ∙ whole)

@@ -7,7 +7,7 @@ use Rattle.petri_atom.specs.Definition.{AtomDefinition, Fits, fired, is_well_for
 use Rattle.petri_atom.proofs.Fitting.{fired-fits}
 use Rattle.record_codec.specs.Fired.{FiredFields}
 use Rattle.record_codec.specs.declared.entry.Entry.{Entry}
-use Rattle.record_replay.specs.Replay.{Position, is_behind, ok_then, part_of, replay, replay_entry, replay_from, replay_record}
+use Rattle.record_replay.specs.Replay.{Position, is_included, ok_then, part_of, replay, replay_entry, replay_from, replay_record}
 use Rattle.record_replay.specs.declared.fault.ReplayFault.{ReplayFault}
 use Rattle.record_replay.specs.declared.fault.ReplayFault.TheVariants.{Gap, NotEnabled}
 
@@ -112,7 +112,7 @@ module _ (a : AtomDefinition) (atom : ℕ) where
       each behind (Ok q) = behind q
       each behind (Err fault) = refl
 
-  -- where replay of a list is Ok, it goes over a position behind the first record
+  -- if replay of a list is Ok, it goes over a position after the first record
   replay-between : (saved : ℕ) (x : FiredFields) (xs : List FiredFields) (p e : Position) → replay a atom saved (x ∷ xs) p ≡ Ok e → (q : Position) × Took a x.number saved (part_of atom x) p q × (replay a atom saved xs q ≡ Ok e)
   replay-between saved x xs p e taken = each (replay_record a atom saved x p) refl taken
     where
@@ -135,7 +135,7 @@ module _ (a : AtomDefinition) (atom : ℕ) where
       let between = replay-between saved x xs p e taken in
       replay-fits saved xs between.0 e formed (between.1.fits formed fits) between.2
 
-  -- what replay went over, it passes over from a limit of the count behind it on
+  -- what replay went over, it passes over from a limit of the count after it on
   pub replay-passed : (saved limit : ℕ) (xs : List FiredFields) (p q z : Position) → saved ≤ p.count → replay a atom saved xs p ≡ Ok q → q.count ≤ limit → replay a atom limit xs z ≡ Ok z
   replay-passed saved limit [] p q z from taken reaches = refl
   replay-passed saved limit (x ∷ xs) p q z from taken reaches =
@@ -166,11 +166,11 @@ module _ (a : AtomDefinition) (atom : ℕ) where
       ap (λ o. ok_then o (λ r. replay a atom q.count ys r)) (replay-passed saved q.count xs p q q from first same) ∙
       replay-alike saved q.count ys q e (omega arith) same rest
 
-  -- records that the saved state is behind are passed over
-  pub replay-behind : (saved : ℕ) (xs ys : List FiredFields) (p : Position) → list_all (is_behind atom saved) xs ≡ true → replay a atom saved (xs ++ ys) p ≡ replay a atom saved ys p
+  -- records that the saved state includes are passed over
+  pub replay-behind : (saved : ℕ) (xs ys : List FiredFields) (p : Position) → list_all (is_included atom saved) xs ≡ true → replay a atom saved (xs ++ ys) p ≡ replay a atom saved ys p
   replay-behind saved [] ys p all = refl
   replay-behind saved (x ∷ xs) ys p all =
-      let parts = and_parts (is_behind atom saved x) (list_all (is_behind atom saved) xs) all in
+      let parts = and_parts (is_included atom saved x) (list_all (is_included atom saved) xs) all in
       ap (λ o. ok_then o (λ q. replay a atom saved (xs ++ ys) q)) (each (part_of atom x) parts.0) ∙ replay-behind saved xs ys p parts.1
     where
       each : (part : Option Entry) → option_map_or (λ e. nat_le e.participation saved) part true ≡ true → play a x.number saved part p ≡ Ok p

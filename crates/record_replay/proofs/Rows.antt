@@ -13,8 +13,8 @@ use Rattle.step_core.specs.Choice.{ChoiceDefinition}
 use Rattle.step_core.specs.Plant.{PlantDefinition, TransferDefinition, WireDefinition}
 use Rattle.step_core.specs.declared.wire.Export.{Export}
 use Rattle.record_replay.specs.OfPlant.{is_record_of}
-use Rattle.record_replay.specs.Records.{counts_behind, record_told, records_of}
-use Rattle.record_replay.specs.Replay.{Position, is_behind, replay_from}
+use Rattle.record_replay.specs.Records.{counts_after_all, record_delivered, records_of}
+use Rattle.record_replay.specs.Replay.{Position, is_included, replay_from}
 use Rattle.record_replay.specs.declared.fault.ReplayFault.TheVariants.{Gap, NotEnabled}
 
 -- ---- the sample: A counts on in n, and B holds m; `tick A.t`, and `send A.t B.u` with `B.m := A.n`
@@ -96,11 +96,11 @@ records_of_the_run : records_of sample (at (pos 0) (pos 0)) (0 ∷ 0 ∷ []) 0 r
 unfolding sample counts_on holds moved set_below int_wrap
 records_of_the_run = refl
 
-counts_of_the_run : counts_behind run (0 ∷ 0 ∷ []) ≡ 4 ∷ 2 ∷ []
+counts_of_the_run : counts_after_all run (0 ∷ 0 ∷ []) ≡ 4 ∷ 2 ∷ []
 counts_of_the_run = refl
 
 -- the record that is told by what the second step delivered, place by place
-told_of_send : record_told 2 send (none ∷ first (pos 1) ∷ []) (1 ∷ 0 ∷ []) ≡ record_by 2 1 (did 0 2 none ∷ did 1 1 (first (pos 1)) ∷ [])
+told_of_send : record_delivered 2 send (none ∷ first (pos 1) ∷ []) (1 ∷ 0 ∷ []) ≡ record_by 2 1 (did 0 2 none ∷ did 1 1 (first (pos 1)) ∷ [])
 told_of_send = refl
 
 -- ---- whose records they can be
@@ -137,7 +137,7 @@ b_from_the_start : replay_from holds 1 (behind (pos 0) 0) all ≡ Ok (behind (po
 unfolding holds moved set_below int_wrap
 b_from_the_start = refl
 
--- a state that is behind some of the records passes these over, and one that is behind all stays
+-- a state that includes some of the records passes these over, and one that includes all stays
 a_from_between : replay_from counts_on 0 (behind (pos 2) 2) all ≡ Ok (behind (pos 4) 4)
 unfolding counts_on moved set_below int_wrap
 a_from_between = refl
@@ -150,10 +150,10 @@ a_from_the_end : replay_from counts_on 0 (behind (pos 4) 4) all ≡ Ok (behind (
 unfolding counts_on
 a_from_the_end = refl
 
-whom_they_are_behind : map (is_behind 0 2) all ≡ true ∷ true ∷ false ∷ false ∷ []
+whom_they_are_behind : map (is_included 0 2) all ≡ true ∷ true ∷ false ∷ false ∷ []
 whom_they_are_behind = refl
 
-whom_b_is_behind : map (is_behind 1 1) all ≡ true ∷ true ∷ true ∷ false ∷ []
+whom_b_is_behind : map (is_included 1 1) all ≡ true ∷ true ∷ true ∷ false ∷ []
 whom_b_is_behind = refl
 
 -- a firing that is missing is a gap, and so is one that stands twice

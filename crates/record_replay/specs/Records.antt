@@ -9,11 +9,11 @@ use Rattle.step_core.specs.Plant.{PlantDefinition}
 use Rattle.step_core.specs.Step.{next, transfer}
 use Rattle.step_core.specs.declared.choice.Move.{Move}
 
--- how often an atom has taken part, where this is told of all atoms
+-- how often an atom has taken part, if that is known of all atoms
 abbrev pub count_of : List ℕ → ℕ → ℕ
 count_of counts atom = slice_index_or counts atom 0
 
--- how often the atom with a number has taken part behind some moves: once more where one of them is its own
+-- how often the atom with a number has taken part after some moves: once more if one of them is its own
 abbrev pub counted_by : List Move → ℕ → ℕ → ℕ
 counted_by moves n count = option_map_or (λ m. count + 1) (find (λ m. m.atom == n) moves) count
 
@@ -22,14 +22,14 @@ abbrev pub counted_from : List Move → ℕ → List ℕ → List ℕ
 counted_from moves n [] = []
 counted_from moves n (count ∷ counts) = counted_by moves n count ∷ counted_from moves (suc n) counts
 
--- how often each atom has taken part behind a choice
+-- how often each atom has taken part after a choice
 abbrev pub counts_after : ChoiceDefinition → List ℕ → List ℕ
 counts_after c counts = counted_from c.moves 0 counts
 
--- and behind choices that are fired one after another
-abbrev pub counts_behind : List ChoiceDefinition → List ℕ → List ℕ
-counts_behind [] counts = counts
-counts_behind (c ∷ cs) counts = counts_behind cs (counts_after c counts)
+-- and after choices that are fired one after another
+abbrev pub counts_after_all : List ChoiceDefinition → List ℕ → List ℕ
+counts_after_all [] counts = counts
+counts_after_all (c ∷ cs) counts = counts_after_all cs (counts_after c counts)
 
 -- what a participant did: its transition, which of its firings this was, and what was delivered to it
 abbrev pub entry_by : List ℕ → Move → Row → Entry
@@ -49,12 +49,12 @@ records_of plant states counts n [] = []
 records_of plant states counts n (c ∷ cs) =
     record_by plant states counts (n + 1) c ∷ records_of plant (next plant states c) (counts_after c counts) (n + 1) cs
 
--- what the participants did, where what was delivered to each is told in the order of the moves
-abbrev pub entries_told : List ℕ → List Move → List Row → List Entry
-entries_told counts [] rows = []
-entries_told counts (m ∷ ms) [] = []
-entries_told counts (m ∷ ms) (row ∷ rows) = entry_by counts m row ∷ entries_told counts ms rows
+-- what the participants did, where what was delivered to each stands in the order of the moves
+abbrev pub entries_delivered : List ℕ → List Move → List Row → List Entry
+entries_delivered counts [] rows = []
+entries_delivered counts (m ∷ ms) [] = []
+entries_delivered counts (m ∷ ms) (row ∷ rows) = entry_by counts m row ∷ entries_delivered counts ms rows
 
--- the record with number n of a choice, where it is told so
-abbrev pub record_told : ℕ → ChoiceDefinition → List Row → List ℕ → FiredFields
-record_told n c rows counts = record { number = n; connector = c.connector; entries = entries_told counts c.moves rows }
+-- the record with number n of a choice, if this was delivered
+abbrev pub record_delivered : ℕ → ChoiceDefinition → List Row → List ℕ → FiredFields
+record_delivered n c rows counts = record { number = n; connector = c.connector; entries = entries_delivered counts c.moves rows }

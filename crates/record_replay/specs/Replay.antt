@@ -22,7 +22,7 @@ abbrev pub ok_then : {X Y F : Type 0} → Result X F → (X → Result Y F) → 
 ok_then (Ok x) goes = goes x
 ok_then (Err fault) goes = Err fault
 
--- A firing that the saved state is behind is passed over. Any other has to be the next one of the atom, by a transition that its
+-- A firing that the saved state includes is passed over. Any other has to be the next one of the atom, by a transition that its
 -- state offers, and is fired with the values that the record says were delivered.
 abbrev pub replay_entry : AtomDefinition → ℕ → ℕ → Entry → Position → Result Position ReplayFault
 replay_entry a saved number e p =
@@ -44,6 +44,6 @@ replay a atom saved (r ∷ rs) p = ok_then (replay_record a atom saved r p) (λ 
 abbrev pub replay_from : AtomDefinition → ℕ → Position → List FiredFields → Result Position ReplayFault
 replay_from a atom saved rs = replay a atom saved.count rs saved
 
--- the saved state of an atom is behind its part in a record, or it has none
-abbrev pub is_behind : ℕ → ℕ → FiredFields → Bool
-is_behind atom saved r = option_map_or (λ e. nat_le e.participation saved) (part_of atom r) true
+-- the saved state of an atom includes its part in a record, or it has none
+abbrev pub is_included : ℕ → ℕ → FiredFields → Bool
+is_included atom saved r = option_map_or (λ e. nat_le e.participation saved) (part_of atom r) true

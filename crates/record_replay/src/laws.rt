@@ -6,20 +6,20 @@ ghost use Rattle.petri_atom.specs.Local.{Local, Row};
 ghost use Rattle.record_codec.specs.Fired.{FiredFields, IsFired};
 ghost use Rattle.record_codec.specs.declared.layout.TheConstants.{LAST_NUMBER};
 ghost use Rattle.step_core.specs.Choice.{ChoiceDefinition, IsAllowed};
-ghost use Rattle.step_core.specs.Delivery.{IsTold};
+ghost use Rattle.step_core.specs.Delivery.{IsDelivered};
 ghost use Rattle.step_core.specs.Plant.{PlantDefinition};
 ghost use Rattle.step_core.specs.Rules.{fault_of};
 ghost use Rattle.step_core.specs.Runs.{IsRun, fold};
 ghost use Rattle.step_core.specs.Step.{transfer};
 ghost use Rattle.record_replay.specs.OfPlant.{is_record_of};
-ghost use Rattle.record_replay.specs.Records.{count_of, counts_behind, record_by, record_told, records_of};
-ghost use Rattle.record_replay.specs.Replay.{Position, is_behind, ok_then, replay, replay_from};
+ghost use Rattle.record_replay.specs.Records.{count_of, counts_after_all, record_by, record_delivered, records_of};
+ghost use Rattle.record_replay.specs.Replay.{Position, is_included, ok_then, replay, replay_from};
 
-/// A record that is told by what a step delivered is the record of the choice.
-pub fn a_told_record_is_the_record_of_its_choice()
+/// A record of what a step delivered is the record of the choice.
+pub fn a_record_of_what_was_delivered_is_that_of_the_choice()
     ensures { (plant : PlantDefinition) (states : List Local) (counts : List ℕ) (n : ℕ) (c : ChoiceDefinition) (rows : List Row)
-        → length c.moves ≤ length rows → IsTold c.moves (transfer plant states c) rows
-        → record_told n c rows counts ≡ record_by plant states counts n c }
+        → length c.moves ≤ length rows → IsDelivered c.moves (transfer plant states c) rows
+        → record_delivered n c rows counts ≡ record_by plant states counts n c }
 {}
 
 /// The record of an allowed choice of a plant of well-formed atoms is in the ranges of a record, and can be of the plant.
@@ -39,16 +39,16 @@ pub fn records_stand_in_a_row()
         → length (records_of plant states counts n cs) ≡ length cs }
     ensures joined { (plant : PlantDefinition) (states : List Local) (counts : List ℕ) (n : ℕ) (xs ys : List ChoiceDefinition)
         → records_of plant states counts n (xs ++ ys)
-        ≡ records_of plant states counts n xs ++ records_of plant (fold plant states xs) (counts_behind xs counts) (n + length xs) ys }
+        ≡ records_of plant states counts n xs ++ records_of plant (fold plant states xs) (counts_after_all xs counts) (n + length xs) ys }
     ensures counted { (counts : List ℕ) (xs ys : List ChoiceDefinition)
-        → counts_behind (xs ++ ys) counts ≡ counts_behind ys (counts_behind xs counts) }
+        → counts_after_all (xs ++ ys) counts ≡ counts_after_all ys (counts_after_all xs counts) }
 {}
 
 /// No atom has taken part more often than there were choices.
 pub fn no_atom_counts_faster_than_the_choices()
     ensures counts { (counts : List ℕ) (n : ℕ) (cs : List ChoiceDefinition)
-        → All (λ count. count ≤ n) counts → All (λ count. count ≤ n + length cs) (counts_behind cs counts) }
-    ensures as_many { (counts : List ℕ) (cs : List ChoiceDefinition) → length (counts_behind cs counts) ≡ length counts }
+        → All (λ count. count ≤ n) counts → All (λ count. count ≤ n + length cs) (counts_after_all cs counts) }
+    ensures as_many { (counts : List ℕ) (cs : List ChoiceDefinition) → length (counts_after_all cs counts) ≡ length counts }
 {}
 
 /// Replay over two lists of records, one after the other, is replay over the first and then over the second.
@@ -63,9 +63,9 @@ pub fn replay_begins_anew_on_its_way()
         → replay a atom saved xs p ≡ Ok q → replay a atom saved (xs ++ ys) p ≡ Ok e → replay_from a atom q (xs ++ ys) ≡ Ok e }
 {}
 
-/// Records that a saved state is behind are passed over.
-pub fn records_behind_are_passed_over()
-    ensures { (a : AtomDefinition) (atom saved : ℕ) (xs ys : List FiredFields) (p : Position) → list_all (is_behind atom saved) xs ≡ true
+/// Records that a saved state includes are passed over.
+pub fn included_records_are_passed_over()
+    ensures { (a : AtomDefinition) (atom saved : ℕ) (xs ys : List FiredFields) (p : Position) → list_all (is_included atom saved) xs ≡ true
         → replay a atom saved (xs ++ ys) p ≡ replay a atom saved ys p }
 {}
 
@@ -77,7 +77,7 @@ pub fn the_records_of_a_run_lead_on()
         → slice_get start atom ≡ Some s → slice_get end atom ≡ Some e → saved ≤ count_of counts atom
         → replay a atom saved rs p ≡ Ok (record { state = s; count = count_of counts atom })
         → replay a atom saved (rs ++ records_of plant start counts n cs) p
-        ≡ Ok (record { state = e; count = count_of (counts_behind cs counts) atom }) }
+        ≡ Ok (record { state = e; count = count_of (counts_after_all cs counts) atom }) }
 {}
 
 /// Mixed counts: of a run that is cut in two anywhere, each atom is brought from its state at the cut to its state at the end by the
@@ -87,8 +87,8 @@ pub fn mixed_counts()
         (a : AtomDefinition) (s e : Local)
         → IsRun plant start (xs ++ ys) end → slice_get plant.atoms atom ≡ Some a → atom < length counts
         → slice_get (fold plant start xs) atom ≡ Some s → slice_get end atom ≡ Some e
-        → replay_from a atom (record { state = s; count = count_of (counts_behind xs counts) atom }) (records_of plant start counts n (xs ++ ys))
-        ≡ Ok (record { state = e; count = count_of (counts_behind (xs ++ ys) counts) atom }) }
+        → replay_from a atom (record { state = s; count = count_of (counts_after_all xs counts) atom }) (records_of plant start counts n (xs ++ ys))
+        ≡ Ok (record { state = e; count = count_of (counts_after_all (xs ++ ys) counts) atom }) }
 {}
 
 /// Replay keeps a state in its atom, and never counts back.

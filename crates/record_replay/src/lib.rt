@@ -5,7 +5,7 @@
 //! itself from its saved state over the records that came after that, with the values that these hold (`specs/Replay.antt`).
 //! That this gives the state at the end of the run, whatever counts the saved states carry, is [`laws::mixed_counts`].
 //!
-//! Which records a plant can have is told by its interactions alone (`specs/OfPlant.antt`), so that a restart can judge what it reads.
+//! Which records a plant can have follows from its interactions alone (`specs/OfPlant.antt`), so that a restart can judge what it reads.
 //!
 //! No device is known here, and nothing takes memory.
 //!

@@ -5,33 +5,33 @@ ghost use Rattle.record_codec.specs.Fired.{IsFired};
 ghost use Rattle.step_core.specs.Chosen.{choice_of};
 ghost use Rattle.step_core.specs.Laws.{atoms_of};
 ghost use Rattle.step_core.specs.declared.choice.Move.{Move};
-ghost use Rattle.record_replay.specs.Records.{count_of, counts_after, entry_by, record_told};
+ghost use Rattle.record_replay.specs.Records.{count_of, counts_after, entry_by, record_delivered};
 
 use connector_tree::MAX_LEAVES;
 use petri_atom::Delivered;
 use record_codec::{Entry, Fired, MOST_EXPORTED};
 use step_core::{Choice, MAX_ATOMS, Move};
 
-/// The record with the number of a choice that was fired: `told` has at the place of each move what its atom got, and `counts` how
+/// The record with the number of a choice that was fired: `delivered` has at the place of each move what its atom got, and `counts` how
 /// often each atom had taken part before.
 pub fn record_of(
     number: u64,
     choice: &Choice,
-    told: &[Delivered; MAX_LEAVES],
+    delivered: &[Delivered; MAX_LEAVES],
     counts: &[u64; MAX_ATOMS],
 ) -> Fired
-    requires in_range { IsFired (record_told number (choice_of choice.now) told.now counts.now) }
-    ensures { result ≡ record_told number (choice_of choice.now) told.now counts.now }
+    requires in_range { IsFired (record_delivered number (choice_of choice.now) delivered.now counts.now) }
+    ensures { result ≡ record_delivered number (choice_of choice.now) delivered.now counts.now }
 {
     let moves = choice.moves.as_slice();
     let mut entries = [no_entry(); MAX_LEAVES];
     for place in 0..moves.len() {
-        entries[place] = entry_of(moves[place], &told[place], counts);
+        entries[place] = entry_of(moves[place], &delivered[place], counts);
     }
     Fired::new(number, choice.connector, &entries[..moves.len()])
 }
 
-// What stands in the places behind the last entry.
+// What stands in the places after the last entry.
 fn no_entry() -> Entry {
     Entry {
         atom: 0,
@@ -41,17 +41,17 @@ fn no_entry() -> Entry {
     }
 }
 
-/// What the participant did, which got `told`.
-fn entry_of(step: Move, told: &Delivered, counts: &[u64; MAX_ATOMS]) -> Entry
+/// What the participant did, which got `delivered`.
+fn entry_of(step: Move, delivered: &Delivered, counts: &[u64; MAX_ATOMS]) -> Entry
     requires there { step.atom < MAX_ATOMS }
     requires room { count_of counts.now step.atom + 1 < 2 ^ 64 }
-    ensures { result ≡ entry_by counts.now step told.now }
+    ensures { result ≡ entry_by counts.now step delivered.now }
 {
     Entry {
         atom: step.atom,
         transition: step.transition,
         participation: counts[usize::from(step.atom)] + 1,
-        delivered: told.row(),
+        delivered: delivered.row(),
     }
 }
 

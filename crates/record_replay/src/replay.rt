@@ -8,8 +8,8 @@ use crate::fault::ReplayFault;
 use petri_atom::{Atom, AtomState, Delivered};
 use record_codec::{Entry, Fired};
 
-/// Brings the state of the atom with the number forward over the records, in place. The state is behind `saved` firings; the answer is
-/// behind how many it is then. After a fault the state is one on the way. It takes no memory.
+/// Brings the state of the atom with the number forward over the records, in place. The state is the one after `saved` firings; the answer is
+/// after how many it is then. After a fault the state is one on the way. It takes no memory.
 pub fn replay_atom(
     atom: &Atom,
     number: u16,
@@ -46,7 +46,7 @@ fn part_of(fired: &Fired, number: u16) -> Option<Entry>
     None
 }
 
-/// Brings the state, which is behind `count` firings, forward by the entry of the record with the number.
+/// Brings the state, which is after `count` firings, forward by the entry of the record with the number.
 fn replay_entry(
     atom: &Atom,
     saved: u64,

@@ -1,5 +1,5 @@
 -- The names of a plant's connectors and atoms, in an index.
-use Rattle.std.proofs.Common.{◌≡◌, ℕ, zero, suc, ◌+◌, ◌<◌, ◌≤◌, refl, sym, ◌∙◌, ap, List, [], ◌∷◌, length, map, take, get_or, Bool, true, false, not, cond, position, arith}
+use Rattle.std.proofs.Common.{◌≡◌, ℕ, ◌+◌, ◌<◌, ◌≤◌, refl, sym, ◌∙◌, ap, List, [], ◌∷◌, length, map, take, get_or, Bool, true, false, not, cond, position, arith}
 use Rattle.std.specs.Prelude.{Option, Some, None, option_map, slice_get}
 use Rattle.std.specs.List.{list_any, position_or_len}
 use Rattle.std.proofs.lemmas.Bool.{le-ltb, or_parts}
@@ -9,13 +9,13 @@ use Rattle.petri_atom.specs.Name.{is_same_text}
 use Rattle.petri_atom.specs.Definition.{AtomDefinition}
 use Rattle.plant_words.proofs.Positions.{position_of_mapped}
 use Rattle.step_core.specs.Plant.{PlantDefinition, WireDefinition}
-use Rattle.step_core.specs.Rules.{atom_fault, early_fault, fault_of, fault_of_count, fault_of_order, fault_of_wire, fault_of_wires, first_broken, first_of, first_told, is_within_limits, late_fault, tree_fault, wire_fault}
+use Rattle.step_core.specs.Rules.{atom_fault, early_fault, fault_of, fault_of_count, fault_of_order, fault_of_wire, fault_of_wires, first_broken, first_of, first_fault_in, is_within_limits, late_fault, tree_fault, wire_fault}
 use Rattle.step_core.specs.Choice.{plant_interactions}
 use Rattle.step_core.specs.declared.fault.SystemFault.TheVariants.{BadAtom, BadWire, Limit}
 use Rattle.step_core.specs.declared.fault.WireFault.{WireFault}
 use Rattle.step_core.specs.declared.limits.TheConstants.{MAX_ATOMS, MAX_WIRES}
 use Rattle.step_core.proofs.Initial.{map-map}
-use Rattle.step_core.proofs.OfInteractions.{within-limits}
+use Rattle.step_core.proofs.OfInteractions.{none-told, within-limits}
 use Rattle.step_core.proofs.TreeRules.{first_none, second_none}
 use Rattle.recorded_picks.specs.Names.{AreApart, atom_names, connector_names, place_of}
 
@@ -46,16 +46,6 @@ no-position : {X : Type 0} (test : X → Bool) (xs : List X) → list_any test x
 no-position test xs none =
     ap (λ b. cond b (Some (position_or_len test xs)) None) (le-ltb (position_or_len test xs) (length xs) (omega (arith, none-first test xs none)))
 
--- where no element tells something, none tells something at its place
-none-told : {X F : Type 0} (tell : ℕ → X → Option F) (n : ℕ) (xs : List X) → first_told tell n xs ≡ None → (k : ℕ) (x : X) → slice_get xs k ≡ Some x → tell (n + k) x ≡ None
-none-told tell n [] none k x there = absurd (none-some x there)
-none-told tell n (y ∷ ys) none zero x there =
-    let e : n ≡ n + zero = omega arith in
-    ap (tell (n + zero)) (sym (same_Some y x there)) ∙ ap (λ j. tell j y) (sym e) ∙ first_none (tell n y) (first_told tell (suc n) ys) none
-none-told tell n (y ∷ ys) none (suc k) x there =
-    let e : n + suc k ≡ suc n + k = omega arith in
-    ap (λ j. tell j x) e ∙ none-told tell (suc n) ys (second_none (tell n y) (first_told tell (suc n) ys) none) k x there
-
 -- an entry of mapped elements is that of an element
 of-entry : {X Y : Type 0} (f : X → Y) (xs : List X) (k : ℕ) (y : Y) → slice_get (map f xs) k ≡ Some y → (x : X) × (slice_get xs k ≡ Some x) × (f x ≡ y)
 of-entry f xs k y there = each (slice_get xs k) refl (sym (slice_get-map f xs k) ∙ there)
@@ -83,11 +73,11 @@ module _ (plant : PlantDefinition) (valid : fault_of plant ≡ None) where
       first_none (fault_of_wires plant) (fault_of_count (length (plant_interactions plant)))
       (first_none (late_fault plant) (fault_of_order plant) (second_none (early_fault plant) (first_of (late_fault plant) (fault_of_order plant)) valid))
 
-  early-atoms : first_told (atom_fault plant.atoms) 0 plant.atoms ≡ None
+  early-atoms : first_fault_in (atom_fault plant.atoms) 0 plant.atoms ≡ None
   early-atoms = each (is_within_limits plant) early
     where
-      each : (b : Bool) → cond (not b) (Some Limit) (first_of (first_told (atom_fault plant.atoms) 0 plant.atoms) (first_told tree_fault 0 plant.wires)) ≡ None → first_told (atom_fault plant.atoms) 0 plant.atoms ≡ None
-      each true none = first_none (first_told (atom_fault plant.atoms) 0 plant.atoms) (first_told tree_fault 0 plant.wires) none
+      each : (b : Bool) → cond (not b) (Some Limit) (first_of (first_fault_in (atom_fault plant.atoms) 0 plant.atoms) (first_fault_in tree_fault 0 plant.wires)) ≡ None → first_fault_in (atom_fault plant.atoms) 0 plant.atoms ≡ None
+      each true none = first_none (first_fault_in (atom_fault plant.atoms) 0 plant.atoms) (first_fault_in tree_fault 0 plant.wires) none
       each false none = absurd (cc)
 
   -- no two atoms have one name

@@ -1,4 +1,4 @@
--- The first line feed of some bytes, and what stands through it and behind it.
+-- The first line feed of some bytes, and what stands through it and after it.
 use Rattle.std.proofs.Common.{◌≡◌, ℕ, suc, ◌+◌, ◌==◌, Bool, true, false, not, cond, refl, sym, ◌∙◌, ap, List, [], ◌∷◌, take, drop, arith}
 use Rattle.std.specs.Io.BufRead.{drop_through, take_through}
 use Rattle.std.specs.List.{position_or_len}
@@ -7,7 +7,7 @@ use Rattle.std.specs.List.{position_or_len}
 abbrev pub is_feed : ℕ → Bool
 is_feed byte = byte == 10
 
--- what stands through the first line feed, and behind it
+-- what stands through the first line feed, and after it
 pub through-feed : (bytes : List ℕ) → take_through 10 bytes ≡ take (position_or_len is_feed bytes + 1) bytes
 through-feed [] = refl
 through-feed (byte ∷ bytes) =

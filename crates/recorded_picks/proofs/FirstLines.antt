@@ -74,7 +74,7 @@ module _ (numbers : Numbers) (plant : PlantDefinition) where
   said-alike a b first second same =
       said-long a first ∙ ap (λ front. cond (is_remark (words_of front)) None (Some (misread TooLong))) same ∙ sym (said-long b second)
 
-  -- the whole of a line of a text, and the lines behind it
+  -- the whole of a line of a text, and the lines after it
   pub record BeginsLike (text line : List ℕ) : Type 0 where
     pub whole : List ℕ
     pub begins : lines_of text ≡ whole ∷ lines_of (drop_through 10 text)

@@ -27,7 +27,7 @@ given-before None now new next kept gives = tt
 given-before (Some picks) now new next kept gives = subst (λ o. Gives o new next) (kept.same picks refl) gives
 
 module _ (numbers : Numbers) (plant : PlantDefinition) where
-  -- the picks of the lines behind so many
+  -- the picks of the lines after so many
   abbrev pub picks_behind : ℕ → Option (List ℕ) → Option (List PickDefinition)
   picks_behind lines bytes = option_map (picks_from numbers plant (lines + 1)) bytes
 

@@ -1,14 +1,13 @@
-pub mod Feeds
-pub mod Keeping
-pub mod FirstLines
-pub mod Lefts
-pub mod Apart
-pub mod Reading
-pub mod Saying
-pub mod Plain
-pub mod FiredWords
-pub mod NamedMoves
-pub mod SameMask
-pub mod ReadBack
-pub mod RunAgain
+mod Feeds
+mod FirstLines
+mod Lefts
+mod Apart
+mod Reading
+mod Saying
+mod Plain
+mod FiredWords
+mod NamedMoves
+mod SameMask
+mod ReadBack
+mod RunAgain
 mod Rows

@@ -19,7 +19,7 @@ use Rattle.step_core.specs.Choice.{move_of}
 use Rattle.step_core.specs.Plant.{PlantDefinition}
 use Rattle.step_core.specs.declared.choice.Move.{Move}
 use Rattle.run_text.specs.Line.{fired_port_name, participant}
-use Rattle.recorded_picks.specs.Moves.{is_fired_at, is_of_named_port, is_slash, move_at, move_in, move_named, moves_behind, moves_in, transition_in}
+use Rattle.recorded_picks.specs.Moves.{is_fired_at, is_of_named_port, is_slash, move_at, move_in, move_named, moves_after, moves_in, transition_in}
 use Rattle.recorded_picks.specs.Names.{AreApart, atom_named, atom_names, place_of}
 use Rattle.step_core.proofs.Membership.{here, later}
 use Rattle.recorded_picks.proofs.FiredWords.{IsPlain, length-participant, none-in-participant, regrouped}
@@ -161,5 +161,5 @@ pub read-moves : (plant : PlantDefinition) (moves : List Move) → AreApart (ato
 read-moves plant [] apart of = refl
 read-moves plant (m ∷ ms) apart of =
     let rest = read-moves plant ms apart (λ k at. of k (later m ms k at)) in
-    ap (option_and_then (moves_behind (moves_in plant (map (participant plant.atoms) ms)))) (read-move plant m (of m (here m ms)) apart)
+    ap (option_and_then (moves_after (moves_in plant (map (participant plant.atoms) ms)))) (read-move plant m (of m (here m ms)) apart)
     ∙ ap (option_map (λ more. m ∷ more)) rest

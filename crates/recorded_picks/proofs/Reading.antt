@@ -17,7 +17,7 @@ use Rattle.step_core.specs.declared.choice.Move.{Move}
 use Rattle.step_core.proofs.Membership.{here, later}
 use Rattle.step_core.proofs.OfInteractions.{interaction-of}
 use Rattle.recorded_picks.specs.Choices.{choice_by, choice_in, few_moves, fires, is_fired_by, mask_of, moves_read}
-use Rattle.recorded_picks.specs.Moves.{move_in, moves_behind, moves_in}
+use Rattle.recorded_picks.specs.Moves.{move_in, moves_after, moves_in}
 use Rattle.recorded_picks.specs.Names.{connector_named}
 
 -- ---- moves
@@ -29,7 +29,7 @@ few moves within = ap (λ b. cond b (Some moves) None) (le-leb (length moves) MA
 pub many : (moves : List Move) → MAX_LEAVES < length moves → few_moves moves ≡ None
 many moves past = ap (λ b. cond b (Some moves) None) (lt-leb (length moves) MAX_LEAVES past)
 
--- one more behind those that were read
+-- one more after those that were read
 pub one-more : (moves : List Move) (m : Move) → option_and_then (λ ms. few_moves (ms ++ m ∷ [])) (few_moves moves) ≡ few_moves (moves ++ m ∷ [])
 one-more moves m = each (nat_le (length moves) MAX_LEAVES) refl
   where
@@ -43,20 +43,20 @@ pub record AreRead (plant : PlantDefinition) (all left : List (List ℕ)) (moves
   pub means : moves_in plant all ≡ option_map (λ more. passed ++ more) (moves_in plant left)
   pub held : moves ≡ few_moves passed
 
-one-before : (passed : List Move) (m : Move) (moves : Option (List Move)) → option_map (λ more. passed ++ more) (moves_behind moves m) ≡ option_map (λ more. (passed ++ m ∷ []) ++ more) moves
+one-before : (passed : List Move) (m : Move) (moves : Option (List Move)) → option_map (λ more. passed ++ more) (moves_after moves m) ≡ option_map (λ more. (passed ++ m ∷ []) ++ more) moves
 one-before passed m None = refl
 one-before passed m (Some ms) = ap Some (sym (append_assoc passed (m ∷ []) ms))
 
 module _ (plant : PlantDefinition) (all : List (List ℕ)) where
   module _ (left rest : List (List ℕ)) (word : List ℕ) (moves : Option (List Move)) (taken : left ≡ word ∷ rest) (read : AreRead plant all left moves) where
-    begun : moves_in plant left ≡ option_and_then (moves_behind (moves_in plant rest)) (move_in plant word)
+    begun : moves_in plant left ≡ option_and_then (moves_after (moves_in plant rest)) (move_in plant word)
     begun = ap (moves_in plant) taken
 
     -- a word that names a move
     pub read-more : (m : Move) (more : Option (List Move)) → move_in plant word ≡ Some m → more ≡ option_and_then (λ ms. few_moves (ms ++ m ∷ [])) moves → AreRead plant all rest more
     read-more m more names added = record {
       passed = read.passed ++ m ∷ [];
-      means = read.means ∙ ap (option_map (λ more. read.passed ++ more)) (begun ∙ ap (option_and_then (moves_behind (moves_in plant rest))) names) ∙ one-before read.passed m (moves_in plant rest);
+      means = read.means ∙ ap (option_map (λ more. read.passed ++ more)) (begun ∙ ap (option_and_then (moves_after (moves_in plant rest))) names) ∙ one-before read.passed m (moves_in plant rest);
       held = added ∙ ap (option_and_then (λ ms. few_moves (ms ++ m ∷ []))) read.held ∙ one-more read.passed m;
     }
 

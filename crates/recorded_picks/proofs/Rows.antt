@@ -2,25 +2,14 @@
 use Rattle.std.proofs.Common.{◌≡◌, refl, [], ◌∷◌, ◌++◌, codes, ℕ, replicate}
 use Rattle.std.specs.Prelude.{Some, None}
 use Rattle.std.specs.Fmt.{digits}
-use Rattle.step_core.specs.Choice.{ChoiceDefinition}
-use Rattle.step_core.specs.declared.choice.Move.{Move}
 use Rattle.run_text.specs.Line.{interaction_line}
 use Rattle.run_text.specs.Picks.{PickDefinition, TakeDefinition, counted, numbered, named, misread}
 use Rattle.run_text.specs.declared.pick.Misread.TheVariants.{TooLong, UnknownConnector, UnknownMove, NoInteraction}
 use Rattle.run_text.specs.declared.pick.Numbers.TheVariants.{Modulo, Strict}
-use Rattle.run_text.proofs.RunRows.{sample}
+use Rattle.run_text.proofs.RunRows.{move, sample, sent, ticked}
 use Rattle.recorded_picks.specs.Files.{picks_in}
 use Rattle.recorded_picks.specs.Lines.{said_in}
 use Rattle.recorded_picks.specs.declared.kept_line.TheConstants.{MAX_PICK_LINE}
-
-abbrev move : ℕ → Move
-move atom = record { atom = atom; transition = 0 }
-
-abbrev ticked : ChoiceDefinition
-ticked = record { connector = 0; mask = 1; moves = move 0 ∷ [] }
-
-abbrev sent : ChoiceDefinition
-sent = record { connector = 1; mask = 3; moves = move 0 ∷ move 1 ∷ [] }
 
 abbrev pick : ℕ → TakeDefinition → PickDefinition
 pick place take = record { place = place; take = take }

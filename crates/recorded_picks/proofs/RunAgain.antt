@@ -1,10 +1,11 @@
 -- A run by the choices that picks took is the run by the picks.
-use Rattle.std.proofs.Common.{◌≡◌, ℕ, ◌+◌, ◌<◌, ◌^◌, refl, ◌∙◌, ap, subst, List, [], ◌∷◌, Contains, arith, nat_lt, ⊎_elim}
+use Rattle.std.proofs.Common.{◌≡◌, ℕ, ◌+◌, ◌<◌, ◌≤◌, ◌^◌, refl, ◌∙◌, ap, subst, List, [], ◌∷◌, Contains, arith, length, nat_lt, ⊎_elim}
 use Rattle.std.specs.Prelude.{Option, None, Some}
 use Rattle.std.proofs.lemmas.Bool.{cond-true, lt-ltb}
 use Rattle.petri_atom.specs.Local.{Local}
 use Rattle.step_core.specs.Choice.{ChoiceDefinition, IsAllowed}
 use Rattle.step_core.specs.Plant.{PlantDefinition}
+use Rattle.step_core.specs.Runs.{IsRun}
 use Rattle.step_core.specs.Step.{next}
 use Rattle.step_core.proofs.Membership.{here-or-later}
 use Rattle.run_text.specs.Picks.{PickDefinition, named}
@@ -71,3 +72,19 @@ module _ (plant : PlantDefinition) where
           (here-or-later d (chosen plant (next plant states d) (number + 1) picks) c held)
       each more stuck is held = absurd (omega (arith, held.1))
       each more (refused why) is held = absurd (omega (arith, held.1))
+
+  -- each choice of a run is one that a state allows
+  pub run-allowed : (cs : List ChoiceDefinition) (start end : List Local) → IsRun plant start cs end → (c : ChoiceDefinition) → Contains cs c → (at : List Local) × IsAllowed plant at c
+  run-allowed [] start end run c in_it = absurd (omega (arith, in_it.1))
+  run-allowed (d ∷ cs) start end run c in_it = ⊎_elim
+      (λ same. (start, subst (IsAllowed plant start) same run.0))
+      (λ later. run-allowed cs (next plant start d) end run.1 c later)
+      (here-or-later d cs c in_it)
+
+  -- the choices of a run are chosen if picks name them, as long as each has a number
+  pub run-again : (cs : List ChoiceDefinition) (start end : List Local) (number place : ℕ) → IsRun plant start cs end → number + length cs ≤ 2 ^ 64 → chosen plant start number (named_picks place cs) ≡ cs
+  run-again [] start end number place run few = refl
+  run-again (c ∷ cs) start end number place run few =
+      let after = next plant start c in
+      ap (chosen_by start number (named_picks (place + 1) cs)) (taken-again start number c run.0 (omega (arith, few)))
+      ∙ ap (λ more. c ∷ more) (run-again cs after end (number + 1) (place + 1) run.1 (omega (arith, few)))

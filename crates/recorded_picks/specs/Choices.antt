@@ -38,7 +38,7 @@ mask_of plant connector moves = mask_among plant.atoms (plant_interactions plant
 abbrev pub choice_by : PlantDefinition → ℕ → List Move → Option ChoiceDefinition
 choice_by plant connector moves = option_map (λ mask. record { connector = connector; mask = mask; moves = moves }) (mask_of plant connector moves)
 
--- The choice that a connector's name and the words behind it name, or the first thing that is wrong with them: the name,
+-- The choice that a connector's name and the words after it name, or the first thing that is wrong with them: the name,
 -- then a word that names no move, then that no interaction has these ports.
 abbrev pub choice_in : PlantDefinition → List ℕ → List (List ℕ) → Result ChoiceDefinition Misread
 choice_in plant name words = do

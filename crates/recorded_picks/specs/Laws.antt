@@ -1,10 +1,11 @@
 -- What a recorded run keeps of its choices.
-use Rattle.std.specs.Prelude.{◌≡◌, ℕ, ◌&&◌, Bool, true, List, [], ◌∷◌}
+use Rattle.std.specs.Prelude.{◌≡◌, ℕ, ◌&&◌, Bool, true, List, [], ◌∷◌, None}
 use Rattle.std.specs.List.{list_all}
-use Rattle.petri_atom.specs.Definition.{AtomDefinition}
+use Rattle.petri_atom.specs.Definition.{AtomDefinition, is_well_formed}
 use Rattle.petri_atom.specs.Name.{is_name}
 use Rattle.step_core.specs.Choice.{ChoiceDefinition}
 use Rattle.step_core.specs.Plant.{PlantDefinition}
+use Rattle.step_core.specs.Rules.{fault_of}
 use Rattle.text_io.specs.Numbered.{numbered}
 use Rattle.run_text.specs.Picks.{PickDefinition, named}
 
@@ -15,6 +16,12 @@ has_names a = is_name a.name && list_all (λ p. is_name p.name) a.ports
 -- the names of a plant's connectors, of its atoms and of their ports are names
 abbrev pub AreNames : PlantDefinition → Type 0
 AreNames plant = (list_all (λ w. is_name w.name) plant.wires && list_all has_names plant.atoms) ≡ true
+
+-- the plant breaks no rule, its atoms break none, and its names are names
+pub record IsWellNamed (plant : PlantDefinition) : Type 0 where
+  pub valid : fault_of plant ≡ None
+  pub formed : list_all is_well_formed plant.atoms ≡ true
+  pub names : AreNames plant
 
 -- the pick of a choice at a place
 abbrev pub named_pick : ℕ → ChoiceDefinition → List PickDefinition

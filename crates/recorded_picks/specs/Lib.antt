@@ -3,5 +3,4 @@ pub mod Moves
 pub mod Choices
 pub mod Lines
 pub mod Files
-pub mod KeptLines
 pub mod Laws

@@ -22,7 +22,7 @@ abbrev pub lone_number : List ℕ → List (List ℕ) → Option ℕ
 lone_number first [] = pick_in first
 lone_number first (word ∷ words) = None
 
--- what a first word and those behind it take: a number that stands alone, or else a fired line without its number
+-- what a first word and those after it take: a number that stands alone, or else a fired line without its number
 abbrev pub take_by : Numbers → PlantDefinition → List ℕ → List (List ℕ) → TakeDefinition
 take_by numbers plant first words = option_map_or (number_as numbers) (lone_number first words) (take_of_choice (choice_in plant first words))
 
@@ -36,7 +36,7 @@ abbrev pub is_remark : List (List ℕ) → Bool
 is_remark [] = false
 is_remark (word ∷ words) = begins_with 35 word
 
--- What a line takes: nothing where it has no words, or is a comment, which may be of any length.
+-- What a line takes: nothing if it has no words, or is a comment, which may be of any length.
 abbrev pub said_in : Numbers → PlantDefinition → List ℕ → Option TakeDefinition
 said_in numbers plant line =
     if is_remark (words_of (take MAX_PICK_LINE line)) then None

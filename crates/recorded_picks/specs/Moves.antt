@@ -36,16 +36,16 @@ move_at atoms name transition atom = if is_fired_at atoms atom name transition t
 abbrev pub move_named : PlantDefinition → List ℕ × List ℕ → ℕ → Option Move
 move_named plant names transition = option_and_then (move_at plant.atoms names.1 transition) (atom_named plant names.0)
 
--- the move that a word `ATOM.PORT/NUMBER` names: the number stands behind the first slash
+-- the move that a word `ATOM.PORT/NUMBER` names: the number stands after the first slash
 abbrev pub move_in : PlantDefinition → List ℕ → Option Move
 move_in plant word =
     option_and_then (λ names. option_and_then (move_named plant names) (transition_in (after_first is_slash word))) (export_parts (before_first is_slash word))
 
--- a move and those behind it
-abbrev pub moves_behind : Option (List Move) → Move → Option (List Move)
-moves_behind moves m = option_map (λ ms. m ∷ ms) moves
+-- a move and those after it
+abbrev pub moves_after : Option (List Move) → Move → Option (List Move)
+moves_after moves m = option_map (λ ms. m ∷ ms) moves
 
 -- the moves that words name, one each
 abbrev pub moves_in : PlantDefinition → List (List ℕ) → Option (List Move)
 moves_in plant [] = Some []
-moves_in plant (word ∷ words) = option_and_then (moves_behind (moves_in plant words)) (move_in plant word)
+moves_in plant (word ∷ words) = option_and_then (moves_after (moves_in plant words)) (move_in plant word)

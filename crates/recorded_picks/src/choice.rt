@@ -2,11 +2,9 @@
 ghost use Rattle.std.specs.Prelude.{◌≡◌, ◌∷◌, [], ◌++◌, ◌≤◌, map, length, Ok, Err, IfErr, IfOk, Some};
 ghost use Rattle.std.specs.Cmp.Lexicographic.{pointwise};
 ghost use Rattle.std.specs.Option.{option_and_then};
-ghost use Rattle.petri_atom.specs.Atom.{definition_of};
-ghost use Rattle.step_core.specs.Chosen.{choice_of};
+ghost use Rattle.run_text.specs.Seen.{choice_of, definition_of, plant_of};
 ghost use Rattle.step_core.specs.Interaction.{interaction_of};
 ghost use Rattle.step_core.specs.Laws.{is_of_port};
-ghost use Rattle.step_core.specs.System.{plant_of};
 ghost use Rattle.recorded_picks.specs.Choices.{choice_in, few_moves, fires, is_at_port, is_fired_by, mask_among, mask_of, moves_read};
 ghost use Rattle.recorded_picks.specs.Moves.{moves_in};
 
@@ -17,7 +15,7 @@ use plant_words::Words;
 use run_text::Misread;
 use step_core::{Choice, Interaction, Move, Moves, System};
 
-/// The choice that the name of a connector and the words behind it name, or what is wrong with them.
+/// The choice that the name of a connector and the words after it name, or what is wrong with them.
 pub(crate) fn read_choice(
     names: &PlantNames<'_>,
     connector: &[u8],
@@ -38,7 +36,7 @@ pub(crate) fn read_choice(
     })
 }
 
-/// The moves that the words name. The words are read to their end: that there are too many is told only where each names a move.
+/// The moves that the words name. The words are read to their end: that there are too many is said only if each names a move.
 fn read_moves(names: &PlantNames<'_>, words: &mut Words<'_>) -> Result<Moves, Misread>
     ensures { result ≡ moves_read (moves_in (plant_of names.now.system.now) words.old) }
 {
@@ -50,7 +48,7 @@ fn read_moves(names: &PlantNames<'_>, words: &mut Words<'_>) -> Result<Moves, Mi
     moves.ok_or(Misread::NoInteraction)
 }
 
-/// The moves with one more behind them, if they are no more than an interaction has ports.
+/// The moves with one more after them, if they are no more than an interaction has ports.
 fn with_move(moves: Option<Moves>, step: Move) -> Option<Moves>
     ensures { result ≡ option_and_then (λ ms. few_moves (ms ++ step ∷ [])) moves }
 {

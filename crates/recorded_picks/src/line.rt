@@ -1,6 +1,6 @@
 //! What a line of a file of picks says.
 ghost use Rattle.std.specs.Prelude.{◌≡◌, option_map};
-ghost use Rattle.step_core.specs.System.{plant_of};
+ghost use Rattle.run_text.specs.Seen.{plant_of};
 ghost use Rattle.run_text.specs.Picks.{take_of};
 ghost use Rattle.recorded_picks.specs.Lines.{is_remark, lone_number, said_in, take_by};
 
@@ -10,7 +10,7 @@ use crate::names::PlantNames;
 use plant_words::{Words, read_decimal};
 use run_text::{Misread, Numbers, Take};
 
-/// What a line takes; nothing where it is passed over.
+/// What a line takes; nothing if it is passed over.
 pub(crate) fn take_of_line(names: &PlantNames<'_>, numbers: Numbers, line: &[u8]) -> Option<Take>
     ensures { option_map take_of result ≡ said_in numbers (plant_of names.now.system.now) line.now }
 {
@@ -36,7 +36,7 @@ fn is_remark(words: &mut Words<'_>) -> bool
     }
 }
 
-/// What a first word and those behind it take.
+/// What a first word and those after it take.
 fn take_of_words(
     names: &PlantNames<'_>,
     numbers: Numbers,

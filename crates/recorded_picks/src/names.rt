@@ -1,9 +1,8 @@
 //! The connectors, the atoms and the moves of a plant, by their names.
 ghost use Rattle.std.specs.Prelude.{◌≡◌, ◌≤◌, length, map, None, IfOk};
 ghost use Rattle.std.specs.List.{after_first, before_first, position_or_len};
-ghost use Rattle.petri_atom.specs.Atom.{definition_of};
+ghost use Rattle.run_text.specs.Seen.{definition_of, plant_of};
 ghost use Rattle.step_core.specs.Rules.{fault_of};
-ghost use Rattle.step_core.specs.System.{plant_of};
 ghost use Rattle.step_core.specs.declared.limits.TheConstants.{MAX_ATOMS, MAX_WIRES};
 ghost use Rattle.recorded_picks.specs.Moves.{is_fired_at, is_of_named_port, is_slash, move_in, move_named, transition_in};
 ghost use Rattle.recorded_picks.specs.Names.{AreApart, atom_names, atom_named, connector_names, connector_named};
@@ -101,7 +100,7 @@ fn index_of_atoms(alloc: Global, atoms: &[Atom]) -> Result<NameIndex, AllocError
     Ok(names)
 }
 
-/// What stands before the first slash of a word, and what stands behind it.
+/// What stands before the first slash of a word, and what stands after it.
 fn around_slash(word: &[u8]) -> (&[u8], &[u8])
     ensures before { result.0.now ≡ before_first is_slash word.now }
     ensures after { result.1.now ≡ after_first is_slash word.now }

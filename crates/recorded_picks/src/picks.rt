@@ -1,10 +1,10 @@
 //! A source of picks over a reader.
 ghost use Rattle.std.specs.Prelude.{◌≡◌, IfOk};
 ghost use Rattle.std.specs.Option.{option_map};
-ghost use Rattle.step_core.specs.System.{plant_of};
+ghost use Rattle.run_text.specs.Seen.{plant_of};
 ghost use Rattle.recorded_picks.specs.Files.{picks_in};
 
-use crate::kept_line::{KEPT, read_line};
+use crate::kept_line::KEPT;
 use crate::line::take_of_line;
 use crate::names::PlantNames;
 use arrayvec::ArrayVec;
@@ -14,8 +14,9 @@ use std::alloc::{AllocError, Global};
 use std::io::BufRead;
 use std::marker::Model;
 use step_core::System;
+use text_io::read_line;
 
-/// The picks of a text, read line by line as they are taken. In a contract it is the list of those that are left, where the reader's
+/// The picks of a text, read line by line as they are taken. In a contract it is the list of those that are left, if the reader's
 /// type says which bytes it has left.
 ///
 /// Only the names of the plant take memory, when it is made: of the text one line is held at a time, as far as a pick can be long.
@@ -31,7 +32,7 @@ pub struct RecordedPicks<'a, R: BufRead> {
 impl<'a, R: BufRead> Model for RecordedPicks<'a, R> {
     ghost use Rattle.std.specs.Prelude.{List, Option, ◌+◌};
     ghost use Rattle.std.specs.Option.{option_map};
-    ghost use Rattle.step_core.specs.System.{plant_of};
+    ghost use Rattle.run_text.specs.Seen.{plant_of};
     ghost use Rattle.run_text.specs.Picks.{PickDefinition};
     ghost use Rattle.recorded_picks.specs.Files.{picks_from};
 

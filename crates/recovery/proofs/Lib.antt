@@ -1,7 +1,7 @@
-pub mod Ranges
-pub mod WrittenCells
+mod Ranges
+mod WrittenCells
 pub mod PartlyLoaded
-pub mod OldCells
-pub mod Prepared
-pub mod Migrated
-pub mod Lifetimes
+mod OldCells
+mod Prepared
+mod Migrated
+mod Lifetimes

@@ -19,7 +19,7 @@ use Rattle.plant_image.specs.declared.standing.Standing.{Standing}
 use Rattle.recovery.specs.Judged.{WasReadOf}
 use Rattle.plant_image.specs.declared.fault.ImageFault.{ImageFault}
 use Rattle.plant_image.specs.declared.fault.ImageFault.TheVariants as images
-use Rattle.recovery.specs.Migrating.{IsMigrated, IsToldOfOld, is_new_disk, is_old_disk, of_boot, of_writing}
+use Rattle.recovery.specs.Migrating.{IsMigrated, IsMigrateFault, is_new_disk, is_old_disk, of_boot, of_writing}
 use Rattle.recovery.specs.Writing.{HasWritten, IsWriting}
 use Rattle.recovery.specs.declared.fault.BootFault.{BootFault}
 use Rattle.recovery.specs.declared.fault.BootFault.TheVariants.{Image, Disk}
@@ -117,8 +117,8 @@ new_alone formats.WrongSize = refl
 new_alone formats.Disk = refl
 new_alone formats.Memory = refl
 
--- a fault of the new device is told where nothing is wrong with the old image
-pub told_new : (found : Option ImageFault) (fault : FormatFault) → found ≡ None → IsToldOfOld found (of_writing fault)
+-- a fault of the new device is found if nothing is wrong with the old image
+pub told_new : (found : Option ImageFault) (fault : FormatFault) → found ≡ None → IsMigrateFault found (of_writing fault)
 told_new found formats.WrongSize none = none
 told_new found formats.Disk none = none
 told_new found formats.Memory none = tt

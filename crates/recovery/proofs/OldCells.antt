@@ -34,7 +34,7 @@ in_ring : (atoms k : ℕ) (body : List ℕ) → device_cells atoms 0 ≤ k → t
 in_ring atoms k body high = grind (arith, nat_tests)
 
 module _ (atoms k : ℕ) (cells : List Cell) where
-  -- a cell is full where the old one is
+  -- a cell is full if the old one is
   pub full_same : is_none (cell (todays_cells atoms cells) k) ≡ is_none (cell cells k)
   full_same = ap is_none (cell-todays_cells atoms k cells) ∙ by_cell (cell cells k)
     where

@@ -14,15 +14,15 @@ use Rattle.record_codec.specs.declared.layout.TheConstants.{MOST_RING, VERSION}
 use Rattle.record_codec.proofs.Identities.{held_identity_is_spelled}
 use Rattle.step_core.specs.Plant.{PlantDefinition}
 use Rattle.step_core.specs.declared.limits.TheConstants.{MAX_ATOMS}
-use Rattle.step_core.specs.Rules.{first_of, first_told}
+use Rattle.step_core.specs.Rules.{first_of, first_fault_in}
 use Rattle.plant_image.specs.Contents.{contents_of, identity_held, ring_held}
 use Rattle.plant_image.specs.Faults.{atom_fault, base_fault, cell_bytes, cells_fault, fault_of, fault_where, first_cell_fault, first_fault, identity_fault, is_for, leading_fault, records_fault}
-use Rattle.plant_image.specs.Reading.{IsStanding, IsTold}
+use Rattle.plant_image.specs.Reading.{IsStanding, IsFault, Tells}
 use Rattle.plant_image.specs.declared.fault.ImageFault.{ImageFault}
 use Rattle.plant_image.specs.declared.fault.ImageFault.TheVariants.{WrongSize, OtherSystem}
 use Rattle.plant_image.specs.declared.standing.Standing.{Standing}
 use Rattle.recovery.specs.Booting.{has_failed, is_disk}
-use Rattle.recovery.specs.InMemory.{WasRead}
+use Rattle.recovery.specs.MadeOf.{WasRead}
 use Rattle.recovery.specs.Judged.{IsJudged, WasReadOf}
 use Rattle.recovery.specs.Loading.{IsSynced, IsSyncedInPart, WasLoaded, WasLoadedOf}
 use Rattle.recovery.specs.declared.loading.Loaded.{Loaded}
@@ -35,7 +35,7 @@ not_false : (t : Bool) → not t ≡ false → t ≡ true
 not_false true is = refl
 not_false false is = absurd (let is = is in cc)
 
--- as many as the most, or as there are, where the bytes tell how many there are
+-- as many as the most, or as there are, if the bytes tell how many there are
 pub taken : {X : Type 0} (most count read : ℕ) (all : List X) → (count < most → length all ≡ count) → read ≡ min most count → take read all ≡ take most all
 taken {X} most count read all long is = by_test (nat_lt count most) refl
   where
@@ -93,12 +93,12 @@ module _ (atoms : ℕ) (digest : List ℕ) (bytes : ℕ) (cells : List Cell) (no
   pub cells_most : cells_in cell_bytes bytes ≤ device_cells atoms MOST_RING
   cells_most = let told = cells_told in let most = ring_most cells in omega arith
 
--- where a first part tells a fault, what comes behind it does not count
+-- if a first part has a fault, what comes after it does not count
 first_alone : {F : Type 0} (found a b later other : Option F) → found ≢ None → first_of (first_of found a) later ≡ first_of (first_of found b) other
 first_alone None a b later other some = absurd (some refl)
 first_alone (Some fault) a b later other some = refl
 
--- where something is wrong by the first cell, that is told
+-- if something is wrong by the first cell, that is found
 same_fault : (plant : PlantDefinition) (digest : List ℕ) (bytes : ℕ) (cells others : List Cell)
     → identity_fault (length plant.atoms) digest bytes others ≡ identity_fault (length plant.atoms) digest bytes cells → identity_fault (length plant.atoms) digest bytes cells ≢ None
     → fault_of plant digest bytes cells ≡ fault_of plant digest bytes others
@@ -106,9 +106,9 @@ same_fault plant digest bytes cells others same some =
     first_alone (identity_fault (length plant.atoms) digest bytes cells) (behind cells) (behind others) (leading_fault plant (contents_of (length plant.atoms) cells)) (leading_fault plant (contents_of (length plant.atoms) others)) some
     ∙ ap (λ (o : Option ImageFault). first_of (first_of o (behind others)) (leading_fault plant (contents_of (length plant.atoms) others))) (sym same)
   where
-    -- what is wrong behind the first cell
+    -- what is wrong after the first cell
     behind : List Cell → Option ImageFault
-    behind found = first_fault (base_fault found ∷ first_told (atom_fault found) 0 plant.atoms ∷ records_fault plant found ∷ [])
+    behind found = first_fault (base_fault found ∷ first_fault_in (atom_fault found) 0 plant.atoms ∷ records_fault plant found ∷ [])
 
 -- how many cells a device for the plant has at most
 abbrev pub most : PlantDefinition → ℕ
@@ -119,7 +119,7 @@ module _ (plant : PlantDefinition) (digest : List ℕ) (bytes : ℕ) (all : List
   first_loaded : cell (take (most plant) all) identity_cell ≡ cell all identity_cell
   first_loaded = get_or-take (most plant) all identity_cell None (omega arith)
 
-  -- nothing is wrong with those that are loaded only where they are all
+  -- nothing is wrong with those that are loaded only if they are all
   pub all_loaded : fault_of plant digest bytes (take (most plant) all) ≡ None → take (most plant) all ≡ all
   all_loaded none =
       let sound = sound_of plant digest bytes (take (most plant) all) (no_first (cells_fault plant digest bytes (take (most plant) all)) _ none) in
@@ -139,12 +139,12 @@ module _ (plant : PlantDefinition) (digest : List ℕ) (bytes : ℕ) (all : List
           (sym (identity_same all (take (most plant) all) first_loaded (length plant.atoms) digest bytes))
           (too_many (ltb-true (most plant) (length all) is))
 
--- what was loaded behind some reading is what it would have been before
+-- what was loaded after some reading is what it would have been before
 pub loaded_before : (size count : ℕ) (todays : List Cell → List Cell) (old mid : DiskState) (list : List Cell) → Reads false old mid → old.keeps ≡ true
     → list ≡ take count (todays (seen_cells size mid)) → list ≡ take count (todays (seen_cells size old))
 loaded_before size count todays old mid list reads keeps is = is ∙ ap (λ (l : List Cell). take count (todays l)) (reads_seen size old mid reads keeps)
 
--- Of all cells the first were loaded that any device for the plant has, and their bytes tell how many there are, where a u64 does.
+-- Of all cells the first were loaded that any device for the plant has, and their bytes tell how many there are, if a u64 does.
 module _ (plant : PlantDefinition) (digest : List ℕ) (bytes told count : ℕ) (all list : List Cell) (few : length plant.atoms ≤ MAX_ATOMS) (size : bytes ≡ told) (long : length all ≡ count)
     (exact : cells_in cell_bytes told < 2 ^ 54 - 1 → cells_in cell_bytes told ≡ count) (loaded : list ≡ take (most plant) all) where
   many : cells_in cell_bytes told ≤ most plant → length all ≤ most plant
@@ -154,7 +154,7 @@ module _ (plant : PlantDefinition) (digest : List ℕ) (bytes told count : ℕ) 
   pub told_alike : fault_of plant digest bytes list ≡ fault_of plant digest told all
   told_alike = ap (λ (n : ℕ). fault_of plant digest n list) size ∙ ap (fault_of plant digest told) loaded ∙ loaded_alike plant digest told all many
 
-  -- and where nothing is, it is all
+  -- and if nothing is, it is all
   pub read_whole : fault_of plant digest bytes list ≡ None → list ≡ all
   read_whole none =
       loaded ∙ all_loaded plant digest told all many
@@ -163,10 +163,10 @@ module _ (plant : PlantDefinition) (digest : List ℕ) (bytes told count : ℕ) 
 -- What was loaded of some cells was judged: so all of them were.
 module _ (plant : PlantDefinition) (digest : List ℕ) (told count : ℕ) (keeps : Bool) (all : List Cell) (loaded : Loaded) (few : length plant.atoms ≤ MAX_ATOMS) (long : length all ≡ count)
     (exact : cells_in cell_bytes told < 2 ^ 54 - 1 → cells_in cell_bytes told ≡ count) (was : WasLoadedOf plant told keeps all loaded) where
-  -- what is told of it is wrong with all
-  pub fault_judged : keeps ≡ true → (fault : ImageFault) → IsTold (fault_of plant digest loaded.bytes loaded.cells.items) fault → IsTold (fault_of plant digest told all) fault
+  -- what is found wrong with it is wrong with all
+  pub fault_judged : keeps ≡ true → (fault : ImageFault) → IsFault (fault_of plant digest loaded.bytes loaded.cells.items) fault → IsFault (fault_of plant digest told all) fault
   fault_judged kept fault judged =
-      subst (λ (o : Option ImageFault). IsTold o fault) (told_alike plant digest loaded.bytes told count all loaded.cells.items few was.bytes long exact (was.cells kept)) judged
+      subst (λ (o : Option ImageFault). IsFault o fault) (told_alike plant digest loaded.bytes told count all loaded.cells.items few was.bytes long exact (was.cells kept)) judged
 
   -- and what stands was read of all
   pub standing_judged : (standing : Standing) → (fault_of plant digest loaded.bytes loaded.cells.items ≡ None) × IsStanding plant loaded.cells.items standing → WasReadOf plant digest told keeps all standing
@@ -176,6 +176,11 @@ module _ (plant : PlantDefinition) (digest : List ℕ) (told count : ℕ) (keeps
     sound = subst (λ (n : ℕ). fault_of plant digest n loaded.cells.items ≡ None) was.bytes judged.0;
     is = judged.1;
   }
+
+-- what reading judged of the list that was loaded was judged of what was loaded
+pub judged_items : (plant : PlantDefinition) (digest : List ℕ) (loaded : Loaded) (list : List Cell) (judged : Result Standing ImageFault) → list ≡ loaded.cells.items
+    → Tells (fault_of plant digest loaded.bytes list) (IsStanding plant list) judged → IsJudged plant digest loaded judged
+judged_items plant digest loaded list judged same told = subst (λ (l : List Cell). Tells (fault_of plant digest loaded.bytes l) (IsStanding plant l) judged) same told
 
 -- a sync and then reading alone
 pub sync_then_read : (old mid new : DiskState) → Counts false true old mid → Reads false mid new → Counts false true old new
@@ -202,7 +207,7 @@ pub judged_counts : (r : Result Standing BootFault) (old mid new : DiskState) �
 judged_counts (Ok standing) old mid new synced reads = sync_then_read old mid new synced reads
 judged_counts (Err fault) old mid new synced reads = sync_up_to_read (is_disk fault) old mid new synced reads
 
--- what was read before some reading is read behind it
+-- what was read before some reading is read after it
 pub read_then : {failed : Bool} (plant : PlantDefinition) (digest : List ℕ) (size : ℕ) (told : ℕ → ℕ) (todays : List Cell → List Cell) (standing : Standing) (old new : DiskState) → Reads failed old new
     → WasReadOf plant digest (told (size_of old)) old.keeps (todays (seen_cells size old)) standing → WasReadOf plant digest (told (size_of new)) new.keeps (todays (seen_cells size new)) standing
 read_then plant digest size told todays standing old new reads was = record {
@@ -239,7 +244,7 @@ module _ (old mid new : DiskState) (synced : Counts false true old mid) (leaves 
     same = same_then reads;
   }
 
--- what was loaded before some reading is loaded behind it
+-- what was loaded before some reading is loaded after it
 pub loaded_then : {failed : Bool} (plant : PlantDefinition) (loaded : Loaded) (old new : DiskState) → Reads failed old new → WasLoaded plant old loaded → WasLoaded plant new loaded
 loaded_then plant loaded old new reads was = record {
   bytes = was.bytes ∙ sym reads.counts.size;
@@ -254,18 +259,18 @@ module _ (plant : PlantDefinition) (digest : List ℕ) (s : DiskState) (loaded :
   device_read standing so =
       standing_judged plant digest (size_of s) (cell_count (BODY + 1) s) s.keeps (seen_cells (BODY + 1) s) loaded few (seen_length (BODY + 1) s) (λ told. refl) was standing (subst (IsJudged plant digest loaded) so is)
 
-  -- where nothing is wrong, all that a read gives was loaded
+  -- if nothing is wrong, all that a read gives was loaded
   pub device_loaded : (standing : Standing) → judged ≡ Ok standing → s.keeps ≡ true → loaded.cells.items ≡ seen_cells (BODY + 1) s
   unfolding device_read standing_judged
   device_loaded standing so keeps = (device_read standing so).seen keeps
 
-  pub device_refused : s.keeps ≡ true → (fault : ImageFault) → judged ≡ Err fault → IsTold (fault_of plant digest (size_of s) (seen_cells (BODY + 1) s)) fault
+  pub device_refused : s.keeps ≡ true → (fault : ImageFault) → judged ≡ Err fault → IsFault (fault_of plant digest (size_of s) (seen_cells (BODY + 1) s)) fault
   device_refused keeps fault so =
       fault_judged plant digest (size_of s) (cell_count (BODY + 1) s) s.keeps (seen_cells (BODY + 1) s) loaded few (seen_length (BODY + 1) s) (λ told. refl) was keeps fault (subst (IsJudged plant digest loaded) so is)
 
--- what is told of a device behind a sync was wrong with it before
+-- what is found of a device after a sync was wrong with it before
 pub told_before : (plant : PlantDefinition) (digest : List ℕ) (old mid : DiskState) → IsSynced old mid → old.keeps ≡ true → (fault : ImageFault)
-    → IsTold (fault_of plant digest (size_of mid) (seen_cells (BODY + 1) mid)) fault → IsTold (fault_of plant digest (size_of old) (seen_cells (BODY + 1) old)) fault
+    → IsFault (fault_of plant digest (size_of mid) (seen_cells (BODY + 1) mid)) fault → IsFault (fault_of plant digest (size_of old) (seen_cells (BODY + 1) old)) fault
 told_before plant digest old mid synced keeps fault told =
-    subst (λ (n : ℕ). IsTold (fault_of plant digest n (seen_cells (BODY + 1) old)) fault) synced.counts.size
-    (subst (λ (cells : List Cell). IsTold (fault_of plant digest (size_of mid) cells) fault) (synced.same keeps) told)
+    subst (λ (n : ℕ). IsFault (fault_of plant digest n (seen_cells (BODY + 1) old)) fault) synced.counts.size
+    (subst (λ (cells : List Cell). IsFault (fault_of plant digest (size_of mid) cells) fault) (synced.same keeps) told)

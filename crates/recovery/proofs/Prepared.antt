@@ -28,14 +28,14 @@ use Rattle.plant_image.proofs.ByAtoms.{counts_past, element_at}
 use Rattle.plant_image.proofs.CleanedImages.{cleaned_none, cleaned_same}
 use Rattle.plant_image.proofs.KeptCells.{sound_of}
 use Rattle.plant_image.proofs.Standings.{base_some, stands_leads, leads_stands}
-use Rattle.plant_core.specs.Kept.{IsAtRest}
+use Rattle.plant_core.specs.Invariant.{IsAtRest}
 use Rattle.plant_core.specs.Marks.{mark_of, marks_of}
 use Rattle.plant_core.specs.Snapshots.{SnapshotFields, known_of, nothing_kept}
 use Rattle.plant_core.specs.View.{view_by}
 use Rattle.plant_core.proofs.Marking.{count-known}
 use Rattle.trimmer.specs.Covered.{MarkFields, saved_count}
 use Rattle.recovery.specs.Booting.{IsBooted, IsBooting, StandAlike}
-use Rattle.recovery.specs.InMemory.{WasRead}
+use Rattle.recovery.specs.MadeOf.{WasRead}
 use Rattle.recovery.proofs.PartlyLoaded.{cells_told}
 
 -- the same counts lead to the same
@@ -204,15 +204,21 @@ module _ (plant : PlantDefinition) (digest : List ℕ) (mid : DiskState) (standi
       let many : length marks ≡ length records = ap length (made ∙ ap (λ (c : Contents). marks_of c.records) was.is.led.contents) ∙ length-map records mark_of in
       omega (arith, many, ap (λ (r : Ring). r.base) ring_read, ap (λ (r : Ring). r.last) ring_read, base_some was.cells)
 
-  -- no saved state is behind more of its atom's firings than there were
+  -- no saved state includes more of its atom's firings than there were
   pub within_read : (known : SnapshotFields) → known ≡ nothing_kept (contents_in standing.held).slots → (atom : ℕ) → saved_count known.saved atom ≤ count_of standing.counts atom
   within_read known made atom = subst (λ (k : SnapshotFields). saved_count k.saved atom ≤ count_of standing.counts atom) (sym (known_read known made)) (known_within plant digest (size_of mid) was.cells standing was.sound was.is atom)
 
-  -- and none was asked for
+  -- there are as many as there are slots that were read
+  as_many_read : (known : SnapshotFields) → known ≡ nothing_kept (contents_in standing.held).slots → length (contents_in standing.held).slots ≡ length known.saved
+  as_many_read known made = sym (length-map (contents_in standing.held).slots known_of) ∙ ap (λ (k : SnapshotFields). length k.saved) (sym made)
+
+  -- none was asked for
   pub none_read : (known : SnapshotFields) → known ≡ nothing_kept (contents_in standing.held).slots → known.kept ≡ replicate (length known.saved) None
-  none_read known made =
-      ap (λ (k : SnapshotFields). k.kept) made ∙
-      ap (λ (n : ℕ). replicate n None) (sym (length-map (contents_in standing.held).slots known_of) ∙ ap (λ (k : SnapshotFields). length k.saved) (sym made))
+  none_read known made = ap (λ (k : SnapshotFields). k.kept) made ∙ ap (λ (n : ℕ). replicate n None) (as_many_read known made)
+
+  -- and no slot was written
+  pub none_written_read : (known : SnapshotFields) → known ≡ nothing_kept (contents_in standing.held).slots → known.next_slots ≡ replicate (length known.saved) None
+  none_written_read known made = ap (λ (k : SnapshotFields). k.next_slots) made ∙ ap (λ (n : ℕ). replicate n None) (as_many_read known made)
 
   module _ (long : length standing.counts ≡ MAX_ATOMS) where
     enough : length plant.atoms ≤ length standing.counts
@@ -233,7 +239,7 @@ module _ (plant : PlantDefinition) (digest : List ℕ) (mid : DiskState) (standi
         leaves_then (BODY + 1) (IsBooting plant digest old) old mid new (still_old plant digest old mid first)
         (leaves_weaker (BODY + 1) (HasCleaned j (seen_cells (BODY + 1) mid)) (IsBooting plant digest old) mid new (λ cells cleaned. inr (alike_read old keeps size same cells cleaned)) second)
 
-    -- the marks are those of the records that it holds behind the cleaning
+    -- the marks are those of the records that it holds after the cleaning
     pub marked_read : (new : DiskState) (marks : List MarkFields) → mid.keeps ≡ true → marks ≡ marks_of (contents_in standing.held).records → HasCleaned j (seen_cells (BODY + 1) mid) (seen_cells (BODY + 1) new)
         → marks ≡ marks_of (contents_of (length plant.atoms) (seen_cells (BODY + 1) new)).records
     marked_read new marks keeps made cleaned =
@@ -241,7 +247,7 @@ module _ (plant : PlantDefinition) (digest : List ℕ) (mid : DiskState) (standi
         ap (λ (c : Contents). marks_of c.records) was.is.led.contents ∙
         sym (ap (λ (c : Contents). marks_of c.records) (after_same plant digest (size_of mid) was.cells standing was.sound was.is enough (seen_cells (BODY + 1) new) (cleaned_read keeps (seen_cells (BODY + 1) new) cleaned)))
 
-    -- and behind it the device is at rest
+    -- and after it the device is at rest
     pub rests_read : (new : DiskState) (acked : List Local) (counts : List ℕ) (known : SnapshotFields) → mid.keeps ≡ true → size_of new ≡ size_of mid → acked ≡ standing.states → counts ≡ standing.counts
         → known ≡ nothing_kept (contents_in standing.held).slots → IsReady j new → HasCleaned j (seen_cells (BODY + 1) mid) (seen_cells (BODY + 1) new) → IsAtRest plant digest j acked counts j.last known.saved new
     rests_read new acked counts known keeps size states same made ready cleaned =
@@ -276,7 +282,7 @@ counts_two old mid new first second = record {
   err_syncs = λ err. absurd (let err = err in cc);
 }
 
--- and where the second failed
+-- and if the second failed
 pub counts_one : (old mid new : DiskState) → Counts false true old mid → Counts true false mid new → CountsUpTo true 1 old new
 counts_one old mid new first second = record {
   size = second.size ∙ first.size;

@@ -160,7 +160,7 @@ module _ (plant : PlantDefinition) (digest : List ℕ) (ring : ℕ) (states : Li
       -- the identity is set
       module _ (stored : DiskState) (room : HasRoom plant states counts number) (holds : HasStoredStates (length states) states counts number based stored)
           (spelled : body ≡ padded BODY (base_bytes (number + 1))) where
-        -- the cells with it, where all others are as they were
+        -- the cells with it, if all others are as they were
         holds_state : (bytes : ℕ) (cells : List Cell) → bytes ≡ formatted_size plant ring → length cells ≡ device_cells (length plant.atoms) ring
             → cell cells 0 ≡ Some (padded BODY (identity_bytes (identity_for plant digest ring)))
             → ((k : ℕ) → k ≢ 0 → cell cells k ≡ cell (seen_cells (BODY + 1) stored) k) → HoldsState plant digest ring bytes states counts number cells

@@ -9,7 +9,7 @@ use Rattle.step_core.specs.Plant.{PlantDefinition}
 use Rattle.gated_journal.specs.Stops.{HasCleaned}
 use Rattle.plant_image.specs.Contents.{contents_of, counts_of, last_number, ring_in, states_of}
 use Rattle.plant_image.specs.Faults.{fault_of}
-use Rattle.plant_image.specs.Reading.{IsTold}
+use Rattle.plant_image.specs.Reading.{IsFault}
 use Rattle.plant_image.specs.Standing.{StandsFor}
 use Rattle.plant_image.specs.declared.fault.ImageFault.{ImageFault}
 use Rattle.plant_core.specs.Marks.{marks_of}
@@ -28,10 +28,10 @@ abbrev pub has_failed : {V : Type 0} → Result V BootFault → Bool
 has_failed (Ok value) = false
 has_failed (Err fault) = is_disk fault
 
--- A fault of the image is told where this is what is wrong with it; that the device failed says nothing of what is wrong.
-abbrev pub IsToldBy : Option ImageFault → BootFault → Type 0
-IsToldBy found (Image fault) = IsTold found fault
-IsToldBy found Disk = Unit {0}
+-- A fault of the image is found if this is what is wrong with it; that the device failed says nothing of what is wrong.
+abbrev pub IsBootFault : Option ImageFault → BootFault → Type 0
+IsBootFault found (Image fault) = IsFault found fault
+IsBootFault found Disk = Unit {0}
 
 -- These cells and those hold the same, and stand for the same state and number.
 pub record StandAlike (plant : PlantDefinition) (digest : List ℕ) (bytes : ℕ) (before cells : List Cell) : Type 0 where

@@ -12,7 +12,7 @@ use Rattle.recovery.specs.declared.loading.Loaded.{Loaded}
 abbrev pub IsJudged : PlantDefinition → List ℕ → Loaded → Result Standing ImageFault → Type 0
 IsJudged plant digest loaded judged = Tells (fault_of plant digest loaded.bytes loaded.cells.items) (IsStanding plant loaded.cells.items) judged
 
--- What stands was read of some cells with which nothing is wrong, for a device of so many bytes: of those that a read gives, where the device
+-- What stands was read of some cells with which nothing is wrong, for a device of so many bytes: of those that a read gives, if the device
 -- keeps the disk model.
 pub record WasReadOf (plant : PlantDefinition) (digest : List ℕ) (bytes : ℕ) (keeps : Bool) (given : List Cell) (standing : Standing) : Type 0 where
   pub cells : List Cell

@@ -1,3 +1,4 @@
+pub mod Seen
 pub mod Judged
 pub mod Loading
 pub mod OldImage
@@ -5,6 +6,6 @@ pub mod Writing
 pub mod Formatting
 pub mod Migrating
 pub mod Booting
-pub mod InMemory
+pub mod MadeOf
 pub mod Lifetimes
 pub mod Messages

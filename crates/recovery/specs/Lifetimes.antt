@@ -20,7 +20,7 @@ pub record Period : Type 0 where
   pub closed : View
   pub left : List Cell
 
--- The plant was booted from these cells of a device of so many bytes, this happened to it, and then a stop left cells that stand for the state behind a
+-- The plant was booted from these cells of a device of so many bytes, this happened to it, and then a stop left cells that stand for the state after a
 -- front of what was not acknowledged.
 pub record IsPeriod (plant : PlantDefinition) (digest : List ℕ) (bytes : ℕ) (cells : List Cell) (s : Period) : Type 0 where
   pub booted : IsBooted plant digest bytes cells s.opened
@@ -67,6 +67,6 @@ opening plant cells = record {
   broken = false;
 }
 
--- the period of a boot that a stop cut short, where it left these cells
+-- the period of a boot that a stop cut short, if it left these cells
 abbrev pub cut_short : PlantDefinition → List Cell → List Cell → Period
 cut_short plant cells left = record { opened = opening plant cells; happened = []; closed = opening plant cells; left = left }

@@ -8,7 +8,7 @@ use Rattle.record_codec.specs.declared.layout.TheConstants.{MOST_RING}
 use Rattle.step_core.specs.Plant.{PlantDefinition}
 use Rattle.recovery.specs.declared.loading.Loaded.{Loaded}
 
--- It was loaded of a device of so many bytes: of the cells that a read gives as many as any device for the plant has, where the device keeps the disk
+-- It was loaded of a device of so many bytes: of the cells that a read gives as many as any device for the plant has, if the device keeps the disk
 -- model.
 pub record WasLoadedOf (plant : PlantDefinition) (told : ℕ) (keeps : Bool) (given : List Cell) (loaded : Loaded) : Type 0 where
   pub bytes : loaded.bytes ≡ told
@@ -26,7 +26,7 @@ pub record IsSynced (old new : DiskState) : Type 0 where
   pub same : old.keeps ≡ true → seen_cells (BODY + 1) new ≡ seen_cells (BODY + 1) old
   pub settled : old.keeps ≡ true → IsSettled new.now
 
--- The same where the sync or a read may have failed, but for what a stop leaves then.
+-- The same if the sync or a read may have failed, but for what a stop leaves then.
 pub record IsSyncedInPart (failed : Bool) (old new : DiskState) : Type 0 where
   pub counts : CountsUpTo failed 1 old new
   pub leaves : old.keeps ≡ true → Leaves (BODY + 1) (MayBe (BODY + 1) old) old new

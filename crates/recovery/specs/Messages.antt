@@ -1,4 +1,4 @@
--- What is told where a device is not formatted, where no plant is booted from it, and where an image is not brought over to a new one.
+-- What is printed if a device is not formatted, if no plant is booted from it, and if an image is not brought over to a new one.
 use Rattle.std.specs.Prelude.{ℕ, List, ◌++◌, codes}
 use Rattle.plant_image.specs.Messages.{message_of}
 use Rattle.recovery.specs.declared.fault.BootFault.{BootFault}

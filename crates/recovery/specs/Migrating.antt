@@ -4,7 +4,7 @@ use Rattle.disk_model.specs.DiskState.{DiskState}
 use Rattle.step_core.specs.Plant.{PlantDefinition}
 use Rattle.plant_image.specs.Contents.{Contents, counts_of, last_number, states_of}
 use Rattle.plant_image.specs.declared.fault.ImageFault.{ImageFault}
-use Rattle.recovery.specs.Booting.{IsToldBy}
+use Rattle.recovery.specs.Booting.{IsBootFault}
 use Rattle.recovery.specs.Booting as booting
 use Rattle.recovery.specs.Writing.{HasWritten}
 use Rattle.plant_image.specs.declared.fault.ImageFault.TheVariants as images
@@ -23,13 +23,13 @@ IsMigrated plant digest ring c s = HasWritten plant digest ring (states_of plant
 
 -- ---- the answer
 
--- A fault of the old image is told where this is what is wrong with it, and a fault of the new device where nothing is. That the old device
+-- A fault of the old image is found if this is what is wrong with it, and a fault of the new device if nothing is. That the old device
 -- failed, or memory ran out, says nothing of what is wrong.
-abbrev pub IsToldOfOld : Option ImageFault → MigrateFault → Type 0
-IsToldOfOld found (Old fault) = IsToldBy found fault
-IsToldOfOld found NewSize = found ≡ None
-IsToldOfOld found NewDisk = found ≡ None
-IsToldOfOld found Memory = Unit {0}
+abbrev pub IsMigrateFault : Option ImageFault → MigrateFault → Type 0
+IsMigrateFault found (Old fault) = IsBootFault found fault
+IsMigrateFault found NewSize = found ≡ None
+IsMigrateFault found NewDisk = found ≡ None
+IsMigrateFault found Memory = Unit {0}
 
 -- the old device failed
 abbrev pub is_old_disk : MigrateFault → Bool

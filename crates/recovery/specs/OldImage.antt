@@ -47,7 +47,7 @@ AreOldCells cells = (k : ℕ) (body : List ℕ) → cell cells k ≡ Some body �
 abbrev pub old_fault_of : PlantDefinition → List ℕ → ℕ → List Cell → Option ImageFault
 old_fault_of plant digest bytes cells = fault_of plant digest (todays_size bytes) (todays_cells (length plant.atoms) cells)
 
--- An image of the first layout stands for a state and a number where today's image of it does.
+-- An image of the first layout stands for a state and a number if today's image of it does.
 abbrev pub OldStandsFor : PlantDefinition → List ℕ → ℕ → List Cell → List Local → ℕ → Type 0
 OldStandsFor plant digest bytes cells states number = StandsFor plant digest (todays_size bytes) (todays_cells (length plant.atoms) cells) states number
 
@@ -76,6 +76,6 @@ no_more_same n = omega arith
 pub no_more_todays : (n : ℕ) → cells_in cell_bytes (todays_size n) ≤ cells_in (FIRST_BODY + 1) n
 no_more_todays n = omega arith
 
--- and exactly as many, where a u64 tells it
+-- and exactly as many, if a u64 tells it
 pub exact_todays : (n : ℕ) → cells_in cell_bytes (todays_size n) < 2 ^ 54 - 1 → cells_in cell_bytes (todays_size n) ≡ cells_in (FIRST_BODY + 1) n
 exact_todays n told = omega arith

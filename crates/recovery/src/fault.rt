@@ -69,7 +69,7 @@ impl From<ImageFault> for BootFault {
     ghost use Rattle.std.specs.Prelude.{◌≡◌};
     ghost use Rattle.recovery.specs.declared.fault.BootFault.TheVariants.{Image};
 
-    ghost from_gives = { λ fault told. told ≡ Image fault };
+    ghost from_gives = { λ fault made. made ≡ Image fault };
 
     fn from(fault: ImageFault) -> Self {
         Self::Image(fault)
@@ -81,7 +81,7 @@ impl From<AllocError> for BootFault {
     ghost use Rattle.plant_image.specs.declared.fault.ImageFault.TheVariants.{Memory};
     ghost use Rattle.recovery.specs.declared.fault.BootFault.TheVariants.{Image};
 
-    ghost from_gives = { λ _ told. told ≡ Image Memory };
+    ghost from_gives = { λ _ made. made ≡ Image Memory };
 
     fn from(_error: AllocError) -> Self {
         Self::Image(ImageFault::Memory)
@@ -92,7 +92,7 @@ impl From<DiskFault> for BootFault {
     ghost use Rattle.std.specs.Prelude.{◌≡◌};
     ghost use Rattle.recovery.specs.declared.fault.BootFault.TheVariants.{Disk};
 
-    ghost from_gives = { λ _ told. told ≡ Disk };
+    ghost from_gives = { λ _ made. made ≡ Disk };
 
     fn from(_fault: DiskFault) -> Self {
         Self::Disk
@@ -145,7 +145,7 @@ impl From<BootFault> for MigrateFault {
     ghost use Rattle.std.specs.Prelude.{◌≡◌};
     ghost use Rattle.recovery.specs.Migrating.{of_boot};
 
-    ghost from_gives = { λ fault told. told ≡ of_boot fault };
+    ghost from_gives = { λ fault made. made ≡ of_boot fault };
 
     fn from(fault: BootFault) -> Self {
         match fault {
@@ -159,7 +159,7 @@ impl From<FormatFault> for MigrateFault {
     ghost use Rattle.std.specs.Prelude.{◌≡◌};
     ghost use Rattle.recovery.specs.Migrating.{of_writing};
 
-    ghost from_gives = { λ fault told. told ≡ of_writing fault };
+    ghost from_gives = { λ fault made. made ≡ of_writing fault };
 
     fn from(fault: FormatFault) -> Self {
         match fault {

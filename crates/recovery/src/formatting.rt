@@ -1,12 +1,7 @@
 //! Making of a device one that stands for the first state of a plant.
 ghost use Rattle.std.specs.Prelude.{◌≡◌, ◌≢◌, ◌+◌, ◌*◌, ◌-◌, ◌≤◌, true, false, length, replicate, IfErr, IfOk, OnOk};
 ghost use Rattle.std.specs.List.{range_with_len};
-ghost use Rattle.disk_model.specs.DiskState.{CountsUpTo, Reads, size_of};
-ghost use Rattle.disk_model.specs.Cells.{Leaves};
-ghost use Rattle.record_codec.specs.Ring.{device_cells};
-ghost use Rattle.record_codec.specs.declared.layout.TheConstants.{LEAST_RING, MOST_RING};
-ghost use Rattle.step_core.specs.Step.{initial_states};
-ghost use Rattle.step_core.specs.System.{plant_of, digest_of};
+ghost use Rattle.recovery.specs.Seen.{plant_of, digest_of, initial_states, LEAST_RING, MOST_RING, device_cells, CountsUpTo, Reads, size_of, Leaves};
 ghost use Rattle.recovery.specs.Formatting.{HasFormatted, IsFormatting, formatted_size, is_disk_error, is_disk_refusal, returned};
 
 use crate::fault::{FormatFault, FormatRefused};
@@ -17,7 +12,7 @@ use step_core::{MAX_ATOMS, PlantState, System};
 
 /// Makes of the device one that stands for the first state of the plant and for the number 0, with a ring of so many records. Whatever it
 /// held is gone then. A stop inside leaves what it held, or an unformatted device, or the whole new one. All memory is taken before the first
-/// call of the device, and its size is judged before the first write: where either is refused, the device is as it was.
+/// call of the device, and its size is judged before the first write: if either is refused, the device is as it was.
 pub fn format<D: Disk>(
     alloc: Global,
     disk: D,
@@ -60,7 +55,7 @@ pub fn format<D: Disk>(
     }
 }
 
-/// Writes the first state of the plant into the cells, where there are exactly as many as the plant and the ring ask for.
+/// Writes the first state of the plant into the cells, if there are exactly as many as the plant and the ring ask for.
 fn format_cells<D: Disk>(
     cells: &mut Cells<D>,
     system: &System,

@@ -1,24 +1,16 @@
 //! What the life of a plant comes to. These functions make no call: their clauses are the laws.
 ghost use Rattle.std.specs.Prelude.{◌≡◌, ◌⊎◌, ◌+◌, ◌++◌, ◌<◌, ℕ, List, is_none, length, option_and_then};
 ghost use Rattle.std.specs.Option.{option_map};
-ghost use Rattle.disk_model.specs.Cells.{Cell, MayBe, cell, seen_cells};
-ghost use Rattle.disk_model.specs.DiskState.{DiskState, size_of};
 ghost use Rattle.disk_model.specs.declared.cells.TheConstants.{BODY};
-ghost use Rattle.petri_atom.specs.Local.{Local};
 ghost use Rattle.record_codec.specs.declared.v1.TheConstants.{VERSION as FIRST_VERSION, MOST_ENTRIES as FIRST_MOST_ENTRIES};
 ghost use Rattle.record_codec.specs.Base.{base_in};
 ghost use Rattle.record_codec.specs.Fired.{fired_in, fired_up_to};
 ghost use Rattle.record_codec.specs.FirstLayout.{todays_version};
 ghost use Rattle.record_codec.specs.Identity.{identity_in, identity_of, version_in};
-ghost use Rattle.record_codec.specs.Ring.{base_cell, identity_cell, record_cell, slot_cell};
 ghost use Rattle.record_codec.specs.Saved.{saved_in};
-ghost use Rattle.plant_image.specs.Standing.{StandsFor};
-ghost use Rattle.step_core.specs.Choice.{ChoiceDefinition};
-ghost use Rattle.step_core.specs.Plant.{PlantDefinition};
-ghost use Rattle.step_core.specs.Runs.{IsRun, fold};
-ghost use Rattle.step_core.specs.Step.{initial_states};
 ghost use Rattle.plant_core.specs.Stops.{StandsForFront};
 ghost use Rattle.plant_core.specs.View.{View, fired_number};
+ghost use Rattle.recovery.specs.Seen.{PlantDefinition, ChoiceDefinition, IsRun, fold, initial_states, Local, StandsFor, base_cell, identity_cell, record_cell, slot_cell, DiskState, size_of, Cell, MayBe, cell, seen_cells};
 ghost use Rattle.recovery.specs.Booting.{IsBooted, IsBooting, StandAlike};
 ghost use Rattle.recovery.specs.Lifetimes.{HoldAcknowledged, IsLifetime, IsPeriod, Period, all_kept, cut_short};
 ghost use Rattle.recovery.specs.Migrating.{IsMigrated};
@@ -81,7 +73,7 @@ pub fn a_life_goes_on_from_the_first_layout()
         → IsLifetime plant digest bytes first periods last → HoldAcknowledged plant periods }
 {}
 
-/// A boot that a stop cuts short is a period in which nothing happens. Where the plant is booted again without a stop, something of what it wrote last
+/// A boot that a stop cuts short is a period in which nothing happens. If the plant is booted again without a stop, something of what it wrote last
 /// may be pending still, until the boot's first sync: then the stop may also end the period before with another front.
 pub fn a_boot_cut_short_is_a_period()
     ensures alike { (plant : PlantDefinition) (digest : List ℕ) (bytes : ℕ) (cells left : List Cell)
@@ -92,7 +84,7 @@ pub fn a_boot_cut_short_is_a_period()
         ⊎ IsPeriod plant digest (size_of s) (seen_cells (BODY + 1) s) (cut_short plant (seen_cells (BODY + 1) s) left) }
 {}
 
-/// Today's cells of an image of the first layout are as many, full where its own are, and hold the same: the identity that its first layout
+/// Today's cells of an image of the first layout are as many, full if its own are, and hold the same: the identity that its first layout
 /// tells, each base, each saved state, and each record of no more entries than the first layout has. What holds none there holds none here.
 pub fn todays_cells_hold_the_same()
     ensures count { (atoms : ℕ) (cells : List Cell) → length (todays_cells atoms cells) ≡ length cells }

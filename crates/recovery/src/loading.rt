@@ -1,14 +1,8 @@
 //! Loading the cells of a device, and judging what they stand for.
 ghost use Rattle.std.specs.Prelude.{◌≡◌, ◌≤◌, true, length, take, IfErr, IfOk, OnOk, Option};
-ghost use Rattle.disk_model.specs.DiskState.{Reads, size_of};
-ghost use Rattle.disk_model.specs.Cells.{cell_count, seen_cells};
-ghost use Rattle.plant_image.specs.Faults.{fault_of};
-ghost use Rattle.plant_image.specs.declared.fault.ImageFault.{ImageFault};
-ghost use Rattle.record_codec.specs.Ring.{device_cells};
-ghost use Rattle.record_codec.specs.declared.layout.TheConstants.{MOST_RING};
-ghost use Rattle.step_core.specs.System.{plant_of, digest_of};
 ghost use Rattle.step_core.specs.declared.limits.TheConstants.{MAX_ATOMS};
-ghost use Rattle.recovery.specs.Booting.{IsToldBy, has_failed, is_disk};
+ghost use Rattle.recovery.specs.Seen.{plant_of, digest_of, fault_of, ImageFault, MOST_RING, device_cells, Reads, size_of, cell_count, seen_cells};
+ghost use Rattle.recovery.specs.Booting.{IsBootFault, has_failed, is_disk};
 ghost use Rattle.recovery.specs.Judged.{WasReadOf};
 ghost use Rattle.recovery.specs.Loading.{IsSynced, IsSyncedInPart, WasLoaded, WasLoadedOf};
 
@@ -30,7 +24,7 @@ pub(crate) struct Loaded {
     pub(crate) cells: Vec<Option<[u8; BODY]>>,
 }
 
-/// Syncs a device and loads what decides what it stands for. Nothing is written, and behind it a stop leaves what a read gives.
+/// Syncs a device and loads what decides what it stands for. Nothing is written, and after it a stop leaves what a read gives.
 pub(crate) fn load_synced<D: Disk>(
     alloc: Global,
     cells: &mut Cells<D>,
@@ -39,7 +33,7 @@ pub(crate) fn load_synced<D: Disk>(
     ensures synced { OnOk result (IsSynced cells.old cells.new) }
     ensures failed { IfErr result (λ fault. IsSyncedInPart (is_disk fault) cells.old cells.new) }
     ensures loaded { IfOk result (WasLoaded (plant_of system.now) cells.new) }
-    ensures silent { (found : Option ImageFault) → IfErr result (IsToldBy found) }
+    ensures silent { (found : Option ImageFault) → IfErr result (IsBootFault found) }
 {
     cells.sync()?;
     load_all(alloc, cells, system)
@@ -56,7 +50,7 @@ pub(crate) fn read<C: ReadAsToday>(
         (C.todays_bytes (size_of (C.state cells.old))) (C.state cells.old).keeps
         (C.todays (length (plant_of system.now).atoms) (seen_cells C.bytes_of_cell (C.state cells.old)))) }
     ensures refused { (C.state cells.old).keeps ≡ true
-        → IfErr result (IsToldBy (fault_of (plant_of system.now) (digest_of system.now) (C.todays_bytes (size_of (C.state cells.old)))
+        → IfErr result (IsBootFault (fault_of (plant_of system.now) (digest_of system.now) (C.todays_bytes (size_of (C.state cells.old)))
         (C.todays (length (plant_of system.now).atoms) (seen_cells C.bytes_of_cell (C.state cells.old))))) }
 {
     system.keeps_its_rules();
@@ -74,7 +68,7 @@ fn load_all<C: ReadAsToday>(
     ensures loaded { IfOk result (WasLoadedOf (plant_of system.now)
         (C.todays_bytes (size_of (C.state cells.old))) (C.state cells.old).keeps
         (C.todays (length (plant_of system.now).atoms) (seen_cells C.bytes_of_cell (C.state cells.old)))) }
-    ensures silent { (found : Option ImageFault) → IfErr result (IsToldBy found) }
+    ensures silent { (found : Option ImageFault) → IfErr result (IsBootFault found) }
 {
     let bytes = cells.bytes()?;
     let list = load(alloc, cells, system, bytes)?;
@@ -91,7 +85,7 @@ fn load<C: ReadAsToday>(
 ) -> Result<Vec<Option<[u8; BODY]>>, BootFault>
     requires { bytes ≡ C.todays_bytes (size_of (C.state cells.old)) }
     ensures reads { Reads (has_failed result) (C.state cells.old) (C.state cells.new) }
-    ensures silent { (found : Option ImageFault) → IfErr result (IsToldBy found) }
+    ensures silent { (found : Option ImageFault) → IfErr result (IsBootFault found) }
     ensures loaded { (C.state cells.old).keeps ≡ true
         → IfOk result (λ list. list.items ≡ take (device_cells (length (plant_of system.now).atoms) MOST_RING)
         (C.todays (length (plant_of system.now).atoms) (seen_cells C.bytes_of_cell (C.state cells.old)))) }
@@ -112,7 +106,7 @@ fn load_cells<C: ReadAsToday>(
     requires inside { count ≤ cell_count C.bytes_of_cell (C.state cells.old) }
     requires few { count ≤ device_cells MAX_ATOMS MOST_RING }
     ensures reads { Reads (has_failed result) (C.state cells.old) (C.state cells.new) }
-    ensures silent { (found : Option ImageFault) → IfErr result (IsToldBy found) }
+    ensures silent { (found : Option ImageFault) → IfErr result (IsBootFault found) }
     ensures loaded { (C.state cells.old).keeps ≡ true
         → IfOk result (λ list. list.items ≡ take count (C.todays atoms (seen_cells C.bytes_of_cell (C.state cells.old)))) }
 {

@@ -1,17 +1,11 @@
 //! Bringing an image of the first layout over to a new device.
 ghost use Rattle.std.specs.Prelude.{◌≡◌, ◌≢◌, ◌+◌, ◌*◌, ◌-◌, ◌≤◌, ℕ, List, None, true, false, length, IfErr, IfOk, OnOk};
 ghost use Rattle.std.specs.List.{range_with_len};
-ghost use Rattle.petri_atom.specs.Local.{Local};
-ghost use Rattle.disk_model.specs.DiskState.{CountsUpTo, Reads, size_of};
-ghost use Rattle.disk_model.specs.Cells.{Leaves, MayBe, seen_cells};
-ghost use Rattle.record_codec.specs.Ring.{device_cells};
-ghost use Rattle.record_codec.specs.declared.layout.TheConstants.{LEAST_RING, MOST_RING};
-ghost use Rattle.step_core.specs.System.{plant_of, digest_of};
 ghost use Rattle.plant_image.specs.Contents.{last_number};
 ghost use Rattle.plant_image.specs.Reading.{contents_in};
-ghost use Rattle.plant_image.specs.Standing.{HasRoom};
+ghost use Rattle.recovery.specs.Seen.{plant_of, digest_of, Local, HasRoom, LEAST_RING, MOST_RING, device_cells, CountsUpTo, Reads, size_of, Leaves, MayBe, seen_cells};
 ghost use Rattle.recovery.specs.Formatting.{formatted_size, is_disk_error};
-ghost use Rattle.recovery.specs.Migrating.{IsMigrated, IsToldOfOld, is_new_disk_refusal, is_old_disk_refusal, new_returned, old_returned};
+ghost use Rattle.recovery.specs.Migrating.{IsMigrated, IsMigrateFault, is_new_disk_refusal, is_old_disk_refusal, new_returned, old_returned};
 ghost use Rattle.recovery.specs.OldImage.{OldStandsFor, old_contents, old_fault_of};
 ghost use Rattle.recovery.specs.Writing.{HasWritten, IsWriting};
 ghost use Rattle.recovery.specs.declared.fault.BootFault.TheVariants.{Image};
@@ -43,7 +37,7 @@ pub fn migrate<D1: Disk, D2: Disk>(
     // What is refused, and that nothing wrong is brought over.
     ensures sound { (D1.state old).keeps ≡ true → OnOk result
         (old_fault_of (plant_of system.now) (digest_of system.now) (size_of (D1.state old)) (seen_cells (FIRST_BODY + 1) (D1.state old)) ≡ None) }
-    ensures refused { (D1.state old).keeps ≡ true → IfErr result (λ refused. IsToldOfOld
+    ensures refused { (D1.state old).keeps ≡ true → IfErr result (λ refused. IsMigrateFault
         (old_fault_of (plant_of system.now) (digest_of system.now) (size_of (D1.state old)) (seen_cells (FIRST_BODY + 1) (D1.state old)))
         refused.fault) }
     ensures memory { IfErr result (λ refused. refused.fault ≢ Old (Image NoMemory)) }
@@ -102,7 +96,7 @@ pub fn migrate<D1: Disk, D2: Disk>(
     }
 }
 
-/// Writes what stands into the cells, where there are exactly as many as the plant and the ring ask for.
+/// Writes what stands into the cells, if there are exactly as many as the plant and the ring ask for.
 fn write_standing<D: Disk>(
     cells: &mut Cells<D>,
     system: &System,

@@ -1,8 +1,7 @@
 //! The cells of a device of either layout, read as today's.
 ghost use Rattle.std.specs.Prelude.{◌≡◌, ◌+◌, ◌-◌, ◌/◌, ◌^◌, ◌<◌, ◌≤◌, ℕ, List, true, length, is_err, IfOk};
-ghost use Rattle.disk_model.specs.DiskState.{DiskState, Reads, size_of};
-ghost use Rattle.disk_model.specs.Cells.{Cell, cell, cell_count, cells_in, seen_cells};
 ghost use Rattle.plant_image.specs.Faults.{cell_bytes};
+ghost use Rattle.recovery.specs.Seen.{DiskState, Reads, size_of, Cell, cell, cell_count, cells_in, seen_cells};
 ghost use Rattle.recovery.specs.OldImage.{todays_body_at, todays_cells, todays_size};
 
 use disk_model::{BODY, Cells, Disk, DiskFault, FIRST_BODY, FirstCells};
@@ -41,7 +40,7 @@ pub(crate) trait ReadAsToday {
     /// The bytes tell no more cells than there are.
     ghost no_more: { (n : ℕ) → cells_in cell_bytes (todays_bytes n) ≤ cells_in bytes_of_cell n };
 
-    /// They tell how many, where a `u64` does.
+    /// They tell how many, if a `u64` does.
     ghost exact: { (n : ℕ) → cells_in cell_bytes (todays_bytes n) < 2 ^ 54 - 1 → cells_in cell_bytes (todays_bytes n) ≡ cells_in bytes_of_cell n };
 }
 
@@ -82,7 +81,7 @@ impl<D: Disk> ReadAsToday for FirstCells<D> {
     ghost use Rattle.disk_model.specs.declared.cells.TheConstants.{FIRST_BODY};
     ghost use Rattle.recovery.specs.OldImage.{length-todays_cells, no_more_todays, exact_todays};
 
-    ghost state = { λ s. s };
+    ghost state = { λ s. s.cells };
 
     ghost bytes_of_cell = { FIRST_BODY + 1 };
 
@@ -91,7 +90,7 @@ impl<D: Disk> ReadAsToday for FirstCells<D> {
     ghost todays_bytes = { todays_size };
 
     fn bytes(&mut self) -> Result<u64, DiskFault> {
-        Ok(self.size()?.saturating_mul(2))
+        Ok(self.cells.size()?.saturating_mul(2))
     }
 
     fn load_cell(&mut self, atoms: u16, k: u64) -> Result<Option<[u8; BODY]>, DiskFault> {

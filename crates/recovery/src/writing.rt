@@ -1,15 +1,11 @@
 //! Writing a state of a plant afresh, into a device that may hold anything.
 ghost use Rattle.std.specs.Prelude.{◌≡◌, ◌≢◌, ◌+◌, ◌*◌, ◌-◌, ◌<◌, ◌≤◌, ℕ, Some, true, false, length, slice_get, is_err, IfErr, IfOk, OnOk};
 ghost use Rattle.std.specs.List.{range_with_len};
-ghost use Rattle.petri_atom.specs.Local.{Local};
-ghost use Rattle.disk_model.specs.DiskState.{CountsUpTo, IsSettled, Reads, size_of};
-ghost use Rattle.disk_model.specs.Cells.{Leaves, cell, cell_count, seen_cells};
 ghost use Rattle.record_codec.specs.Identity.{IsIdentity};
-ghost use Rattle.record_codec.specs.Ring.{device_cells, identity_cell};
-ghost use Rattle.record_codec.specs.declared.layout.TheConstants.{LAST_NUMBER, LEAST_RING, MOST_ATOMS, MOST_RING, MOST_VARIABLES};
+ghost use Rattle.record_codec.specs.declared.layout.TheConstants.{LAST_NUMBER, MOST_ATOMS, MOST_VARIABLES};
 ghost use Rattle.record_replay.specs.Records.{count_of};
-ghost use Rattle.step_core.specs.System.{plant_of, digest_of};
-ghost use Rattle.plant_image.specs.Standing.{HasRoom, identity_for};
+ghost use Rattle.plant_image.specs.Standing.{identity_for};
+ghost use Rattle.recovery.specs.Seen.{plant_of, digest_of, Local, HasRoom, LEAST_RING, MOST_RING, device_cells, identity_cell, CountsUpTo, IsSettled, Reads, size_of, Leaves, cell, cell_count, seen_cells};
 ghost use Rattle.recovery.specs.Formatting.{formatted_size, is_disk_error};
 ghost use Rattle.recovery.specs.Writing.{HasStoredStates, HasWritten, IsBlank, IsOldOrUnformatted, IsWriting};
 
@@ -55,7 +51,7 @@ fn digest_of(system: &System) -> [u8; DIGEST]
     *system.digest()
 }
 
-/// Makes of the device one that stands for the state and the number, with a ring of so many records, where it has exactly as many cells as
+/// Makes of the device one that stands for the state and the number, with a ring of so many records, if it has exactly as many cells as
 /// that asks for. Each atom has taken part as often as `counts` says. Whatever the device held is gone then. A stop inside leaves what it
 /// held, or an unformatted device, or the whole new one.
 pub(crate) fn write_image<D: Disk>(

@@ -1,5 +1,4 @@
-pub mod Telling
-pub mod Behind
-pub mod OfAtoms
-pub mod Listing
+mod ByRows
+mod OfAtoms
+mod Listing
 mod Rows

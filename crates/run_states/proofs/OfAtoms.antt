@@ -25,24 +25,24 @@ module _ (plant : PlantDefinition) (atoms : List Atom) (i : ℕ) (atom : Atom) (
   atom-here = subst (λ of_plant. definition_of atom ≡ get_or of_plant i (definition_of atom)) known (mapped-here definition_of atoms i atom within is)
 
   module _ (states : List Local) (state : Local) (start now next : Option (List ℕ)) (all : List ℕ) (there : slice_get states i ≡ Some state) where
-    -- the next atom is told in its state, and those behind it are left
+    -- the next atom is printed in its state, and those after it are left
     pub leads-atom : (say : ℕ → AtomDefinition → Local → List ℕ)
         → Leads start now (numbered (of_atom say states) i (drop i plant.atoms)) all → Appends now next (say i (definition_of atom) state)
         → Leads start next (numbered (of_atom say states) (i + 1) (drop (i + 1) plant.atoms)) all
-    leads-atom say l told =
+    leads-atom say l shown =
         leads-element (of_atom say states) plant.atoms i (definition_of atom) start now next all atom-within atom-here l
-        (subst (λ found. Appends now next (option_map_or (say i (definition_of atom)) found [])) (sym there) told)
+        (subst (λ found. Appends now next (option_map_or (say i (definition_of atom)) found [])) (sym there) shown)
 
     -- the same of words with a text between two
     pub leads-atom-word : (say : ℕ → AtomDefinition → Local → List ℕ) (before between : List ℕ)
         → Leads start now (separated_after before between (numbered (of_atom (λ n a s. say n a s ∷ []) states) i (drop i plant.atoms))) all
         → Appends now next (before ++ say i (definition_of atom) state)
         → Leads start next (separated_after between between (numbered (of_atom (λ n a s. say n a s ∷ []) states) (i + 1) (drop (i + 1) plant.atoms))) all
-    leads-atom-word say before between l told =
+    leads-atom-word say before between l shown =
         let words : ℕ → AtomDefinition → List (List ℕ) = of_atom (λ n a s. say n a s ∷ []) states in
         let one : say i (definition_of atom) state ∷ [] ≡ words i (definition_of atom) =
         ap (λ found. option_map_or (λ s. say i (definition_of atom) s ∷ []) found []) (sym there) in
         let printed : Appends now next (separated_after before between (words i (definition_of atom))) =
-        subst (λ ws. Appends now next (separated_after before between ws)) one (subst (Appends now next) (sym (append-nil _)) told) in
+        subst (λ ws. Appends now next (separated_after before between ws)) one (subst (Appends now next) (sym (append-nil _)) shown) in
         subst (λ ws. Leads start next (separated_after (after_words before between ws) between (numbered words (i + 1) (drop (i + 1) plant.atoms))) all) (sym one)
         (leads-numbered words plant.atoms i (definition_of atom) before between start now next all atom-within atom-here l printed)

@@ -62,7 +62,7 @@ still = record {
 abbrev alone : PlantDefinition
 alone = record { atoms = still ∷ []; wires = []; rules = [] }
 
--- nothing is possible where a pick is left: that is told, and nothing more; a row says the state again
+-- nothing is possible where a pick is left: that is printed, and nothing more; a row says the state again
 stuck_in_lines : states_in Lines alone (counted_picks (3 ∷ 0 ∷ [])) ≡ codes "state W [p] n=10 m=-2\nstuck\n"
 unfolding digits set_below
 stuck_in_lines = refl
@@ -79,7 +79,7 @@ stuck_in_waves : waves_of alone (counted_picks (3 ∷ 0 ∷ [])) ≡ codes "$ver
 unfolding digits set_below
 stuck_in_waves = refl
 
--- behind a number that is refused nothing more is told, and no last time
+-- after a number that is refused nothing more is printed, and no last time
 refused_in_lines : states_in Lines sample (numbered_picks (0 ∷ 7 ∷ [])) ≡ codes "state A [s] n=0\nstate B [s] m=0\n1 tick A.t/0\nstate A [s] n=1\nstate B [s] m=0\n"
 unfolding sample digits moved set_below int_wrap is_overruled is_below
 refused_in_lines = refl
@@ -88,7 +88,7 @@ refused_in_waves : waves_of alone (numbered_picks (0 ∷ [])) ≡ codes "$versio
 unfolding digits set_below
 refused_in_waves = refl
 
--- without picks the state at the start is told alone
+-- without picks the state at the start is printed alone
 no_picks : states_in Lines alone (counted_picks []) ≡ codes "state W [p] n=10 m=-2\n"
 unfolding digits set_below
 no_picks = refl

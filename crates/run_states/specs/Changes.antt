@@ -11,11 +11,11 @@ use Rattle.text_io.specs.Numbered.{numbered}
 use Rattle.run_states.specs.OfAtoms.{of_atom, of_atoms}
 use Rattle.run_states.specs.Signals.{place_value, variable_value}
 
--- the value of a place, where it had another one before
+-- the value of a place, if it had another one before
 abbrev pub place_change : ℕ → ℕ → Bool → Bool → List ℕ
 place_change atom number was is = if beq was is then [] else place_value atom number is
 
--- the value of a variable, where it had another one before
+-- the value of a variable, if it had another one before
 abbrev pub variable_change : ℕ → ℕ → ℤ → ℤ → List ℕ
 variable_change atom number old new = if int_eq old new then [] else variable_value atom number new
 

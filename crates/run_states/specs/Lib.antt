@@ -2,7 +2,7 @@ pub mod OfAtoms
 pub mod Columns
 pub mod Objects
 pub mod States
-pub mod Told
+pub mod ByRows
 pub mod Signals
 pub mod Declarations
 pub mod Values

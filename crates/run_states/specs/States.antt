@@ -3,14 +3,14 @@ use Rattle.std.specs.Prelude.{ℕ, List, [], ◌++◌, codes}
 use Rattle.petri_atom.specs.Local.{Local}
 use Rattle.step_core.specs.Plant.{PlantDefinition}
 use Rattle.step_core.specs.Choice.{ChoiceDefinition}
-use Rattle.step_core.specs.Step.{initial_states, next}
+use Rattle.step_core.specs.Step.{next}
 use Rattle.text_io.specs.declared.format.Format.{Format}
 use Rattle.text_io.specs.declared.format.Format.TheVariants.{Lines, Csv, Jsonl}
 use Rattle.run_text.specs.Format.{step_text, stuck_text}
 use Rattle.run_text.specs.Jsonl.{step_members}
 use Rattle.run_text.specs.Line.{states_text}
 use Rattle.run_text.specs.Picks.{PickDefinition}
-use Rattle.run_text.specs.Steps.{Parts, told_from}
+use Rattle.run_text.specs.Steps.{Parts, run_printed}
 use Rattle.run_states.specs.Columns.{columns_of, names_of}
 use Rattle.run_states.specs.Objects.{states_end}
 
@@ -52,15 +52,15 @@ stuck_lines Lines plant states = stuck_text Lines
 stuck_lines Csv plant states = codes "stuck,,,," ++ present_part Csv plant states
 stuck_lines Jsonl plant states = stuck_text Jsonl
 
--- each fired interaction with the state after it, and where there is no choice
+-- what stands before the run, and the state at its start; each fired interaction with the state after it; and that there is no choice, if so
 abbrev pub state_parts : Format → Parts
-state_parts format = record { fired = fired_lines format; stuck = stuck_lines format; end = λ plant states number. [] }
+state_parts format = record {
+  start = λ plant states. head_line format plant ++ start_lines format plant states;
+  fired = fired_lines format;
+  stuck = stuck_lines format;
+  end = λ plant states number. [];
+}
 
--- the run from a state on, whose next fired interaction has this number, without that state
-abbrev pub states_from : Format → PlantDefinition → List Local → ℕ → List PickDefinition → List ℕ
-states_from format plant states number picks = told_from (state_parts format) plant states number picks
-
--- the run of a plant from its first states on, with these states and behind what stands before it
+-- the run of a plant from its first states on, with these states
 abbrev pub states_in : Format → PlantDefinition → List PickDefinition → List ℕ
-states_in format plant picks =
-    head_line format plant ++ start_lines format plant (initial_states plant) ++ states_from format plant (initial_states plant) 1 picks
+states_in format = run_printed (state_parts format)

@@ -3,9 +3,9 @@ use Rattle.std.specs.Prelude.{ℕ, List, ◌++◌, codes, decimal}
 use Rattle.petri_atom.specs.Local.{Local}
 use Rattle.step_core.specs.Plant.{PlantDefinition}
 use Rattle.step_core.specs.Choice.{ChoiceDefinition}
-use Rattle.step_core.specs.Step.{initial_states, next}
+use Rattle.step_core.specs.Step.{next}
 use Rattle.run_text.specs.Picks.{PickDefinition}
-use Rattle.run_text.specs.Steps.{Parts, told_from}
+use Rattle.run_text.specs.Steps.{Parts, run_printed}
 use Rattle.run_states.specs.Changes.{changes_of}
 use Rattle.run_states.specs.Declarations.{declarations_of}
 use Rattle.run_states.specs.Values.{values_of}
@@ -26,15 +26,15 @@ step_changes plant states time c = time_line time ++ changes_of plant states (ne
 abbrev pub stuck_line : List ℕ
 stuck_line = codes "$comment stuck $end\n"
 
--- the changes at each fired interaction, and where there is no choice; then one more time, so that the last state has a width
+-- the signals, and their values at the start; the changes at each fired interaction, and that there is no choice, if so; then one more time, so that the last state has a width
 abbrev pub wave_parts : Parts
-wave_parts = record { fired = step_changes; stuck = λ plant states. stuck_line; end = λ plant states number. time_line number }
-
--- the changes from a state on, the next of them at this time
-abbrev pub waves_from : PlantDefinition → List Local → ℕ → List PickDefinition → List ℕ
-waves_from plant states time picks = told_from wave_parts plant states time picks
+wave_parts = record {
+  start = λ plant states. declarations_of plant ++ start_values plant states;
+  fired = step_changes;
+  stuck = λ plant states. stuck_line;
+  end = λ plant states number. time_line number;
+}
 
 -- the run of a plant from its first states on
 abbrev pub waves_of : PlantDefinition → List PickDefinition → List ℕ
-waves_of plant picks =
-    declarations_of plant ++ start_values plant (initial_states plant) ++ waves_from plant (initial_states plant) 1 picks
+waves_of = run_printed wave_parts

@@ -1,9 +1,6 @@
 //! The values of the signals that a step changes.
-ghost use Rattle.std.specs.Prelude.{◌≡◌, OnOk};
-ghost use Rattle.std.specs.Io.KnownBytes.{Appends};
-ghost use Rattle.petri_atom.specs.Atom.{definition_of};
-ghost use Rattle.step_core.specs.Fitting.{IsOf};
-ghost use Rattle.step_core.specs.System.{plant_of};
+ghost use Rattle.std.specs.Prelude.{◌≡◌};
+ghost use Rattle.run_text.specs.Seen.{IsOf, Prints, definition_of, plant_of};
 ghost use Rattle.text_io.specs.Numbered.{numbered};
 ghost use Rattle.run_states.specs.Changes.{atom_changes, changes_of, place_change, place_change_of, variable_change, variable_change_of};
 
@@ -23,8 +20,7 @@ pub(crate) fn print_changes<W: Write>(
 ) -> Result<(), WriteFault>
     requires before { IsOf (plant_of system.now) before.now }
     requires after { IsOf (plant_of system.now) states.now }
-    ensures { OnOk result (Appends (W.contents output.old) (W.contents output.new)
-        (changes_of (plant_of system.now) before.now states.now)) }
+    ensures { Prints result (W.contents output.old) (W.contents output.new) (changes_of (plant_of system.now) before.now states.now) }
 {
     for (number, atom) in system.atoms().iter().enumerate() {
         let old = before.state(number as u16);
@@ -42,8 +38,7 @@ fn print_atom<W: Write>(
     new: &AtomState,
     output: &mut W,
 ) -> Result<(), WriteFault>
-    ensures { OnOk result (Appends (W.contents output.old) (W.contents output.new)
-        (atom_changes number (definition_of atom.now) old.now new.now)) }
+    ensures { Prints result (W.contents output.old) (W.contents output.new) (atom_changes number (definition_of atom.now) old.now new.now) }
 {
     print_places(number, atom.places(), old.places(), new.places(), output)?;
     print_variables(number, atom.variables(), old.values(), new.values(), output)
@@ -57,8 +52,7 @@ fn print_places<W: Write>(
     new: u64,
     output: &mut W,
 ) -> Result<(), WriteFault>
-    ensures { OnOk result (Appends (W.contents output.old) (W.contents output.new)
-        (numbered (place_change_of atom old new) 0 places.now)) }
+    ensures { Prints result (W.contents output.old) (W.contents output.new) (numbered (place_change_of atom old new) 0 places.now) }
 {
     for number in 0..places.len() {
         let was = is_marked(old, number);
@@ -75,8 +69,7 @@ fn print_place_change<W: Write>(
     is: bool,
     output: &mut W,
 ) -> Result<(), WriteFault>
-    ensures { OnOk result (Appends (W.contents output.old) (W.contents output.new)
-        (place_change atom number was is)) }
+    ensures { Prints result (W.contents output.old) (W.contents output.new) (place_change atom number was is) }
 {
     if was == is {
         Ok(())
@@ -93,8 +86,7 @@ fn print_variables<W: Write>(
     new: &[i64],
     output: &mut W,
 ) -> Result<(), WriteFault>
-    ensures { OnOk result (Appends (W.contents output.old) (W.contents output.new)
-        (numbered (variable_change_of atom old.now new.now) 0 variables.now)) }
+    ensures { Prints result (W.contents output.old) (W.contents output.new) (numbered (variable_change_of atom old.now new.now) 0 variables.now) }
 {
     for number in 0..variables.len() {
         let had = value_at(old, number);
@@ -111,8 +103,7 @@ fn print_variable_change<W: Write>(
     new: i64,
     output: &mut W,
 ) -> Result<(), WriteFault>
-    ensures { OnOk result (Appends (W.contents output.old) (W.contents output.new)
-        (variable_change atom number old new)) }
+    ensures { Prints result (W.contents output.old) (W.contents output.new) (variable_change atom number old new) }
 {
     if old == new {
         Ok(())

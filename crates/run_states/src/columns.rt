@@ -1,22 +1,18 @@
 //! A state as columns of a row: for each atom its marked places, and then each of its variables.
-ghost use Rattle.std.specs.Prelude.{◌++◌, codes, OnOk, flat_map, map};
-ghost use Rattle.std.specs.Io.KnownBytes.{Appends};
-ghost use Rattle.petri_atom.specs.Atom.{definition_of};
-ghost use Rattle.step_core.specs.Fitting.{IsOf};
-ghost use Rattle.step_core.specs.System.{plant_of};
+ghost use Rattle.std.specs.Prelude.{◌++◌, codes, flat_map, map};
+ghost use Rattle.run_text.specs.Seen.{Prints, definition_of, plant_of};
 ghost use Rattle.text_io.specs.Numbered.{numbered};
 ghost use Rattle.run_states.specs.Columns.{atom_columns, atom_names, columns_of, names_of, value_column, value_text, variable_name};
 
 use petri_atom::{Atom, AtomState, Name, Variable};
-use run_text::{print_places, value_at};
+use run_text::{PlantAt, print_places, value_at};
 use std::io::Write;
-use step_core::{PlantState, System};
+use step_core::System;
 use text_io::{Format, WriteFault, end_line, print_signed, print_text};
 
 /// Prints the row that names the columns: those of a step, and then those of a state.
 pub(crate) fn print_names<W: Write>(system: &System, output: &mut W) -> Result<(), WriteFault>
-    ensures { OnOk result (Appends (W.contents output.old) (W.contents output.new)
-        (names_of (plant_of system.now) ++ codes "\n")) }
+    ensures { Prints result (W.contents output.old) (W.contents output.new) (names_of (plant_of system.now) ++ codes "\n") }
 {
     print_text(output, b"kind,number,name,parts,values")?;
     print_names_of_atoms(system.atoms(), output)?;
@@ -25,8 +21,7 @@ pub(crate) fn print_names<W: Write>(system: &System, output: &mut W) -> Result<(
 
 /// Prints the names of the columns of atoms.
 fn print_names_of_atoms<W: Write>(atoms: &[Atom], output: &mut W) -> Result<(), WriteFault>
-    ensures { OnOk result (Appends (W.contents output.old) (W.contents output.new)
-        (flat_map atom_names (map definition_of atoms.now))) }
+    ensures { Prints result (W.contents output.old) (W.contents output.new) (flat_map atom_names (map definition_of atoms.now)) }
 {
     for atom in atoms {
         print_atom_names(atom, output)?;
@@ -36,8 +31,7 @@ fn print_names_of_atoms<W: Write>(atoms: &[Atom], output: &mut W) -> Result<(), 
 
 /// Prints the names of the columns of an atom.
 fn print_atom_names<W: Write>(atom: &Atom, output: &mut W) -> Result<(), WriteFault>
-    ensures { OnOk result (Appends (W.contents output.old) (W.contents output.new)
-        (atom_names (definition_of atom.now))) }
+    ensures { Prints result (W.contents output.old) (W.contents output.new) (atom_names (definition_of atom.now)) }
 {
     print_text(output, b",")?;
     print_text(output, atom.name().as_bytes())?;
@@ -50,8 +44,7 @@ fn print_variable_names<W: Write>(
     variables: &[Variable],
     output: &mut W,
 ) -> Result<(), WriteFault>
-    ensures { OnOk result (Appends (W.contents output.old) (W.contents output.new)
-        (flat_map (variable_name atom.now) variables.now)) }
+    ensures { Prints result (W.contents output.old) (W.contents output.new) (flat_map (variable_name atom.now) variables.now) }
 {
     for variable in variables {
         print_variable_name(atom, variable, output)?;
@@ -65,8 +58,7 @@ fn print_variable_name<W: Write>(
     variable: &Variable,
     output: &mut W,
 ) -> Result<(), WriteFault>
-    ensures { OnOk result (Appends (W.contents output.old) (W.contents output.new)
-        (variable_name atom.now variable.now)) }
+    ensures { Prints result (W.contents output.old) (W.contents output.new) (variable_name atom.now variable.now) }
 {
     print_text(output, b",")?;
     print_text(output, atom.as_bytes())?;
@@ -76,14 +68,13 @@ fn print_variable_name<W: Write>(
 
 /// Prints the columns of a state.
 pub(crate) fn print_columns<W: Write>(
-    system: &System,
-    states: &PlantState,
+    plant: &PlantAt<'_, '_>,
     output: &mut W,
 ) -> Result<(), WriteFault>
-    requires { IsOf (plant_of system.now) states.now }
-    ensures { OnOk result (Appends (W.contents output.old) (W.contents output.new)
-        (columns_of (plant_of system.now) states.now)) }
+    ensures { Prints result (W.contents output.old) (W.contents output.new) (columns_of (plant_of plant.now.system.now) plant.now.states.now) }
 {
+    let system = plant.system;
+    let states = plant.states;
     for (number, atom) in system.atoms().iter().enumerate() {
         print_atom_columns(atom, states.state(number as u16), output)?;
     }
@@ -96,8 +87,7 @@ fn print_atom_columns<W: Write>(
     state: &AtomState,
     output: &mut W,
 ) -> Result<(), WriteFault>
-    ensures { OnOk result (Appends (W.contents output.old) (W.contents output.new)
-        (atom_columns (definition_of atom.now) state.now)) }
+    ensures { Prints result (W.contents output.old) (W.contents output.new) (atom_columns (definition_of atom.now) state.now) }
 {
     print_text(output, b",")?;
     print_places(Format::Csv, atom.places(), state.places(), output)?;
@@ -110,8 +100,7 @@ fn print_values<W: Write>(
     values: &[i64],
     output: &mut W,
 ) -> Result<(), WriteFault>
-    ensures { OnOk result (Appends (W.contents output.old) (W.contents output.new)
-        (numbered (value_column values.now) 0 variables.now)) }
+    ensures { Prints result (W.contents output.old) (W.contents output.new) (numbered (value_column values.now) 0 variables.now) }
 {
     for number in 0..variables.len() {
         print_value(value_at(values, number), output)?;
@@ -121,8 +110,7 @@ fn print_values<W: Write>(
 
 /// Prints the column of a variable with this value.
 fn print_value<W: Write>(value: i64, output: &mut W) -> Result<(), WriteFault>
-    ensures { OnOk result (Appends (W.contents output.old) (W.contents output.new)
-        (value_text value)) }
+    ensures { Prints result (W.contents output.old) (W.contents output.new) (value_text value) }
 {
     print_text(output, b",")?;
     print_signed(output, value)

@@ -1,8 +1,6 @@
 //! The head of a value change dump: which signals there are.
-ghost use Rattle.std.specs.Prelude.{OnOk, map};
-ghost use Rattle.std.specs.Io.KnownBytes.{Appends};
-ghost use Rattle.petri_atom.specs.Atom.{definition_of};
-ghost use Rattle.step_core.specs.System.{plant_of};
+ghost use Rattle.std.specs.Prelude.{map};
+ghost use Rattle.run_text.specs.Seen.{Prints, definition_of, plant_of};
 ghost use Rattle.text_io.specs.Numbered.{numbered};
 ghost use Rattle.run_states.specs.Declarations.{declarations_of, module_lines, place_declaration, signal_declaration, variable_declaration};
 
@@ -17,8 +15,7 @@ pub(crate) fn print_declarations<W: Write>(
     system: &System,
     output: &mut W,
 ) -> Result<(), WriteFault>
-    ensures { OnOk result (Appends (W.contents output.old) (W.contents output.new)
-        (declarations_of (plant_of system.now))) }
+    ensures { Prints result (W.contents output.old) (W.contents output.new) (declarations_of (plant_of system.now)) }
 {
     print_text(output, b"$version Kilnmace $end\n$timescale 1 ns $end\n")?;
     print_modules(system.atoms(), output)?;
@@ -27,8 +24,7 @@ pub(crate) fn print_declarations<W: Write>(
 
 /// Prints the modules of atoms.
 fn print_modules<W: Write>(atoms: &[Atom], output: &mut W) -> Result<(), WriteFault>
-    ensures { OnOk result (Appends (W.contents output.old) (W.contents output.new)
-        (numbered module_lines 0 (map definition_of atoms.now))) }
+    ensures { Prints result (W.contents output.old) (W.contents output.new) (numbered module_lines 0 (map definition_of atoms.now)) }
 {
     for (number, atom) in atoms.iter().enumerate() {
         print_module(number as u64, atom, output)?;
@@ -38,8 +34,7 @@ fn print_modules<W: Write>(atoms: &[Atom], output: &mut W) -> Result<(), WriteFa
 
 /// Prints the module of an atom.
 fn print_module<W: Write>(number: u64, atom: &Atom, output: &mut W) -> Result<(), WriteFault>
-    ensures { OnOk result (Appends (W.contents output.old) (W.contents output.new)
-        (module_lines number (definition_of atom.now))) }
+    ensures { Prints result (W.contents output.old) (W.contents output.new) (module_lines number (definition_of atom.now)) }
 {
     print_text(output, b"$scope module ")?;
     print_text(output, atom.name().as_bytes())?;
@@ -51,8 +46,7 @@ fn print_module<W: Write>(number: u64, atom: &Atom, output: &mut W) -> Result<()
 
 /// Prints the signals of the places of an atom.
 fn print_places<W: Write>(atom: u64, places: &[Place], output: &mut W) -> Result<(), WriteFault>
-    ensures { OnOk result (Appends (W.contents output.old) (W.contents output.new)
-        (numbered (place_declaration atom) 0 places.now)) }
+    ensures { Prints result (W.contents output.old) (W.contents output.new) (numbered (place_declaration atom) 0 places.now) }
 {
     for (number, place) in places.iter().enumerate() {
         print_signal(
@@ -73,8 +67,7 @@ fn print_variables<W: Write>(
     variables: &[Variable],
     output: &mut W,
 ) -> Result<(), WriteFault>
-    ensures { OnOk result (Appends (W.contents output.old) (W.contents output.new)
-        (numbered (variable_declaration atom) 0 variables.now)) }
+    ensures { Prints result (W.contents output.old) (W.contents output.new) (numbered (variable_declaration atom) 0 variables.now) }
 {
     for (number, variable) in variables.iter().enumerate() {
         print_signal(
@@ -98,8 +91,7 @@ fn print_signal<W: Write>(
     name: &[u8],
     output: &mut W,
 ) -> Result<(), WriteFault>
-    ensures { OnOk result (Appends (W.contents output.old) (W.contents output.new)
-        (signal_declaration shape.now kind.now atom number name.now)) }
+    ensures { Prints result (W.contents output.old) (W.contents output.new) (signal_declaration shape.now kind.now atom number name.now) }
 {
     print_text(output, b"$var ")?;
     print_text(output, shape)?;

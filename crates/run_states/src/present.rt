@@ -1,34 +1,27 @@
 //! A state in each format.
-ghost use Rattle.std.specs.Prelude.{OnOk};
-ghost use Rattle.std.specs.Io.KnownBytes.{Appends};
-ghost use Rattle.step_core.specs.Fitting.{IsOf};
-ghost use Rattle.step_core.specs.System.{plant_of};
+ghost use Rattle.run_text.specs.Seen.{Prints, plant_of};
 ghost use Rattle.run_states.specs.States.{present_part};
 
 use crate::columns::print_columns;
 use crate::objects::print_states_end;
-use run_text::print_states;
+use run_text::{PlantAt, print_states};
 use std::io::Write;
-use step_core::{PlantState, System};
 use text_io::{Format, WriteFault, end_line};
 
 /// Prints a state: in lines of its own, as the columns that end a row, or as the member that ends an object.
 pub(crate) fn print_present<W: Write>(
     format: Format,
-    system: &System,
-    states: &PlantState,
+    plant: &PlantAt<'_, '_>,
     output: &mut W,
 ) -> Result<(), WriteFault>
-    requires { IsOf (plant_of system.now) states.now }
-    ensures { OnOk result (Appends (W.contents output.old) (W.contents output.new)
-        (present_part format (plant_of system.now) states.now)) }
+    ensures { Prints result (W.contents output.old) (W.contents output.new) (present_part format (plant_of plant.now.system.now) plant.now.states.now) }
 {
     match format {
-        Format::Lines => print_states(system, states, output),
+        Format::Lines => print_states(plant.system, plant.states, output),
         Format::Csv => {
-            print_columns(system, states, output)?;
+            print_columns(plant, output)?;
             end_line(output)
         }
-        Format::Jsonl => print_states_end(system, states, output),
+        Format::Jsonl => print_states_end(plant, output),
     }
 }

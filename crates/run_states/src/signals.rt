@@ -1,6 +1,6 @@
 //! The signals of a value change dump: their codes, and their values.
-ghost use Rattle.std.specs.Prelude.{◌≡◌, OnOk};
-ghost use Rattle.std.specs.Io.KnownBytes.{Appends};
+ghost use Rattle.std.specs.Prelude.{◌≡◌};
+ghost use Rattle.run_text.specs.Seen.{Prints};
 ghost use Rattle.run_states.specs.Signals.{bit, place_value, signal_code, variable_value};
 
 use std::io::Write;
@@ -13,8 +13,7 @@ pub(crate) fn print_code<W: Write>(
     number: u64,
     output: &mut W,
 ) -> Result<(), WriteFault>
-    ensures { OnOk result (Appends (W.contents output.old) (W.contents output.new)
-        (signal_code kind.now atom number)) }
+    ensures { Prints result (W.contents output.old) (W.contents output.new) (signal_code kind.now atom number) }
 {
     print_text(output, kind)?;
     print_number(output, atom)?;
@@ -29,8 +28,7 @@ pub(crate) fn print_place<W: Write>(
     marked: bool,
     output: &mut W,
 ) -> Result<(), WriteFault>
-    ensures { OnOk result (Appends (W.contents output.old) (W.contents output.new)
-        (place_value atom number marked)) }
+    ensures { Prints result (W.contents output.old) (W.contents output.new) (place_value atom number marked) }
 {
     print_text(output, bit(marked))?;
     print_code(b"p", atom, number, output)?;
@@ -51,8 +49,7 @@ pub(crate) fn print_variable<W: Write>(
     value: i64,
     output: &mut W,
 ) -> Result<(), WriteFault>
-    ensures { OnOk result (Appends (W.contents output.old) (W.contents output.new)
-        (variable_value atom number value)) }
+    ensures { Prints result (W.contents output.old) (W.contents output.new) (variable_value atom number value) }
 {
     write!(output, "b{value:b} ")?;
     print_code(b"v", atom, number, output)?;

@@ -1,29 +1,23 @@
 //! The values of all signals.
-ghost use Rattle.std.specs.Prelude.{OnOk};
-ghost use Rattle.std.specs.Io.KnownBytes.{Appends};
-ghost use Rattle.petri_atom.specs.Atom.{definition_of};
-ghost use Rattle.step_core.specs.Fitting.{IsOf};
-ghost use Rattle.step_core.specs.System.{plant_of};
+ghost use Rattle.run_text.specs.Seen.{Prints, definition_of, plant_of};
 ghost use Rattle.text_io.specs.Numbered.{numbered};
 ghost use Rattle.run_states.specs.Values.{atom_values, place_value_of, values_of, variable_value_of};
 
 use crate::signals::{print_place, print_variable};
 use petri_atom::{Atom, AtomState, Place, Variable};
-use run_text::{is_marked, value_at};
+use run_text::{PlantAt, is_marked, value_at};
 use std::io::Write;
-use step_core::{PlantState, System};
 use text_io::WriteFault;
 
 /// Prints the values of the signals of all atoms.
 pub(crate) fn print_values<W: Write>(
-    system: &System,
-    states: &PlantState,
+    plant: &PlantAt<'_, '_>,
     output: &mut W,
 ) -> Result<(), WriteFault>
-    requires { IsOf (plant_of system.now) states.now }
-    ensures { OnOk result (Appends (W.contents output.old) (W.contents output.new)
-        (values_of (plant_of system.now) states.now)) }
+    ensures { Prints result (W.contents output.old) (W.contents output.new) (values_of (plant_of plant.now.system.now) plant.now.states.now) }
 {
+    let system = plant.system;
+    let states = plant.states;
     for (number, atom) in system.atoms().iter().enumerate() {
         print_atom(number as u64, atom, states.state(number as u16), output)?;
     }
@@ -37,8 +31,7 @@ fn print_atom<W: Write>(
     state: &AtomState,
     output: &mut W,
 ) -> Result<(), WriteFault>
-    ensures { OnOk result (Appends (W.contents output.old) (W.contents output.new)
-        (atom_values number (definition_of atom.now) state.now)) }
+    ensures { Prints result (W.contents output.old) (W.contents output.new) (atom_values number (definition_of atom.now) state.now) }
 {
     print_places(number, atom.places(), state.places(), output)?;
     print_variables(number, atom.variables(), state.values(), output)
@@ -51,8 +44,7 @@ fn print_places<W: Write>(
     marking: u64,
     output: &mut W,
 ) -> Result<(), WriteFault>
-    ensures { OnOk result (Appends (W.contents output.old) (W.contents output.new)
-        (numbered (place_value_of atom marking) 0 places.now)) }
+    ensures { Prints result (W.contents output.old) (W.contents output.new) (numbered (place_value_of atom marking) 0 places.now) }
 {
     for number in 0..places.len() {
         print_place(atom, number as u64, is_marked(marking, number), output)?;
@@ -67,8 +59,7 @@ fn print_variables<W: Write>(
     values: &[i64],
     output: &mut W,
 ) -> Result<(), WriteFault>
-    ensures { OnOk result (Appends (W.contents output.old) (W.contents output.new)
-        (numbered (variable_value_of atom values.now) 0 variables.now)) }
+    ensures { Prints result (W.contents output.old) (W.contents output.new) (numbered (variable_value_of atom values.now) 0 variables.now) }
 {
     for number in 0..variables.len() {
         print_variable(atom, number as u64, value_at(values, number), output)?;

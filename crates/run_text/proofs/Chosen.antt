@@ -1,4 +1,4 @@
--- The run that picks choose, and what is told of it.
+-- The run that picks choose, and what is printed of it.
 use Rattle.std.proofs.Common.{◌≡◌, ℕ, suc, ◌+◌, ◌<◌, refl, sym, ◌∙◌, ap, List, [], ◌∷◌, ◌++◌, length, append_assoc, arith}
 use Rattle.std.specs.Prelude.{Option, Some, None}
 use Rattle.std.proofs.lemmas.Option.{none-some}
@@ -9,13 +9,13 @@ use Rattle.step_core.specs.Runs.{IsRun, fold}
 use Rattle.step_core.specs.Step.{next}
 use Rattle.run_text.specs.Picks.{PickDefinition}
 use Rattle.run_text.specs.Runs.{chosen, refusal_in}
-use Rattle.run_text.specs.Steps.{Parts, steps_told, told_from}
+use Rattle.run_text.specs.Steps.{Parts, steps_printed, printed_from}
 use Rattle.run_text.specs.Taken.{Taken, fires, stuck, refused, by_taken, taken_as}
 use Rattle.run_text.specs.declared.fault.Refusal.{Refusal}
 use Rattle.run_text.proofs.Takes.{fires-allowed, stuck-without}
 
 module _ (plant : PlantDefinition) where
-  -- what is chosen of a pick and those behind it, and which is refused, by what comes of the pick
+  -- what is chosen of a pick and those after it, and which is refused, by what comes of the pick
   abbrev chosen_by : List Local → ℕ → List PickDefinition → Taken → List ChoiceDefinition
   chosen_by states number picks t = by_taken t (λ c. c ∷ chosen plant (next plant states c) (number + 1) picks) [] (λ why. [])
 
@@ -34,7 +34,7 @@ module _ (plant : PlantDefinition) where
       each more stuck is = refl
       each more (refused why) is = refl
 
-  -- where they are fewer than the picks, and none is refused, there is no choice behind them
+  -- where they are fewer than the picks, and none is refused, there is no choice after them
   pub few-where-stuck : (picks : List PickDefinition) (states : List Local) (number : ℕ) → length (chosen plant states number picks) < length picks
       → refusal_in plant states number picks ≡ None → choices plant (fold plant states (chosen plant states number picks)) ≡ []
   few-where-stuck [] states number fewer none = absurd (omega (arith, fewer))
@@ -52,65 +52,65 @@ module _ (plant : PlantDefinition) where
 module _ (parts : Parts) (plant : PlantDefinition) where
   abbrev told_by : List Local → ℕ → List PickDefinition → Taken → List ℕ
   told_by states number picks t =
-      by_taken t (λ c. parts.fired plant states number c ++ told_from parts plant (next plant states c) (number + 1) picks)
+      by_taken t (λ c. parts.fired plant states number c ++ printed_from parts plant (next plant states c) (number + 1) picks)
       (parts.stuck plant states ++ parts.end plant states number) (λ why. [])
 
-  -- what is told behind choices where there is no other
+  -- what is printed after choices where there is no other
   abbrev behind : List Local → List ChoiceDefinition → ℕ → List ℕ
   behind states cs number = parts.stuck plant (fold plant states cs) ++ parts.end plant (fold plant states cs) number
 
-  -- where each pick takes a choice, these are told, and the end
+  -- where each pick takes a choice, these are printed, and the end
   pub told-ended : (picks : List PickDefinition) (states : List Local) (number : ℕ) → length (chosen plant states number picks) ≡ length picks
-      → told_from parts plant states number picks
-      ≡ steps_told parts plant states number (chosen plant states number picks) ++ parts.end plant (fold plant states (chosen plant states number picks)) (number + length picks)
+      → printed_from parts plant states number picks
+      ≡ steps_printed parts plant states number (chosen plant states number picks) ++ parts.end plant (fold plant states (chosen plant states number picks)) (number + length picks)
   told-ended [] states number all = ap (parts.end plant states) (let e : number ≡ number + 0 = omega arith in e)
   told-ended (pick ∷ picks) states number all = each (λ later. told-ended picks later (number + 1)) (taken_as plant states number pick.take) all
     where
-      each : ((later : List Local) → length (chosen plant later (number + 1) picks) ≡ length picks → told_from parts plant later (number + 1) picks
-          ≡ steps_told parts plant later (number + 1) (chosen plant later (number + 1) picks) ++ parts.end plant (fold plant later (chosen plant later (number + 1) picks)) (number + 1 + length picks))
+      each : ((later : List Local) → length (chosen plant later (number + 1) picks) ≡ length picks → printed_from parts plant later (number + 1) picks
+          ≡ steps_printed parts plant later (number + 1) (chosen plant later (number + 1) picks) ++ parts.end plant (fold plant later (chosen plant later (number + 1) picks)) (number + 1 + length picks))
           → (t : Taken) → length (chosen_by plant states number picks t) ≡ length (pick ∷ picks) → told_by states number picks t
-          ≡ steps_told parts plant states number (chosen_by plant states number picks t) ++ parts.end plant (fold plant states (chosen_by plant states number picks t)) (number + length (pick ∷ picks))
+          ≡ steps_printed parts plant states number (chosen_by plant states number picks t) ++ parts.end plant (fold plant states (chosen_by plant states number picks t)) (number + length (pick ∷ picks))
       each more (fires c) same =
           let after = next plant states c in
           let cs = chosen plant after (number + 1) picks in
           let first = parts.fired plant states number c in
           let later : length cs ≡ length picks = omega (arith, same) in
           let count : number + 1 + length picks ≡ number + suc (length picks) = omega arith in
-          ap (λ text. first ++ text) (more after later ∙ ap (λ n. steps_told parts plant after (number + 1) cs ++ parts.end plant (fold plant after cs) n) count) ∙
-          sym (append_assoc first (steps_told parts plant after (number + 1) cs) (parts.end plant (fold plant after cs) (number + suc (length picks))))
+          ap (λ text. first ++ text) (more after later ∙ ap (λ n. steps_printed parts plant after (number + 1) cs ++ parts.end plant (fold plant after cs) n) count) ∙
+          sym (append_assoc first (steps_printed parts plant after (number + 1) cs) (parts.end plant (fold plant after cs) (number + suc (length picks))))
       each more stuck same = absurd (omega (arith, same))
       each more (refused why) same = absurd (omega (arith, same))
 
-  -- where one is refused, the choices before it are told
+  -- where one is refused, the choices before it are printed
   pub told-refused : (picks : List PickDefinition) (states : List Local) (number : ℕ) (refusal : Refusal) → refusal_in plant states number picks ≡ Some refusal
-      → told_from parts plant states number picks ≡ steps_told parts plant states number (chosen plant states number picks)
+      → printed_from parts plant states number picks ≡ steps_printed parts plant states number (chosen plant states number picks)
   told-refused [] states number refusal is = absurd (none-some refusal is)
   told-refused (pick ∷ picks) states number refusal is = each (λ later. told-refused picks later (number + 1) refusal) (taken_as plant states number pick.take) is
     where
-      each : ((later : List Local) → refusal_in plant later (number + 1) picks ≡ Some refusal → told_from parts plant later (number + 1) picks
-          ≡ steps_told parts plant later (number + 1) (chosen plant later (number + 1) picks))
-          → (t : Taken) → refusal_by plant states number pick picks t ≡ Some refusal → told_by states number picks t ≡ steps_told parts plant states number (chosen_by plant states number picks t)
+      each : ((later : List Local) → refusal_in plant later (number + 1) picks ≡ Some refusal → printed_from parts plant later (number + 1) picks
+          ≡ steps_printed parts plant later (number + 1) (chosen plant later (number + 1) picks))
+          → (t : Taken) → refusal_by plant states number pick picks t ≡ Some refusal → told_by states number picks t ≡ steps_printed parts plant states number (chosen_by plant states number picks t)
       each more (fires c) same = ap (λ text. parts.fired plant states number c ++ text) (more (next plant states c) same)
       each more stuck same = absurd (none-some refusal same)
       each more (refused why) same = refl
 
   -- and where there is no choice for one, that too, and the end
   pub told-stuck : (picks : List PickDefinition) (states : List Local) (number : ℕ) → length (chosen plant states number picks) < length picks → refusal_in plant states number picks ≡ None
-      → told_from parts plant states number picks ≡ steps_told parts plant states number (chosen plant states number picks)
+      → printed_from parts plant states number picks ≡ steps_printed parts plant states number (chosen plant states number picks)
       ++ behind states (chosen plant states number picks) (number + length (chosen plant states number picks))
   told-stuck [] states number fewer none = absurd (omega (arith, fewer))
   told-stuck (pick ∷ picks) states number fewer none = each (λ later. told-stuck picks later (number + 1)) (taken_as plant states number pick.take) fewer none
     where
-      each : ((later : List Local) → length (chosen plant later (number + 1) picks) < length picks → refusal_in plant later (number + 1) picks ≡ None → told_from parts plant later (number + 1) picks
-          ≡ steps_told parts plant later (number + 1) (chosen plant later (number + 1) picks) ++ behind later (chosen plant later (number + 1) picks) (number + 1 + length (chosen plant later (number + 1) picks)))
+      each : ((later : List Local) → length (chosen plant later (number + 1) picks) < length picks → refusal_in plant later (number + 1) picks ≡ None → printed_from parts plant later (number + 1) picks
+          ≡ steps_printed parts plant later (number + 1) (chosen plant later (number + 1) picks) ++ behind later (chosen plant later (number + 1) picks) (number + 1 + length (chosen plant later (number + 1) picks)))
           → (t : Taken) → length (chosen_by plant states number picks t) < length (pick ∷ picks) → refusal_by plant states number pick picks t ≡ None → told_by states number picks t
-          ≡ steps_told parts plant states number (chosen_by plant states number picks t) ++ behind states (chosen_by plant states number picks t) (number + length (chosen_by plant states number picks t))
+          ≡ steps_printed parts plant states number (chosen_by plant states number picks t) ++ behind states (chosen_by plant states number picks t) (number + length (chosen_by plant states number picks t))
       each more (fires c) few kept =
           let after = next plant states c in
           let cs = chosen plant after (number + 1) picks in
           let first = parts.fired plant states number c in
           let count : number + 1 + length cs ≡ number + suc (length cs) = omega arith in
-          ap (λ text. first ++ text) (more after (omega (arith, few)) kept ∙ ap (λ n. steps_told parts plant after (number + 1) cs ++ behind after cs n) count) ∙
-          sym (append_assoc first (steps_told parts plant after (number + 1) cs) (behind after cs (number + suc (length cs))))
+          ap (λ text. first ++ text) (more after (omega (arith, few)) kept ∙ ap (λ n. steps_printed parts plant after (number + 1) cs ++ behind after cs n) count) ∙
+          sym (append_assoc first (steps_printed parts plant after (number + 1) cs) (behind after cs (number + suc (length cs))))
       each more stuck few kept = ap (λ n. parts.stuck plant states ++ parts.end plant states n) (let e : number ≡ number + 0 = omega arith in e)
       each more (refused why) few kept = absurd (none-some _ (sym kept))

@@ -12,7 +12,7 @@ use Rattle.step_core.specs.Step.{next}
 use Rattle.text_io.proofs.Leading.{Leads, leads-more, leads-same}
 use Rattle.run_text.specs.Picks.{Gives, PickDefinition, pick_of, take_of}
 use Rattle.run_text.specs.Runs.{chosen, refusal_in}
-use Rattle.run_text.specs.Steps.{Parts, saved_from, saved_line, told_from}
+use Rattle.run_text.specs.Steps.{Parts, saved_from, saved_line, printed_from}
 use Rattle.run_text.specs.Taken.{Taken, fires, stuck, refused, by_taken, taken_as}
 use Rattle.run_text.specs.declared.fault.Refusal.{Refusal}
 use Rattle.run_text.specs.declared.fault.RefusedPick.{RefusedPick}
@@ -26,18 +26,18 @@ pub record Stand : Type 0 where
   pub printed : Option (List ℕ)
   pub saved : Option (List ℕ)
 
--- by picks that were known at the start, what is left of the run is what was left of it at the start, but for what was told and saved
+-- by picks that were known at the start, what is left of the run is what was left of it at the start, but for what was printed and saved
 pub record GoesOn (parts : Parts) (plant : PlantDefinition) (picks : List PickDefinition) (start now : Stand) : Type 0 where
   pub rest : List PickDefinition
   pub known : now.left ≡ Some rest
-  pub printed : Leads start.printed now.printed (told_from parts plant now.states now.number rest) (told_from parts plant start.states start.number picks)
+  pub printed : Leads start.printed now.printed (printed_from parts plant now.states now.number rest) (printed_from parts plant start.states start.number picks)
   pub saved : Leads start.saved now.saved (saved_from plant now.states now.number rest) (saved_from plant start.states start.number picks)
   pub refusal : refusal_in plant now.states now.number rest ≡ refusal_in plant start.states start.number picks
   pub end : fold plant now.states (chosen plant now.states now.number rest) ≡ fold plant start.states (chosen plant start.states start.number picks)
 
--- nothing is left but what comes behind the last choice: this text
+-- nothing is left but what comes after the last choice: this text
 pub record IsPast (plant : PlantDefinition) (parts : Parts) (picks : List PickDefinition) (start : Stand) (refusal : Option Refusal) (states : List Local) (printed saved : Option (List ℕ)) (left : List ℕ) : Type 0 where
-  pub printed_left : Leads start.printed printed left (told_from parts plant start.states start.number picks)
+  pub printed_left : Leads start.printed printed left (printed_from parts plant start.states start.number picks)
   pub saved_all : Appends start.saved saved (saved_from plant start.states start.number picks)
   pub refusal_is : refusal ≡ refusal_in plant start.states start.number picks
   pub end_is : states ≡ fold plant start.states (chosen plant start.states start.number picks)
@@ -65,20 +65,20 @@ leads-all : (start now : Option (List ℕ)) (left all : List ℕ) → Leads star
 leads-all start now left all leads none = leads.by now (subst (Appends now now) (sym none) (Appends-nil now))
 
 module _ {plant : PlantDefinition} {parts : Parts} {picks : List PickDefinition} {start : Stand} {refusal : Option Refusal} {states : List Local} {printed saved : Option (List ℕ)} where
-  -- all is told where what is left is
-  pub told-last : {left : List ℕ} (after : Option (List ℕ)) → IsPast plant parts picks start refusal states printed saved left → Appends printed after left
-      → Appends start.printed after (told_from parts plant start.states start.number picks)
-  told-last after past last = past.printed_left.by after last
+  -- all is printed where what is left is
+  pub printed-last : {left : List ℕ} (after : Option (List ℕ)) → IsPast plant parts picks start refusal states printed saved left → Appends printed after left
+      → Appends start.printed after (printed_from parts plant start.states start.number picks)
+  printed-last after past last = past.printed_left.by after last
 
   -- and where nothing is left
-  pub told-all : IsPast plant parts picks start refusal states printed saved [] → Appends start.printed printed (told_from parts plant start.states start.number picks)
+  pub told-all : IsPast plant parts picks start refusal states printed saved [] → Appends start.printed printed (printed_from parts plant start.states start.number picks)
   told-all past = past.printed_left.by printed (Appends-nil printed)
 
 module _ (parts : Parts) (plant : PlantDefinition) where
   -- what is left of a run from a state on, by what comes of its first pick
   abbrev told_by : List Local → ℕ → List PickDefinition → Taken → List ℕ
   told_by states number rest t =
-      by_taken t (λ c. parts.fired plant states number c ++ told_from parts plant (next plant states c) (number + 1) rest)
+      by_taken t (λ c. parts.fired plant states number c ++ printed_from parts plant (next plant states c) (number + 1) rest)
       (parts.stuck plant states ++ parts.end plant states number) (λ why. [])
 
   abbrev chosen_by : List Local → ℕ → List PickDefinition → Taken → List ChoiceDefinition
@@ -90,8 +90,8 @@ module _ (parts : Parts) (plant : PlantDefinition) where
 
   -- the same of picks that begin with one, and what comes of that
   told-first : (states : List Local) (number : ℕ) (pick : PickDefinition) (picks rest : List PickDefinition) (t : Taken) → picks ≡ pick ∷ rest → taken_as plant states number pick.take ≡ t
-      → told_from parts plant states number picks ≡ told_by states number rest t
-  told-first states number pick picks rest t first taken_is = ap (told_from parts plant states number) first ∙ ap (told_by states number rest) taken_is
+      → printed_from parts plant states number picks ≡ told_by states number rest t
+  told-first states number pick picks rest t first taken_is = ap (printed_from parts plant states number) first ∙ ap (told_by states number rest) taken_is
 
   chosen-first : (states : List Local) (number : ℕ) (pick : PickDefinition) (picks rest : List PickDefinition) (t : Taken) → picks ≡ pick ∷ rest → taken_as plant states number pick.take ≡ t
       → chosen plant states number picks ≡ chosen_by states number rest t
@@ -112,17 +112,17 @@ module _ (parts : Parts) (plant : PlantDefinition) where
     end = refl;
   }
 
-  -- the choice that a pick takes is told and saved, and the run goes on from the state after it
+  -- the choice that a pick takes is printed and saved, and the run goes on from the state after it
   goes-behind-here : (picks : List PickDefinition) (start now : Stand) → GoesOn parts plant picks start now → (pick : Pick) (c : ChoiceDefinition) (states : List Local) (number : ℕ) (behind : Option (List PickDefinition)) (printed saved : Option (List ℕ))
       → Gives now.left behind (Some pick) → taken_as plant now.states now.number (take_of pick.take) ≡ fires c → states ≡ next plant now.states c → number ≡ now.number + 1
       → Appends now.printed printed (parts.fired plant now.states now.number c) → Appends now.saved saved (saved_line plant c)
       → GoesOn parts plant picks start (record { states = states; number = number; left = behind; printed = printed; saved = saved })
-  goes-behind-here picks start now goes pick c states number behind printed saved gives taken_is states_is number_is told kept =
+  goes-behind-here picks start now goes pick c states number behind printed saved gives taken_is states_is number_is shown kept =
       let given = gives-first now.left behind pick goes.rest goes.known gives in
       let rest = given.0 in
       let later = next plant now.states c in
-      let text : told_from parts plant later (now.number + 1) rest ≡ told_from parts plant states number rest =
-      ap (λ s. told_from parts plant s (now.number + 1) rest) (sym states_is) ∙ ap (λ n. told_from parts plant states n rest) (sym number_is) in
+      let text : printed_from parts plant later (now.number + 1) rest ≡ printed_from parts plant states number rest =
+      ap (λ s. printed_from parts plant s (now.number + 1) rest) (sym states_is) ∙ ap (λ n. printed_from parts plant states n rest) (sym number_is) in
       let chosen_same : chosen plant later (now.number + 1) rest ≡ chosen plant states number rest =
       ap (λ s. chosen plant s (now.number + 1) rest) (sym states_is) ∙ ap (λ n. chosen plant states n rest) (sym number_is) in
       let refused_same : refusal_in plant later (now.number + 1) rest ≡ refusal_in plant states number rest =
@@ -131,7 +131,7 @@ module _ (parts : Parts) (plant : PlantDefinition) where
       record {
         rest = rest;
         known = given.2;
-        printed = leads-same (leads-more _ _ _ _ _ _ (leads-same goes.printed (told-first now.states now.number (pick_of pick) goes.rest rest (fires c) given.1 taken_is)) told) text;
+        printed = leads-same (leads-more _ _ _ _ _ _ (leads-same goes.printed (told-first now.states now.number (pick_of pick) goes.rest rest (fires c) given.1 taken_is)) shown) text;
         saved = leads-same (leads-more _ _ _ _ _ _ (leads-same goes.saved (ap (flat_map (saved_line plant)) here)) kept) (ap (flat_map (saved_line plant)) chosen_same);
         refusal = sym refused_same ∙ sym (refusal-first now.states now.number (pick_of pick) goes.rest rest (fires c) given.1 taken_is) ∙ goes.refusal;
         end = ap (fold plant states) (sym chosen_same) ∙ ap (λ s. fold plant s (chosen plant later (now.number + 1) rest)) states_is ∙ ap (fold plant now.states) (sym here) ∙ goes.end;
@@ -143,21 +143,21 @@ module _ (parts : Parts) (plant : PlantDefinition) where
   past-the-last-here picks start now goes behind gives =
       let none = gives-none now.left behind goes.rest goes.known gives in
       record {
-        printed_left = leads-same goes.printed (ap (told_from parts plant now.states now.number) none);
+        printed_left = leads-same goes.printed (ap (printed_from parts plant now.states now.number) none);
         saved_all = leads-all _ _ _ _ goes.saved (ap (saved_from plant now.states now.number) none);
         refusal_is = ap (refusal_in plant now.states now.number) (sym none) ∙ goes.refusal;
         end_is = ap (λ ps. fold plant now.states (chosen plant now.states now.number ps)) (sym none) ∙ goes.end;
       }
 
-  -- where there is no choice, that is told, and the end is left
+  -- where there is no choice, that is printed, and the end is left
   past-stuck-here : (picks : List PickDefinition) (start now : Stand) → GoesOn parts plant picks start now → (pick : Pick) (behind : Option (List PickDefinition)) (printed : Option (List ℕ)) → Gives now.left behind (Some pick)
       → taken_as plant now.states now.number (take_of pick.take) ≡ stuck → Appends now.printed printed (parts.stuck plant now.states)
       → IsPast plant parts picks start None now.states printed now.saved (parts.end plant now.states now.number)
-  past-stuck-here picks start now goes pick behind printed gives taken_is told =
+  past-stuck-here picks start now goes pick behind printed gives taken_is shown =
       let given = gives-first now.left behind pick goes.rest goes.known gives in
       let here = chosen-first now.states now.number (pick_of pick) goes.rest given.0 stuck given.1 taken_is in
       record {
-        printed_left = leads-more _ _ _ _ _ _ (leads-same goes.printed (told-first now.states now.number (pick_of pick) goes.rest given.0 stuck given.1 taken_is)) told;
+        printed_left = leads-more _ _ _ _ _ _ (leads-same goes.printed (told-first now.states now.number (pick_of pick) goes.rest given.0 stuck given.1 taken_is)) shown;
         saved_all = leads-all _ _ _ _ goes.saved (ap (flat_map (saved_line plant)) here);
         refusal_is = sym (refusal-first now.states now.number (pick_of pick) goes.rest given.0 stuck given.1 taken_is) ∙ goes.refusal;
         end_is = ap (fold plant now.states) (sym here) ∙ goes.end;
@@ -177,7 +177,7 @@ module _ (parts : Parts) (plant : PlantDefinition) where
         end_is = ap (fold plant now.states) (sym here) ∙ goes.end;
       }
 
-  -- the same, where what is told and the plant are told to be these
+  -- the same, where what is printed and the plant are known to be these
   module _ (picks : List PickDefinition) (start now : Stand) (goes : GoesOn parts plant picks start now) (telling : Parts) (present : PlantDefinition) (parts_is : telling ≡ parts) (plant_is : present ≡ plant) where
     taken-same : (pick : Pick) (t : Taken) → taken_as present now.states now.number (take_of pick.take) ≡ t → taken_as plant now.states now.number (take_of pick.take) ≡ t
     taken-same pick t taken_is = ap (λ p. taken_as p now.states now.number (take_of pick.take)) (sym plant_is) ∙ taken_is
@@ -189,9 +189,9 @@ module _ (parts : Parts) (plant : PlantDefinition) where
         → Gives now.left behind (Some pick) → taken_as present now.states now.number (take_of pick.take) ≡ fires c → states ≡ next present now.states c → number ≡ now.number + 1
         → Appends now.printed printed (telling.fired present now.states now.number c) → Appends now.saved saved (saved_line present c)
         → GoesOn parts plant picks start (record { states = states; number = number; left = behind; printed = printed; saved = saved })
-    goes-behind pick c states number behind printed saved gives taken_is states_is number_is told kept =
+    goes-behind pick c states number behind printed saved gives taken_is states_is number_is shown kept =
         goes-behind-here picks start now goes pick c states number behind printed saved gives (taken-same pick (fires c) taken_is) (states_is ∙ ap (λ p. next p now.states c) plant_is) number_is
-        (subst (λ (ps : Parts). Appends now.printed printed (ps.fired plant now.states now.number c)) parts_is (subst (λ p. Appends now.printed printed (telling.fired p now.states now.number c)) plant_is told))
+        (subst (λ (ps : Parts). Appends now.printed printed (ps.fired plant now.states now.number c)) parts_is (subst (λ p. Appends now.printed printed (telling.fired p now.states now.number c)) plant_is shown))
         (subst (λ p. Appends now.saved saved (saved_line p c)) plant_is kept)
 
     pub past-the-last : (behind : Option (List PickDefinition)) → Gives now.left behind None
@@ -201,10 +201,10 @@ module _ (parts : Parts) (plant : PlantDefinition) where
     pub past-stuck : (pick : Pick) (behind : Option (List PickDefinition)) (printed : Option (List ℕ)) → Gives now.left behind (Some pick)
         → taken_as present now.states now.number (take_of pick.take) ≡ stuck → Appends now.printed printed (telling.stuck present now.states)
         → IsPast plant parts picks start None now.states printed now.saved (telling.end present now.states now.number)
-    past-stuck pick behind printed gives taken_is told =
+    past-stuck pick behind printed gives taken_is shown =
         subst (IsPast plant parts picks start None now.states printed now.saved) end-same
         (past-stuck-here picks start now goes pick behind printed gives (taken-same pick stuck taken_is)
-        (subst (λ (ps : Parts). Appends now.printed printed (ps.stuck plant now.states)) parts_is (subst (λ p. Appends now.printed printed (telling.stuck p now.states)) plant_is told)))
+        (subst (λ (ps : Parts). Appends now.printed printed (ps.stuck plant now.states)) parts_is (subst (λ p. Appends now.printed printed (telling.stuck p now.states)) plant_is shown)))
 
     pub past-refused : (pick : Pick) (behind : Option (List PickDefinition)) (why : RefusedPick) → Gives now.left behind (Some pick)
         → taken_as present now.states now.number (take_of pick.take) ≡ refused why

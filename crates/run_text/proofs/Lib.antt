@@ -1,9 +1,10 @@
 pub mod Separating
-pub mod Among
+mod Among
 pub mod Takes
-pub mod GoingOn
-pub mod Chosen
-pub mod ToldRows
-pub mod Listed
+mod GoingOn
+mod AfterHead
+mod Chosen
+pub mod ByRows
+mod Listed
 mod Rows
 pub mod RunRows

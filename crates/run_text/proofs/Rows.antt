@@ -44,7 +44,7 @@ wide = record {
   transitions = record { port = 0; sources = 0 ∷ []; targets = 0 ∷ []; guard = number (pos 1); updates = [] } ∷ record { port = 1; sources = 0 ∷ []; targets = 1 ∷ []; guard = number (pos 1); updates = [] } ∷ [];
 }
 
--- its states: the places are told by the marking, whatever is marked at first
+-- its states: the places are given by the marking, whatever is marked at first
 marked_at_the_ends : state_line wide (record { marking = 5; values = pos 10 ∷ negsuc 1 ∷ [] }) ≡ codes "state W [p r] n=10 m=-2"
 unfolding wide digits
 marked_at_the_ends = refl
@@ -53,7 +53,7 @@ nothing_marked : state_line wide (record { marking = 0; values = pos 0 ∷ negsu
 unfolding wide digits
 nothing_marked = refl
 
--- a participant by the port of its transition; one that is not there is not told
+-- a participant by the port of its transition; one that is not there is not printed
 told_by_its_port : participant (wide ∷ []) (record { atom = 0; transition = 1 }) ≡ codes "W.b/1"
 unfolding wide digits
 told_by_its_port = refl
@@ -91,7 +91,7 @@ objects_stuck_at_once : trace_in Jsonl alone (counted_picks (3 ∷ 0 ∷ [])) �
 unfolding wide digits set_below
 objects_stuck_at_once = refl
 
--- a stuck run is not refused; but any number that is taken as it is, is past an empty list, and nothing is told
+-- a stuck run is not refused; but any number that is taken as it is, is past an empty list, and nothing is printed
 stuck_and_not_refused : refusal_of alone (counted_picks (3 ∷ 0 ∷ [])) ≡ None
 unfolding wide set_below
 stuck_and_not_refused = refl

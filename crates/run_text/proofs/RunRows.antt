@@ -58,13 +58,13 @@ sample = record {
 abbrev at : ℤ → ℤ → List Local
 at n m = record { marking = 1; values = n ∷ [] } ∷ record { marking = 1; values = m ∷ [] } ∷ []
 
-abbrev move : ℕ → Move
+abbrev pub move : ℕ → Move
 move atom = record { atom = atom; transition = 0 }
 
-abbrev ticked : ChoiceDefinition
+abbrev pub ticked : ChoiceDefinition
 ticked = record { connector = 0; mask = 1; moves = move 0 ∷ [] }
 
-abbrev sent : ChoiceDefinition
+abbrev pub sent : ChoiceDefinition
 sent = record { connector = 1; mask = 3; moves = move 0 ∷ move 1 ∷ [] }
 
 -- tick alone, and send of both
@@ -106,7 +106,7 @@ tick_and_send_saved : saved_in sample (counted_picks (0 ∷ 1 ∷ [])) ≡ codes
 unfolding sample digits moved set_below int_wrap is_overruled is_below
 tick_and_send_saved = refl
 
--- numbers that are taken as they are: the second is past the list of two, and nothing is told behind tick
+-- numbers that are taken as they are: the second is past the list of two, and nothing is printed after tick
 abbrev past_two : Refusal
 past_two = record { place = 2; why = PastList 7 2 }
 

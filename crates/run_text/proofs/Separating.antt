@@ -20,7 +20,7 @@ separated-append before between (x ∷ xs) ys =
     ap (λ b. before ++ x ++ (separated_after between between xs ++ separated_after b between ys)) (after-same between xs) ∙
     sym (append_assoc (before ++ x) (separated_after between between xs) (separated_after between between ys))
 
--- what stands before the next one, behind words and then others
+-- what stands before the next one, after words and then others
 pub after-append : (before between : List ℕ) (xs ys : List (List ℕ))
     → after_words before between (xs ++ ys) ≡ after_words (after_words before between xs) between ys
 after-append before between [] ys = refl
@@ -37,7 +37,7 @@ pub separated-numbered : {X : Type 0} (before : List ℕ) (say : ℕ → X → L
 separated-numbered before say n [] = refl
 separated-numbered before say n (x ∷ xs) = ap (λ text. before ++ say n x ++ text) (separated-numbered before say (n + 1) xs)
 
--- the words of a numbered element are printed, and those of the elements behind it are left
+-- the words of a numbered element are printed, and those of the elements after it are left
 pub leads-numbered : {X : Type 0} (words : ℕ → X → List (List ℕ)) (xs : List X) (i : ℕ) (x : X) (before between : List ℕ) (start now next : Option (List ℕ)) (all : List ℕ)
     → i < length xs → x ≡ get_or xs i x → Leads start now (separated_after before between (numbered words i (drop i xs))) all
     → Appends now next (separated_after before between (words i x))
@@ -45,7 +45,7 @@ pub leads-numbered : {X : Type 0} (words : ℕ → X → List (List ℕ)) (xs : 
 leads-numbered words xs i x before between start now next all within here l p =
     leads-more _ _ _ _ _ _ (leads-same l (ap (separated_after before between) (numbered-left words xs i x within here) ∙ separated-append before between (words i x) _)) p
 
--- what stands before the next word, behind those of a numbered element
+-- what stands before the next word, after those of a numbered element
 pub after-numbered : {X : Type 0} (words : ℕ → X → List (List ℕ)) (xs : List X) (i : ℕ) (x : X) (before between : List ℕ)
     → i < length xs → x ≡ get_or xs i x
     → after_words (after_words before between (words i x)) between (numbered words (i + 1) (drop (i + 1) xs)) ≡ after_words before between (numbered words i (drop i xs))

@@ -27,7 +27,7 @@ export_text format a variable value = owner_text format a.name ++ assigned_text 
 abbrev pub export_words : Format → AtomDefinition → ℕ → Option ℤ → List (List ℕ)
 export_words format a variable value = option_map_or (λ v. export_text format a variable v ∷ []) value []
 
--- the word of the variable that is export k of a port, where a value is delivered to it
+-- the word of the variable that is export k of a port, if a value is delivered to it
 abbrev pub delivered_word : Format → AtomDefinition → Row → ℕ → ℕ → List (List ℕ)
 delivered_word format a d k variable = export_words format a variable (delivered_value d k)
 

@@ -20,7 +20,7 @@ atom_object a transition d =
     codes ",\"transition\":" ++ decimal transition ++ codes ",\"delivered\":{" ++
     separated_by (codes ",") (delivered_words Jsonl a transition d) ++ codes "}}"
 
--- the same of a move, where its atom gets this
+-- the same of a move, if its atom gets this
 abbrev pub move_object : PlantDefinition → Move → Row → List ℕ
 move_object plant m d = option_map_or (λ a. atom_object a m.transition d) (slice_get plant.atoms m.atom) []
 

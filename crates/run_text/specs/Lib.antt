@@ -1,9 +1,10 @@
+pub mod Seen
 pub mod Word
 pub mod Line
 pub mod Delivered
 pub mod Csv
 pub mod Jsonl
-pub mod Told
+pub mod ByRows
 pub mod Format
 pub mod Message
 pub mod Picks
@@ -12,6 +13,8 @@ pub mod Taken
 pub mod Taking
 pub mod Runs
 pub mod Steps
+pub mod Fired
 pub mod Ran
+pub mod Told
 pub mod Trace
 pub mod Choices

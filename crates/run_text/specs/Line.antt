@@ -14,7 +14,7 @@ use Rattle.text_io.specs.declared.format.Format.{Format}
 use Rattle.text_io.specs.declared.format.Format.TheVariants.{Lines}
 use Rattle.run_text.specs.Word.{separated_by, between_text, name_text, assigned_text}
 
--- the name of the port that a transition of an atom fires; empty where the transition is not there
+-- the name of the port that a transition of an atom fires; empty if the transition is not there
 abbrev pub fired_port_name : AtomDefinition → ℕ → List ℕ
 fired_port_name a transition = option_map_or (λ t. port_name a t.port) (slice_get a.transitions transition) []
 
@@ -28,11 +28,11 @@ participant atoms m =
 abbrev pub interaction_line : PlantDefinition → ChoiceDefinition → List ℕ
 interaction_line plant c = wire_name plant c.connector ++ flat_map (λ m. codes " " ++ participant plant.atoms m) c.moves
 
--- the same behind its number
+-- the same after its number
 abbrev pub fired_line : PlantDefinition → ℕ → ChoiceDefinition → List ℕ
 fired_line plant number c = decimal number ++ codes " " ++ interaction_line plant c
 
--- the name of the place with number k, where it is marked
+-- the name of the place with number k, if it is marked
 abbrev pub marked_name : Format → ℕ → ℕ → Place → List (List ℕ)
 marked_name format marking k place = if has marking k then name_text format place.name ∷ [] else []
 

@@ -14,7 +14,7 @@ misread_message UnknownConnector = codes "neither a number nor a fired line of t
 misread_message UnknownMove = codes "a participant names no transition of the plant"
 misread_message NoInteraction = codes "these participants are no interaction of the connector"
 
--- how many choices there are, with the numbers that they have where there are some
+-- how many choices there are, with the numbers that they have if there are some
 abbrev pub count_message : ℕ → List ℕ
 count_message count =
     if count == 0 then codes "there is no choice" else

@@ -43,6 +43,10 @@ abbrev pub placed : (ℕ → TakeDefinition) → ℕ → List ℕ → List PickD
 placed take place [] = []
 placed take place (n ∷ ns) = record { place = place; take = take n } ∷ placed take (place + 1) ns
 
+-- numbers that are given, as picks
+abbrev pub given_picks : Numbers → List ℕ → List PickDefinition
+given_picks numbers picks = placed (number_as numbers) 1 picks
+
 -- numbers that are taken modulo how many choices there are
 abbrev pub counted_picks : List ℕ → List PickDefinition
 counted_picks numbers = placed counted 1 numbers

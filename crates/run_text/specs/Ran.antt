@@ -4,7 +4,7 @@ use Rattle.run_text.specs.declared.fault.Refusal.{Refusal}
 use Rattle.run_text.specs.declared.fault.TraceFault.{TraceFault}
 use Rattle.run_text.specs.declared.fault.TraceFault.TheVariants.{Memory, Write, Read, Refused}
 
--- where neither the memory, a writer nor the source of the picks failed, P holds of the refusal that is answered, or of none
+-- if neither the memory, a writer nor the source of the picks failed, P holds of the refusal that is answered, or of none
 abbrev pub IfRan : {X : Type 0} → Result X TraceFault → (Option Refusal → Type 0) → Type 0
 IfRan (Ok x) P = P None
 IfRan (Err Memory) P = Unit {0}

@@ -9,7 +9,7 @@ use Rattle.run_text.specs.Picks.{PickDefinition}
 use Rattle.run_text.specs.Taken.{by_taken, taken_as}
 use Rattle.run_text.specs.declared.fault.Refusal.{Refusal}
 
--- the choices that picks take from a state on, the first of them with this number; behind a state with no choice, and behind a pick that is refused, none
+-- the choices that picks take from a state on, the first of them with this number; after a state with no choice, and after a pick that is refused, none
 abbrev pub chosen : PlantDefinition → List Local → ℕ → List PickDefinition → List ChoiceDefinition
 chosen plant states number [] = []
 chosen plant states number (pick ∷ picks) =
@@ -22,7 +22,7 @@ refusal_in plant states number (pick ∷ picks) =
     by_taken (taken_as plant states number pick.take) (λ c. refusal_in plant (next plant states c) (number + 1) picks) None
     (λ why. Some (record { place = pick.place; why = why }))
 
--- the state behind the choices that picks take from a state on
+-- the state after the choices that picks take from a state on
 abbrev pub state_after : PlantDefinition → List Local → List PickDefinition → List Local
 state_after plant states picks = fold plant states (chosen plant states 1 picks)
 

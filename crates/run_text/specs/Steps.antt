@@ -1,4 +1,4 @@
--- What is told of a run, and what is saved of it, step by step.
+-- What is printed of a run, and what is saved of it, step by step.
 use Rattle.std.specs.Prelude.{ℕ, ◌+◌, List, [], ◌∷◌, ◌++◌, codes, flat_map}
 use Rattle.petri_atom.specs.Local.{Local}
 use Rattle.step_core.specs.Plant.{PlantDefinition}
@@ -9,26 +9,31 @@ use Rattle.run_text.specs.Picks.{PickDefinition}
 use Rattle.run_text.specs.Runs.{chosen}
 use Rattle.run_text.specs.Taken.{by_taken, taken_as}
 
--- What is told of the parts of a run: of a choice that is fired from a state, with its number; of a state with no choice; and of the end, in its
--- state, with the number that comes next.
+-- The texts of the parts of a run: of its start, in its first state; of a choice that is fired from a state, with its number; of a state with no
+-- choice; and of the end, in its state, with the number that comes next.
 pub record Parts : Type 0 where
+  pub start : PlantDefinition → List Local → List ℕ
   pub fired : PlantDefinition → List Local → ℕ → ChoiceDefinition → List ℕ
   pub stuck : PlantDefinition → List Local → List ℕ
   pub end : PlantDefinition → List Local → ℕ → List ℕ
 
--- The run by picks from a state on, whose next fired interaction has this number: each choice that is taken is told, until the picks end or there is
--- no choice, which is told; and then the end. Behind a pick that is refused nothing more is told.
-abbrev pub told_from : Parts → PlantDefinition → List Local → ℕ → List PickDefinition → List ℕ
-told_from parts plant states number [] = parts.end plant states number
-told_from parts plant states number (pick ∷ picks) =
+-- The run by picks from a state on, whose next fired interaction has this number: each choice that is taken is printed, until the picks end or there is
+-- no choice, which is printed; and then the end. After a pick that is refused nothing more is printed.
+abbrev pub printed_from : Parts → PlantDefinition → List Local → ℕ → List PickDefinition → List ℕ
+printed_from parts plant states number [] = parts.end plant states number
+printed_from parts plant states number (pick ∷ picks) =
     by_taken (taken_as plant states number pick.take)
-    (λ c. parts.fired plant states number c ++ told_from parts plant (next plant states c) (number + 1) picks)
+    (λ c. parts.fired plant states number c ++ printed_from parts plant (next plant states c) (number + 1) picks)
     (parts.stuck plant states ++ parts.end plant states number) (λ why. [])
 
--- what is told of choices that are fired one after another, of which the first has this number
-abbrev pub steps_told : Parts → PlantDefinition → List Local → ℕ → List ChoiceDefinition → List ℕ
-steps_told parts plant states number [] = []
-steps_told parts plant states number (c ∷ cs) = parts.fired plant states number c ++ steps_told parts plant (next plant states c) (number + 1) cs
+-- the run of a plant from its first states on
+abbrev pub run_printed : Parts → PlantDefinition → List PickDefinition → List ℕ
+run_printed parts plant picks = parts.start plant (initial_states plant) ++ printed_from parts plant (initial_states plant) 1 picks
+
+-- what is printed of choices that are fired one after another, of which the first has this number
+abbrev pub steps_printed : Parts → PlantDefinition → List Local → ℕ → List ChoiceDefinition → List ℕ
+steps_printed parts plant states number [] = []
+steps_printed parts plant states number (c ∷ cs) = parts.fired plant states number c ++ steps_printed parts plant (next plant states c) (number + 1) cs
 
 -- the line of a choice that is fired, as it is saved: it can be read as a pick
 abbrev pub saved_line : PlantDefinition → ChoiceDefinition → List ℕ
@@ -42,6 +47,6 @@ saved_from plant states number picks = flat_map (saved_line plant) (chosen plant
 abbrev pub saved_in : PlantDefinition → List PickDefinition → List ℕ
 saved_in plant picks = saved_from plant (initial_states plant) 1 picks
 
--- nothing is told
+-- nothing is printed
 abbrev pub no_parts : Parts
-no_parts = record { fired = λ plant states number c. []; stuck = λ plant states. []; end = λ plant states number. [] }
+no_parts = record { start = λ plant states. []; fired = λ plant states number c. []; stuck = λ plant states. []; end = λ plant states number. [] }

@@ -23,7 +23,7 @@ by_taken (fires c) fired none past = fired c
 by_taken stuck fired none past = none
 by_taken (refused why) fired none past = past why
 
--- the choice that a number takes: the entry of the state's choices at the number modulo how many there are; none where there is no choice
+-- the choice that a number takes: the entry of the state's choices at the number modulo how many there are; none if there is no choice
 abbrev pub picked : PlantDefinition → List Local → ℕ → Option ChoiceDefinition
 picked plant states pick = slice_get (choices plant states) (pick % length (choices plant states))
 
@@ -46,6 +46,6 @@ taken plant states (numbered n) = option_map_or (λ c. fires c) (slice_get (choi
 taken plant states (named c) = if is_among (choices plant states) c then fires c else refused NotPossible
 taken plant states (misread why) = refused (Misread why)
 
--- the same of the pick that is to fire the interaction with this number; it is refused where the number has more than 64 bits
+-- the same of the pick that is to fire the interaction with this number; it is refused if the number has more than 64 bits
 abbrev pub taken_as : PlantDefinition → List Local → ℕ → TakeDefinition → Taken
 taken_as plant states number take = if nat_lt number (2 ^ 64) then taken plant states take else refused TooMany

@@ -1,30 +1,21 @@
--- What is said of a firing that has told what it delivered: a row for each move, at the move's place.
-use Rattle.std.specs.Prelude.{ℕ, List, [], ◌∷◌, slice_index_or}
-use Rattle.petri_atom.specs.Local.{Row}
+-- What the run of a plant comes to that is printed and saved.
+use Rattle.std.specs.Prelude.{◌≡◌, ℕ, List, Option, Result, Err, IfSome}
+use Rattle.std.specs.Io.KnownBytes.{Appends}
 use Rattle.step_core.specs.Plant.{PlantDefinition}
-use Rattle.step_core.specs.Choice.{ChoiceDefinition}
-use Rattle.step_core.specs.declared.choice.Move.{Move}
-use Rattle.text_io.specs.Numbered.{numbered}
-use Rattle.text_io.specs.declared.format.Format.{Format}
-use Rattle.text_io.specs.declared.format.Format.TheVariants.{Lines, Csv, Jsonl}
-use Rattle.run_text.specs.Line.{fired_line}
-use Rattle.run_text.specs.Csv.{fired_row, participant_words}
-use Rattle.run_text.specs.Jsonl.{fired_object, move_object}
+use Rattle.run_text.specs.Picks.{PickDefinition}
+use Rattle.run_text.specs.Ran.{IfRan, OnRan}
+use Rattle.run_text.specs.Runs.{refusal_of}
+use Rattle.run_text.specs.Steps.{saved_in}
+use Rattle.run_text.specs.declared.fault.TraceFault.{TraceFault}
+use Rattle.run_text.specs.declared.fault.TraceFault.TheVariants.{Memory}
 
--- what is said of each move and its row, one after another
-abbrev pub told_each : (Move → Row → List (List ℕ)) → List Row → List Move → List (List ℕ)
-told_each say rows moves = numbered (λ place m. say m (slice_index_or rows place [])) 0 moves
-
--- the words of what the participants got
-abbrev pub told_words : PlantDefinition → List Row → List Move → List (List ℕ)
-told_words plant rows moves = told_each (participant_words plant) rows moves
-
--- the objects of the participants
-abbrev pub told_objects : PlantDefinition → List Row → List Move → List (List ℕ)
-told_objects plant rows moves = told_each (λ m d. move_object plant m d ∷ []) rows moves
-
--- a choice that is fired and told these rows, with the number of its line
-abbrev pub told_text : Format → PlantDefinition → List Row → ℕ → ChoiceDefinition → List ℕ
-told_text Lines plant rows number c = fired_line plant number c
-told_text Csv plant rows number c = fired_row plant number c (told_words plant rows c.moves)
-told_text Jsonl plant rows number c = fired_object plant number c (told_objects plant rows c.moves)
+-- A plant was run from its first states on. Its output was `before` and is `after` now, and what it saves to was `unsaved` and is `after_saving` now;
+-- `taken` and `kept` say which bytes the two took. Where the picks are known, the text that they make is printed, and what they fire is saved; and the pick
+-- that is answered as refused is the first that is. If memory was lacking, both stay as they were.
+pub record IsTold {W S : Type 0} (taken : W → Option (List ℕ)) (kept : S → Option (List ℕ)) (text : PlantDefinition → List PickDefinition → List ℕ)
+    (plant : PlantDefinition) (picks : Option (List PickDefinition)) (result : Result (Unit {0}) TraceFault) (before after : W) (unsaved after_saving : S) : Type 0 where
+  pub refusal : IfRan result (λ refusal. IfSome picks (λ left. refusal ≡ refusal_of plant left))
+  pub printed : OnRan result (IfSome picks (λ left. Appends (taken before) (taken after) (text plant left)))
+  pub saved : OnRan result (IfSome picks (λ left. Appends (kept unsaved) (kept after_saving) (saved_in plant left)))
+  pub nothing_printed : result ≡ Err Memory → after ≡ before
+  pub nothing_saved : result ≡ Err Memory → after_saving ≡ unsaved

@@ -13,7 +13,7 @@ separated_after before between (word ∷ words) = before ++ word ++ separated_af
 abbrev pub separated_by : List ℕ → List (List ℕ) → List ℕ
 separated_by between words = separated_after [] between words
 
--- what stands before the next word, where this stood before the first one of these
+-- what stands before the next word, if this stood before the first one of these
 abbrev pub after_words : List ℕ → List ℕ → List (List ℕ) → List ℕ
 after_words before between [] = before
 after_words before between (word ∷ words) = between

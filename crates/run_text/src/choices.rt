@@ -1,10 +1,7 @@
 //! The list of what can be fired next.
 ghost use Rattle.std.specs.Prelude.{◌≡◌, ◌≢◌, ◌-◌, ◌≤◌, Err, IfOk, IfSome, OnOk, length, take};
 ghost use Rattle.std.specs.Io.KnownBytes.{Appends};
-ghost use Rattle.step_core.specs.Choice.{choices};
-ghost use Rattle.step_core.specs.Running.{plant_in, states_in, system_in};
-ghost use Rattle.step_core.specs.Step.{initial_states};
-ghost use Rattle.step_core.specs.System.{plant_of};
+ghost use Rattle.run_text.specs.Seen.{Prints, choices, initial_states, plant_in, plant_of, states_in, system_in};
 ghost use Rattle.run_text.specs.Choices.{choice_text, choices_after, choices_text, more_text};
 ghost use Rattle.run_text.specs.Ran.{IfRan};
 ghost use Rattle.run_text.specs.Runs.{refusal_of, state_after};
@@ -69,8 +66,7 @@ pub fn run_after<'s, P: Picks>(
 /// Prints the choices of the present state, each on a line: the number by which a pick takes it, from 0, its connector, and
 /// its participants. After [`MOST_LISTED`] of them one line says how many more there are. If there is no choice, the line is `stuck`.
 pub fn print_choices<W: Write>(run: &Stepper<'_>, output: &mut W) -> Result<(), WriteFault>
-    ensures { OnOk result (Appends (W.contents output.old) (W.contents output.new)
-        (choices_text (plant_in run.now) (choices (plant_in run.now) (states_in run.now)))) }
+    ensures { Prints result (W.contents output.old) (W.contents output.new) (choices_text (plant_in run.now) (choices (plant_in run.now) (states_in run.now))) }
 {
     let count = run.count();
     if count == 0 {
@@ -84,8 +80,7 @@ pub fn print_choices<W: Write>(run: &Stepper<'_>, output: &mut W) -> Result<(), 
 /// Prints the first choices of the present state.
 fn print_listed<W: Write>(run: &Stepper<'_>, listed: u64, output: &mut W) -> Result<(), WriteFault>
     requires { listed ≤ length (choices (plant_in run.now) (states_in run.now)) }
-    ensures { OnOk result (Appends (W.contents output.old) (W.contents output.new)
-        (numbered (choice_text (plant_in run.now)) 0 (take listed (choices (plant_in run.now) (states_in run.now))))) }
+    ensures { Prints result (W.contents output.old) (W.contents output.new) (numbered (choice_text (plant_in run.now)) 0 (take listed (choices (plant_in run.now) (states_in run.now)))) }
 {
     let mut place = 0;
     while place < listed {
@@ -98,7 +93,7 @@ fn print_listed<W: Write>(run: &Stepper<'_>, listed: u64, output: &mut W) -> Res
 
 /// Prints how many more choices there are, if there are any.
 fn print_more<W: Write>(more: u128, output: &mut W) -> Result<(), WriteFault>
-    ensures { OnOk result (Appends (W.contents output.old) (W.contents output.new) (more_text more)) }
+    ensures { Prints result (W.contents output.old) (W.contents output.new) (more_text more) }
 {
     if more > 0 {
         writeln!(output, "more {more}")?;

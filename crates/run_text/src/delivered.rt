@@ -1,7 +1,6 @@
 //! The values that a firing delivers, as words.
-ghost use Rattle.std.specs.Prelude.{◌≡◌, IfOk, OnOk};
-ghost use Rattle.std.specs.Io.KnownBytes.{Appends};
-ghost use Rattle.petri_atom.specs.Atom.{definition_of};
+ghost use Rattle.std.specs.Prelude.{◌≡◌, IfOk};
+ghost use Rattle.run_text.specs.Seen.{Prints, definition_of};
 ghost use Rattle.run_text.specs.Delivered.{delivered_words, export_text, export_words, exports_by, owner_text};
 ghost use Rattle.run_text.specs.Word.{after_words, between_text, separated_after};
 
@@ -21,8 +20,8 @@ pub(crate) fn print_delivered<W: Write>(
     before: &'static [u8],
     output: &mut W,
 ) -> Result<&'static [u8], WriteFault>
-    ensures printed { OnOk result (Appends (W.contents output.old) (W.contents output.new)
-        (separated_after before.now (between_text format) (delivered_words format (definition_of atom.now) transition delivered.now))) }
+    ensures printed { Prints result (W.contents output.old) (W.contents output.new)
+        (separated_after before.now (between_text format) (delivered_words format (definition_of atom.now) transition delivered.now)) }
     ensures next { IfOk result (λ next. next.now ≡ after_words before.now (between_text format) (delivered_words format (definition_of atom.now) transition delivered.now)) }
 {
     let mut between = before;
@@ -43,8 +42,8 @@ fn print_export<W: Write>(
     before: &'static [u8],
     output: &mut W,
 ) -> Result<&'static [u8], WriteFault>
-    ensures printed { OnOk result (Appends (W.contents output.old) (W.contents output.new)
-        (separated_after before.now (between_text format) (export_words format (definition_of atom.now) variable value))) }
+    ensures printed { Prints result (W.contents output.old) (W.contents output.new)
+        (separated_after before.now (between_text format) (export_words format (definition_of atom.now) variable value)) }
     ensures next { IfOk result (λ next. next.now ≡ after_words before.now (between_text format) (export_words format (definition_of atom.now) variable value)) }
 {
     match value {
@@ -65,8 +64,7 @@ fn print_value<W: Write>(
     value: i64,
     output: &mut W,
 ) -> Result<(), WriteFault>
-    ensures { OnOk result (Appends (W.contents output.old) (W.contents output.new)
-        (export_text format (definition_of atom.now) variable value)) }
+    ensures { Prints result (W.contents output.old) (W.contents output.new) (export_text format (definition_of atom.now) variable value) }
 {
     print_owner(format, atom, output)?;
     print_assigned(format, atom.variable_name(variable), value, output)
@@ -74,8 +72,7 @@ fn print_value<W: Write>(
 
 /// Prints what stands before a variable of the atom: in JSON nothing, and else the atom's name.
 fn print_owner<W: Write>(format: Format, atom: &Atom, output: &mut W) -> Result<(), WriteFault>
-    ensures { OnOk result (Appends (W.contents output.old) (W.contents output.new)
-        (owner_text format (definition_of atom.now).name)) }
+    ensures { Prints result (W.contents output.old) (W.contents output.new) (owner_text format (definition_of atom.now).name) }
 {
     match format {
         Format::Lines | Format::Csv => {
@@ -86,7 +83,7 @@ fn print_owner<W: Write>(format: Format, atom: &Atom, output: &mut W) -> Result<
     }
 }
 
-/// The variables that the port of the transition exports; none where the transition is not there.
+/// The variables that the port of the transition exports; none if the transition is not there.
 fn exports_by(atom: &Atom, transition: u16) -> &[u8]
     ensures { result.now ≡ exports_by (definition_of atom.now) transition }
 {

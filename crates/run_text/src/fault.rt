@@ -1,9 +1,9 @@
-//! Why a pick is refused, and why a run was not told to its end.
+//! Why a pick is refused, and why a run was not printed to its end.
 ghost use Rattle.std.specs.Prelude.{◌≡◌};
 
 use crate::pick::Misread;
 use std::alloc::AllocError;
-use std::fmt;
+use std::{fmt, io};
 use text_io::WriteFault;
 use thiserror::Error;
 
@@ -25,7 +25,7 @@ pub enum RefusedPick {
     NotPossible,
     /// What stands at its place names no choice of the plant.
     Misread(Misread),
-    /// It comes behind 2^64 - 1 fired interactions, and no other has a number.
+    /// It comes after 2^64 - 1 fired interactions, and no other has a number.
     TooMany,
 }
 
@@ -38,17 +38,23 @@ pub struct Refusal {
     pub why: RefusedPick,
 }
 
-/// Why a run was not told to its end.
+/// Why a run was not printed to its end.
 #[derive(Clone, Copy, Debug, PartialEq, Eq, Error)]
 pub enum TraceFault {
     /// There was no memory for the plant that runs: its states, and what a step keeps. Nothing was written.
     Memory,
-    /// The writer answered an error. It may have taken a part of what is told.
+    /// The writer answered an error. It may have taken a part of the text.
     Write,
     /// The picks could not be read to their end.
     Read,
-    /// A pick is refused. The run was told up to it.
+    /// A pick is refused. The run was printed up to it.
     Refused(Refusal),
+}
+
+impl From<io::Error> for ReadFault {
+    fn from(_: io::Error) -> Self {
+        ReadFault
+    }
 }
 
 /// How many choices there are, as a message says it.
@@ -99,7 +105,7 @@ impl fmt::Display for RefusedPick {
     }
 }
 
-/// What stands behind the place of the pick.
+/// What stands after the place of the pick.
 impl fmt::Display for Refusal {
     ghost use Rattle.std.specs.Prelude.{Some};
     ghost use Rattle.run_text.specs.Message.{refused_message};

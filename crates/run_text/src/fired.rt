@@ -1,16 +1,26 @@
 //! The line of a fired interaction.
-ghost use Rattle.std.specs.Prelude.{◌≡◌, ◌++◌, codes, decimal, map, OnOk};
-ghost use Rattle.std.specs.Io.KnownBytes.{Appends};
-ghost use Rattle.petri_atom.specs.Atom.{definition_of};
-ghost use Rattle.step_core.specs.Chosen.{choice_of};
-ghost use Rattle.step_core.specs.System.{plant_of};
+ghost use Rattle.std.specs.Prelude.{◌≡◌, ◌++◌, codes, decimal, map};
+ghost use Rattle.run_text.specs.Seen.{Prints, choice_of, definition_of, plant_of};
 ghost use Rattle.run_text.specs.Line.{fired_line, fired_port_name, interaction_line, participant};
+ghost use Rattle.run_text.specs.Steps.{saved_line};
 ghost use Rattle.run_text.specs.Word.{separated_after};
 
-use petri_atom::Atom;
+use connector_tree::MAX_LEAVES;
+use petri_atom::{Atom, Delivered};
 use std::io::Write;
 use step_core::{Choice, Move, System};
-use text_io::{WriteFault, print_number, print_text};
+use text_io::{WriteFault, end_line, print_number, print_text};
+
+/// A choice that was fired.
+#[derive(Clone, Copy)]
+pub struct Firing<'a> {
+    /// Its number: the first that is fired in a run has 1.
+    pub number: u64,
+    /// The choice.
+    pub choice: &'a Choice,
+    /// What it delivered: at the place of each move what its atom got.
+    pub delivered: &'a [Delivered; MAX_LEAVES],
+}
 
 /// Prints a fired interaction: its number, the name of its connector, and its participants in rising order of their
 /// atoms, each as `ATOM.PORT/TRANSITION`. The line is not ended.
@@ -20,8 +30,7 @@ pub fn print_choice<W: Write>(
     choice: &Choice,
     output: &mut W,
 ) -> Result<(), WriteFault>
-    ensures { OnOk result (Appends (W.contents output.old) (W.contents output.new)
-        (fired_line (plant_of system.now) number (choice_of choice.now))) }
+    ensures { Prints result (W.contents output.old) (W.contents output.new) (fired_line (plant_of system.now) number (choice_of choice.now)) }
 {
     print_number(output, number)?;
     print_text(output, b" ")?;
@@ -35,11 +44,22 @@ pub fn print_interaction<W: Write>(
     choice: &Choice,
     output: &mut W,
 ) -> Result<(), WriteFault>
-    ensures { OnOk result (Appends (W.contents output.old) (W.contents output.new)
-        (interaction_line (plant_of system.now) (choice_of choice.now))) }
+    ensures { Prints result (W.contents output.old) (W.contents output.new) (interaction_line (plant_of system.now) (choice_of choice.now)) }
 {
     print_text(output, system.wire_name(choice.connector))?;
     print_moves(system.atoms(), choice.moves.as_slice(), b" ", output)
+}
+
+/// Prints the line by which a fired choice is saved, with its end: it can be read as a pick.
+pub fn print_saved_line<W: Write>(
+    system: &System,
+    choice: &Choice,
+    output: &mut W,
+) -> Result<(), WriteFault>
+    ensures { Prints result (W.contents output.old) (W.contents output.new) (saved_line (plant_of system.now) (choice_of choice.now)) }
+{
+    print_interaction(system, choice, output)?;
+    end_line(output)
 }
 
 /// Prints the participants of a choice, with a space between two, and `before` before the first.
@@ -49,8 +69,7 @@ pub(crate) fn print_moves<W: Write>(
     before: &[u8],
     output: &mut W,
 ) -> Result<(), WriteFault>
-    ensures { OnOk result (Appends (W.contents output.old) (W.contents output.new)
-        (separated_after before.now (codes " ") (map (participant (map definition_of atoms.now)) moves.now))) }
+    ensures { Prints result (W.contents output.old) (W.contents output.new) (separated_after before.now (codes " ") (map (participant (map definition_of atoms.now)) moves.now)) }
 {
     let mut between = before;
     for step in moves {
@@ -61,10 +80,9 @@ pub(crate) fn print_moves<W: Write>(
     Ok(())
 }
 
-/// Prints a participant; nothing where the atom is not there.
+/// Prints a participant; nothing if the atom is not there.
 fn print_move<W: Write>(atoms: &[Atom], step: Move, output: &mut W) -> Result<(), WriteFault>
-    ensures { OnOk result (Appends (W.contents output.old) (W.contents output.new)
-        (participant (map definition_of atoms.now) step)) }
+    ensures { Prints result (W.contents output.old) (W.contents output.new) (participant (map definition_of atoms.now) step) }
 {
     match atoms.get(usize::from(step.atom)) {
         Some(atom) => print_of_atom(atom, step.transition, output),
@@ -74,8 +92,8 @@ fn print_move<W: Write>(atoms: &[Atom], step: Move, output: &mut W) -> Result<()
 
 /// Prints the participant that is this atom.
 fn print_of_atom<W: Write>(atom: &Atom, transition: u16, output: &mut W) -> Result<(), WriteFault>
-    ensures { OnOk result (Appends (W.contents output.old) (W.contents output.new)
-        ((definition_of atom.now).name ++ codes "." ++ fired_port_name (definition_of atom.now) transition ++ codes "/" ++ decimal transition)) }
+    ensures { Prints result (W.contents output.old) (W.contents output.new)
+        ((definition_of atom.now).name ++ codes "." ++ fired_port_name (definition_of atom.now) transition ++ codes "/" ++ decimal transition) }
 {
     print_text(output, atom.name().as_bytes())?;
     print_text(output, b".")?;
@@ -84,7 +102,7 @@ fn print_of_atom<W: Write>(atom: &Atom, transition: u16, output: &mut W) -> Resu
     print_number(output, u64::from(transition))
 }
 
-/// The name of the port that the transition fires; empty where the transition is not there.
+/// The name of the port that the transition fires; empty if the transition is not there.
 pub(crate) fn fired_port_name(atom: &Atom, transition: u16) -> &[u8]
     ensures { result.now ≡ fired_port_name (definition_of atom.now) transition }
 {

@@ -1,17 +1,13 @@
-//! What picks take, and what is told of the run that they choose. The functions make no call: their clauses are the laws.
+//! What picks take, and what is printed of the run that they choose. The functions make no call: their clauses are the laws.
 ghost use Rattle.std.specs.Prelude.{◌≡◌, ◌+◌, ◌^◌, ◌<◌, ◌++◌, ℕ, List, [], None, Some, length};
-ghost use Rattle.petri_atom.specs.Local.{Local};
-ghost use Rattle.step_core.specs.Choice.{ChoiceDefinition, IsAllowed, choices};
-ghost use Rattle.step_core.specs.Plant.{PlantDefinition};
-ghost use Rattle.step_core.specs.Runs.{IsRun};
-ghost use Rattle.step_core.specs.Step.{initial_states};
+ghost use Rattle.run_text.specs.Seen.{ChoiceDefinition, IsAllowed, IsRun, Local, PlantDefinition, choices, initial_states};
 ghost use Rattle.run_text.specs.Picks.{PickDefinition, TakeDefinition, counted_picks, named};
 ghost use Rattle.run_text.specs.Runs.{chosen, refusal_of, state_after};
-ghost use Rattle.run_text.specs.Steps.{Parts, steps_told, told_from};
+ghost use Rattle.run_text.specs.Steps.{Parts, steps_printed, printed_from};
 ghost use Rattle.run_text.specs.Taken.{fires, taken};
 ghost use Rattle.run_text.specs.declared.fault.Refusal.{Refusal};
 
-/// What a pick fires is a choice of the state; and a choice of the state is fired where a pick names it.
+/// What a pick fires is a choice of the state; and a choice of the state is fired if a pick names it.
 pub fn a_pick_fires_a_choice_of_the_state()
     ensures allowed { (plant : PlantDefinition) (states : List Local) (take : TakeDefinition) (c : ChoiceDefinition)
         → taken plant states take ≡ fires c → IsAllowed plant states c }
@@ -24,27 +20,27 @@ pub fn counted_picks_are_not_refused()
     ensures { (plant : PlantDefinition) (numbers : List ℕ) → length numbers < 2 ^ 64 → refusal_of plant (counted_picks numbers) ≡ None }
 {}
 
-/// The choices that picks take are a run of the plant from its first states. Each is told by its part, and behind them where each pick
-/// took one, the end; where a pick is refused, nothing; and else, that there is no choice, which then holds, and the end.
-pub fn a_run_is_told_by_its_choices_and_its_end()
+/// The choices that picks take are a run of the plant from its first states. Each is printed by its part. After them comes
+/// the end if each pick took one, nothing if a pick is refused, and else that there is no choice, which then holds, and the end.
+pub fn a_run_is_printed_by_its_choices_and_its_end()
     ensures run { (plant : PlantDefinition) (picks : List PickDefinition)
         → IsRun plant (initial_states plant) (chosen plant (initial_states plant) 1 picks) (state_after plant (initial_states plant) picks) }
     ensures ended { (parts : Parts) (plant : PlantDefinition) (picks : List PickDefinition)
         → length (chosen plant (initial_states plant) 1 picks) ≡ length picks
-        → told_from parts plant (initial_states plant) 1 picks
-        ≡ steps_told parts plant (initial_states plant) 1 (chosen plant (initial_states plant) 1 picks)
+        → printed_from parts plant (initial_states plant) 1 picks
+        ≡ steps_printed parts plant (initial_states plant) 1 (chosen plant (initial_states plant) 1 picks)
         ++ parts.end plant (state_after plant (initial_states plant) picks) (1 + length picks) }
     ensures refused { (parts : Parts) (plant : PlantDefinition) (picks : List PickDefinition) (refusal : Refusal)
         → refusal_of plant picks ≡ Some refusal
-        → told_from parts plant (initial_states plant) 1 picks
-        ≡ steps_told parts plant (initial_states plant) 1 (chosen plant (initial_states plant) 1 picks) }
+        → printed_from parts plant (initial_states plant) 1 picks
+        ≡ steps_printed parts plant (initial_states plant) 1 (chosen plant (initial_states plant) 1 picks) }
     ensures stuck { (plant : PlantDefinition) (picks : List PickDefinition)
         → length (chosen plant (initial_states plant) 1 picks) < length picks → refusal_of plant picks ≡ None
         → choices plant (state_after plant (initial_states plant) picks) ≡ [] }
-    ensures stuck_told { (parts : Parts) (plant : PlantDefinition) (picks : List PickDefinition)
+    ensures stuck_printed { (parts : Parts) (plant : PlantDefinition) (picks : List PickDefinition)
         → length (chosen plant (initial_states plant) 1 picks) < length picks → refusal_of plant picks ≡ None
-        → told_from parts plant (initial_states plant) 1 picks
-        ≡ steps_told parts plant (initial_states plant) 1 (chosen plant (initial_states plant) 1 picks)
+        → printed_from parts plant (initial_states plant) 1 picks
+        ≡ steps_printed parts plant (initial_states plant) 1 (chosen plant (initial_states plant) 1 picks)
         ++ (parts.stuck plant (state_after plant (initial_states plant) picks)
         ++ parts.end plant (state_after plant (initial_states plant) picks) (1 + length (chosen plant (initial_states plant) 1 picks))) }
 {}

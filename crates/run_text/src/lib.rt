@@ -3,34 +3,35 @@
 //! A run is printed line by line: a line for each interaction that is fired, and at the end a line for the state of each
 //! atom. The lines are the fixed ones (`specs/Line.antt`), rows of five columns (`specs/Csv.antt`) or JSON objects
 //! (`specs/Jsonl.antt`); `specs/Trace.antt` defines the text of a run in each [`text_io::Format`]. Contracts say that exactly this text
-//! was appended to a writer, where its type says which bytes it took; they say nothing of when a writer fails.
+//! was appended to a writer, if its type says which bytes it took; they say nothing of when a writer fails.
 //!
 //! **Picks.** A [`Pick`] takes the next choice: by a number, or by a choice that it names ([`Take`]). `specs/Taken.antt` says what each
 //! takes in a state. A number past the list, a choice that the state does not have, and what can't be read are refused: the run ends
-//! there, nothing more is told, and the answer says which pick it was and why ([`Refusal`]). A source of picks ([`Picks`]) may also fail
+//! there, nothing more is printed, and the answer says which pick it was and why ([`Refusal`]). A source of picks ([`Picks`]) may also fail
 //! ([`ReadFault`]). Where its type says which picks it gives, contracts say what exactly comes of them.
 //!
-//! **One run for all.** [`run_picks`] fires what picks take. What is told of it is a [`Telling`], whose texts have three parts: each
-//! fired interaction, a state with no choice, and the end (`specs/Steps.antt`). Each fired interaction can also be saved, as a line
+//! **One run for all.** [`tell_run`] runs a plant from its first states on, and [`run_picks`] one that runs: they fire what picks take.
+//! How it is printed is a [`Telling`], whose texts have four parts: the start, each fired interaction, a state with no choice, and the
+//! end (`specs/Steps.antt`). Each fired interaction can also be saved, as a line
 //! such as `send A.t/0 B.u/0`, which can be read as a pick.
 //!
 //! - `pick`: what a pick says. `picks`: where picks come from: a list, random ones by a seed, or another source. `taking`: what a pick
 //!   takes in a state.
-//! - `telling`: what is told of a run. `running`: the run.
-//! - `trace`: [`trace_by`] prints the run that picks choose in a format; [`trace_as`] that of a list of numbers, [`trace_to`] in the fixed
-//!   lines.
-//! - `fired`: [`print_choice`] prints a fired interaction, as `2 send A.t/0 B.u/0`, [`print_interaction`] the same without its number.
-//! - `states`: [`print_states`] prints the states, as `state A [s] n=4`, [`print_state`] that of one atom; and the lines of the states in
+//! - `telling`: how a run is printed. `running`: the run.
+//! - `trace`: a run in a format ([`Trace`]). [`trace_as`] prints that of a list of numbers, [`trace_to`] in the fixed lines.
+//! - `fired`: a choice that was fired ([`Firing`]). [`print_choice`] prints a fired interaction, as `2 send A.t/0 B.u/0`, [`print_interaction`] the same without its number, and
+//!   [`print_saved_line`] that as a line which can be read as a pick.
+//! - `plant_at`: a plant in a state. `states`: [`print_states`] prints the states, as `state A [s] n=4`, [`print_state`] that of one atom; and the lines of the states in
 //!   each format.
 //! - `choices`: [`print_choices`] lists what can be fired next, as `0 tick A.t/0`; [`print_choices_after`] the same after some picks, and
 //!   [`run_after`] is the plant then.
 //! - `csv` and `jsonl`: the rows, and the objects.
 //! - `delivered`: the values that a firing delivers, as words.
 //! - `format` and `word`: what in a run, and in a line, differs by the format alone.
-//! - `fault`: why a pick is refused, and why a run was not told to its end.
-//! - `laws`: what picks take, and what is told of the run that they choose.
+//! - `fault`: why a pick is refused, and why a run was not printed to its end.
+//! - `laws`: what picks take, and what is printed of the run that they choose.
 //!
-//! A crate that tells a run in another way makes a [`Telling`] of the parts from here: [`print_told`] and [`print_step_members`] print an
+//! A crate that prints a run in another way makes a [`Telling`] of the parts from here: [`print_fired_step`] and [`print_step_members`] print an
 //! interaction that was fired, [`stuck_text`] says that there is none; [`print_places`], [`is_marked`], [`value_at`] and
 //! [`print_state_members`] read and print a state. [`picked`] is the choice that a number takes.
 //!
@@ -47,6 +48,7 @@ mod jsonl;
 pub mod laws;
 mod pick;
 mod picks;
+mod plant_at;
 mod running;
 mod states;
 mod taking;
@@ -56,13 +58,14 @@ mod word;
 
 pub use choices::{MOST_LISTED, print_choices, print_choices_after, run_after};
 pub use fault::{ReadFault, Refusal, RefusedPick, TraceFault};
-pub use fired::{print_choice, print_interaction};
+pub use fired::{Firing, print_choice, print_interaction, print_saved_line};
 pub use format::stuck_text;
 pub use jsonl::{print_state_members, print_step_members};
 pub use pick::{Misread, Numbers, Pick, Take};
 pub use picks::{GivenPicks, Picks, RandomPicks, RunPicks};
-pub use running::run_picks;
+pub use plant_at::PlantAt;
+pub use running::{run_picks, tell_run};
 pub use states::{is_marked, print_places, print_state, print_states, value_at};
 pub use taking::picked;
 pub use telling::Telling;
-pub use trace::{print_told, trace_as, trace_by, trace_to};
+pub use trace::{Trace, print_fired_step, trace_as, trace_to};

@@ -55,7 +55,7 @@ pub enum Misread {
     TooLong,
     /// The first word is neither a number below 2^64 nor the name of a connector.
     UnknownConnector,
-    /// A word behind the first is no `ATOM.PORT/NUMBER` of a transition of that port (of an atom of the plant).
+    /// A word after the first is no `ATOM.PORT/NUMBER` of a transition of that port (of an atom of the plant).
     UnknownMove,
     /// The connector has no interaction of these ports.
     NoInteraction,

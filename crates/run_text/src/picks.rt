@@ -1,6 +1,6 @@
 //! Where the picks of a run come from.
 ghost use Rattle.std.specs.Prelude.{◌≡◌, IfOk, IsOk};
-ghost use Rattle.run_text.specs.Picks.{Gives, counted_picks, numbered_picks, pick_at, random_picks, shifted};
+ghost use Rattle.run_text.specs.Picks.{Gives, counted_picks, given_picks, pick_at, random_picks, shifted};
 
 use crate::fault::ReadFault;
 use crate::pick::{Numbers, Pick, Take};
@@ -11,7 +11,7 @@ pub trait Picks {
     ghost use Rattle.std.specs.Prelude.{List, Option};
     ghost use Rattle.run_text.specs.Picks.{PickDefinition};
 
-    /// Those that are left; `None` where its type does not say them.
+    /// Those that are left; `None` if its type does not say them.
     ghost left: { Self → Option (List PickDefinition) };
 
     /// The next one, or `None` if none is left. After an error nothing is said of those that are left.
@@ -39,23 +39,12 @@ impl<'a> Model for GivenPicks<'a> {
 }
 
 impl<'a> GivenPicks<'a> {
-    /// These numbers, each taken modulo how many choices there are.
-    pub fn of(picks: &'a [u64]) -> Self
-        ensures { result ≡ counted_picks picks.now }
+    /// These picks, whose numbers are taken so.
+    pub fn of(picks: &'a [u64], numbers: Numbers) -> Self
+        ensures { result ≡ given_picks numbers picks.now }
     {
         GivenPicks {
-            numbers: Numbers::Modulo,
-            taken: 0,
-            left: picks,
-        }
-    }
-
-    /// These numbers, each taken as it is: one past the list of choices is refused.
-    pub fn strictly(picks: &'a [u64]) -> Self
-        ensures { result ≡ numbered_picks picks.now }
-    {
-        GivenPicks {
-            numbers: Numbers::Strict,
+            numbers,
             taken: 0,
             left: picks,
         }

@@ -1,10 +1,7 @@
 //! The lines of the states of a plant's atoms.
-ghost use Rattle.std.specs.Prelude.{◌≡◌, OnOk};
-ghost use Rattle.std.specs.Io.KnownBytes.{Appends};
-ghost use Rattle.petri_atom.specs.Atom.{definition_of};
+ghost use Rattle.std.specs.Prelude.{◌≡◌};
+ghost use Rattle.run_text.specs.Seen.{IsOf, Prints, definition_of, plant_of};
 ghost use Rattle.petri_atom.specs.Local.{has, value_in};
-ghost use Rattle.step_core.specs.Fitting.{IsOf};
-ghost use Rattle.step_core.specs.System.{plant_of};
 ghost use Rattle.run_text.specs.Format.{atom_text, end_text};
 ghost use Rattle.run_text.specs.Line.{places_text, state_line, states_text, value_words};
 ghost use Rattle.run_text.specs.Word.{between_text, separated_after};
@@ -12,6 +9,7 @@ ghost use Rattle.run_text.specs.Word.{between_text, separated_after};
 use crate::csv::print_state_row;
 use crate::format::between_text;
 use crate::jsonl::print_state_object;
+use crate::plant_at::PlantAt;
 use crate::word::{print_assigned, print_name};
 use petri_atom::{Atom, AtomState, MAX_PLACES, Place, Variable};
 use std::io::Write;
@@ -26,23 +24,21 @@ pub fn print_states<W: Write>(
     output: &mut W,
 ) -> Result<(), WriteFault>
     requires { IsOf (plant_of system.now) states.now }
-    ensures { OnOk result (Appends (W.contents output.old) (W.contents output.new)
-        (states_text (plant_of system.now) states.now)) }
+    ensures { Prints result (W.contents output.old) (W.contents output.new) (states_text (plant_of system.now) states.now) }
 {
-    print_end(Format::Lines, system, states, output)
+    print_end(Format::Lines, &PlantAt { system, states }, output)
 }
 
 /// Prints a line for the state of each atom, in the order of the atoms.
 pub(crate) fn print_end<W: Write>(
     format: Format,
-    system: &System,
-    states: &PlantState,
+    plant: &PlantAt<'_, '_>,
     output: &mut W,
 ) -> Result<(), WriteFault>
-    requires { IsOf (plant_of system.now) states.now }
-    ensures { OnOk result (Appends (W.contents output.old) (W.contents output.new)
-        (end_text format (plant_of system.now) states.now)) }
+    ensures { Prints result (W.contents output.old) (W.contents output.new) (end_text format (plant_of plant.now.system.now) plant.now.states.now) }
 {
+    let system = plant.system;
+    let states = plant.states;
     for (number, atom) in system.atoms().iter().enumerate() {
         print_atom(format, atom, states.state(number as u16), output)?;
         end_line(output)?;
@@ -57,8 +53,7 @@ fn print_atom<W: Write>(
     state: &AtomState,
     output: &mut W,
 ) -> Result<(), WriteFault>
-    ensures { OnOk result (Appends (W.contents output.old) (W.contents output.new)
-        (atom_text format (definition_of atom.now) state.now)) }
+    ensures { Prints result (W.contents output.old) (W.contents output.new) (atom_text format (definition_of atom.now) state.now) }
 {
     match format {
         Format::Lines => print_state(atom, state, output),
@@ -74,8 +69,7 @@ pub fn print_state<W: Write>(
     state: &AtomState,
     output: &mut W,
 ) -> Result<(), WriteFault>
-    ensures { OnOk result (Appends (W.contents output.old) (W.contents output.new)
-        (state_line (definition_of atom.now) state.now)) }
+    ensures { Prints result (W.contents output.old) (W.contents output.new) (state_line (definition_of atom.now) state.now) }
 {
     print_text(output, b"state ")?;
     print_text(output, atom.name().as_bytes())?;
@@ -98,8 +92,7 @@ pub fn print_places<W: Write>(
     marking: u64,
     output: &mut W,
 ) -> Result<(), WriteFault>
-    ensures { OnOk result (Appends (W.contents output.old) (W.contents output.new)
-        (places_text format marking places.now)) }
+    ensures { Prints result (W.contents output.old) (W.contents output.new) (places_text format marking places.now) }
 {
     let mut between: &[u8] = b"";
     for (number, place) in places.iter().enumerate() {
@@ -127,8 +120,7 @@ pub(crate) fn print_values<W: Write>(
     before: &[u8],
     output: &mut W,
 ) -> Result<(), WriteFault>
-    ensures { OnOk result (Appends (W.contents output.old) (W.contents output.new)
-        (separated_after before.now (between_text format) (value_words format values.now variables.now))) }
+    ensures { Prints result (W.contents output.old) (W.contents output.new) (separated_after before.now (between_text format) (value_words format values.now variables.now)) }
 {
     let mut between = before;
     for (number, variable) in variables.iter().enumerate() {
@@ -144,7 +136,7 @@ pub(crate) fn print_values<W: Write>(
     Ok(())
 }
 
-/// The value of the variable with this number; 0 where there is none.
+/// The value of the variable with this number; 0 if there is none.
 pub fn value_at(values: &[i64], variable: usize) -> i64
     ensures { result ≡ value_in values.now variable }
 {

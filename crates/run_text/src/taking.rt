@@ -1,16 +1,13 @@
 //! What a pick takes in the present state.
-ghost use Rattle.std.specs.Prelude.{◌≡◌, ◌+◌, ℕ, IfSome, Some, map, option_map, slice_get};
-ghost use Rattle.step_core.specs.Choice.{IsAllowed, choices};
-ghost use Rattle.step_core.specs.Chosen.{choice_of};
-ghost use Rattle.step_core.specs.Laws.{comes_before, order_key};
-ghost use Rattle.step_core.specs.Running.{plant_in, states_in};
+ghost use Rattle.std.specs.Prelude.{◌≡◌, ◌+◌, IfSome, option_map};
+ghost use Rattle.run_text.specs.Seen.{IsAllowed, choice_of, choices, plant_in, states_in};
 ghost use Rattle.run_text.specs.Picks.{counted, named, numbered, take_of};
 ghost use Rattle.run_text.specs.Taken.{is_among, picked, taken, taken_as};
 ghost use Rattle.run_text.specs.Taking.{taking_of};
 
 use crate::fault::RefusedPick;
 use crate::pick::Take;
-use step_core::{Choice, Move, Stepper};
+use step_core::{Choice, Stepper};
 
 /// What comes of a pick.
 #[derive(Drop)]
@@ -23,8 +20,8 @@ pub(crate) enum Taking {
     Refused(RefusedPick),
 }
 
-/// What comes of a pick behind so many fired interactions.
-pub(crate) fn taken_behind(run: &Stepper<'_>, fired: u64, take: Take) -> Taking
+/// What comes of a pick after so many fired interactions.
+pub(crate) fn taken_after(run: &Stepper<'_>, fired: u64, take: Take) -> Taking
     ensures { taking_of result ≡ taken_as (plant_in run.now) (states_in run.now) (fired + 1) (take_of take) }
 {
     if fired == u64::MAX {
@@ -56,7 +53,7 @@ fn taken_modulo(run: &Stepper<'_>, number: u64) -> Taking
     }
 }
 
-/// The choice that the number takes, modulo how many there are; `None` where the present state has no choice.
+/// The choice that the number takes, modulo how many there are; `None` if the present state has no choice.
 pub fn picked(run: &Stepper<'_>, pick: u64) -> Option<Choice>
     ensures choice { option_map choice_of result ≡ picked (plant_in run.now) (states_in run.now) pick }
     ensures allowed { IfSome result (λ choice. IsAllowed (plant_in run.now) (states_in run.now) (choice_of choice)) }
@@ -94,55 +91,9 @@ fn taken_by_name(run: &Stepper<'_>, choice: Choice) -> Taking
     }
 }
 
-/// Whether the present state has the choice. A state may have more choices than one could look at; but they stand in order, so the
-/// only place at which it can stand tells.
+/// Whether the present state has the choice.
 fn is_among_choices(run: &Stepper<'_>, choice: &Choice) -> bool
     ensures { result ≡ is_among (choices (plant_in run.now) (states_in run.now)) (choice_of choice.now) }
 {
-    let place = place_of(run, choice);
-    place < run.count() && run.nth(place).same(choice)
-}
-
-/// The only place at which the choice can stand: that of the first choice that is not before it, or the one behind the last.
-fn place_of(run: &Stepper<'_>, choice: &Choice) -> u128
-    ensures { (place : ℕ) → slice_get (choices (plant_in run.now) (states_in run.now)) place ≡ Some (choice_of choice.now) → place ≡ result }
-{
-    let mut low = 0;
-    let mut high = run.count();
-    while low < high {
-        let middle = low + (high - low) / 2;
-        if is_before(&run.nth(middle), choice) {
-            low = middle + 1;
-        } else {
-            high = middle;
-        }
-    }
-    low
-}
-
-/// Whether the one choice is before the other in the order of choices.
-fn is_before(one: &Choice, other: &Choice) -> bool
-    ensures { result ≡ comes_before (order_key (choice_of one.now)) (order_key (choice_of other.now)) }
-{
-    one.connector < other.connector
-        || (one.connector == other.connector
-            && (one.mask < other.mask
-                || (one.mask == other.mask
-                    && are_before(one.moves.as_slice(), other.moves.as_slice()))))
-}
-
-/// Whether the transitions of the moves are before those of the others: at the first place where they differ.
-fn are_before(moves: &[Move], others: &[Move]) -> bool
-    ensures { result ≡ comes_before (map (λ m. m.transition) moves.now) (map (λ m. m.transition) others.now) }
-{
-    match moves {
-        [] => false,
-        [step, later @ ..] => match others {
-            [] => false,
-            [other, rest @ ..] => {
-                step.transition < other.transition
-                    || (step.transition == other.transition && are_before(later, rest))
-            }
-        },
-    }
+    run.find(choice).is_some()
 }

@@ -1,60 +1,54 @@
-//! What is told of a run.
+//! How a run is printed.
+use crate::fired::Firing;
 use std::io::Write;
-use step_core::{Choice, Stepper};
+use step_core::Stepper;
 use text_io::WriteFault;
 
-/// What is told of a run, and how.
+/// How a run is printed.
 pub trait Telling {
     ghost use Rattle.std.specs.Prelude.{◌≡◌, ◌+◌, List, OnOk};
-    ghost use Rattle.std.specs.Io.KnownBytes.{Appends};
-    ghost use Rattle.petri_atom.specs.Local.{Local};
-    ghost use Rattle.step_core.specs.Choice.{IsAllowed};
-    ghost use Rattle.step_core.specs.Chosen.{choice_of};
-    ghost use Rattle.step_core.specs.Running.{plant_in, states_in, system_in};
-    ghost use Rattle.step_core.specs.Step.{next};
+    ghost use Rattle.run_text.specs.Seen.{Local, Prints, choice_of, plant_in, states_in};
+    ghost use Rattle.run_text.specs.Fired.{HasFired};
     ghost use Rattle.run_text.specs.Steps.{Parts};
 
     /// The texts of the parts of a run.
     ghost parts: { Self → Parts };
 
-    /// It can tell what is fired from this state.
-    ghost IsReady: { Self → List Local → Type 0 };
+    /// It can print what is fired from this state.
+    ghost IsReady: { Self → List Local → Type 0 } = { λ _ _. Unit {0} };
 
-    /// Fires a choice of the present state, and tells it with this number.
+    /// Prints what stands before the first choice, in the first state.
+    fn tell_start<W: Write>(&self, run: &Stepper<'_>, output: &mut W) -> Result<(), WriteFault>
+        ensures { Prints result (W.contents output.old) (W.contents output.new) ((parts self.now).start (plant_in run.now) (states_in run.now)) };
+
+    /// Prints a choice that was fired; the plant is in the state after it.
     fn tell_fired<W: Write>(
         &mut self,
-        number: u64,
-        run: &mut Stepper<'_>,
-        choice: &Choice,
+        firing: &Firing<'_>,
+        run: &Stepper<'_>,
         output: &mut W,
     ) -> Result<(), WriteFault>
-        requires allowed { IsAllowed (plant_in run.old) (states_in run.old) (choice_of choice.now) }
-        requires ready { IsReady self.old (states_in run.old) }
-        ensures system { system_in run.new ≡ system_in run.old }
-        ensures plant { plant_in run.new ≡ plant_in run.old }
-        ensures next { states_in run.new ≡ next (plant_in run.old) (states_in run.old) (choice_of choice.now) }
+        requires { (before : List Local) × IsReady self.old before × HasFired (plant_in run.now) before firing.now (states_in run.now) }
         ensures same { parts self.new ≡ parts self.old }
-        ensures ready { OnOk result (IsReady self.new (states_in run.new)) }
-        ensures printed { OnOk result (Appends (W.contents output.old) (W.contents output.new)
-            ((parts self.old).fired (plant_in run.old) (states_in run.old) number (choice_of choice.now))) };
+        ensures ready { OnOk result (IsReady self.new (states_in run.now)) }
+        ensures printed { (before : List Local) → IsReady self.old before → HasFired (plant_in run.now) before firing.now (states_in run.now) →
+            Prints result (W.contents output.old) (W.contents output.new) ((parts self.old).fired (plant_in run.now) before firing.now.number (choice_of firing.now.choice.now)) };
 
-    /// Tells that the present state has no choice.
+    /// Prints that the present state has no choice.
     fn tell_stuck<W: Write>(&self, run: &Stepper<'_>, output: &mut W) -> Result<(), WriteFault>
-        ensures { OnOk result (Appends (W.contents output.old) (W.contents output.new)
-            ((parts self.now).stuck (plant_in run.now) (states_in run.now))) };
+        ensures { Prints result (W.contents output.old) (W.contents output.new) ((parts self.now).stuck (plant_in run.now) (states_in run.now)) };
 
-    /// Tells the end, in the present state and behind so many fired interactions.
+    /// Prints the end, in the present state and after so many fired interactions.
     fn tell_end<W: Write>(
         &self,
         fired: u64,
         run: &Stepper<'_>,
         output: &mut W,
     ) -> Result<(), WriteFault>
-        ensures { OnOk result (Appends (W.contents output.old) (W.contents output.new)
-            ((parts self.now).end (plant_in run.now) (states_in run.now) (fired + 1))) };
+        ensures { Prints result (W.contents output.old) (W.contents output.new) ((parts self.now).end (plant_in run.now) (states_in run.now) (fired + 1)) };
 }
 
-/// Nothing is told: the run is only made.
+/// Nothing is printed: the run is only made.
 #[derive(Clone, Copy)]
 pub(crate) struct Silence;
 
@@ -63,16 +57,16 @@ impl Telling for Silence {
 
     ghost parts = { λ _. no_parts };
 
-    ghost IsReady = { λ _ _. Unit {0} };
+    fn tell_start<W: Write>(&self, _run: &Stepper<'_>, _output: &mut W) -> Result<(), WriteFault> {
+        Ok(())
+    }
 
     fn tell_fired<W: Write>(
         &mut self,
-        _number: u64,
-        run: &mut Stepper<'_>,
-        choice: &Choice,
+        _firing: &Firing<'_>,
+        _run: &Stepper<'_>,
         _output: &mut W,
     ) -> Result<(), WriteFault> {
-        run.fire(choice);
         Ok(())
     }
 

@@ -1,6 +1,5 @@
 //! The words of a line in each format.
-ghost use Rattle.std.specs.Prelude.{OnOk};
-ghost use Rattle.std.specs.Io.KnownBytes.{Appends};
+ghost use Rattle.run_text.specs.Seen.{Prints};
 ghost use Rattle.run_text.specs.Word.{assigned_text, name_text, quoted};
 
 use crate::format::equals_text;
@@ -14,8 +13,7 @@ pub(crate) fn print_assigned<W: Write>(
     value: i64,
     output: &mut W,
 ) -> Result<(), WriteFault>
-    ensures { OnOk result (Appends (W.contents output.old) (W.contents output.new)
-        (assigned_text format name.now value)) }
+    ensures { Prints result (W.contents output.old) (W.contents output.new) (assigned_text format name.now value) }
 {
     print_name(format, name, output)?;
     print_text(output, equals_text(format))?;
@@ -28,8 +26,7 @@ pub(crate) fn print_name<W: Write>(
     name: &[u8],
     output: &mut W,
 ) -> Result<(), WriteFault>
-    ensures { OnOk result (Appends (W.contents output.old) (W.contents output.new)
-        (name_text format name.now)) }
+    ensures { Prints result (W.contents output.old) (W.contents output.new) (name_text format name.now) }
 {
     match format {
         Format::Lines | Format::Csv => print_text(output, name),
@@ -39,8 +36,7 @@ pub(crate) fn print_name<W: Write>(
 
 /// Prints a name between quotes.
 pub(crate) fn print_quoted<W: Write>(name: &[u8], output: &mut W) -> Result<(), WriteFault>
-    ensures { OnOk result (Appends (W.contents output.old) (W.contents output.new)
-        (quoted name.now)) }
+    ensures { Prints result (W.contents output.old) (W.contents output.new) (quoted name.now) }
 {
     print_text(output, b"\"")?;
     print_text(output, name)?;

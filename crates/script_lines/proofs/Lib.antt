@@ -1,4 +1,3 @@
-pub mod Lines
-pub mod Named
-pub mod Running
+mod Lines
+mod Running
 mod Rows

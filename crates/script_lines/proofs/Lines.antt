@@ -12,7 +12,7 @@ use Rattle.script_lines.specs.Script.{asked_by_line, events_of, is_refused, is_u
 use Rattle.script_lines.specs.declared.line.ScriptLine.{ScriptLine}
 use Rattle.script_lines.specs.declared.line.ScriptLine.TheVariants.{Nothing, Asks, Unreadable}
 
--- what lines mean behind events that were read, where the first of the lines has this number
+-- what lines mean after events that were read, where the first of the lines has this number
 abbrev pub meant_behind : PlantDefinition → ℕ → List Event → List (List ℕ) → Result (List Event) ℕ
 meant_behind plant number before lines = option_map_or Err (position_from (is_refused plant) number lines) (Ok (before ++ flat_map (events_of plant) lines))
 

@@ -32,7 +32,7 @@ pub record IsRunOf (plant : PlantDefinition) (digest : List ℕ) (before : View)
   pub printed : Appends old new (happened_text plant happened ++ standing_text plant after)
   pub told : failed ≡ list_any has_failed happened
 
--- A run that ended early: the events behind some place were not asked of the plant.
+-- A run that ended early: the events after some place were not asked of the plant.
 pub record IsCutRun (plant : PlantDefinition) (digest : List ℕ) (before : View) (s : DiskState) (hands : HandFields) (events : List Event) (after : View) (m : DiskState) (hands_after : HandFields) : Type 0 where
   pub happened : List Happened
   pub asked : List Event

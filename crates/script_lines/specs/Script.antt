@@ -10,7 +10,7 @@ use Rattle.plant_words.specs.Words.{words_of}
 use Rattle.text_io.specs.declared.reading.TheConstants.{MAX_TEXT}
 use Rattle.plant_core.specs.declared.events.Event.{Event}
 use Rattle.plant_core.specs.declared.events.Event.TheVariants.{Fire, Flush, Ask, Put, Trim, Begin, Back}
-use Rattle.script_lines.specs.Atoms.{atom_named}
+use Rattle.step_core.specs.Lookup.{atom_named}
 use Rattle.script_lines.specs.declared.fault.ScriptFault.{ScriptFault}
 use Rattle.script_lines.specs.declared.fault.ScriptFault.TheVariants.{Line, Memory}
 use Rattle.script_lines.specs.declared.line.ScriptLine.{ScriptLine}
@@ -22,15 +22,15 @@ only_pick [] = None
 only_pick (word ∷ []) = pick_in word
 only_pick (word ∷ other ∷ more) = None
 
--- behind `fire` stands one word, which is a pick
+-- after `fire` stands one word, which is a pick
 abbrev pub fire_in : List (List ℕ) → Option Event
 fire_in words = option_map Fire (only_pick words)
 
--- and so it does behind `begin`
+-- and so it does after `begin`
 abbrev pub begin_in : List (List ℕ) → Option Event
 begin_in words = option_map Begin (only_pick words)
 
--- behind `flush` stands no word
+-- after `flush` stands no word
 abbrev pub flush_in : List (List ℕ) → Option Event
 flush_in [] = Some Flush
 flush_in (word ∷ more) = None
@@ -41,24 +41,24 @@ only_atom plant [] = None
 only_atom plant (word ∷ []) = atom_named plant word
 only_atom plant (word ∷ other ∷ more) = None
 
--- behind `ask` stands one word, which is the name of an atom
+-- after `ask` stands one word, which is the name of an atom
 abbrev pub ask_in : PlantDefinition → List (List ℕ) → Option Event
 ask_in plant words = option_map Ask (only_atom plant words)
 
--- and so it does behind `put`
+-- and so it does after `put`
 abbrev pub put_in : PlantDefinition → List (List ℕ) → Option Event
 put_in plant words = option_map Put (only_atom plant words)
 
--- and behind `back`
+-- and after `back`
 abbrev pub back_in : PlantDefinition → List (List ℕ) → Option Event
 back_in plant words = option_map Back (only_atom plant words)
 
--- behind `trim` stands no word
+-- after `trim` stands no word
 abbrev pub trim_in : List (List ℕ) → Option Event
 trim_in [] = Some Trim
 trim_in (word ∷ more) = None
 
--- the event that a first word and the words behind it ask for
+-- the event that a first word and the words after it ask for
 abbrev pub event_in : PlantDefinition → List ℕ → List (List ℕ) → Option Event
 event_in plant first words =
     if is_same_text first (codes "fire") then fire_in words
@@ -75,7 +75,7 @@ abbrev pub asked_for : Option Event → ScriptLine
 asked_for None = Unreadable
 asked_for (Some event) = Asks event
 
--- what the words of a line say: nothing where there is none, and else they ask for an event
+-- what the words of a line say: nothing if there is none, and else they ask for an event
 abbrev pub said_in : PlantDefinition → List (List ℕ) → ScriptLine
 said_in plant [] = Nothing
 said_in plant (first ∷ words) = asked_for (event_in plant first words)
@@ -109,7 +109,7 @@ script_meaning plant text =
     if nat_lt MAX_TEXT (length text) then Err 0
     else option_map_or Err (position_from (is_refused plant) 1 (lines_of text)) (Ok (flat_map (events_of plant) (lines_of text)))
 
--- a fault of a script is its refused line, or that memory ran out, where no line is refused
+-- a fault of a script is its refused line, or that memory ran out, if no line is refused
 abbrev pub IsFaultOf : PlantDefinition → List ℕ → ScriptFault → Type 0
 IsFaultOf plant text (Line number) = script_meaning plant text ≡ Err number
 IsFaultOf plant text Memory = IsOk (script_meaning plant text)

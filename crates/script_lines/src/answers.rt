@@ -12,7 +12,7 @@ use std::io::Write;
 use step_core::System;
 use text_io::{WriteFault, print_number, print_text};
 
-/// Prints what happened to a durable plant of the system: a choice that was fired as a trace prints it, with ` begun` behind it where its
+/// Prints what happened to a durable plant of the system: a choice that was fired as a trace prints it, with ` begun` after it where its
 /// participants went away, `flushed N` where all up to number N is acknowledged, `asked NAME COUNT` where the state of the atom was copied,
 /// `stored NAME COUNT` where it was stored, `back NAME` where the atom is present again, `nothing NAME` where no state or no job of it was at hand,
 /// `base N` where records were dropped and N is the first that is kept, and `refused NUMBER NAME` where the plant refused. The line is not ended.

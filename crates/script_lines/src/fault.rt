@@ -9,7 +9,7 @@ use thiserror::Error;
 /// Why a script is refused.
 #[derive(Clone, Copy, Debug, PartialEq, Eq, Error)]
 pub enum ScriptFault {
-    /// The first line that asks for no event, by its number from 1; 0 where the script is too long.
+    /// The first line that asks for no event, by its number from 1; 0 if the script is too long.
     Line(u32),
     /// There was no memory for the events. Each line asks for one, or is empty.
     Memory,

@@ -1,15 +1,15 @@
 //! The lines of a durable run.
 //!
-//! A script is a text with an event on each line: `fire P`, `flush`, `ask NAME` or `put NAME`, where NAME is that of an atom. [`read_script`]
-//! turns it into events, [`run_script`] asks them of a [`Plant`](plant_core::Plant), one after another, and prints what happened: a line for
-//! each answer, and at the end a line for the state of each atom and one that says how far the plant is. A state that is asked for is kept in
-//! the hand of its atom until it is put.
+//! A script is a text with an event on each line: `fire P`, `flush`, `ask NAME`, `put NAME`, `trim`, `begin P` or `back NAME`, where P picks a
+//! choice and NAME is that of an atom. [`read_script`] turns it into events, [`run_script`] asks them of a [`Plant`](plant_core::Plant), one
+//! after another, and prints what happened: a line for each answer, and at the end a line for the state of each atom and one that says how
+//! far the plant is. A state that is asked for is kept in the hand of its atom until it is put, and so is a job that is begun until it is back.
 //!
 //! What a script means for a plant is one definition, `script_meaning` (`specs/Script.antt`), what is printed is `happened_line` and
 //! `standing_text` (`specs/Answers.antt`), and what a run is stands in `specs/Runs.antt`. Contracts say that exactly these bytes were
-//! appended to a writer, where its type says which bytes it took; they say nothing of when a writer fails, nor of when it is flushed.
+//! appended to a writer, if its type says which bytes it took; they say nothing of when a writer fails, nor of when it is flushed.
 //!
-//! - `script`: a script, line by line. `line`: what one line says. `fault`: why a script is refused. `atoms`: atoms and their names.
+//! - `script`: a script, line by line. `line`: what one line says. `fault`: why a script is refused. `atoms`: the names of atoms, by their numbers.
 //! - `answers`: the lines of answers, refusals and fronts. `standing`: where a plant stands.
 //! - `run`: the events of a script, asked and answered.
 //!

@@ -3,7 +3,6 @@ ghost use Rattle.std.specs.Prelude.{◌≡◌};
 ghost use Rattle.step_core.specs.System.{plant_of};
 ghost use Rattle.script_lines.specs.Script.{ask_in, asked_for, back_in, begin_in, event_in, fire_in, flush_in, line_in, only_atom, only_pick, put_in, trim_in};
 
-use crate::atoms::atom_named;
 use plant_core::Event;
 use plant_words::{Words, is_legal, read_decimal};
 use step_core::System;
@@ -43,7 +42,7 @@ fn asked_for(event: Option<Event>) -> ScriptLine
     }
 }
 
-/// The event that a first word and the words behind it ask for.
+/// The event that a first word and the words after it ask for.
 fn event_in(system: &System, first: &[u8], words: &mut Words<'_>) -> Option<Event>
     ensures { result ≡ event_in (plant_of system.now) first.now words.old }
 {
@@ -66,21 +65,21 @@ fn event_in(system: &System, first: &[u8], words: &mut Words<'_>) -> Option<Even
     }
 }
 
-/// The event that the words behind `fire` ask for.
+/// The event that the words after `fire` ask for.
 fn fire_in(words: &mut Words<'_>) -> Option<Event>
     ensures { result ≡ fire_in words.old }
 {
-    Some(Event::Fire(only_pick(words)?))
+    Some(Event::Fire(u128::from(only_pick(words)?)))
 }
 
-/// The event that the words behind `begin` ask for.
+/// The event that the words after `begin` ask for.
 fn begin_in(words: &mut Words<'_>) -> Option<Event>
     ensures { result ≡ begin_in words.old }
 {
-    Some(Event::Begin(only_pick(words)?))
+    Some(Event::Begin(u128::from(only_pick(words)?)))
 }
 
-/// The event that the words behind `flush` ask for.
+/// The event that the words after `flush` ask for.
 fn flush_in(words: &mut Words<'_>) -> Option<Event>
     ensures { result ≡ flush_in words.old }
 {
@@ -90,21 +89,21 @@ fn flush_in(words: &mut Words<'_>) -> Option<Event>
     }
 }
 
-/// The event that the words behind `ask` ask for.
+/// The event that the words after `ask` ask for.
 fn ask_in(system: &System, words: &mut Words<'_>) -> Option<Event>
     ensures { result ≡ ask_in (plant_of system.now) words.old }
 {
     Some(Event::Ask(only_atom(system, words)?))
 }
 
-/// The event that the words behind `put` ask for.
+/// The event that the words after `put` ask for.
 fn put_in(system: &System, words: &mut Words<'_>) -> Option<Event>
     ensures { result ≡ put_in (plant_of system.now) words.old }
 {
     Some(Event::Put(only_atom(system, words)?))
 }
 
-/// The event that the words behind `trim` ask for.
+/// The event that the words after `trim` ask for.
 fn trim_in(words: &mut Words<'_>) -> Option<Event>
     ensures { result ≡ trim_in words.old }
 {
@@ -114,7 +113,7 @@ fn trim_in(words: &mut Words<'_>) -> Option<Event>
     }
 }
 
-/// The event that the words behind `back` ask for.
+/// The event that the words after `back` ask for.
 fn back_in(system: &System, words: &mut Words<'_>) -> Option<Event>
     ensures { result ≡ back_in (plant_of system.now) words.old }
 {
@@ -139,6 +138,6 @@ fn only_atom(system: &System, words: &mut Words<'_>) -> Option<u16>
     let word = words.next_word()?;
     match words.next_word() {
         Some(_) => None,
-        None => atom_named(system, word),
+        None => system.atom_named(word),
     }
 }

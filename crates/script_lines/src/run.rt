@@ -1,6 +1,5 @@
 //! The events of a script, asked and answered.
-ghost use Rattle.std.specs.Prelude.{◌≡◌, ◌∷◌, [], length, IfOk, OnErr, OnOk};
-ghost use Rattle.std.specs.Io.KnownBytes.{Keeps};
+ghost use Rattle.std.specs.Prelude.{◌≡◌, ◌∷◌, [], length, IfOk, OnErr};
 ghost use Rattle.plant_core.specs.Events.{has_failed};
 ghost use Rattle.plant_core.specs.Handed.{hands_of};
 ghost use Rattle.plant_core.specs.Hands.{AreHandsFor};
@@ -12,15 +11,15 @@ use crate::standing::print_standing;
 use disk_model::Disk;
 use plant_core::{Event, Hands, Happened, Plant, Refused, meet};
 use std::io::Write;
-use text_io::{WriteFault, end_line};
+use text_io::{WriteFault, end_line, hand_on};
 
-/// Asks events of a plant, one after another, and prints a line for the answer of each; behind them, where the plant then
-/// stands. A state that is asked for goes into the hand of its atom, and what is in the hand is stored where that is asked; a job of a choice that
-/// begins goes there too, and is done and handed in where that is asked. It tells whether the device failed in some call; then each later call is
+/// Asks events of a plant, one after another, and prints a line for the answer of each; after them, where the plant then
+/// stands. A state that is asked for goes into the hand of its atom, and what is in the hand is stored if that is asked; a job of a choice that
+/// begins goes there too, and is done and handed in if that is asked. It tells whether the device failed in some call; then each later call is
 /// refused as broken.
 ///
-/// The output is flushed before each event that makes calls of the device, behind the line of its answer, and at the end: who reads it waits for
-/// nothing that is acknowledged. No memory is taken.
+/// The output is flushed before each event that makes calls of the device, after the line of its answer, and at the end:
+/// so an acknowledgement never waits in a buffer. No memory is taken.
 pub fn run_script<'s, D: Disk, W: Write>(
     plant: &mut Plant<'s, D>,
     hands: &mut Hands<'s>,
@@ -45,7 +44,7 @@ pub fn run_script<'s, D: Disk, W: Write>(
     Ok(failed)
 }
 
-/// Asks an event of the plant, and prints the line of its answer; the output is flushed before and behind an event that makes calls of the
+/// Asks an event of the plant, and prints the line of its answer; the output is flushed before and after an event that makes calls of the
 /// device. It tells whether the device failed in the call.
 fn answer<'s, D: Disk, W: Write>(
     plant: &mut Plant<'s, D>,
@@ -108,12 +107,4 @@ fn has_failed(happened: &Happened) -> bool
             | Happened::Begin(_, Err(Refused::Disk))
             | Happened::Back(_, Err(Refused::Disk))
     )
-}
-
-/// Hands on what the writer still keeps.
-fn hand_on<W: Write>(output: &mut W) -> Result<(), WriteFault>
-    ensures { OnOk result (Keeps (W.contents output.old) (W.contents output.new)) }
-{
-    output.flush()?;
-    Ok(())
 }

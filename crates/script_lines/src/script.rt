@@ -12,11 +12,11 @@ use std::alloc::{AllocError, Global};
 use step_core::System;
 use text_io::MAX_TEXT;
 
-/// The events that a script asks of a plant of the system, or the first line that it is refused for: its number from 1, and 0 where the
+/// The events that a script asks of a plant of the system, or the first line that it is refused for: its number from 1, and 0 if the
 /// script has more than 1,048,576 bytes.
 ///
-/// Each line asks for one event, as `fire P`, `flush`, `ask NAME`, `put NAME` or `trim`, where NAME is that of an atom, or has no words. Lines
-/// are read on where memory is wanting, so that it hides no line that is refused.
+/// Each line has no words or asks for one event: `fire P`, `flush`, `ask NAME`, `put NAME`, `trim`, `begin P` or `back NAME`, where NAME is that of
+/// an atom. Lines are read on if memory is wanting, so that it hides no line that is refused.
 pub fn read_script(alloc: Global, system: &System, text: &[u8]) -> Result<Vec<Event>, ScriptFault>
     ensures events { IfOk result (λ events. script_meaning (plant_of system.now) text.now ≡ Ok events.items) }
     ensures fault { IfErr result (IsFaultOf (plant_of system.now) text.now) }
@@ -47,7 +47,7 @@ fn read_lines(alloc: Global, system: &System, text: &[u8]) -> Result<Vec<Event>,
     Ok(events?)
 }
 
-/// The events with one more behind them, where there was memory for them.
+/// The events with one more after them, if there was memory for them.
 fn with_event(
     events: Result<Vec<Event>, AllocError>,
     event: Event,

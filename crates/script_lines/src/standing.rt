@@ -47,7 +47,7 @@ fn print_present<D: Disk, W: Write>(
     Ok(())
 }
 
-/// Prints the line of an atom in this state; nothing where there is none.
+/// Prints the line of an atom in this state; nothing if there is none.
 fn print_line<W: Write>(
     atom: &Atom,
     state: Option<AtomState>,

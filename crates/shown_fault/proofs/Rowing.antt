@@ -4,7 +4,7 @@ use Rattle.std.specs.Borrow.{Bor}
 use Rattle.shown_fault.specs.Lent.{lists_of}
 use Rattle.shown_fault.specs.Missing.{more_names}
 
--- where there is no room for a name, dots stand for it
+-- if there is no room for a name, dots stand for it
 pub no_room : (room : ℕ) (names : List (Bor (List ℕ))) → room ≡ 0 → 0 < length names → more_names room (lists_of names) ≡ codes ", .."
 no_room zero [] none some = absurd (omega arith)
 no_room zero (name ∷ names) none some = refl

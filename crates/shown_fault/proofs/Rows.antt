@@ -7,10 +7,9 @@ use Rattle.shown_fault.specs.Shown.{shown, cut_to}
 use Rattle.shown_fault.specs.Window.{location_line, cut_before, marked, window_lines}
 use Rattle.shown_fault.specs.Names.{names_in, latest_in, part_names_in, last_line}
 use Rattle.shown_fault.specs.Missing.{names_listed}
-use Rattle.shown_fault.specs.Kinds.{kind_in, longer_kind, longest_kind}
 use Rattle.shown_fault.specs.Operands.{operands_of, lacks, lacking_in}
 use Rattle.shown_fault.specs.Spelling.{stuck_text, word_text, name_text}
-use Rattle.shown_fault.specs.Wanted.{wanted_in}
+use Rattle.shown_fault.specs.Wanted.{places_of, wanted_in}
 use Rattle.shown_fault.specs.declared.unknown.TheConstants.{ATOM_OF_CONDITION}
 use Rattle.shown_fault.specs.declared.wanted.Wanted.TheVariants.{First, NewName, Mark, From, Place, Source, Target, Guard, Variable, Assign, Value, Tree, Leaf, Clause, Side, Below, When, ConditionAtom, ConditionAt, ConditionPlace, End}
 use Rattle.shown_fault.specs.Circle.{reached, takes_part}
@@ -53,7 +52,7 @@ a_word_at_the_end = refl
 no_word_at_the_end : window_lines (codes "atom") 4 0 ≡ codes "  atom\n      ^ "
 no_word_at_the_end = refl
 
--- 24 before the part, so that 4 are cut off, and 80 behind it
+-- 24 before the part, so that 4 are cut off, and 80 after it
 cut_at_both_ends : marked (replicate 24 120 ++ codes "q" ++ replicate 80 121) 24 1 ≡
     codes "  ..." ++ replicate 20 120 ++ codes "q" ++ replicate 73 121 ++ codes "...\n  " ++ replicate 23 32 ++ codes "^ "
 cut_at_both_ends = refl
@@ -66,91 +65,91 @@ lines =
     codes "place s" ∷ []
 
 no_word : wanted_in (words_of (codes " ")) ≡ First
-unfolding wanted_in kind_in longer_kind longest_kind
+unfolding wanted_in places_of
 no_word = refl
 
 a_name : wanted_in (words_of (codes "place")) ≡ NewName
-unfolding wanted_in kind_in longer_kind longest_kind
+unfolding wanted_in places_of
 a_name = refl
 
 a_mark : wanted_in (words_of (codes "place s ")) ≡ Mark
-unfolding wanted_in kind_in longer_kind longest_kind
+unfolding wanted_in places_of
 a_mark = refl
 
 from_there : wanted_in (words_of (codes "trans t")) ≡ From
-unfolding wanted_in kind_in longer_kind longest_kind
+unfolding wanted_in places_of
 from_there = refl
 
 a_first_source : wanted_in (words_of (codes "trans t from")) ≡ Place
-unfolding wanted_in kind_in longer_kind longest_kind
+unfolding wanted_in places_of
 a_first_source = refl
 
 a_second_source : wanted_in (words_of (codes "trans t from s")) ≡ Source
-unfolding wanted_in kind_in longer_kind longest_kind
+unfolding wanted_in places_of
 a_second_source = refl
 
 a_second_target : wanted_in (words_of (codes "trans t from s to r")) ≡ Target
-unfolding wanted_in kind_in longer_kind longest_kind
+unfolding wanted_in places_of
 a_second_target = refl
 
 a_guard : wanted_in (words_of (codes "trans t from s to r when < n")) ≡ Guard
-unfolding wanted_in kind_in longer_kind longest_kind
+unfolding wanted_in places_of
 a_guard = refl
 
 an_update : wanted_in (words_of (codes "trans t from s to r do n := 1 ;")) ≡ Variable
-unfolding wanted_in kind_in longer_kind longest_kind
+unfolding wanted_in places_of
 an_update = refl
 
 a_sign : wanted_in (words_of (codes "trans t from s to r do n := 1 ; m")) ≡ Assign
-unfolding wanted_in kind_in longer_kind longest_kind
+unfolding wanted_in places_of
 a_sign = refl
 
 a_value : wanted_in (words_of (codes "trans t from s to r do n :=")) ≡ Value
-unfolding wanted_in kind_in longer_kind longest_kind
+unfolding wanted_in places_of
 a_value = refl
 
 a_tree : wanted_in (words_of (codes "connector c")) ≡ Tree
-unfolding wanted_in kind_in longer_kind longest_kind
+unfolding wanted_in places_of
 a_tree = refl
 
 a_leaf : wanted_in (words_of (codes "connector c [")) ≡ Leaf
-unfolding wanted_in kind_in longer_kind longest_kind
+unfolding wanted_in places_of
 a_leaf = refl
 
 a_clause : wanted_in (words_of (codes "move A.n :=")) ≡ Clause
-unfolding wanted_in kind_in longer_kind longest_kind
+unfolding wanted_in places_of
 a_clause = refl
 
 a_left_side : wanted_in (words_of (codes "prio")) ≡ Side
-unfolding wanted_in kind_in longer_kind longest_kind
+unfolding wanted_in places_of
 a_left_side = refl
 
 below : wanted_in (words_of (codes "prio c")) ≡ Below
-unfolding wanted_in kind_in longer_kind longest_kind
+unfolding wanted_in places_of
 below = refl
 
 a_right_side : wanted_in (words_of (codes "prio c <")) ≡ Side
-unfolding wanted_in kind_in longer_kind longest_kind
+unfolding wanted_in places_of
 a_right_side = refl
 
 a_condition : wanted_in (words_of (codes "prio c < d")) ≡ When
-unfolding wanted_in kind_in longer_kind longest_kind
+unfolding wanted_in places_of
 a_condition = refl
 
 an_atom_of_a_condition : wanted_in (words_of (codes "prio c < d when")) ≡ ConditionAtom
-unfolding wanted_in kind_in longer_kind longest_kind
+unfolding wanted_in places_of
 an_atom_of_a_condition = refl
 
 at_there : wanted_in (words_of (codes "prio c < d when A")) ≡ ConditionAt
-unfolding wanted_in kind_in longer_kind longest_kind
+unfolding wanted_in places_of
 at_there = refl
 
 a_place_of_a_condition : wanted_in (words_of (codes "prio c < d when A at")) ≡ ConditionPlace
-unfolding wanted_in kind_in longer_kind longest_kind
+unfolding wanted_in places_of
 a_place_of_a_condition = refl
 
 nothing_more : wanted_in (words_of (codes "prio c < d when A at s")) ≡ End
-unfolding wanted_in kind_in longer_kind longest_kind
+unfolding wanted_in places_of
 nothing_more = refl
 
 -- ---- words

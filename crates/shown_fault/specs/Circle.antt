@@ -27,7 +27,7 @@ sides_in line =
 abbrev pub facing : Bool → List ℕ × List ℕ → List ℕ × List ℕ
 facing is_up sides = if is_up then sides else (sides.1, sides.0)
 
--- the second side put to the connectors, where the first one is one of them
+-- the second side put to the connectors, if the first one is one of them
 abbrev pub with_reached : List (List ℕ) → List ℕ × List ℕ → List (List ℕ)
 with_reached names sides = if is_among names sides.0 && not (is_among names sides.1) then names ++ sides.1 ∷ [] else names
 

@@ -24,23 +24,23 @@ number_of names atom = position_from (λ name. is_same_text name atom) 0 names
 abbrev pub atom_port : List (List ℕ) → List ℕ → Option Port
 atom_port atoms atom = option_and_then port_of (number_of atoms atom)
 
--- the interactions of a tree, where it is one
-abbrev pub masks_told : Reading → List ℕ
-masks_told (Ok tokens) = interactions_in tokens
-masks_told (Err fault) = []
+-- the interactions of a tree, if it is one
+abbrev pub masks_read : Reading → List ℕ
+masks_read (Ok tokens) = interactions_in tokens
+masks_read (Err fault) = []
 
 -- the interactions of the connector of a line, over atoms with these names
 abbrev pub masks_in : List (List ℕ) → List ℕ → List ℕ
-masks_in atoms line = masks_told (tree_in (λ atom port. atom_port atoms atom) (drop 2 (words_of line)))
+masks_in atoms line = masks_read (tree_in (λ atom port. atom_port atoms atom) (drop 2 (words_of line)))
 
 -- an interaction, by the name of its connector and its mask
 abbrev pub interaction_shown : Interaction → List ℕ × ℕ
 interaction_shown interaction = (interaction.connector.now, interaction.mask)
 
--- the interaction of a connector with this number, or else what is found behind it
+-- the interaction of a connector with this number, or else what is found after it
 abbrev pub mask_or : List ℕ → Option ℕ → Option (List ℕ × ℕ) → Option (List ℕ × ℕ)
-mask_or connector (Some mask) behind = Some (connector, mask)
-mask_or connector None behind = behind
+mask_or connector (Some mask) after = Some (connector, mask)
+mask_or connector None after = after
 
 -- The interaction with this number, of the connectors of these lines over atoms with these names: they are numbered from 0 by
 -- connector and then by mask.

@@ -1,4 +1,5 @@
 pub mod Lent
+pub mod Table
 pub mod Shown
 pub mod Window
 pub mod Front

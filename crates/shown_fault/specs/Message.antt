@@ -48,7 +48,7 @@ abbrev pub number_text : Wanted → List ℕ → List ℕ
 number_text Side word = option_map_or (λ parts. mask_text parts.1) (named_mask_in word) (mask_text word)
 number_text wanted word = integer_text word
 
--- what is wrong with a line of this number, behind this part of it; of a byte and of a number more is said than by the fault alone
+-- what is wrong with a line of this number, after this part of it; of a byte and of a number more is said than by the fault alone
 abbrev pub message : Fault → ℕ → List ℕ → List ℕ → List ℕ → List ℕ
 message NotAscii number line front word =
     if is_byte_order_mark number line front then joined (codes "the text begins with a byte order mark: save it as plain ASCII" ∷ [])

@@ -27,7 +27,7 @@ sign_text Clause word = slip_text word
 sign_text Leaf word = bracket_text word
 sign_text wanted word = codes ""
 
--- what is wrong with a word by itself, where this has to stand; empty where that is not known
+-- what is wrong with a word by itself, where this has to stand; empty if that is not known
 abbrev pub misplaced_text : Wanted → List ℕ → List ℕ
 misplaced_text wanted word = either_text (word_text word) (sign_text wanted word)
 
@@ -59,6 +59,6 @@ abbrev pub shape_advice_at : Wanted → List ℕ → List ℕ
 shape_advice_at wanted word =
     if is_filled (misplaced_text wanted word) then advice_line (misplaced_text wanted word ∷ []) else order_advice wanted word
 
--- the same of a word that stands behind these
+-- the same of a word that stands after these
 abbrev pub shape_advice : List (List ℕ) → List ℕ → List ℕ
 shape_advice words word = shape_advice_at (wanted_in words) word

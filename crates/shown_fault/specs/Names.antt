@@ -15,16 +15,16 @@ abbrev pub names_in : List ℕ → List (List ℕ) → List (List ℕ)
 names_in first lines = filter_map (second_word first) lines
 
 -- the second word of the last line that begins with this first one, or else this
-abbrev pub latest_behind : List ℕ → List ℕ → List (List ℕ) → List ℕ
-latest_behind latest first [] = latest
-latest_behind latest first (line ∷ lines) = latest_behind (unwrap_or (second_word first line) latest) first lines
+abbrev pub latest_after : List ℕ → List ℕ → List (List ℕ) → List ℕ
+latest_after latest first [] = latest
+latest_after latest first (line ∷ lines) = latest_after (unwrap_or (second_word first line) latest) first lines
 
--- the same; empty where there is none
+-- the same; empty if there is none
 abbrev pub latest_in : List ℕ → List (List ℕ) → List ℕ
-latest_in first lines = latest_behind [] first lines
+latest_in first lines = latest_after [] first lines
 
 -- the names of the parts of an atom that the lines declare, where the lines begin inside of the atom or outside: they are second
--- words of lines with this first word, behind the line of the atom and before that of another
+-- words of lines with this first word, after the line of the atom and before that of another
 abbrev pub part_names_from : Bool → List ℕ → List ℕ → List (List ℕ) → List (List ℕ)
 part_names_from inside atom first [] = []
 part_names_from inside atom first (line ∷ lines) =
@@ -40,7 +40,7 @@ part_names_in atom first lines = part_names_from false atom first lines
 abbrev pub says : List ℕ → List ℕ → List ℕ → Bool
 says first second line = option_map_or (λ word. is_same_text word second) (second_word first line) false
 
--- the number of the last line that begins with these two words, where they are numbered from this on; or else this
+-- the number of the last of these lines that begins with these two words, numbered from this on; or else this
 abbrev pub last_line_from : Option ℕ → ℕ → List ℕ → List ℕ → List (List ℕ) → Option ℕ
 last_line_from last number first second [] = last
 last_line_from last number first second (line ∷ lines) =

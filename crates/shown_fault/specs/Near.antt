@@ -27,7 +27,7 @@ either_of None other = other
 abbrev pub near_name : List ℕ → List (List ℕ) → Option (List ℕ)
 near_name word names = either_of (first_near 1 word names) (first_near 2 word names)
 
--- a line with the name that the word was perhaps meant to be; nothing where no name is near
+-- a line with the name that the word was perhaps meant to be; nothing if no name is near
 unfoldable pub near_line : List ℕ → List (List ℕ) → List ℕ
 near_line word names =
     option_map_or (λ name. advice_line (codes "did you mean '" ∷ name ∷ codes "'?" ∷ [])) (near_name word names) []

@@ -1,12 +1,14 @@
 -- An expression that is no expression: which operator lacks an operand, and what to write in the place of a word.
-use Rattle.std.specs.Prelude.{ℕ, zero, suc, ◌+◌, ◌==◌, Bool, true, false, ◌||◌, if◌then◌else◌, List, [], ◌∷◌, is_some, Option, Some, None, codes}
+use Rattle.std.specs.Prelude.{ℕ, zero, suc, ◌+◌, ◌==◌, Bool, true, false, ◌||◌, if◌then◌else◌, List, [], ◌∷◌, map, is_some, Option, Some, None, codes}
 use Rattle.petri_atom.specs.Name.{is_same_text}
 use Rattle.plant_words.specs.Words.{is_filled}
 use Rattle.plant_words.specs.ExpressionWords.{operator_in}
+use Rattle.shown_fault.specs.declared.operands.TheConstants.{ENDS}
+use Rattle.shown_fault.specs.Names.{is_among}
 use Rattle.shown_fault.specs.Shown.{quoted, advice_line}
 use Rattle.shown_fault.specs.Spelling.{slip_text, word_text, either_text}
 
--- how many operands a word takes, where it is an operator; and else none
+-- how many operands a word takes, if it is an operator; and else none
 unfoldable pub operands_of : List ℕ → ℕ
 operands_of word = if is_some (operator_in word) then 2 else if is_same_text word (codes "!") then 1 else 0
 
@@ -16,22 +18,20 @@ lacks zero words = false
 lacks (suc wanted) [] = true
 lacks (suc wanted) (word ∷ words) = lacks (wanted + operands_of word) words
 
--- the last of the words that is an operator behind which an operand is missing, or else this
-abbrev pub lacking_behind : Option (List ℕ) → List (List ℕ) → Option (List ℕ)
-lacking_behind found [] = found
-lacking_behind found (word ∷ words) = lacking_behind (if lacks (operands_of word) words then Some word else found) words
+-- the last of the words that is an operator after which an operand is missing, or else this
+abbrev pub lacking_after : Option (List ℕ) → List (List ℕ) → Option (List ℕ)
+lacking_after found [] = found
+lacking_after found (word ∷ words) = lacking_after (if lacks (operands_of word) words then Some word else found) words
 
--- the last of the words that is an operator behind which an operand is missing
+-- the last of the words that is an operator after which an operand is missing
 abbrev pub lacking_in : List (List ℕ) → Option (List ℕ)
-lacking_in words = lacking_behind None words
+lacking_in words = lacking_after None words
 
--- no expression goes on with the word: it is missing, or stands behind an expression
-unfoldable pub ends_expression : List ℕ → Bool
-ends_expression word =
-    is_same_text word (codes "") || is_same_text word (codes ";") || is_same_text word (codes "do") ||
-    is_same_text word (codes "when") || is_same_text word (codes "to") || is_same_text word (codes "from")
+-- no expression goes on with the word: it is missing, or stands after an expression
+abbrev pub ends_expression : List ℕ → Bool
+ends_expression word = is_among (map (λ end. end.now) ENDS) word
 
--- what to write in the place of a word of an expression; empty where that is not known
+-- what to write in the place of a word of an expression; empty if that is not known
 abbrev pub expression_text : List ℕ → List ℕ
 expression_text word = either_text (slip_text word) (word_text word)
 
@@ -48,7 +48,7 @@ malformed_advice words word =
     if ends_expression word then operand_advice (lacking_in words)
     else advice_line (quoted word ∷ codes " is no number, no operator and no name" ∷ [])
 
--- where a line has no expression, behind these words of it: what is wrong with the word, or which operator lacks an operand
+-- if a line has no expression, after these words of it: what is wrong with the word, or which operator lacks an operand
 abbrev pub expression_advice : List (List ℕ) → List ℕ → List ℕ
 expression_advice words word =
     if is_filled (expression_text word) then advice_line (expression_text word ∷ []) else malformed_advice words word

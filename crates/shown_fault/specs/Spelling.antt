@@ -1,17 +1,16 @@
 -- What is wrong with a word by itself.
-use Rattle.std.specs.Prelude.{ℕ, Bool, false, not, ◌||◌, if◌then◌else◌, List, [], ◌∷◌, length, take, nat_eq, nat_lt, codes}
+use Rattle.std.specs.Prelude.{ℕ, Bool, false, not, ◌||◌, if◌then◌else◌, List, [], ◌∷◌, length, map, take, nat_eq, nat_lt, codes}
 use Rattle.std.specs.List.{starts_with}
-use Rattle.petri_atom.specs.Name.{is_name, is_reserved, is_same_text}
+use Rattle.petri_atom.specs.Name.{is_name, is_reserved}
 use Rattle.petri_atom.specs.declared.name.TheConstants.{MAX_NAME}
 use Rattle.plant_words.specs.Words.{begins_with, is_filled}
+use Rattle.shown_fault.specs.declared.spelling.TheConstants.{SIGNS, SLIPS}
+use Rattle.shown_fault.specs.Names.{is_among}
+use Rattle.shown_fault.specs.Table.{text_of}
 
 -- an operator, or another sign of the plant text
 abbrev pub is_sign : List ℕ → Bool
-is_sign word =
-    is_same_text word (codes "+") || is_same_text word (codes "-") || is_same_text word (codes "*") || is_same_text word (codes "<") ||
-    is_same_text word (codes "<=") || is_same_text word (codes "==") || is_same_text word (codes "!=") || is_same_text word (codes "&&") ||
-    is_same_text word (codes "||") || is_same_text word (codes "!") || is_same_text word (codes ":=") || is_same_text word (codes ";") ||
-    is_same_text word (codes "[") || is_same_text word (codes "]") || is_same_text word (codes "]'")
+is_sign word = is_among (map (λ sign. sign.now) SIGNS) word
 
 -- the part stands in the word
 abbrev pub has_part : List ℕ → List ℕ → Bool
@@ -35,27 +34,9 @@ word_text word =
     if begins_with 35 word then codes "nothing more may follow; a comment needs a line of its own"
     else if is_sign word then codes "" else stuck_text word
 
--- what to write in the place of an operator on truth values of other languages
-unfoldable pub logic_text : List ℕ → List ℕ
-logic_text word =
-    if is_same_text word (codes "and") then codes "write '&&'"
-    else if is_same_text word (codes "or") then codes "write '||'"
-    else if is_same_text word (codes "not") then codes "write '!'"
-    else if is_same_text word (codes "&") then codes "write '&&'"
-    else if is_same_text word (codes "|") then codes "write '||'"
-    else codes ""
-
 -- what to write in the place of an operator of other languages
 unfoldable pub slip_text : List ℕ → List ℕ
-slip_text word =
-    if is_same_text word (codes ">") then codes "there is no operator '>': write '< b a'"
-    else if is_same_text word (codes ">=") then codes "there is no operator '>=': write '<= b a'"
-    else if is_same_text word (codes "/") then codes "there is no division"
-    else if is_same_text word (codes "%") then codes "there is no division"
-    else if is_same_text word (codes "=") then codes "write '=='"
-    else if is_same_text word (codes "===") then codes "write '=='"
-    else if is_same_text word (codes "<>") then codes "write '!='"
-    else logic_text word
+slip_text word = text_of (map (λ row. (row.0.now, row.1.now)) SLIPS) word
 
 -- the first byte alone is a name: a letter
 abbrev pub begins_as_name : List ℕ → Bool
@@ -69,6 +50,6 @@ name_text word =
     else if not (begins_as_name word) then codes "a name begins with a letter"
     else codes "a name has letters, digits and '_' alone"
 
--- a text, or another one where it is empty
+-- a text, or another one if it is empty
 abbrev pub either_text : List ℕ → List ℕ → List ℕ
 either_text text other = if is_filled text then text else other

@@ -13,7 +13,7 @@ use Rattle.shown_fault.specs.declared.unknown.TheConstants.{ATOM_OF_CONDITION}
 use Rattle.shown_fault.specs.declared.wanted.Wanted.{Wanted}
 use Rattle.shown_fault.specs.declared.wanted.Wanted.TheVariants.{Export, Port, Place, Source, Target, Guard, Variable, Value, Tree, Leaf, Transfer, Clause, Side, ConditionAtom, ConditionPlace, Whole}
 
--- what is wrong with a word by itself, where this has to stand; empty where that is not known
+-- what is wrong with a word by itself, where this has to stand; empty if that is not known
 abbrev pub unknown_text : Wanted → List ℕ → List ℕ
 unknown_text wanted word = if is_of_expression wanted then expression_text word else word_text word
 
@@ -26,13 +26,13 @@ part_advice lines atom first kind word =
 unfoldable pub latest_part_advice : List (List ℕ) → List ℕ → List ℕ → List ℕ → List ℕ
 latest_part_advice lines first kind word = part_advice lines (latest_in (codes "atom") lines) first kind word
 
--- the atoms, where the word is none of them
+-- the atoms, if the word is none of them
 unfoldable pub atom_advice : List (List ℕ) → List ℕ → Option (List ℕ)
 atom_advice lines word =
     if is_among (names_in (codes "atom") lines) word then None
     else Some (missing (codes "there is no atom") (codes "there are") word (names_in (codes "atom") lines))
 
--- the atoms, where the word is none of them, or else this
+-- the atoms, if the word is none of them, or else this
 abbrev pub atom_or : Option (List ℕ) → List ℕ → List ℕ
 atom_or None other = other
 atom_or (Some text) other = text
@@ -83,11 +83,11 @@ side_advice lines word = option_map_or (λ parts. mask_advice lines parts.0 part
 unfoldable pub condition_atom_advice : List (List ℕ) → List ℕ → List ℕ
 condition_atom_advice lines word = atom_or (atom_advice lines word) []
 
--- the places of the atom that the words of a rule name behind `when`
+-- the places of the atom that the words of a rule name after `when`
 unfoldable pub condition_place_advice : List (List ℕ) → List (List ℕ) → List ℕ → List ℕ
 condition_place_advice lines words word = part_advice lines (unwrap_or (slice_get words ATOM_OF_CONDITION) []) (codes "place") (codes "place") word
 
--- the names that may stand where this has to, behind these words
+-- the names that may stand where this has to, after these words
 unfoldable pub unknown_in : List (List ℕ) → List (List ℕ) → Wanted → List ℕ → List ℕ
 unknown_in lines words Place word = latest_part_advice lines (codes "place") (codes "place") word
 unknown_in lines words Source word = latest_part_advice lines (codes "place") (codes "place") word
@@ -112,6 +112,6 @@ abbrev pub unknown_at : List (List ℕ) → List (List ℕ) → Wanted → List 
 unknown_at lines words wanted word =
     if is_filled (unknown_text wanted word) then advice_line (unknown_text wanted word ∷ []) else unknown_in lines words wanted word
 
--- where a word that stands behind these names nothing: what is wrong with it by itself, or the names that may stand there
+-- where a word that stands after these names nothing: what is wrong with it by itself, or the names that may stand there
 abbrev pub unknown_advice : List (List ℕ) → List (List ℕ) → List ℕ → List ℕ
 unknown_advice lines words word = unknown_at lines words (wanted_in words) word

@@ -9,11 +9,11 @@ abbrev pub location_line : List ℕ → ℕ → ℕ → List ℕ
 location_line path line column =
     joined (codes "  " ∷ shown path ∷ codes ":" ∷ decimal line ∷ codes ":" ∷ decimal column ∷ codes "\n" ∷ [])
 
--- as many cut off, but none where `...` would be no shorter
+-- as many cut off, but none if `...` would be no shorter
 abbrev pub worth_dots : ℕ → ℕ
 worth_dots cut = if nat_le cut DOTS then 0 else cut
 
--- How many characters are cut off before the window, of so many, where the part stands behind so many of them: all but the
+-- How many characters are cut off before the window, of so many, where the part stands after so many of them: all but the
 -- last 20 before the part, but no more than fill the window.
 abbrev pub cut_before : ℕ → ℕ → ℕ
 cut_before total before = if nat_le total MAX_SHOWN then 0 else worth_dots (min (before - LEAD) (total - (MAX_SHOWN - DOTS)))
@@ -22,25 +22,25 @@ cut_before total before = if nat_le total MAX_SHOWN then 0 else worth_dots (min 
 abbrev pub dots : ℕ → List ℕ
 dots cut = if cut == 0 then codes "" else codes "..."
 
--- the characters behind those that are cut off, as many as are shown
+-- the characters after those that are cut off, as many as are shown
 abbrev pub window : List ℕ → ℕ → List ℕ
 window chars cut = joined (dots cut ∷ cut_to (MAX_SHOWN - length (dots cut)) (drop cut chars) ∷ [])
 
--- the mark under a part that stands behind `lead` and then `before` characters in a window, and is so wide; it is no wider than the
+-- the mark under a part that stands after `lead` and then `before` characters in a window, and is so wide; it is no wider than the
 -- window, and one character wide at least
 abbrev pub mark_in : ℕ → ℕ → ℕ → ℕ → List ℕ
 mark_in window lead before width =
     joined (codes "  " ∷ replicate lead 32 ∷ replicate before 32 ∷ replicate (max 1 (min width (window - lead - before))) 94 ∷ codes " " ∷ [])
 
--- the window of characters behind those cut off, with the mark under the part that stands behind so many and is so wide
-abbrev pub marked_behind : ℕ → List ℕ → ℕ → ℕ → List ℕ
-marked_behind cut chars before width =
+-- the window of characters after those cut off, with the mark under the part that stands after so many and is so wide
+abbrev pub marked_after : ℕ → List ℕ → ℕ → ℕ → List ℕ
+marked_after cut chars before width =
     joined (codes "  " ∷ window chars cut ∷ codes "\n" ∷ mark_in (length (window chars cut)) (length (dots cut)) (before - cut) width ∷ [])
 
 -- the same, where as many are cut off as have to be
 abbrev pub marked : List ℕ → ℕ → ℕ → List ℕ
-marked chars before width = marked_behind (cut_before (length chars) before) chars before width
+marked chars before width = marked_after (cut_before (length chars) before) chars before width
 
--- a line as it is shown round the part that begins behind `start` bytes and has `len`, and under it the mark
+-- a line as it is shown round the part that begins after `start` bytes and has `len`, and under it the mark
 abbrev pub window_lines : List ℕ → ℕ → ℕ → List ℕ
 window_lines line start len = marked (shown line) (length (shown (take start line))) (length (shown (take len (drop start line))))

@@ -10,14 +10,14 @@ use crate::limits::limit_advice;
 use crate::misplaced_word::shape_advice;
 use crate::names::last_line;
 use crate::operands::expression_advice;
-use crate::shown::{advice_line, quoted};
+use crate::shown::{advice_line, filled_line, quoted};
 use crate::spelling::{name_text, word_text};
 use crate::unknown::unknown_advice;
-use crate::wanted::{Wanted, wanted_behind};
+use crate::wanted::{Wanted, wanted_after};
 use plant_text::Fault;
 use std::alloc::{AllocError, Global};
 
-/// What can be done about the fault of a line: behind these lines and these words of it stands the word at fault, which is empty where
+/// What can be done about the fault of a line: after these lines and these words of it stands the word at fault, which is empty if
 /// one is missing.
 pub(crate) fn advice(
     alloc: Global,
@@ -53,12 +53,7 @@ fn name_advice(alloc: Global, word: &[u8]) -> Result<Vec<u8>, AllocError>
 fn number_advice(alloc: Global, word: &[u8]) -> Result<Vec<u8>, AllocError>
     ensures { IfOk result (λ text. text.items ≡ number_advice word.now) }
 {
-    let text = word_text(word);
-    if text.is_empty() {
-        Ok(Vec::new(alloc))
-    } else {
-        advice_line(alloc, &[text.as_bytes()])
-    }
+    filled_line(alloc, word_text(word))
 }
 
 /// Where a name stands already: the line that declares it, or the same line.
@@ -83,11 +78,11 @@ fn twice_advice(
     }
 }
 
-/// The number of the line that declares the name already, or sets the variable already. `None` where the word stands in a list.
+/// The number of the line that declares the name already, or sets the variable already. `None` if the word stands in a list.
 fn standing_line(lines: &[&[u8]], front: &[u8], word: &[u8]) -> Option<usize>
     ensures { result ≡ standing_line (lists_of lines.now) (words_of front.now) word.now }
 {
-    match wanted_behind(front) {
+    match wanted_after(front) {
         Wanted::NewName | Wanted::Transfer => last_line(lines, word_at(front, 0)?, word),
         _ => None,
     }

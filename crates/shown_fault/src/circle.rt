@@ -85,7 +85,7 @@ fn takes_part(line: &[u8], above: &[&[u8]], below: &[&[u8]]) -> bool
     }
 }
 
-/// A line for each rule that leads round, the first ones where there are many.
+/// A line for each rule that leads round, the first ones if there are many.
 pub(crate) fn rule_lines(
     alloc: Global,
     lines: &[&[u8]],

@@ -15,24 +15,25 @@ use plant_text::{Mark, PlantFault, find_mark};
 use plant_words::Lines;
 use std::alloc::{AllocError, Global};
 
-/// What is shown of the fault of a text behind the line that tells it. Of a fault of a line: where to jump, the line with a mark under
-/// the part at fault, what is wrong there, and what can be done. Of a fault of no line: what can be done. `path` is the text's name.
+/// What is shown of the fault of a text, after the line that a program prints of it. Of a fault of a line: where to jump, the line with
+/// a mark under the part at fault, what is wrong there, and what can be done. Of a fault of no line: what can be done. `path` is the
+/// text's name.
 #[tactic(auto, using(crate::proofs::Explaining::line_explained, crate::proofs::Explaining::no_line_explained))]
 pub fn explain(
     alloc: Global,
     path: &[u8],
     text: &[u8],
-    told: &PlantFault,
+    found: &PlantFault,
 ) -> Result<Vec<u8>, AllocError>
-    ensures shown { IfOk result (λ shown. meaning text.now ≡ Err told.now → 0 < told.now.line →
-        Explains path.now (lines_of text.now) told.now (slice_get (lines_of text.now) (told.now.line - 1)) shown.items) }
-    ensures whole { IfOk result (λ shown. told.now.line ≡ 0 → shown.items ≡ whole_advice (lines_of text.now) told.now.fault) }
+    ensures shown { IfOk result (λ shown. meaning text.now ≡ Err found.now → 0 < found.now.line →
+        Explains path.now (lines_of text.now) found.now (slice_get (lines_of text.now) (found.now.line - 1)) shown.items) }
+    ensures whole { IfOk result (λ shown. found.now.line ≡ 0 → shown.items ≡ whole_advice (lines_of text.now) found.now.fault) }
 {
-    if told.line == 0 {
-        return whole_advice(alloc, text, &told.fault);
+    if found.line == 0 {
+        return whole_advice(alloc, text, &found.fault);
     }
     match find_mark(alloc, text)? {
-        Some(mark) => Ok(explanation(alloc, path, text, told, &mark)?),
+        Some(mark) => Ok(explanation(alloc, path, text, found, &mark)?),
         None => Ok(Vec::new(alloc)),
     }
 }
@@ -42,18 +43,18 @@ fn explanation(
     alloc: Global,
     path: &[u8],
     text: &[u8],
-    told: &PlantFault,
+    found: &PlantFault,
     mark: &Mark<'_>,
 ) -> Result<Vec<u8>, AllocError>
-    ensures { IfOk result (λ shown. shown.items ≡ explanation_of path.now (take (told.now.line - 1) (lines_of text.now)) told.now mark.now.line.now mark.now.start mark.now.len) }
+    ensures { IfOk result (λ shown. shown.items ≡ explanation_of path.now (take (found.now.line - 1) (lines_of text.now)) found.now mark.now.line.now mark.now.start mark.now.len) }
 {
     let line = mark.line;
     let (front, word) = part_of(line, mark.start, mark.len);
-    let lines = lines_before(alloc, text, told.line)?;
-    let location = location_line(alloc, path, told.line, front.len() + 1)?;
+    let lines = lines_before(alloc, text, found.line)?;
+    let location = location_line(alloc, path, found.line, front.len() + 1)?;
     let window = window_lines(alloc, line, mark.start, mark.len)?;
-    let message = message(alloc, &told.fault, told.line, line, front, word)?;
-    let advice = advice(alloc, &told.fault, &lines, front, word)?;
+    let message = message(alloc, &found.fault, found.line, line, front, word)?;
+    let advice = advice(alloc, &found.fault, &lines, front, word)?;
     joined(alloc, &[&location, &window, &message, b"\n", &advice])
 }
 

@@ -56,7 +56,7 @@ pub(crate) fn has_word(front: &[u8], word: &[u8]) -> bool
     false
 }
 
-/// Takes so many words, or all where there are fewer.
+/// Takes so many words, or all if there are fewer.
 pub(crate) fn skip_words(words: &mut Words<'_>, number: usize)
     ensures { words.new ≡ drop number words.old }
 {

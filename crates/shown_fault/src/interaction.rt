@@ -66,7 +66,7 @@ pub(crate) struct Interaction<'t> {
     pub(crate) mask: Mask,
 }
 
-/// The interaction with this number, where they are numbered from 0 by connector and then by mask.
+/// The interaction with this number: they are numbered from 0, by connector and then by mask.
 pub(crate) fn interaction_in<'t>(
     alloc: Global,
     lines: &[&'t [u8]],
@@ -95,7 +95,7 @@ fn mask_at(masks: &[Mask], number: usize) -> Option<Mask>
     masks.get(number).copied()
 }
 
-/// The interactions of the connector of a line; none where its tree is no tree.
+/// The interactions of the connector of a line; none if its tree is no tree.
 fn masks_in(alloc: Global, line: &[u8], atoms: &AtomNames<'_>) -> Result<Vec<Mask>, AllocError>
     ensures { IfOk result (λ masks. masks.items ≡ masks_in (lists_of atoms.now.names.now) line.now) }
 {

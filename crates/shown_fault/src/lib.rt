@@ -1,6 +1,6 @@
 //! The fault of a plant text, shown in its line, with advice.
 //!
-//! A program tells the fault of a text by a fixed line, for programs. What [`explain`] gives stands behind it, for a person:
+//! A program prints the fault of a text as a fixed line, for programs. What [`explain`] gives stands after it, for a person:
 //!
 //! ```text
 //!   conveyor.plant:4:19
@@ -17,15 +17,19 @@
 //! Each byte is shown so that no terminal takes it for a command ([`shown_name`]).
 //!
 //! In contracts a text is the list of its lines. What is shown is one definition, `explanation_of` (`specs/Explanation.antt`), for
-//! the line that is told and a part of it. The advice is a function of the fault, the lines before, the words of the line before
-//! the part, and the part itself (`specs/Advice.antt`). It says nothing of memory: where there is none, nothing is shown.
+//! the line that has the fault and a part of it. The advice is a function of the fault, the lines before, the words of the line before
+//! the part, and the part itself (`specs/Advice.antt`). It says nothing of memory: if there is none, nothing is shown.
+//!
+//! What is said of a word stands in tables of rows, which the contracts read too: `PLACES`, `OWNERS`, `SLIPS`, `SIGNS` and
+//! `ENDS`. So a text is changed in one place.
 //!
 //! - `explanation`: the whole. `whole`: a fault of no line. `window`: where to jump, the line and the mark. `message`: what is wrong.
 //! - `advice`: what can be done, by the fault. `spelling`: a word by itself. `misplaced_word`: a word at the wrong place. `operands`: a
-//!   word of no expression. `unknown`: a name that is not there. `limits`: which limit. `kinds`: a line of no kind.
-//! - `front`: the words before. `wanted`: what has to stand behind them. `names`: what earlier lines declare. `near`: a name that was
+//!   word of no expression. `unknown`: a name that is not there. `limits`: which limit. `kinds`: the kinds of lines, and a line of none.
+//! - `front`: the words before. `wanted`: what has to stand after them. `names`: what earlier lines declare. `near`: a name that was
 //!   perhaps meant. `missing`: the names that are there.
 //! - `interaction`: the interaction with a number. `circle`: the rules that lead round. `shown`: bytes, and parts put together.
+//! - `table`: the row of a table with a word.
 #![tactic(auto)]
 
 mod advice;
@@ -43,6 +47,7 @@ mod near;
 mod operands;
 mod shown;
 mod spelling;
+mod table;
 mod unknown;
 mod wanted;
 mod whole;

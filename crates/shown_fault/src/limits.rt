@@ -3,20 +3,20 @@ ghost use Rattle.std.specs.Prelude.{◌≡◌, IfOk};
 ghost use Rattle.plant_words.specs.Words.{words_of};
 ghost use Rattle.shown_fault.specs.Limits.{limit, limit_of_line, limit_of_kind, limit_of_word, limit_at, limit_advice};
 
-use crate::kinds::{Kind, kind_of};
 use crate::shown::advice_line;
-use crate::wanted::{Wanted, wanted_behind};
+use crate::wanted::{Wanted, wanted_after};
 use petri_atom::{
     MAX_EXPORTS, MAX_PLACES, MAX_PORTS, MAX_TRANSITIONS, MAX_UPDATES, MAX_VARIABLES, MAX_WORDS,
 };
+use plant_words::{AtomPart, LineKind, RuleKind, WirePart};
 use std::alloc::{AllocError, Global};
 use step_core::{MAX_ATOMS, MAX_GUARDS, MAX_INTERACTIONS, MAX_RULES, MAX_TRANSFERS, MAX_WIRES};
 
-/// Which limit a line passes whose word that is at fault stands behind these.
+/// Which limit a line passes whose word that is at fault stands after these.
 pub(crate) fn limit_advice(alloc: Global, front: &[u8], word: &[u8]) -> Result<Vec<u8>, AllocError>
     ensures { IfOk result (λ text. text.items ≡ limit_advice (words_of front.now) word.now) }
 {
-    limit_at(alloc, wanted_behind(front), word)
+    limit_at(alloc, wanted_after(front), word)
 }
 
 /// Which limit is passed by a word that stands where this has to.
@@ -35,9 +35,36 @@ fn limit_at(alloc: Global, wanted: Wanted, word: &[u8]) -> Result<Vec<u8>, Alloc
 fn limit_of_line(alloc: Global, word: &[u8]) -> Result<Vec<u8>, AllocError>
     ensures { IfOk result (λ text. text.items ≡ limit_of_line word.now) }
 {
-    match kind_of(word) {
+    match LineKind::of(word) {
         Some(kind) => limit_of_kind(alloc, kind),
         None => Ok(Vec::new(alloc)),
+    }
+}
+
+/// Which limit is passed by one more line of the kind.
+fn limit_of_kind(alloc: Global, kind: LineKind) -> Result<Vec<u8>, AllocError>
+    ensures { IfOk result (λ text. text.items ≡ limit_of_kind kind) }
+{
+    match kind {
+        LineKind::Atom => limit(alloc, b"a plant", MAX_ATOMS, b"atoms"),
+        LineKind::Connector => limit(alloc, b"a plant", MAX_WIRES, b"connectors"),
+        LineKind::OfAtom(AtomPart::Place) => limit(alloc, b"an atom", MAX_PLACES, b"places"),
+        LineKind::OfAtom(AtomPart::Variable) => {
+            limit(alloc, b"an atom", MAX_VARIABLES, b"variables")
+        }
+        LineKind::OfAtom(AtomPart::Port) => limit(alloc, b"an atom", MAX_PORTS, b"ports"),
+        LineKind::OfAtom(AtomPart::Transition) => {
+            limit(alloc, b"an atom", MAX_TRANSITIONS, b"transitions")
+        }
+        LineKind::OfConnector(WirePart::Guard) => {
+            limit(alloc, b"a connector", MAX_GUARDS, b"guard clauses")
+        }
+        LineKind::OfConnector(WirePart::Transfer) => {
+            limit(alloc, b"a connector", MAX_TRANSFERS, b"transfers")
+        }
+        LineKind::Rule(RuleKind::Priority) | LineKind::Rule(RuleKind::Maximal) => {
+            limit(alloc, b"a plant", MAX_RULES, b"priority rules")
+        }
     }
 }
 
@@ -48,24 +75,6 @@ fn limit_of_word(alloc: Global, word: &[u8]) -> Result<Vec<u8>, AllocError>
     match word {
         b";" => limit(alloc, b"a transition", MAX_UPDATES, b"updates"),
         _ => limit(alloc, b"an expression", MAX_WORDS, b"words"),
-    }
-}
-
-/// Which limit is passed by one more line of the kind.
-fn limit_of_kind(alloc: Global, kind: Kind) -> Result<Vec<u8>, AllocError>
-    ensures { IfOk result (λ text. text.items ≡ limit_of_kind kind) }
-{
-    match kind {
-        Kind::Atom => limit(alloc, b"a plant", MAX_ATOMS, b"atoms"),
-        Kind::Connector => limit(alloc, b"a plant", MAX_WIRES, b"connectors"),
-        Kind::Place => limit(alloc, b"an atom", MAX_PLACES, b"places"),
-        Kind::Variable => limit(alloc, b"an atom", MAX_VARIABLES, b"variables"),
-        Kind::Port => limit(alloc, b"an atom", MAX_PORTS, b"ports"),
-        Kind::Transition => limit(alloc, b"an atom", MAX_TRANSITIONS, b"transitions"),
-        Kind::Guard => limit(alloc, b"a connector", MAX_GUARDS, b"guard clauses"),
-        Kind::Transfer => limit(alloc, b"a connector", MAX_TRANSFERS, b"transfers"),
-        Kind::Priority => limit(alloc, b"a plant", MAX_RULES, b"priority rules"),
-        Kind::Maximal => limit(alloc, b"a plant", MAX_RULES, b"priority rules"),
     }
 }
 

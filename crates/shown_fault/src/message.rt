@@ -3,12 +3,12 @@ ghost use Rattle.std.specs.Prelude.{◌≡◌, IfOk};
 ghost use Rattle.shown_fault.specs.Message.{is_byte_order_mark, byte_message, has_few_digits, mask_text, integer_text, number_text, message};
 
 use crate::shown::{joined, shown_name};
-use crate::wanted::{Wanted, wanted_behind};
+use crate::wanted::{Wanted, wanted_after};
 use plant_text::Fault;
 use plant_words::{MAX_DIGITS, is_numeric, split_mask};
 use std::alloc::{AllocError, Global};
 
-/// What is wrong with the line of this number, behind these words of it. Of a byte, a number and a mask it is said more than by the
+/// What is wrong with the line of this number, after these words of it. Of a byte, a number and a mask it is said more than by the
 /// fault alone.
 pub(crate) fn message(
     alloc: Global,
@@ -26,7 +26,7 @@ pub(crate) fn message(
             &[b"the text begins with a byte order mark: save it as plain ASCII"],
         ),
         Fault::NotAscii => byte_message(alloc, word),
-        Fault::BadNumber => joined(alloc, &[number_text(wanted_behind(front), word).as_bytes()]),
+        Fault::BadNumber => joined(alloc, &[number_text(wanted_after(front), word).as_bytes()]),
         _ => joined(alloc, &[fault.to_string(alloc)?.as_bytes()]),
     }
 }

@@ -6,14 +6,14 @@ ghost use Rattle.shown_fault.specs.MisplacedWord.{is_close, bracket_text, sign_t
 use crate::operands::operands_of;
 use crate::shown::{advice_line, quoted};
 use crate::spelling::{either_text, slip_text, word_text};
-use crate::wanted::{Wanted, wanted_behind};
+use crate::wanted::{Wanted, wanted_after};
 use std::alloc::{AllocError, Global};
 
-/// What is wrong with a word that stands behind these: it is left over, it is no sign by itself, or another must stand there.
+/// What is wrong with a word that stands after these: it is left over, it is no sign by itself, or another must stand there.
 pub(crate) fn shape_advice(alloc: Global, front: &[u8], word: &[u8]) -> Result<Vec<u8>, AllocError>
     ensures { IfOk result (λ text. text.items ≡ shape_advice (words_of front.now) word.now) }
 {
-    let wanted = wanted_behind(front);
+    let wanted = wanted_after(front);
     let text = misplaced_text(wanted, word);
     if text.is_empty() {
         order_advice(alloc, wanted, word)
@@ -33,14 +33,14 @@ fn order_advice(alloc: Global, wanted: Wanted, word: &[u8]) -> Result<Vec<u8>, A
     }
 }
 
-/// What is wrong with a word by itself, where this has to stand; empty where that is not known.
+/// What is wrong with a word by itself, where this has to stand; empty if that is not known.
 fn misplaced_text(wanted: Wanted, word: &[u8]) -> &'static str
     ensures { result.now ≡ misplaced_text wanted word.now }
 {
     either_text(word_text(word), sign_text(wanted, word))
 }
 
-/// What is wrong with an operator of other languages, or with a bracket; empty where the word is something else.
+/// What is wrong with an operator of other languages, or with a bracket; empty if the word is something else.
 fn sign_text(wanted: Wanted, word: &[u8]) -> &'static str
     ensures { result.now ≡ sign_text wanted word.now }
 {
@@ -51,7 +51,7 @@ fn sign_text(wanted: Wanted, word: &[u8]) -> &'static str
     }
 }
 
-/// What is wrong with a bracket of a tree, or with the end of its line; empty where the word is something else.
+/// What is wrong with a bracket of a tree, or with the end of its line; empty if the word is something else.
 fn bracket_text(word: &[u8]) -> &'static str
     ensures { result.now ≡ bracket_text word.now }
 {

@@ -10,7 +10,7 @@ use std::alloc::{AllocError, Global};
 /// The most names that are listed.
 pub(crate) const MAX_LISTED: usize = 8;
 
-/// The names in a row, the first ones where there are many.
+/// The names in a row, the first ones if there are many.
 pub(crate) fn names_listed(alloc: Global, names: &[&[u8]]) -> Result<Vec<u8>, AllocError>
     ensures { IfOk result (λ text. text.items ≡ names_listed (lists_of names.now)) }
 {
@@ -24,7 +24,7 @@ pub(crate) fn names_listed(alloc: Global, names: &[&[u8]]) -> Result<Vec<u8>, Al
     }
 }
 
-/// The names behind the first one.
+/// The names after the first one.
 fn more_names(alloc: Global, names: &[&[u8]]) -> Result<Vec<u8>, AllocError>
     ensures { IfOk result (λ text. text.items ≡ more_names (MAX_LISTED - 1) (lists_of names.now)) }
 {

@@ -48,7 +48,7 @@ pub(crate) fn count_names(lines: &[&[u8]], first: &[u8]) -> usize
     count
 }
 
-/// The second word of the last line that begins with this first one; empty where there is none.
+/// The second word of the last line that begins with this first one; empty if there is none.
 pub(crate) fn latest_in<'t>(lines: &[&'t [u8]], first: &[u8]) -> &'t [u8]
     ensures { result.now ≡ latest_in first.now (lists_of lines.now) }
 {
@@ -59,7 +59,7 @@ pub(crate) fn latest_in<'t>(lines: &[&'t [u8]], first: &[u8]) -> &'t [u8]
     latest
 }
 
-/// The names of the parts of an atom, by the first word of their lines: those behind the line of the atom and before that of another.
+/// The names of the parts of an atom, by the first word of their lines: those after the line of the atom and before that of another.
 pub(crate) fn part_names_in<'t>(
     alloc: Global,
     lines: &[&'t [u8]],

@@ -4,26 +4,29 @@ ghost use Rattle.plant_words.specs.Words.{words_of};
 ghost use Rattle.shown_fault.specs.Operands.{operands_of, lacks, lacking_in, ends_expression, expression_text, operand_advice, malformed_advice, expression_advice};
 
 use crate::front::skip_words;
+use crate::names::is_among;
 use crate::shown::{advice_line, quoted};
 use crate::spelling::{either_text, slip_text, word_text};
-use plant_words::Words;
+use plant_words::{Words, operator};
 use std::alloc::{AllocError, Global};
 
-/// How many operands the word takes, where it is an operator; and else none.
+/// How many operands the word takes, if it is an operator; and else none.
 #[tactic(auto, unfolding(crate::specs::Operands::operands_of))]
 pub(crate) fn operands_of(word: &[u8]) -> usize
     ensures value { result ≡ operands_of word.now }
     ensures within { result < 3 }
 {
-    match word {
-        b"+" | b"-" | b"*" | b"min" | b"max" | b"<" | b"<=" | b"==" | b"!=" | b"&&" | b"||" => 2,
-        b"!" => 1,
-        _ => 0,
+    if operator(word).is_some() {
+        2
+    } else if word == b"!".as_slice() {
+        1
+    } else {
+        0
     }
 }
 
 /// Whether the words from this number on are too few for so many operands.
-fn lacks_behind(front: &[u8], number: usize, operands: usize) -> bool
+fn lacks_after(front: &[u8], number: usize, operands: usize) -> bool
     requires { operands < 3 }
     ensures { result ≡ lacks operands (drop number (words_of front.now)) }
 {
@@ -39,7 +42,7 @@ fn lacks_behind(front: &[u8], number: usize, operands: usize) -> bool
     false
 }
 
-/// The last of the words that is an operator behind which an operand is missing.
+/// The last of the words that is an operator after which an operand is missing.
 fn lacking(front: &[u8]) -> Option<&[u8]>
     ensures { option_map (λ word. word.now) result ≡ lacking_in (words_of front.now) }
 {
@@ -48,25 +51,24 @@ fn lacking(front: &[u8]) -> Option<&[u8]>
     let mut number = 0;
     while let Some(word) = words.next_word() {
         number += 1;
-        if lacks_behind(front, number, operands_of(word)) {
+        if lacks_after(front, number, operands_of(word)) {
             found = Some(word);
         }
     }
     found
 }
 
-/// Whether no expression goes on with the word: it is missing, or stands behind an expression.
-#[tactic(auto, unfolding(crate::specs::Operands::ends_expression))]
+/// The words that no expression goes on with: none, and those that stand after one.
+pub(crate) const ENDS: [&[u8]; 6] = [b"", b";", b"do", b"when", b"to", b"from"];
+
+/// Whether no expression goes on with the word: it is missing, or stands after an expression.
 fn ends_expression(word: &[u8]) -> bool
     ensures { result ≡ ends_expression word.now }
 {
-    match word {
-        b"" | b";" | b"do" | b"when" | b"to" | b"from" => true,
-        _ => false,
-    }
+    is_among(&ENDS, word)
 }
 
-/// Where a line has no expression, behind these words of it: what is wrong with the word, or which operator lacks an operand.
+/// Where a line has no expression, after these words of it: what is wrong with the word, or which operator lacks an operand.
 pub(crate) fn expression_advice(
     alloc: Global,
     front: &[u8],
@@ -94,7 +96,7 @@ fn malformed_advice(alloc: Global, front: &[u8], word: &[u8]) -> Result<Vec<u8>,
     }
 }
 
-/// What to write in the place of a word of an expression; empty where that is not known.
+/// What to write in the place of a word of an expression; empty if that is not known.
 pub(crate) fn expression_text(word: &[u8]) -> &'static str
     ensures { result.now ≡ expression_text word.now }
 {

@@ -1,7 +1,7 @@
 //! Bytes as a terminal may show them.
 ghost use Rattle.std.specs.Prelude.{◌≡◌, ◌++◌, ◌<◌, IfOk, OnOk, replicate};
 ghost use Rattle.shown_fault.specs.Lent.{lists_of};
-ghost use Rattle.shown_fault.specs.Shown.{hex_digit, shown_byte, shown, cut_to, quoted, joined, advice_line};
+ghost use Rattle.shown_fault.specs.Shown.{hex_digit, shown_byte, shown, cut_to, quoted, joined, advice_line, filled_line};
 
 use plant_words::is_legal;
 use std::alloc::{AllocError, Global};
@@ -22,7 +22,7 @@ pub fn shown_name(alloc: Global, name: &[u8]) -> Result<Vec<u8>, AllocError>
     Ok(text)
 }
 
-/// Puts a byte, as it is shown, behind the text.
+/// Puts a byte, as it is shown, after the text.
 fn show_byte(byte: u8, text: &mut Vec<u8>) -> Result<(), AllocError>
     ensures { OnOk result (text.new.items ≡ text.old.items ++ shown_byte byte) }
 {
@@ -47,7 +47,7 @@ fn hex_digit(digit: u8) -> u8
     }
 }
 
-/// The characters, where there is room for so many; and else as many as leave room for `...` behind them.
+/// The characters, if there is room for so many; and else as many as leave room for `...` after them.
 pub(crate) fn cut_to(room: usize, chars: &[u8], alloc: Global) -> Result<Vec<u8>, AllocError>
     ensures { IfOk result (λ text. text.items ≡ cut_to room chars.now) }
 {
@@ -68,7 +68,7 @@ pub(crate) fn quoted(alloc: Global, word: &[u8]) -> Result<Vec<u8>, AllocError>
     joined(alloc, &[b"'", &fitting, b"'"])
 }
 
-/// The parts, one behind the other.
+/// The parts, one after the other.
 pub(crate) fn joined(alloc: Global, parts: &[&[u8]]) -> Result<Vec<u8>, AllocError>
     ensures { IfOk result (λ text. text.items ≡ joined (lists_of parts.now)) }
 {
@@ -85,6 +85,17 @@ pub(crate) fn advice_line(alloc: Global, parts: &[&[u8]]) -> Result<Vec<u8>, All
 {
     let text = joined(alloc, parts)?;
     joined(alloc, &[b"  ", &text, b"\n"])
+}
+
+/// A piece of advice as a line; nothing of an empty one.
+pub(crate) fn filled_line(alloc: Global, text: &str) -> Result<Vec<u8>, AllocError>
+    ensures { IfOk result (λ line. line.items ≡ filled_line text.now) }
+{
+    if text.is_empty() {
+        Ok(Vec::new(alloc))
+    } else {
+        advice_line(alloc, &[text.as_bytes()])
+    }
 }
 
 /// So many of this byte.

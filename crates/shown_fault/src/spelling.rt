@@ -1,9 +1,10 @@
 //! What is wrong with a word by itself.
 ghost use Rattle.std.specs.Prelude.{◌≡◌};
-ghost use Rattle.shown_fault.specs.Spelling.{is_sign, has_part, stuck_text, logic_text, slip_text, word_text, begins_as_name, name_text, either_text};
-ghost use Rattle.petri_atom.specs.Name.{is_reserved};
+ghost use Rattle.shown_fault.specs.Spelling.{is_sign, has_part, stuck_text, slip_text, word_text, begins_as_name, name_text, either_text};
 
-use petri_atom::{MAX_NAME, is_name};
+use crate::names::is_among;
+use crate::table::text_of;
+use petri_atom::{MAX_NAME, is_name, is_reserved};
 
 /// What is wrong with the word wherever it stands: that it begins a comment, or that a sign is stuck to it.
 #[tactic(auto, unfolding(crate::specs::Spelling::word_text))]
@@ -19,15 +20,16 @@ pub(crate) fn word_text(word: &[u8]) -> &'static str
     }
 }
 
+/// The operators and the other signs of the plant text.
+pub(crate) const SIGNS: [&[u8]; 15] = [
+    b"+", b"-", b"*", b"<", b"<=", b"==", b"!=", b"&&", b"||", b"!", b":=", b";", b"[", b"]", b"]'",
+];
+
 /// Whether the word is an operator or another sign of the plant text.
 fn is_sign(word: &[u8]) -> bool
     ensures { result ≡ is_sign word.now }
 {
-    match word {
-        b"+" | b"-" | b"*" | b"<" | b"<=" | b"==" | b"!=" | b"&&" | b"||" | b"!" => true,
-        b":=" | b";" | b"[" | b"]" | b"]'" => true,
-        _ => false,
-    }
+    is_among(&SIGNS, word)
 }
 
 /// Which sign the word has a part of it stuck to.
@@ -57,45 +59,37 @@ fn has_part(word: &[u8], part: &[u8]) -> bool
     ensures { result ≡ has_part word.now part.now }
 {
     let mut rest = word;
-    while let Some((_, behind)) = rest.split_first() {
+    while let Some((_, after)) = rest.split_first() {
         if rest.starts_with(part) {
             return true;
         }
-        rest = behind;
+        rest = after;
     }
     false
 }
 
-/// What to write in the place of an operator of other languages; empty where the word is none.
+/// What to write in the place of an operator of other languages.
+pub(crate) const SLIPS: [(&str, &str); 12] = [
+    (">", "there is no operator '>': write '< b a'"),
+    (">=", "there is no operator '>=': write '<= b a'"),
+    ("/", "there is no division"),
+    ("%", "there is no division"),
+    ("=", "write '=='"),
+    ("===", "write '=='"),
+    ("<>", "write '!='"),
+    ("and", "write '&&'"),
+    ("or", "write '||'"),
+    ("not", "write '!'"),
+    ("&", "write '&&'"),
+    ("|", "write '||'"),
+];
+
+/// What to write in the place of an operator of other languages; empty if the word is none.
 #[tactic(auto, unfolding(crate::specs::Spelling::slip_text))]
 pub(crate) fn slip_text(word: &[u8]) -> &'static str
     ensures { result.now ≡ slip_text word.now }
 {
-    match word {
-        b">" => "there is no operator '>': write '< b a'",
-        b">=" => "there is no operator '>=': write '<= b a'",
-        b"/" => "there is no division",
-        b"%" => "there is no division",
-        b"=" => "write '=='",
-        b"===" => "write '=='",
-        b"<>" => "write '!='",
-        _ => logic_text(word),
-    }
-}
-
-/// What to write in the place of an operator on truth values of other languages; empty where the word is none.
-#[tactic(auto, unfolding(crate::specs::Spelling::logic_text))]
-fn logic_text(word: &[u8]) -> &'static str
-    ensures { result.now ≡ logic_text word.now }
-{
-    match word {
-        b"and" => "write '&&'",
-        b"or" => "write '||'",
-        b"not" => "write '!'",
-        b"&" => "write '&&'",
-        b"|" => "write '||'",
-        _ => "",
-    }
+    text_of(&SLIPS, word)
 }
 
 /// Why the word is no name.
@@ -114,16 +108,6 @@ pub(crate) fn name_text(word: &[u8]) -> &'static str
     }
 }
 
-/// Whether the word is one that the plant text reserves.
-fn is_reserved(word: &[u8]) -> bool
-    ensures { result ≡ is_reserved word.now }
-{
-    match word {
-        b"from" | b"to" | b"when" | b"do" | b"init" | b"at" | b"min" | b"max" => true,
-        _ => false,
-    }
-}
-
 /// Whether the first byte of the word alone is a name.
 fn begins_as_name(word: &[u8]) -> bool
     ensures { result ≡ begins_as_name word.now }
@@ -132,7 +116,7 @@ fn begins_as_name(word: &[u8]) -> bool
     is_name(first)
 }
 
-/// The text, or the other one where it is empty.
+/// The text, or the other one if it is empty.
 pub(crate) fn either_text(text: &'static str, other: &'static str) -> &'static str
     ensures { result.now ≡ either_text text.now other.now }
 {

@@ -10,14 +10,14 @@ use crate::names::{is_among, latest_in, names_in, part_names_in};
 use crate::operands::expression_text;
 use crate::shown::{advice_line, joined, quoted};
 use crate::spelling::word_text;
-use crate::wanted::{Wanted, wanted_behind};
+use crate::wanted::{Wanted, wanted_after};
 use plant_words::{split_export, split_mask, split_port};
 use std::alloc::{AllocError, Global};
 
 /// The number, from 0, of the atom among the words of a rule with a condition.
 pub(crate) const ATOM_OF_CONDITION: usize = 5;
 
-/// Where a word that stands behind these names nothing: what is wrong with it by itself, or the names that may stand there.
+/// Where a word that stands after these names nothing: what is wrong with it by itself, or the names that may stand there.
 pub(crate) fn unknown_advice(
     alloc: Global,
     lines: &[&[u8]],
@@ -26,7 +26,7 @@ pub(crate) fn unknown_advice(
 ) -> Result<Vec<u8>, AllocError>
     ensures { IfOk result (λ text. text.items ≡ unknown_advice (lists_of lines.now) (words_of front.now) word.now) }
 {
-    let wanted = wanted_behind(front);
+    let wanted = wanted_after(front);
     let text = unknown_text(wanted, word);
     if text.is_empty() {
         unknown_in(alloc, lines, front, wanted, word)
@@ -35,7 +35,7 @@ pub(crate) fn unknown_advice(
     }
 }
 
-/// What is wrong with the word by itself; empty where that is not known.
+/// What is wrong with the word by itself; empty if that is not known.
 fn unknown_text(wanted: Wanted, word: &[u8]) -> &'static str
     ensures { result.now ≡ unknown_text wanted word.now }
 {
@@ -46,7 +46,7 @@ fn unknown_text(wanted: Wanted, word: &[u8]) -> &'static str
     }
 }
 
-/// The names that may stand where this has to, behind these words.
+/// The names that may stand where this has to, after these words.
 #[tactic(auto, unfolding(crate::specs::Unknown::unknown_in))]
 fn unknown_in(
     alloc: Global,
@@ -106,7 +106,7 @@ fn part_advice(
     missing(alloc, &what, b"it has", word, &names)
 }
 
-/// The atoms, where the word is none of them; and else nothing.
+/// The atoms, if the word is none of them; and else nothing.
 #[tactic(auto, unfolding(crate::specs::Unknown::atom_advice))]
 fn atom_advice(alloc: Global, lines: &[&[u8]], word: &[u8]) -> Result<Option<Vec<u8>>, AllocError>
     ensures { IfOk result (λ advice. option_map (λ text. text.items) advice ≡ atom_advice (lists_of lines.now) word.now) }
@@ -129,7 +129,7 @@ fn condition_atom_advice(alloc: Global, lines: &[&[u8]], word: &[u8]) -> Result<
     }
 }
 
-/// The places of the atom that the words of a rule name behind `when`.
+/// The places of the atom that the words of a rule name after `when`.
 #[tactic(auto, unfolding(crate::specs::Unknown::condition_place_advice))]
 fn condition_place_advice(
     alloc: Global,

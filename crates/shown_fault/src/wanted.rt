@@ -1,10 +1,10 @@
-//! What has to stand at a place of a line, behind words without a fault.
+//! What has to stand at a place of a line, after words without a fault.
 ghost use Rattle.std.specs.Prelude.{◌≡◌};
 ghost use Rattle.plant_words.specs.Words.{words_of};
-ghost use Rattle.shown_fault.specs.Wanted.{by_place, in_rule, in_places, in_transition, in_updates, begins_update, is_last, behind_kind, behind_first, wanted_in};
+ghost use Rattle.shown_fault.specs.Wanted.{by_place, in_rule, in_places, in_transition, in_updates, begins_update, is_last, after_first, after_more, places_of, wanted_in};
 
 use crate::front::{count_words, has_word, is_word_at, word_at};
-use crate::kinds::{Kind, kind_of};
+use crate::table::row_of;
 
 /// What has to stand at a place of a line.
 #[derive(Clone, Copy, Debug, PartialEq, Eq)]
@@ -27,15 +27,15 @@ pub(crate) enum Wanted {
     Place,
     /// A further source, or `to`.
     Source,
-    /// A further target, or what stands behind the targets.
+    /// A further target, or what stands after the targets.
     Target,
-    /// A word of a transition's guard, or `do` behind it.
+    /// A word of a transition's guard, or `do` after it.
     Guard,
     /// The variable of an update.
     Variable,
     /// `:=`
     Assign,
-    /// A word of an update's value, or `;` behind it.
+    /// A word of an update's value, or `;` after it.
     Value,
     /// The first word of a connector's tree.
     Tree,
@@ -63,47 +63,61 @@ pub(crate) enum Wanted {
     End,
 }
 
-/// What has to stand behind these words of a line.
+/// What has to stand after these words of a line.
 #[tactic(auto, unfolding(crate::specs::Wanted::wanted_in))]
-pub(crate) fn wanted_behind(front: &[u8]) -> Wanted
+pub(crate) fn wanted_after(front: &[u8]) -> Wanted
     ensures { result ≡ wanted_in (words_of front.now) }
 {
     match word_at(front, 0) {
-        Some(first) => behind_first(first, front),
+        Some(first) => after_first(first, front),
         None => Wanted::First,
     }
 }
 
-/// What has to stand behind these words, of which this is the first.
-fn behind_first(first: &[u8], front: &[u8]) -> Wanted
-    ensures { result ≡ behind_first first.now (words_of front.now) }
+/// What has to stand after one word of a line, after two, and after more, by the first of them.
+pub(crate) const PLACES: [(&str, (Wanted, Wanted, Wanted)); 10] = [
+    ("atom", (Wanted::NewName, Wanted::End, Wanted::End)),
+    ("place", (Wanted::NewName, Wanted::Mark, Wanted::End)),
+    ("var", (Wanted::NewName, Wanted::Number, Wanted::End)),
+    ("port", (Wanted::NewName, Wanted::Export, Wanted::Export)),
+    ("trans", (Wanted::Port, Wanted::From, Wanted::Source)),
+    ("connector", (Wanted::NewName, Wanted::Tree, Wanted::Leaf)),
+    ("guard", (Wanted::Clause, Wanted::Clause, Wanted::Clause)),
+    ("move", (Wanted::Transfer, Wanted::Assign, Wanted::Clause)),
+    ("prio", (Wanted::Side, Wanted::Below, Wanted::When)),
+    ("maximal", (Wanted::Whole, Wanted::End, Wanted::End)),
+];
+
+/// What has to stand at the places of a line that begins with this word.
+#[tactic(auto, unfolding(crate::specs::Wanted::places_of))]
+fn places_of(first: &[u8]) -> Option<(Wanted, Wanted, Wanted)>
+    ensures { result ≡ places_of first.now }
 {
-    match kind_of(first) {
-        Some(kind) => behind_kind(kind, front),
+    row_of(&PLACES, first)
+}
+
+/// What has to stand after these words of a line, of which this is the first.
+fn after_first(first: &[u8], front: &[u8]) -> Wanted
+    ensures { result ≡ after_first first.now (words_of front.now) }
+{
+    match places_of(first) {
+        Some((one, two, more)) => by_place(count_words(front), one, two, after_more(more, front)),
         None => Wanted::End,
     }
 }
 
-/// What has to stand behind these words of a line of the kind.
-fn behind_kind(kind: Kind, front: &[u8]) -> Wanted
-    ensures { result ≡ behind_kind kind (words_of front.now) }
+/// What has to stand after more words of a line: in a transition and in a rule these say it, and elsewhere it is always the same.
+fn after_more(more: Wanted, front: &[u8]) -> Wanted
+    ensures { result ≡ after_more more (words_of front.now) }
 {
-    let count = count_words(front);
-    match kind {
-        Kind::Atom => by_place(count, Wanted::NewName, Wanted::End, Wanted::End),
-        Kind::Place => by_place(count, Wanted::NewName, Wanted::Mark, Wanted::End),
-        Kind::Variable => by_place(count, Wanted::NewName, Wanted::Number, Wanted::End),
-        Kind::Port => by_place(count, Wanted::NewName, Wanted::Export, Wanted::Export),
-        Kind::Transition => by_place(count, Wanted::Port, Wanted::From, in_transition(front)),
-        Kind::Connector => by_place(count, Wanted::NewName, Wanted::Tree, Wanted::Leaf),
-        Kind::Guard => Wanted::Clause,
-        Kind::Transfer => by_place(count, Wanted::Transfer, Wanted::Assign, Wanted::Clause),
-        Kind::Priority => by_place(count, Wanted::Side, Wanted::Below, in_rule(count)),
-        Kind::Maximal => by_place(count, Wanted::Whole, Wanted::End, Wanted::End),
+    match more {
+        Wanted::Source => in_transition(front),
+        Wanted::When => in_rule(count_words(front)),
+        _ => more,
     }
 }
 
-/// What has to stand behind one word, behind two, and behind more.
+/// What has to stand after one word, after two, and after more.
 fn by_place(count: usize, one: Wanted, two: Wanted, more: Wanted) -> Wanted
     ensures { result ≡ by_place count one two more }
 {
@@ -114,7 +128,7 @@ fn by_place(count: usize, one: Wanted, two: Wanted, more: Wanted) -> Wanted
     }
 }
 
-/// What has to stand behind the sign of a rule, or further behind.
+/// What has to stand after the sign of a rule, or further on.
 fn in_rule(count: usize) -> Wanted
     ensures { result ≡ in_rule count }
 {
@@ -128,7 +142,7 @@ fn in_rule(count: usize) -> Wanted
     }
 }
 
-/// What has to stand behind the `from` of a transition: the last of its keywords says where that is.
+/// What has to stand after the `from` of a transition: the last of its keywords says where that is.
 fn in_transition(front: &[u8]) -> Wanted
     ensures { result ≡ in_transition (words_of front.now) }
 {
@@ -143,14 +157,14 @@ fn in_transition(front: &[u8]) -> Wanted
     }
 }
 
-/// What has to stand in a list of places: a first one, or what may stand behind it.
-fn in_places(is_first: bool, behind: Wanted) -> Wanted
-    ensures { result ≡ in_places is_first behind }
+/// What has to stand in a list of places: a first one, or what may stand after it.
+fn in_places(is_first: bool, after: Wanted) -> Wanted
+    ensures { result ≡ in_places is_first after }
 {
-    if is_first { Wanted::Place } else { behind }
+    if is_first { Wanted::Place } else { after }
 }
 
-/// What has to stand behind the `do` of a transition.
+/// What has to stand after the `do` of a transition.
 fn in_updates(front: &[u8]) -> Wanted
     ensures { result ≡ in_updates (words_of front.now) }
 {
@@ -163,7 +177,7 @@ fn in_updates(front: &[u8]) -> Wanted
     }
 }
 
-/// Whether an update begins behind the word with this number, counted from the last as 1.
+/// Whether an update begins after the word with this number, counted from the last as 1.
 fn begins_update(front: &[u8], number: usize) -> bool
     ensures { result ≡ begins_update (words_of front.now) number }
 {
@@ -187,7 +201,7 @@ impl Wanted {
         matches!(self, Wanted::Guard | Wanted::Value | Wanted::Clause)
     }
 
-    /// What has to stand there, to a person; empty where a word too many stands there.
+    /// What has to stand there, to a person; empty if a word too many stands there.
     pub(crate) fn expected_text(self) -> &'static str
         ensures { result.now ≡ expected_text self }
     {

@@ -14,7 +14,7 @@ use plant_words::Lines;
 use priority_filter::OrderFault;
 use std::alloc::{AllocError, Global};
 
-/// What can be done about a fault of no line; nothing where memory ran out, or the text could not be read.
+/// What can be done about a fault of no line; nothing if memory ran out, or the text could not be read.
 pub(crate) fn whole_advice(alloc: Global, text: &[u8], fault: &Fault) -> Result<Vec<u8>, AllocError>
     ensures { IfOk result (λ advice. advice.items ≡ whole_advice (lines_of text.now) fault.now) }
 {

@@ -8,7 +8,7 @@ use std::alloc::{AllocError, Global};
 /// The most characters of a line that are shown.
 pub(crate) const MAX_SHOWN: usize = 100;
 
-/// How many characters are shown before the part at fault, where the line is cut.
+/// How many characters are shown before the part at fault, if the line is cut.
 pub(crate) const LEAD: usize = 20;
 
 /// How many characters `...` has.
@@ -40,7 +40,7 @@ pub(crate) fn location_line(
     )
 }
 
-/// The line as it is shown round the part that begins behind `start` bytes and has `len`, and under it the mark.
+/// The line as it is shown round the part that begins after `start` bytes and has `len`, and under it the mark.
 pub(crate) fn window_lines(
     alloc: Global,
     line: &[u8],
@@ -56,7 +56,7 @@ pub(crate) fn window_lines(
     marked(alloc, &chars, before, width)
 }
 
-/// What stands before the part of a line that begins behind `start` bytes and has `len`, and the part.
+/// What stands before the part of a line that begins after `start` bytes and has `len`, and the part.
 pub(crate) fn part_of(line: &[u8], start: usize, len: usize) -> (&[u8], &[u8])
     ensures before { result.0.now ≡ take start line.now }
     ensures part { result.1.now ≡ take len (drop start line.now) }
@@ -66,7 +66,7 @@ pub(crate) fn part_of(line: &[u8], start: usize, len: usize) -> (&[u8], &[u8])
     (before, part)
 }
 
-/// The window of these characters, with the mark under the part that stands behind so many and is so wide.
+/// The window of these characters, with the mark under the part that stands after so many and is so wide.
 fn marked(alloc: Global, chars: &[u8], before: usize, width: usize) -> Result<Vec<u8>, AllocError>
     ensures { IfOk result (λ text. text.items ≡ marked chars.now before width) }
 {
@@ -77,7 +77,7 @@ fn marked(alloc: Global, chars: &[u8], before: usize, width: usize) -> Result<Ve
     joined(alloc, &[b"  ", &window, b"\n", &mark])
 }
 
-/// How many characters are cut off before the window, of so many, where the part stands behind so many of them.
+/// How many characters are cut off before the window, of so many, where the part stands after so many of them.
 fn cut_before(total: usize, before: usize) -> usize
     ensures { result ≡ cut_before total before }
 {
@@ -95,17 +95,17 @@ fn dots(cut: usize) -> &'static [u8]
     if cut == 0 { b"" } else { b"..." }
 }
 
-/// The characters behind those that are cut off, as many as are shown.
+/// The characters after those that are cut off, as many as are shown.
 fn window(alloc: Global, chars: &[u8], cut: usize) -> Result<Vec<u8>, AllocError>
     ensures { IfOk result (λ text. text.items ≡ window chars.now cut) }
 {
-    let (_, behind) = chars.split_at(cut.min(chars.len()));
+    let (_, after) = chars.split_at(cut.min(chars.len()));
     let dots = dots(cut);
-    let fitting = cut_to(MAX_SHOWN - dots.len(), behind, alloc)?;
+    let fitting = cut_to(MAX_SHOWN - dots.len(), after, alloc)?;
     joined(alloc, &[dots, &fitting])
 }
 
-/// The mark under a part that stands behind `lead` and then `before` characters in a window, and is so wide; no wider than the window.
+/// The mark under a part that stands after `lead` and then `before` characters in a window, and is so wide; no wider than the window.
 fn mark_in(
     alloc: Global,
     window: usize,

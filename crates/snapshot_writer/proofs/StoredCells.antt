@@ -48,6 +48,16 @@ slot_from : (atom : ℕ) (cells : List Cell) (first second : Option SavedFields)
 slot_from atom cells first second in_first in_second = ap (λ (o : Option SavedFields). slot_of o (saved_at atom 1 cells)) in_first ∙ ap (λ (o : Option SavedFields). slot_of first o) in_second
 
 module _ (saved : SavedFields) (before cells : List Cell) where
+  -- a state that stands in its slot is the newest, by what the two slots hold and what the newest was
+  is_new : (slot : ℕ) (first second was : Option SavedFields) → saved_at saved.atom 0 cells ≡ first → saved_at saved.atom 1 cells ≡ second → newest saved.atom before ≡ was
+      → HoldsSaved saved (cell cells (slot_cell saved.atom slot)) → IsIt saved slot was first second → IsNewestNow slot saved before cells
+  is_new slot first second was in_first in_second is_was there it = record {
+    here = there;
+    newest_is = newest_from saved.atom cells first second in_first in_second ∙ it.newest_is;
+    slot_is = slot_from saved.atom cells first second in_first in_second ∙ it.slot_is;
+    above = subst (IsNotBelow saved) (sym is_was) it.above;
+  }
+
   -- a state is stored in slot 0
   module _ (free : IsFree saved.atom 0 before) (left : HasStored 0 saved before cells) where
     second_stays : saved_at saved.atom 1 cells ≡ saved_at saved.atom 1 before
@@ -57,12 +67,7 @@ module _ (saved : SavedFields) (before cells : List Cell) where
     second_was = second_is_newest (saved_at saved.atom 0 before) (saved_at saved.atom 1 before) free
 
     is_new_in_first : HoldsSaved saved (cell cells (slot_cell saved.atom 0)) → IsIt saved 0 (saved_at saved.atom 1 before) (Some saved) (saved_at saved.atom 1 before) → IsNewestNow 0 saved before cells
-    is_new_in_first there it = record {
-      here = there;
-      newest_is = newest_from saved.atom cells (Some saved) (saved_at saved.atom 1 before) there.held second_stays ∙ it.newest_is;
-      slot_is = slot_from saved.atom cells (Some saved) (saved_at saved.atom 1 before) there.held second_stays ∙ it.slot_is;
-      above = subst (IsNotBelow saved) (sym second_was) it.above;
-    }
+    is_new_in_first there it = is_new 0 (Some saved) (saved_at saved.atom 1 before) (saved_at saved.atom 1 before) there.held second_stays second_was there it
 
     first_kept_or_stored : IsKeptOrStored 0 saved before cells
     first_kept_or_stored = ⊎_elim
@@ -88,12 +93,7 @@ module _ (saved : SavedFields) (before cells : List Cell) where
     first_was = first_is_newest (saved_at saved.atom 0 before) (saved_at saved.atom 1 before) free
 
     is_new_in_second : HoldsSaved saved (cell cells (slot_cell saved.atom 1)) → IsIt saved 1 (saved_at saved.atom 0 before) (saved_at saved.atom 0 before) (Some saved) → IsNewestNow 1 saved before cells
-    is_new_in_second there it = record {
-      here = there;
-      newest_is = newest_from saved.atom cells (saved_at saved.atom 0 before) (Some saved) first_stays there.held ∙ it.newest_is;
-      slot_is = slot_from saved.atom cells (saved_at saved.atom 0 before) (Some saved) first_stays there.held ∙ it.slot_is;
-      above = subst (IsNotBelow saved) (sym first_was) it.above;
-    }
+    is_new_in_second there it = is_new 1 (saved_at saved.atom 0 before) (Some saved) (saved_at saved.atom 0 before) first_stays there.held first_was there it
 
     second_kept_or_stored : IsKeptOrStored 1 saved before cells
     second_kept_or_stored = ⊎_elim

@@ -1,9 +1,9 @@
 //! Saving the state of one atom: which slot holds the newest state, and what a stop inside storing leaves.
 //!
-//! Each atom has two slots. A slot holds a state where its cell is full and its body is a saved state of that very atom. The
+//! Each atom has two slots. A slot holds a state if its cell is full and its body is a saved state of that very atom. The
 //! *newest* of the two is the one that had taken part more often (`specs/Slots.antt`). A state is stored in the other slot, so
-//! that the newest is never touched: a stop inside of storing leaves that slot as it was, empty, or with the whole new state
-//! (`specs/Storing.antt`), and the newest is the old one or the new one.
+//! that the newest is never touched. A stop inside of storing leaves that other slot as it was, empty, or with the whole new state
+//! (`specs/Storing.antt`): the newest is the old one or the new one.
 //!
 //! - A [`Parcel`] is the state of one atom on its way to a slot. It is moved and never copied, and its type keeps it in the ranges
 //!   of the format.
@@ -12,7 +12,8 @@
 //!
 //! A parcel is encoded away from the device, and storing is three syncs at most. No call takes memory.
 //!
-//! - `parcel`, `encoded`: the values. `reading`, `storing`: the calls of the device. `laws`: which state is the newest after a store.
+//! - `parcel`: a [`Parcel`]. `encoded`: an [`Encoded`]. `reading`: the calls that read slots. `storing`: the call that writes one.
+//! - `laws`: which state is the newest, before a store and after it.
 #![tactic(auto)]
 
 mod encoded;

@@ -8,7 +8,7 @@ ghost use Rattle.snapshot_writer.specs.Storing.{HasStored, IsStored};
 use crate::encoded::Encoded;
 use disk_model::{BODY, Cells, Disk, DiskFault};
 
-/// Stores the parcel in slot 0 or 1 of its atom, by two syncs or three. The newest state is safe from a stop where it is in the other slot.
+/// Stores the parcel in slot 0 or 1 of its atom, by two syncs or three. The newest state is safe from a stop if it is in the other slot.
 pub fn store<D: Disk>(cells: &mut Cells<D>, slot: u8, encoded: &Encoded) -> Result<(), DiskFault>
     requires slot { slot < 2 }
     requires inside { slot_cell encoded.now.atom slot < cell_count (BODY + 1) cells.old }

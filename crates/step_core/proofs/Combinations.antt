@@ -1,3 +1,4 @@
+-- How many rows of one element from each of several lists there are, and which row has a place.
 use Rattle.std.proofs.Common.{◌≡◌, ℕ, zero, suc, ◌+◌, ◌*◌, ◌/◌, ◌%◌, ◌<◌, ◌≤◌, ◌-◌, ◌^◌, refl, sym, ◌∙◌, ap, subst, List, [], ◌∷◌, ◌++◌, length, map, get_or, take, drop, arith, mul_comm, mul-div_cancel, div-add-mod', div-lt_iff_lt-mul, mod-lt, mul-zero, mul-le-mul, pow-add}
 use Rattle.std.specs.Prelude.{Some, slice_get, flat_map, option_map}
 use Rattle.std.proofs.Math.Nat.{mul_assoc}

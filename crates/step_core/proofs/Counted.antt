@@ -14,7 +14,7 @@ use Rattle.step_core.specs.Ways.{ways_at}
 use Rattle.priority_filter.specs.Active.{active}
 use Rattle.priority_filter.specs.Decided.{is_overruled}
 use Rattle.priority_filter.specs.declared.seen.At.{At}
-use Rattle.step_core.proofs.Flattened.{flat-more, flat-here, flat-behind, flat-added, flat-passed}
+use Rattle.step_core.proofs.Flattened.{flat-more, flat-here, flat-after, flat-added, flat-passed}
 
 -- an interaction, to be read where a list has none
 pub no_interaction : Interaction
@@ -103,12 +103,12 @@ module _ (atoms : List AtomDefinition) (wires : List WireDefinition) (states : L
       let long = ways-given n within yes_ in
       flat-here gives all n no_interaction within place (omega (arith, long)) ∙ ap (λ ys. slice_get ys place) (all-given n (get_or all n no_interaction) yes_)
 
-  -- an entry behind it
-  pub entry-behind : (n place : ℕ) → kept n ≡ true → ways_at atoms states all n ≤ place → slice_get (from_number n) place ≡ slice_get (from_number (n + 1)) (place - ways_at atoms states all n)
-  entry-behind n place yes_ past =
+  -- an entry after it
+  pub entry-after : (n place : ℕ) → kept n ≡ true → ways_at atoms states all n ≤ place → slice_get (from_number n) place ≡ slice_get (from_number (n + 1)) (place - ways_at atoms states all n)
+  entry-after n place yes_ past =
       let within : n < length all = kept-within n yes_ in
       let long = ways-given n within yes_ in
-      flat-behind gives all n no_interaction within place (omega (arith, long)) ∙ ap (λ k. slice_get (from_number (n + 1)) (place - k)) long
+      flat-after gives all n no_interaction within place (omega (arith, long)) ∙ ap (λ k. slice_get (from_number (n + 1)) (place - k)) long
 
   -- no entry where nothing is kept any more
   pub entries-end : (n : ℕ) → ((m : ℕ) → n ≤ m → kept m ≡ false) → from_number n ≡ []

@@ -17,7 +17,7 @@ use Rattle.step_core.specs.Plant.{PlantDefinition, of_atom}
 use Rattle.step_core.specs.Step.{moved_by, stepped, stepped_from}
 use Rattle.step_core.specs.declared.choice.Move.{Move}
 use Rattle.step_core.proofs.Judging.{atom-there}
-use Rattle.step_core.proofs.FirstTold.{or_none}
+use Rattle.step_core.proofs.FirstFault.{or_none}
 use Rattle.step_core.proofs.Stepping.{no_move, length-stepped, stepped-at, all-at, is_offered_move, offered-choices}
 
 -- before the first move nothing has changed

@@ -1,3 +1,4 @@
+-- What the elements of a list give, one after another, by places.
 use Rattle.std.proofs.Common.{◌≡◌, ℕ, zero, suc, ⊎_elim, ◌+◌, ◌-◌, ◌<◌, ◌≤◌, sym, ◌∙◌, ap, List, [], ◌∷◌, ◌++◌, length, take, drop, get_or, arith, add-one}
 use Rattle.std.specs.Prelude.{slice_get}
 use Rattle.std.proofs.lemmas.List.{take_more, drop_more, take_all, drop_all, length-append, length-take, append-nil, append_assoc}
@@ -37,8 +38,8 @@ module _ {X Z : Type 0} (g : ℕ → X → List Z) (xs : List X) (i : ℕ) (d : 
   flat-here place inside = ap (λ ys. slice_get ys place) from-here ∙ slice_get-left (g i (get_or xs i d)) (flat_from g (i + 1) (drop (i + 1) xs)) place inside
 
   -- a place behind it
-  pub flat-behind : (place : ℕ) → length (g i (get_or xs i d)) ≤ place → slice_get (flat_from g i (drop i xs)) place ≡ slice_get (flat_from g (i + 1) (drop (i + 1) xs)) (place - length (g i (get_or xs i d)))
-  flat-behind place past =
+  pub flat-after : (place : ℕ) → length (g i (get_or xs i d)) ≤ place → slice_get (flat_from g i (drop i xs)) place ≡ slice_get (flat_from g (i + 1) (drop (i + 1) xs)) (place - length (g i (get_or xs i d)))
+  flat-after place past =
       let at : place ≡ length (g i (get_or xs i d)) + (place - length (g i (get_or xs i d))) = omega arith in
       ap (λ ys. slice_get ys place) from-here ∙ ap (slice_get (g i (get_or xs i d) ++ flat_from g (i + 1) (drop (i + 1) xs))) at ∙
       slice_get-right (g i (get_or xs i d)) (flat_from g (i + 1) (drop (i + 1) xs)) (place - length (g i (get_or xs i d)))

@@ -13,9 +13,11 @@ use Rattle.connector_tree.specs.PortSets.{is_port_set}
 use Rattle.connector_tree.specs.Tree.{Tree, leaves}
 use Rattle.connector_tree.specs.declared.tree.Port.{Port}
 use Rattle.connector_tree.proofs.Filtered.{passing_rises}
-use Rattle.step_core.specs.Choice.{ChoiceDefinition, Interaction, choices, choices_at, choices_of, combinations, flat_from, interaction_by, interactions_from, interactions_of_connector, is_allowed_at, move_of, moves_of, plant_interactions}
+use Rattle.step_core.specs.Choice.{ChoiceDefinition, Interaction, choices, choices_of, combinations, flat_from, interaction_by, interactions_from, interactions_of_connector, is_allowed_at, move_of, moves_of, plant_interactions}
 use Rattle.step_core.specs.Laws.{IsBefore, comes_before, order_key}
+use Rattle.step_core.specs.Parts.{shown_in}
 use Rattle.step_core.specs.Plant.{PlantDefinition, WireDefinition}
+use Rattle.step_core.specs.Sure.{is_sure_at, sure_choices}
 use Rattle.step_core.specs.declared.choice.Move.{Move}
 use Rattle.step_core.proofs.Membership.{entry-in, from-flat_from, from-flat_map, from-map, here-or-later}
 use Rattle.step_core.proofs.OfInteractions.{from-wires, pairs-append}
@@ -165,26 +167,27 @@ interactions-rise n k (w ∷ ws) =
 
 -- ---- the choices of a state
 
-module _ (plant : PlantDefinition) (states : List Local) where
-  abbrev all : List Interaction
-  all = plant_interactions plant
+-- the choices of those interactions that are kept, whichever they are
+module _ (plant : PlantDefinition) (states : List Local) (kept : ℕ → Bool) where
+  abbrev given : ℕ → Interaction → List ChoiceDefinition
+  given n i = cond (kept n) (choices_of plant.atoms states i) []
 
-  given-order : (n : ℕ) (i : Interaction) → AllPairs IsBefore (choices_at plant states all n i)
-  given-order n i = each (is_allowed_at plant states all n)
+  given-order : (n : ℕ) (i : Interaction) → AllPairs IsBefore (given n i)
+  given-order n i = each (kept n)
     where
       each : (b : Bool) → AllPairs IsBefore (cond b (choices_of plant.atoms states i) [])
       each true = own-order plant.atoms states i
       each false = λ j k d less within. absurd (omega (arith, within))
 
   -- a choice of an interaction has its connector and its mask
-  given-by : (n : ℕ) (i : Interaction) (c : ChoiceDefinition) → Contains (choices_at plant states all n i) c → (moves : List Move) × (record { connector = i.connector; mask = i.mask; moves = moves } ≡ c)
-  given-by n i c at = each (is_allowed_at plant states all n) at
+  given-by : (n : ℕ) (i : Interaction) (c : ChoiceDefinition) → Contains (given n i) c → (moves : List Move) × (record { connector = i.connector; mask = i.mask; moves = moves } ≡ c)
+  given-by n i c at = each (kept n) at
     where
       each : (b : Bool) → Contains (cond b (choices_of plant.atoms states i) []) c → (moves : List Move) × (record { connector = i.connector; mask = i.mask; moves = moves } ≡ c)
       each true in_it = let made = from-map (λ moves. record { connector = i.connector; mask = i.mask; moves = moves }) (combinations (map (moves_of plant.atoms states) i.ports)) c in_it in (made.0, made.2)
       each false in_it = absurd (omega (arith, in_it.1))
 
-  earlier-before : (m n : ℕ) (i j : Interaction) (c d : ChoiceDefinition) → IsEarlier i j → Contains (choices_at plant states all m i) c → Contains (choices_at plant states all n j) d → IsBefore c d
+  earlier-before : (m n : ℕ) (i j : Interaction) (c d : ChoiceDefinition) → IsEarlier i j → Contains (given m i) c → Contains (given n j) d → IsBefore c d
   earlier-before m n i j c d earlier first second =
       let c_is = given-by m i c first in
       let d_is = given-by n j d second in
@@ -197,9 +200,17 @@ module _ (plant : PlantDefinition) (states : List Local) where
       earlier in
       subst (λ e. IsBefore e d) c_is.1 (subst (λ e. comes_before (i.connector ∷ i.mask ∷ c_moves) (order_key e) ≡ true) d_is.1 keys)
 
+  kept-rise : AllPairs IsBefore (flat_from given 0 (plant_interactions plant))
+  kept-rise = pairs-flat_from IsEarlier IsBefore given given-order earlier-before 0 (plant_interactions plant) (interactions-rise (length plant.atoms) 0 plant.wires)
+
+-- each sure choice is before each later one
+pub sure-rise : (plant : PlantDefinition) (parts : List (Option Local)) → AllPairs IsBefore (sure_choices plant parts)
+sure-rise plant parts = kept-rise plant (shown_in parts) (is_sure_at plant parts (plant_interactions plant))
+
+module _ (plant : PlantDefinition) (states : List Local) where
   -- each choice is before each later one
   pub choices-rise : AllPairs IsBefore (choices plant states)
-  choices-rise = pairs-flat_from IsEarlier IsBefore (choices_at plant states all) given-order earlier-before 0 all (interactions-rise (length plant.atoms) 0 plant.wires)
+  choices-rise = kept-rise plant states (is_allowed_at plant states (plant_interactions plant))
 
   -- so none stands at two places
   pub stands-once : (i j : ℕ) (c : ChoiceDefinition) → slice_get (choices plant states) i ≡ Some c → slice_get (choices plant states) j ≡ Some c → i ≡ j

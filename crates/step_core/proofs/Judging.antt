@@ -1,3 +1,4 @@
+-- An atom with a number, its state, and what is read of both; how many moves are offered at a port.
 use Rattle.std.proofs.Common.{◌≡◌, ℕ, ◌<◌, ◌≤◌, refl, sym, ◌∙◌, ap, List, [], ◌∷◌, length, map, get_or, arith, ⊎_elim}
 use Rattle.std.specs.Prelude.{Option, Some, None, slice_get, option_map}
 use Rattle.std.specs.Option.{option_map_or}

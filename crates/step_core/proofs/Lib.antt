@@ -1,56 +1,59 @@
-pub mod Ports
-pub mod Judging
-pub mod Combinations
-pub mod Flattened
-pub mod Counted
+mod Ports
+mod Judging
+mod Combinations
+mod Flattened
+mod Counted
 mod FittingWords
 mod Offering
-pub mod FirstTold
+pub mod FirstFault
 mod Found
-pub mod RuleFaults
+mod RuleFaults
 pub mod TreeRules
-mod Kept
-pub mod ValueRows
-pub mod Resolving
-pub mod Guarding
+mod RulesKept
+mod ValueRows
+mod Resolving
+mod Guarding
+mod Delivering
 pub mod Stepping
 pub mod PartsKept
 mod Queued
 mod FiringOfParts
-pub mod PartsLeft
-pub mod Presence
-pub mod OwnAtoms
-pub mod FiringOfAll
+mod PartsLeft
+mod Presence
+mod OwnAtoms
+mod FiringOfAll
 pub mod Initial
-pub mod Rows
-pub mod StepRows
+mod Rows
+mod StepRows
 mod Refreshing
-pub mod Noting
-pub mod WordByWord
-pub mod Alive
+mod Noting
+mod WordByWord
+pub mod NoDeadlock
 mod Untouched
 mod Touched
 mod Recounted
 mod Unchanged
 mod Sighted
 mod Ruled
-mod Walked
+mod LowestBits
+mod LowestKept
 pub mod Membership
 pub mod OfPorts
 pub mod OfInteractions
 pub mod OfChoices
 mod OfSure
 mod Alike
-pub mod Surely
+pub mod SureAllowed
 mod NoneAway
 pub mod Present
-pub mod OfParts
+mod OfParts
 pub mod ByAtom
 pub mod PastExports
 pub mod OnRuns
 pub mod InOrder
-pub mod RunRows
-pub mod CountRows
-pub mod SureRows
+mod PlacesInOrder
+mod RunRows
+mod CountRows
+mod SureRows
 pub mod Crossing
 mod Openness

@@ -1,3 +1,4 @@
+-- Sets of numbers: what is put in, and what is made right number by number.
 use Rattle.std.proofs.Common.{◌≡◌, ◌≢◌, ℕ, ◌+◌, Bool, ◌<◌, ◌≤◌, refl, ◌∙◌, ap, true, false, ◌||◌, ⊎_elim, arith}
 use Rattle.std.specs.Cmp.{nat_cmp_total, unsigned_tied}
 use Rattle.std.specs.Ordering.{nat_cmp}

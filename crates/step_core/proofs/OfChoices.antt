@@ -7,7 +7,9 @@ use Rattle.std.proofs.lemmas.Bool.{and_parts, and_from, eqb-true, false_from_ne_
 use Rattle.std.proofs.lemmas.Option.{slice_get_within}
 use Rattle.petri_atom.specs.Local.{Local}
 use Rattle.priority_filter.specs.Decided.{is_overruled}
-use Rattle.priority_filter.proofs.DecidedOrder.{told_overruled}
+use Rattle.priority_filter.specs.Order.{IsBelow}
+use Rattle.priority_filter.specs.declared.rule.Rule.{Rule}
+use Rattle.priority_filter.proofs.DecidedOrder.{decides_overruled}
 use Rattle.step_core.specs.Choice.{ChoiceDefinition, Interaction, IsAllowed, active_in, choices_at, choices_of, combinations, is_allowed_at, is_possible, is_possible_at, moves_of, named, plant_interactions}
 use Rattle.step_core.specs.Laws.{IsChoiceOf, IsInRange, IsOnTop, IsTaking, are_moves_at}
 use Rattle.step_core.specs.Plant.{PlantDefinition}
@@ -16,6 +18,13 @@ use Rattle.step_core.specs.declared.choice.Move.{Move}
 use Rattle.step_core.proofs.Membership.{entry-in, from-flat_from, from-map, to-flat_from, to-map}
 use Rattle.step_core.proofs.OfInteractions.{interaction-of, known-atom}
 use Rattle.step_core.proofs.OfPorts.{as-many-moves, atoms-by-place, port-of-move, row-of-ports, row-to-ports, transition-within}
+
+-- above one that is not overruled, none that is possible is
+pub none-above : (rules : List Rule) (interactions : List (ℕ × ℕ)) (rivals : ℕ → Bool) (n : ℕ) → not (is_overruled rules interactions rivals n) ≡ true
+    → (above : ℕ) → IsBelow rules interactions n above → rivals above ≡ false
+none-above rules interactions rivals n top above below = false_from_ne_true (rivals above) (λ can.
+    let over = (decides_overruled rules interactions rivals n).1 (above, can, below) in
+    false≢true (sym (ap not over) ∙ top))
 
 module _ (plant : PlantDefinition) (states : List Local) where
   abbrev all : List Interaction
@@ -68,9 +77,7 @@ module _ (plant : PlantDefinition) (states : List Local) where
         }
       where
         on-top : (n : ℕ) → not (is_overruled (active_in plant states) (map named all) (is_possible_at plant.atoms plant.wires states all) n) ≡ true → IsOnTop plant states n
-        on-top n top above below = false_from_ne_true (is_possible_at plant.atoms plant.wires states all above) (λ can.
-            let over = (told_overruled (active_in plant states) (map named all) (is_possible_at plant.atoms plant.wires states all) n).1 (above, can, below) in
-            false≢true (sym (ap not over) ∙ top))
+        on-top n top above below = none-above (active_in plant states) (map named all) (is_possible_at plant.atoms plant.wires states all) n top above below
 
     -- and what is such a choice is allowed
     pub allowed-of : IsChoiceOf plant states c → IsAllowed plant states c
@@ -89,7 +96,7 @@ module _ (plant : PlantDefinition) (states : List Local) where
       where
         not-over : (n : ℕ) → IsOnTop plant states n → is_overruled (active_in plant states) (map named all) (is_possible_at plant.atoms plant.wires states all) n ≡ false
         not-over n top = false_from_ne_true _ (λ over.
-            let above = (told_overruled (active_in plant states) (map named all) (is_possible_at plant.atoms plant.wires states all) n).0 over in
+            let above = (decides_overruled (active_in plant states) (map named all) (is_possible_at plant.atoms plant.wires states all) n).0 over in
             false≢true (sym (top above.0 above.2) ∙ above.1))
 
     -- an allowed choice of a plant that breaks no rule is within the plant

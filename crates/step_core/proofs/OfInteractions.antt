@@ -22,7 +22,7 @@ use Rattle.connector_tree.proofs.Sound.{sound}
 use Rattle.step_core.specs.Choice.{Interaction, by_atom, interaction_by, interactions_from, interactions_of_connector, plant_interactions}
 use Rattle.step_core.specs.Laws.{IsInteractionOf, IsWithinLimits}
 use Rattle.step_core.specs.Plant.{PlantDefinition, WireDefinition}
-use Rattle.step_core.specs.Rules.{early_fault, fault_of, fault_of_count, fault_of_order, fault_of_wires, first_broken, first_of, first_told, is_known_export, is_known_port, is_within_limits, late_fault, names_known, wire_fault}
+use Rattle.step_core.specs.Rules.{early_fault, fault_of, fault_of_count, fault_of_order, fault_of_wires, first_broken, first_of, first_fault_in, is_known_export, is_known_port, is_within_limits, late_fault, names_known, wire_fault}
 use Rattle.step_core.specs.declared.fault.SystemFault.{SystemFault}
 use Rattle.step_core.specs.declared.fault.SystemFault.TheVariants.{BadWire, Limit}
 use Rattle.step_core.specs.declared.fault.WireFault.{WireFault}
@@ -33,15 +33,15 @@ use Rattle.step_core.proofs.TreeRules.{early_trees, first_none, second_none, tre
 
 -- ---- the rules that its wire keeps
 
--- where no element tells something, none tells something at its place
-none-told : {X F : Type 0} (tell : ℕ → X → Option F) (n : ℕ) (xs : List X) → first_told tell n xs ≡ None → (k : ℕ) (x : X) → slice_get xs k ≡ Some x → tell (n + k) x ≡ None
+-- where no element has a fault, none has one at its place
+pub none-told : {X F : Type 0} (tell : ℕ → X → Option F) (n : ℕ) (xs : List X) → first_fault_in tell n xs ≡ None → (k : ℕ) (x : X) → slice_get xs k ≡ Some x → tell (n + k) x ≡ None
 none-told tell n [] none k x there = absurd (none-some x there)
 none-told tell n (y ∷ ys) none zero x there =
     let e : n ≡ n + zero = omega arith in
-    ap (tell (n + zero)) (sym (same_Some y x there)) ∙ ap (λ j. tell j y) (sym e) ∙ first_none (tell n y) (first_told tell (suc n) ys) none
+    ap (tell (n + zero)) (sym (same_Some y x there)) ∙ ap (λ j. tell j y) (sym e) ∙ first_none (tell n y) (first_fault_in tell (suc n) ys) none
 none-told tell n (y ∷ ys) none (suc k) x there =
     let e : n + suc k ≡ suc n + k = omega arith in
-    ap (λ j. tell j x) e ∙ none-told tell (suc n) ys (second_none (tell n y) (first_told tell (suc n) ys) none) k x there
+    ap (λ j. tell j x) e ∙ none-told tell (suc n) ys (second_none (tell n y) (first_fault_in tell (suc n) ys) none) k x there
 
 untold : (k : ℕ) (o : Option WireFault) → option_map (BadWire k) o ≡ None → o ≡ None
 untold k None none = refl
@@ -267,34 +267,44 @@ some-chosen t mask whole at = each (ports_of t mask) refl
         absurd (false≢true (sym (never_empty t whole.none_empty) ∙ ap (is_port_set t) none ∙ is))
     each (p ∷ ps) some = (p, here p ps)
 
+-- an interaction of a plant is of the wire with its connector's number, its mask is one of that connector, and its ports are those of the mask whose atoms are there
+pub of-wire : (plant : PlantDefinition) (i : Interaction) → Contains (plant_interactions plant) i
+    → (w : WireDefinition) × (slice_get plant.wires i.connector ≡ Some w) × Contains (interactions_of w.connector) i.mask × (by_atom (length plant.atoms) (ports_of w.connector i.mask) ≡ i.ports)
+of-wire plant i at =
+    let n : ℕ = length plant.atoms in
+    let found = from-wires n 0 plant.wires i at in
+    let w : WireDefinition = found.1 in
+    let made = from-map (interaction_by n (0 + found.0) (leaves w.connector)) (interactions_of w.connector) i found.3 in
+    let e : 0 + found.0 ≡ found.0 = omega arith in
+    let number : i.connector ≡ found.0 = ap (λ (x : Interaction). x.connector) (sym made.2) ∙ e in
+    let mask : made.0 ≡ i.mask = ap (λ (x : Interaction). x.mask) made.2 in (
+      w,
+      ap (slice_get plant.wires) number ∙ found.2,
+      subst (Contains (interactions_of w.connector)) mask made.1,
+      ap (λ m. by_atom n (ports_of w.connector m)) (sym mask) ∙ ap (λ (x : Interaction). x.ports) made.2,
+    )
+
 module _ (plant : PlantDefinition) (valid : fault_of plant ≡ None) (i : Interaction) (at : Contains (plant_interactions plant) i) where
   pub interaction-of : IsInteractionOf plant i
   interaction-of =
       let n : ℕ = length plant.atoms in
-      let found = from-wires n 0 plant.wires i at in
-      let w : WireDefinition = found.1 in
-      let made = from-map (interaction_by n (0 + found.0) (leaves w.connector)) (interactions_of w.connector) i found.3 in
-      let e : 0 + found.0 ≡ found.0 = omega arith in
-      let number : i.connector ≡ found.0 = ap (λ (x : Interaction). x.connector) (sym made.2) ∙ e in
-      let mask : made.0 ≡ i.mask = ap (λ (x : Interaction). x.mask) made.2 in
-      let ports : by_atom n (ports_of w.connector made.0) ≡ i.ports = ap (λ (x : Interaction). x.ports) made.2 in
-      let whole = sound-tree plant valid found.0 w found.2 in
-      let from : (p : Port) → Contains i.ports p → Contains (ports_of w.connector made.0) p = λ p in_it. (from-by_atom n (ports_of w.connector made.0) p (subst (λ ps. Contains ps p) (sym ports) in_it)).0 in
-      let to : (p : Port) → Contains (ports_of w.connector made.0) p → Contains i.ports p = λ p in_mask. subst (λ ps. Contains ps p) ports (to-by_atom n (ports_of w.connector made.0) p in_mask (known-atom plant.atoms p (all-in (is_known_port plant.atoms) (leaves w.connector) (known-leaves plant valid found.0 w found.2) p (from-chosen made.0 0 (leaves w.connector) p in_mask)))) in
-      let leaf : (p : Port) → Contains i.ports p → Contains (leaves w.connector) p = λ p in_it. from-chosen made.0 0 (leaves w.connector) p (from p in_it) in
-      let one = some-chosen w.connector made.0 whole made.1 in
+      let is = of-wire plant i at in
+      let w : WireDefinition = is.0 in
+      let ports : by_atom n (ports_of w.connector i.mask) ≡ i.ports = is.3 in
+      let whole = sound-tree plant valid i.connector w is.1 in
+      let from : (p : Port) → Contains i.ports p → Contains (ports_of w.connector i.mask) p = λ p in_it. (from-by_atom n (ports_of w.connector i.mask) p (subst (λ ps. Contains ps p) (sym ports) in_it)).0 in
+      let to : (p : Port) → Contains (ports_of w.connector i.mask) p → Contains i.ports p = λ p in_mask. subst (λ ps. Contains ps p) ports (to-by_atom n (ports_of w.connector i.mask) p in_mask (known-atom plant.atoms p (all-in (is_known_port plant.atoms) (leaves w.connector) (known-leaves plant valid i.connector w is.1) p (from-chosen i.mask 0 (leaves w.connector) p in_mask)))) in
+      let leaf : (p : Port) → Contains i.ports p → Contains (leaves w.connector) p = λ p in_it. from-chosen i.mask 0 (leaves w.connector) p (from p in_it) in
+      let one = some-chosen w.connector i.mask whole is.2 in
       let in_it = to one.0 one.1 in
       record {
         wire = w;
-        there = ap (slice_get plant.wires) number ∙ found.2;
-        mask = subst (Contains (interactions_of w.connector)) mask made.1;
+        there = is.1;
+        mask = is.2;
         some = omega (arith, in_it.1);
-        few = subst (λ ps. length ps ≤ MAX_LEAVES) ports (omega (arith, few_ports n made.0 (leaves w.connector), whole.few_leaves));
-        rising = subst (λ ps. IsStrictlyIncreasing (tree.atoms ps)) ports (increasing (by_atom n (ports_of w.connector made.0)) (rise-by_atom n (ports_of w.connector made.0) (apart-chosen made.0 0 (leaves w.connector) (apart (leaves w.connector) whole.distinct_atoms))));
-        known = λ p in_ports. all-in (is_known_port plant.atoms) (leaves w.connector) (known-leaves plant valid found.0 w found.2) p (leaf p in_ports);
-        of_mask = λ p. (
-          λ in_ports. subst (λ m. Contains (ports_of w.connector m) p) mask (from p in_ports),
-          λ in_mask. to p (subst (λ m. Contains (ports_of w.connector m) p) (sym mask) in_mask),
-        );
+        few = subst (λ ps. length ps ≤ MAX_LEAVES) ports (omega (arith, few_ports n i.mask (leaves w.connector), whole.few_leaves));
+        rising = subst (λ ps. IsStrictlyIncreasing (tree.atoms ps)) ports (increasing (by_atom n (ports_of w.connector i.mask)) (rise-by_atom n (ports_of w.connector i.mask) (apart-chosen i.mask 0 (leaves w.connector) (apart (leaves w.connector) whole.distinct_atoms))));
+        known = λ p in_ports. all-in (is_known_port plant.atoms) (leaves w.connector) (known-leaves plant valid i.connector w is.1) p (leaf p in_ports);
+        of_mask = λ p. (from p, to p);
         of_connector = leaf;
       }

@@ -5,14 +5,14 @@ use Rattle.std.specs.Option.{option_map_or}
 use Rattle.std.proofs.lemmas.Bool.{and_parts, and_from, false_from_ne_true, false≢true}
 use Rattle.petri_atom.specs.Local.{Local}
 use Rattle.priority_filter.specs.Decided.{is_overruled}
-use Rattle.priority_filter.proofs.DecidedOrder.{told_overruled}
+use Rattle.priority_filter.proofs.DecidedOrder.{decides_overruled}
 use Rattle.step_core.specs.Choice.{ChoiceDefinition, Interaction, choices_of, combinations, is_possible, moves_of, named, plant_interactions}
 use Rattle.step_core.specs.Laws.{IsSureChoiceOf, IsSurelyOnTop, IsTaking}
 use Rattle.step_core.specs.Parts.{may_count_in, shown_in}
 use Rattle.step_core.specs.Plant.{PlantDefinition}
 use Rattle.step_core.specs.Sure.{IsSure, is_possible_in, is_sure_at, is_whole, may_come, sure_at}
 use Rattle.step_core.proofs.Membership.{from-flat_from, to-flat_from, to-map}
-use Rattle.step_core.proofs.OfChoices.{choice_by, of-interaction}
+use Rattle.step_core.proofs.OfChoices.{choice_by, none-above, of-interaction}
 use Rattle.step_core.proofs.OfPorts.{row-to-ports}
 
 module _ (plant : PlantDefinition) (parts : List (Option Local)) where
@@ -61,9 +61,7 @@ module _ (plant : PlantDefinition) (parts : List (Option Local)) where
         }
       where
         on-top : (n : ℕ) → not (is_over n) ≡ true → IsSurelyOnTop plant parts n
-        on-top n top above below = false_from_ne_true (rivals above) (λ can.
-            let over = (told_overruled (may_count_in plant parts) (map named all) rivals n).1 (above, can, below) in
-            false≢true (sym (ap not over) ∙ top))
+        on-top n top above below = none-above (may_count_in plant parts) (map named all) rivals n top above below
 
     -- and what is such a choice is sure
     pub sure-of : IsSureChoiceOf plant parts c → IsSure plant parts c
@@ -82,5 +80,5 @@ module _ (plant : PlantDefinition) (parts : List (Option Local)) where
       where
         not-over : (n : ℕ) → IsSurelyOnTop plant parts n → is_over n ≡ false
         not-over n top = false_from_ne_true _ (λ over.
-            let above = (told_overruled (may_count_in plant parts) (map named all) rivals n).0 over in
+            let above = (decides_overruled (may_count_in plant parts) (map named all) rivals n).0 over in
             false≢true (sym (top above.0 above.2) ∙ above.1))

@@ -10,7 +10,7 @@ use Rattle.petri_atom.specs.Definition.{AtomDefinition, enabled, numbers_of, off
 use Rattle.connector_tree.specs.declared.tree.Port.{Port}
 use Rattle.step_core.specs.Plant.{WireDefinition}
 use Rattle.step_core.specs.Choice.{Interaction, is_offered_port, passes_guards, is_possible, move_of, moves_of, combinations}
-use Rattle.step_core.proofs.Alive.{some-moves, some-rows}
+use Rattle.step_core.proofs.NoDeadlock.{some-moves, some-rows}
 use Rattle.step_core.proofs.Combinations.{length-rows}
 
 -- where something is kept, something passes

@@ -5,6 +5,7 @@ use Rattle.std.specs.List.{list_all, list_any}
 use Rattle.std.specs.Option.{option_map_or}
 use Rattle.std.proofs.lemmas.Bool.{and_parts, and_from, or_parts, cases_eq, eq-eqb, ne_eqb, eqb-true, leb-true, le-leb, false≢true}
 use Rattle.std.proofs.lemmas.List.{map-append}
+use Rattle.std.proofs.lemmas.Option.{slice_get_within, get_or_from_slice_get}
 use Rattle.petri_atom.specs.Local.{Local}
 use Rattle.petri_atom.specs.Definition.{AtomDefinition, enabled}
 use Rattle.connector_tree.specs.Faults.{has_repeat, atoms}
@@ -13,10 +14,11 @@ use Rattle.connector_tree.specs.Tree.{leaves}
 use Rattle.connector_tree.specs.declared.tree.Port.{Port}
 use Rattle.connector_tree.proofs.Sound.{sound}
 use Rattle.step_core.specs.Choice.{Interaction, ChoiceDefinition, IsAllowed, by_atom, choices, choices_at, choices_of, combinations, flat_from, interaction_by, interactions_from, interactions_of_connector, is_allowed_at, move_of, moves_of, plant_interactions}
+use Rattle.step_core.specs.Delivery.{AreApart}
 use Rattle.step_core.specs.Plant.{PlantDefinition, WireDefinition}
-use Rattle.step_core.specs.Rules.{early_fault, fault_of, fault_of_order, first_of, first_told, late_fault, tree_fault}
+use Rattle.step_core.specs.Rules.{early_fault, fault_of, fault_of_order, first_of, first_fault_in, late_fault, tree_fault}
 use Rattle.step_core.specs.declared.choice.Move.{Move}
-use Rattle.step_core.proofs.Stepping.{all-at, all-append, all-map}
+use Rattle.step_core.proofs.Stepping.{all-at, all-append, all-map, no_move}
 use Rattle.step_core.proofs.TreeRules.{early_trees, first_none, second_none, tree_none}
 
 -- how often a number is in a list
@@ -92,16 +94,16 @@ times-by_atom a (suc n) ps =
 
 module _ (a : ℕ) where
   -- of each interaction of sound connectors
-  of-connectors : (n k : ℕ) (ws : List WireDefinition) → first_told tree_fault k ws ≡ None → list_all (λ i. once a (atoms i.ports)) (interactions_from n k ws) ≡ true
+  of-connectors : (n k : ℕ) (ws : List WireDefinition) → first_fault_in tree_fault k ws ≡ None → list_all (λ i. once a (atoms i.ports)) (interactions_from n k ws) ≡ true
   of-connectors n k [] none = refl
   of-connectors n k (w ∷ ws) none =
       all-append (λ i. once a (atoms i.ports)) (interactions_of_connector n k w.connector) (interactions_from n (suc k) ws)
       (all-map (λ i. once a (atoms i.ports)) (interaction_by n k (leaves w.connector)) (interactions_of w.connector) (each (interactions_of w.connector)))
-      (of-connectors n (suc k) ws (second_none (tree_fault k w) (first_told tree_fault (suc k) ws) none))
+      (of-connectors n (suc k) ws (second_none (tree_fault k w) (first_fault_in tree_fault (suc k) ws) none))
     where
       its : (mask : ℕ) → once a (atoms (by_atom n (chosen mask 0 (leaves w.connector)))) ≡ true
       its mask =
-          let whole = tree_none k _ (first_none (tree_fault k w) (first_told tree_fault (suc k) ws) none) in
+          let whole = tree_none k _ (first_none (tree_fault k w) (first_fault_in tree_fault (suc k) ws) none) in
           le-leb _ 1 (omega (arith, (times-by_atom a n (chosen mask 0 (leaves w.connector))).0, times-chosen a mask 0 (leaves w.connector), times-once a (atoms (leaves w.connector)) (sound w.connector whole).distinct_atoms))
 
       each : (masks : List ℕ) → list_all (λ mask. once a (atoms (by_atom n (chosen mask 0 (leaves w.connector))))) masks ≡ true
@@ -190,3 +192,8 @@ no-earlier plant states c valid allowed moves lent k d within a is =
     let all = all-at (λ e. once a (atoms_of e.moves)) (choices plant states) allowed.0 c (of-choices plant states a valid) allowed.1 in
     let single : once a (atoms_of moves) ≡ true = ap (λ ms. once a (atoms_of ms)) lent ∙ ap (λ e. once a (atoms_of e.moves)) (sym allowed.2) ∙ all in
     none-before a moves k d (leb-true _ 1 single) within (sym is)
+
+-- so no two of its moves are of one atom
+pub are-apart : (plant : PlantDefinition) (states : List Local) (c : ChoiceDefinition) → fault_of plant ≡ None → IsAllowed plant states c → AreApart c.moves
+are-apart plant states c valid allowed place m there =
+    no-earlier plant states c valid allowed c.moves refl place no_move (slice_get_within c.moves place m there) m.atom (sym (ap (λ k. k.atom) (get_or_from_slice_get c.moves place m no_move there)))

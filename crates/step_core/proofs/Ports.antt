@@ -1,3 +1,4 @@
+-- The ports of an interaction, as the walk over the leaves of its connector finds them, atom by atom.
 use Rattle.std.proofs.Common.{◌≡◌, ℕ, zero, suc, arith, eqb, ltb, filter, ◌≤◌, ◌+◌, ◌<◌, Bool, true, false, cond, sym, ◌∙◌, ap, add-one, List, [], ◌∷◌, ◌++◌, drop, get_or, length}
 use Rattle.std.proofs.Math.Seq.{drop-cons}
 use Rattle.std.proofs.lemmas.Bool.{le-ltb}

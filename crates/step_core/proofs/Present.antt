@@ -19,7 +19,7 @@ use Rattle.step_core.proofs.Membership.{all-in}
 use Rattle.step_core.proofs.OfChoices.{in-range}
 use Rattle.step_core.proofs.OfPorts.{port-of-move}
 use Rattle.step_core.proofs.OfSure.{sure-choice-of}
-use Rattle.step_core.proofs.Surely.{goes-on, leaves-behind, sure-allowed}
+use Rattle.step_core.proofs.SureAllowed.{goes-on, leaves-behind, sure-allowed}
 
 -- the atom with a number is away
 abbrev pub is_away : List (Option Local) → ℕ → Bool

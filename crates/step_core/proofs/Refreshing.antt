@@ -1,3 +1,4 @@
+-- What stays of an atom that no move of a choice is of: its state, and what it offers.
 use Rattle.std.proofs.Common.{◌≡◌, ◌≢◌, ℕ, ◌==◌, ◌<◌, refl, sym, ◌∙◌, ap, subst, List, [], ◌∷◌, map, length, get_or, set, arith, false, cond, ⊎_elim, slice_index_or}
 use Rattle.std.specs.Prelude.{Option, Some, None, slice_get, find}
 use Rattle.std.specs.Option.{option_map_or}

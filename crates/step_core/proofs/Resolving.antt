@@ -20,7 +20,7 @@ use Rattle.step_core.specs.BoundExpressions.{value_there, variable_of_port, vari
 use Rattle.step_core.specs.Step.{applies, is_to, value_to, delivered_by}
 use Rattle.step_core.specs.declared.bound_expressions.AtomVariable.{AtomVariable}
 use Rattle.step_core.specs.declared.wire.Export.{Export}
-use Rattle.step_core.proofs.FirstTold.{both}
+use Rattle.step_core.proofs.FirstFault.{both}
 use Rattle.step_core.proofs.ValueRows.{four-values}
 
 -- ---- values

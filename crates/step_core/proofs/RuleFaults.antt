@@ -1,3 +1,4 @@
+-- Which fault is answered for a plant that breaks a rule.
 use Rattle.std.proofs.Common.{◌≡◌, ◌≢◌, subst, ℕ, suc, refl, sym, ◌∙◌, ap, map, List, [], ◌∷◌, take, length, Bool, true, false, cond, not}
 use Rattle.std.specs.Prelude.{Option, Some, None, option_map, Result, Ok, Err, IfErr}
 use Rattle.std.specs.Result.{IsErrAnd}
@@ -12,9 +13,9 @@ use Rattle.priority_filter.specs.declared.fault.OrderFault.{OrderFault}
 use Rattle.priority_filter.specs.declared.fault.OrderFault.TheVariants as order
 use Rattle.connector_tree.specs.declared.faults.TreeFault.{TreeFault}
 use Rattle.step_core.specs.Plant.{WireDefinition, PlantDefinition}
-use Rattle.step_core.specs.Rules.{first_of, first_told, atom_fault, tree_fault, is_within_limits, fault_of_wire, wire_fault, fault_of_wires, fault_of_count, early_fault, first_fault, fault_of_order, fault_of, IsFaultOf}
+use Rattle.step_core.specs.Rules.{first_of, first_fault_in, atom_fault, tree_fault, is_within_limits, fault_of_wire, wire_fault, fault_of_wires, fault_of_count, early_fault, first_fault, fault_of_order, fault_of, IsFaultOf}
 use Rattle.step_core.specs.Choice.{named, plant_interactions}
-use Rattle.step_core.specs.OrderFaults.{told_of_order}
+use Rattle.step_core.specs.OrderFaults.{system_fault_of_order}
 use Rattle.step_core.specs.declared.fault.WireFault.{WireFault}
 use Rattle.step_core.specs.declared.fault.SystemFault.{SystemFault}
 use Rattle.step_core.specs.declared.fault.SystemFault.TheVariants.{Limit, BadAtom, BadConnector, BadWire, Order, Memory}
@@ -31,35 +32,32 @@ first_of-rules : (a b : Option SystemFault) → tells_rules a ≡ true → tells
 first_of-rules (Some fault) b here later = here
 first_of-rules None b here later = later
 
-first_told-rules : {X : Type 0} (tell : ℕ → X → Option SystemFault) → ((n : ℕ) (x : X) → tells_rules (tell n x) ≡ true) → (n : ℕ) (xs : List X) → tells_rules (first_told tell n xs) ≡ true
+first_told-rules : {X : Type 0} (tell : ℕ → X → Option SystemFault) → ((n : ℕ) (x : X) → tells_rules (tell n x) ≡ true) → (n : ℕ) (xs : List X) → tells_rules (first_fault_in tell n xs) ≡ true
 first_told-rules tell each n [] = refl
 first_told-rules tell each n (x ∷ xs) =
-    first_of-rules (tell n x) (first_told tell (suc n) xs) (each n x) (first_told-rules tell each (suc n) xs)
+    first_of-rules (tell n x) (first_fault_in tell (suc n) xs) (each n x) (first_told-rules tell each (suc n) xs)
 
 atom_fault-rules : (atoms : List AtomDefinition) (n : ℕ) (a : AtomDefinition) → tells_rules (atom_fault atoms n a) ≡ true
 atom_fault-rules atoms n a =
     elim (list_any (λ b. is_same_text b.name a.name) (take n atoms)) as (λ b. tells_rules (cond b (Some (BadAtom n)) None) ≡ true) [ true ↦ refl | false ↦ refl ]
 
+-- where faults of a part are made faults of the rules, they are such
+made-rules : {X : Type 0} (made : X → SystemFault) → ((fault : X) → is_of_rules (made fault) ≡ true) → (o : Option X) → tells_rules (option_map made o) ≡ true
+made-rules made rules None = refl
+made-rules made rules (Some fault) = rules fault
+
 tree_fault-rules : (k : ℕ) (w : WireDefinition) → tells_rules (tree_fault k w) ≡ true
-tree_fault-rules k w = each (tree.fault_of w.connector)
-  where
-    each : (o : Option TreeFault) → tells_rules (option_map (BadConnector k) o) ≡ true
-    each None = refl
-    each (Some fault) = refl
+tree_fault-rules k w = made-rules (BadConnector k) (λ fault. refl) (tree.fault_of w.connector)
 
 early_fault-rules : (plant : PlantDefinition) → tells_rules (early_fault plant) ≡ true
 early_fault-rules plant =
-    elim (not (is_within_limits plant)) as (λ b. tells_rules (cond b (Some Limit) (first_of (first_told (atom_fault plant.atoms) 0 plant.atoms) (first_told tree_fault 0 plant.wires))) ≡ true) [
+    elim (not (is_within_limits plant)) as (λ b. tells_rules (cond b (Some Limit) (first_of (first_fault_in (atom_fault plant.atoms) 0 plant.atoms) (first_fault_in tree_fault 0 plant.wires))) ≡ true) [
       | true ↦ refl
-      | false ↦ first_of-rules (first_told (atom_fault plant.atoms) 0 plant.atoms) (first_told tree_fault 0 plant.wires) (first_told-rules (atom_fault plant.atoms) (atom_fault-rules plant.atoms) 0 plant.atoms) (first_told-rules tree_fault tree_fault-rules 0 plant.wires)
+      | false ↦ first_of-rules (first_fault_in (atom_fault plant.atoms) 0 plant.atoms) (first_fault_in tree_fault 0 plant.wires) (first_told-rules (atom_fault plant.atoms) (atom_fault-rules plant.atoms) 0 plant.atoms) (first_told-rules tree_fault tree_fault-rules 0 plant.wires)
     ]
 
 wire_fault-rules : (atoms : List AtomDefinition) (wires : List WireDefinition) (k : ℕ) (w : WireDefinition) → tells_rules (wire_fault atoms wires k w) ≡ true
-wire_fault-rules atoms wires k w = each (fault_of_wire atoms (take k wires) w)
-  where
-    each : (o : Option WireFault) → tells_rules (option_map (BadWire k) o) ≡ true
-    each None = refl
-    each (Some fault) = refl
+wire_fault-rules atoms wires k w = made-rules (BadWire k) (λ fault. refl) (fault_of_wire atoms (take k wires) w)
 
 first_fault-rules : (plant : PlantDefinition) → tells_rules (first_fault plant) ≡ true
 first_fault-rules plant =
@@ -116,14 +114,14 @@ of-order None None count order fault none uncounted told = ap (λ o. first_of o 
 pub order-told : {A : Type 0} (plant : PlantDefinition) (fault : OrderFault) (result : Result A SystemFault) → first_fault plant ≡ None →
     fault_of_count (length (plant_interactions plant)) ≡ None →
     (fault ≢ order.Memory → order_fault plant.rules (map named (plant_interactions plant)) ≡ Some fault) →
-    IsErrAnd result (λ told. told ≡ told_of_order fault) → IfErr result (λ told. IsFaultOf told plant)
+    IsErrAnd result (λ told. told ≡ system_fault_of_order fault) → IfErr result (λ told. IsFaultOf told plant)
 order-told plant fault (Ok x) none uncounted told left = tt
 order-told plant fault (Err f) none uncounted told left = subst (λ g. IsFaultOf g plant) (sym left) (each fault told)
   where
     all : (o : OrderFault) → order_fault plant.rules (map named (plant_interactions plant)) ≡ Some o → fault_of plant ≡ Some (Order o)
     all o is = of-order (early_fault plant) (fault_of_wires plant) (fault_of_count (length (plant_interactions plant))) (fault_of_order plant) (Order o) none uncounted (ap (option_map Order) is)
 
-    each : (o : OrderFault) → (o ≢ order.Memory → order_fault plant.rules (map named (plant_interactions plant)) ≡ Some o) → IsFaultOf (told_of_order o) plant
+    each : (o : OrderFault) → (o ≢ order.Memory → order_fault plant.rules (map named (plant_interactions plant)) ≡ Some o) → IsFaultOf (system_fault_of_order o) plant
     each (order.Cycle n) is = all (order.Cycle n) (is (λ same. absurd (cc)))
     each (order.UnknownName n) is = all (order.UnknownName n) (is (λ same. absurd (cc)))
     each order.Memory is = none

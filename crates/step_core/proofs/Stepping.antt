@@ -1,3 +1,4 @@
+-- The states after moves, by number, and tests of the moves of choices.
 use Rattle.std.proofs.Common.{◌≡◌, ℕ, zero, suc, ◌+◌, ◌<◌, refl, ◌∙◌, ap, List, [], ◌∷◌, ◌++◌, length, map, get_or, arith, Bool, true, false, cond, ◌&&◌}
 use Rattle.std.specs.Prelude.{Option, Some, None, slice_get, filter, flat_map}
 use Rattle.std.specs.List.{list_all}

@@ -117,3 +117,12 @@ module _ (rows : List (FinSet nat_cmp)) (place at : ℕ) (old row new : FinSet n
   out-of-row =
       ap (is_in_row rows n) (sym same) ∙
       ap (λ o. option_map_or (λ r. contains r n) o false) (slice_get_read rows (length rows) place row refl within here) ∙ neither.1
+
+-- where the row of one port more is noted, so are the ports up to it, and what was noted is
+pub noted-more : (first old new : List (FinSet nat_cmp)) → KeepsNoted old new → (n : ℕ) (at : Port → ℕ) (ports : List Port) (i : ℕ) (d : Port) → i < length ports
+    → (row : ℕ) → row ≡ at (get_or ports i d) → is_noted new n row ≡ true → are_noted old n at (take i ports) ≡ true → KeepsNoted first old
+    → (are_noted new n at (take (i + 1) ports) ≡ true) × KeepsNoted first new
+noted-more first old new keeps n at ports i d within row its noted so_far kept = (
+  noted-next new n at ports i d within (ports-kept old new keeps n at (take i ports) so_far) (ap (is_noted new n) (sym its) ∙ noted),
+  λ m a was. keeps m a (kept m a was),
+)

@@ -15,7 +15,7 @@ use Rattle.step_core.specs.Delivery.{AreDelivered, IsFirstOfAtom, IsGiven}
 use Rattle.step_core.specs.BoundExpressions.{value_there, DeliveryDefinition, delivery_of, has_all, is_for, value_for, given_for}
 use Rattle.step_core.specs.declared.choice.Move.{Move}
 use Rattle.step_core.specs.declared.bound_expressions.Delivery.{Delivery}
-use Rattle.step_core.proofs.FirstTold.{or_none}
+use Rattle.step_core.proofs.FirstFault.{or_none}
 
 -- a value, where there is one
 abbrev some_if : Bool → ℤ → Option ℤ

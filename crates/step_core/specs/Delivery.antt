@@ -12,8 +12,8 @@ abbrev pub AreApart : List Move → Type 0
 AreApart moves = (place : ℕ) (m : Move) → slice_get moves place ≡ Some m → IsFirstOfAtom moves place m
 
 -- the row has for each move, by its place, what its atom gets
-abbrev pub IsTold : List Move → (ℕ → Row) → List Row → Type 0
-IsTold moves delivered row = (place : ℕ) (m : Move) → slice_get moves place ≡ Some m → slice_get row place ≡ Some (delivered m.atom)
+abbrev pub IsDelivered : List Move → (ℕ → Row) → List Row → Type 0
+IsDelivered moves delivered row = (place : ℕ) (m : Move) → slice_get moves place ≡ Some m → slice_get row place ≡ Some (delivered m.atom)
 
 -- the row has for each move that is the first of its atom, by its place, what that atom gets
 abbrev pub AreDelivered : List Move → (ℕ → Row) → List Row → Type 0

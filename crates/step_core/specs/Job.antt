@@ -32,19 +32,12 @@ job_of j = record {
 
 -- the job that was done
 abbrev pub job_done : Done → JobDefinition
-job_done d = record {
-  definition = definition_of d.definition.now;
-  atom = d.atom;
-  count = d.count;
-  transition = d.transition;
-  delivered = d.delivered;
-  state = d.before;
-}
+job_done d = job_of d.job
 
 -- two jobs are the same but for the definition of the atom
-pub record HasFieldsOf (job done : JobDefinition) : Type 0 where
-  pub atom : job.atom ≡ done.atom
-  pub count : job.count ≡ done.count
-  pub transition : job.transition ≡ done.transition
-  pub delivered : job.delivered ≡ done.delivered
-  pub state : job.state ≡ done.state
+pub record HasFieldsOf (job other : JobDefinition) : Type 0 where
+  pub atom : job.atom ≡ other.atom
+  pub count : job.count ≡ other.count
+  pub transition : job.transition ≡ other.transition
+  pub delivered : job.delivered ≡ other.delivered
+  pub state : job.state ≡ other.state

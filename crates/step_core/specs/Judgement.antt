@@ -18,15 +18,15 @@ pub record IsJudgement (plant : PlantDefinition) (interactions : List Interactio
   pub possible : ArePossible plant.atoms plant.wires states interactions j.possible
   pub ways : AreWays plant.atoms plant.wires states interactions j.ways
   pub seen : AreSeen plant.rules (is_marked_at states) j.seen
-  pub allowed : AreAllowed plant states interactions j.allowed
+  pub allowed : AreAllowed plant states interactions j.kept
   pub total : j.total ≡ length (choices_among plant states interactions)
 
--- what is offered and possible is that of a state of a plant, and each interaction that is kept as allowed is possible
+-- what is offered and possible is that of a state of a plant, and each interaction that is kept is possible
 pub record IsOffering (plant : PlantDefinition) (interactions : List Interaction) (states : List Local) (j : Judgement) : Type 0 where
   pub offered : AreOffered plant.atoms states j.offers.sets
   pub counted : AreCounted plant.atoms j.offers.sets j.offers.counts
   pub ways : AreWays plant.atoms plant.wires states interactions j.ways
-  pub kept : AreAllPossible plant.atoms plant.wires states interactions (contains j.allowed)
+  pub kept : AreAllPossible plant.atoms plant.wires states interactions (contains j.kept)
 
 -- it is that of a state in which all atoms but some were as they are now
 pub record IsBehind (plant : PlantDefinition) (interactions : List Interaction) (changed : List ℕ) (states : List Local) (j : Judgement) : Type 0 where

@@ -7,7 +7,7 @@ use Rattle.step_core.specs.Interaction.{interaction_of}
 use Rattle.step_core.specs.Made.{plant_by}
 use Rattle.step_core.specs.Plant.{PlantDefinition, WireDefinition}
 use Rattle.step_core.specs.Wire.{wire_of}
-use Rattle.step_core.specs.declared.allowed.PriorityJudge.{PriorityJudge}
+use Rattle.step_core.specs.declared.priority_judge.PriorityJudge.{PriorityJudge}
 use Rattle.step_core.specs.declared.possible.InteractionJudge.{InteractionJudge}
 
 -- the atoms and the wires of a plant whose interactions are judged

@@ -1,7 +1,17 @@
--- An interaction looked up by its connector and its atoms.
-use Rattle.std.specs.Prelude.{ℕ, Bool, ◌==◌, ◌&&◌, List, map, find, Option, option_map, nat_eq}
+-- Connectors and atoms looked up by their names, and an interaction by its connector and its atoms.
+use Rattle.std.specs.Prelude.{ℕ, Bool, ◌==◌, ◌&&◌, List, map, find, Option, option_map, nat_eq, position}
 use Rattle.std.specs.Cmp.Lexicographic.{pointwise}
+use Rattle.petri_atom.specs.Name.{is_same_text}
 use Rattle.step_core.specs.Choice.{Interaction}
+use Rattle.step_core.specs.Plant.{PlantDefinition}
+
+-- the number of the first connector with the name
+abbrev pub connector_named : PlantDefinition → List ℕ → Option ℕ
+connector_named plant name = position (λ w. is_same_text w.name name) plant.wires
+
+-- the number of the first atom with the name
+abbrev pub atom_named : PlantDefinition → List ℕ → Option ℕ
+atom_named plant name = position (λ a. is_same_text a.name name) plant.atoms
 
 -- the interaction is one of the connector, and its ports are of these atoms, in this order
 abbrev pub is_of_atoms : ℕ → List ℕ → Interaction → Bool

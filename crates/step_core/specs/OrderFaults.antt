@@ -4,7 +4,7 @@ use Rattle.step_core.specs.declared.fault.SystemFault.{SystemFault}
 use Rattle.step_core.specs.declared.fault.SystemFault.TheVariants.{Order, Memory}
 
 -- what is told of a plant where its rules have this fault
-abbrev pub told_of_order : OrderFault → SystemFault
-told_of_order (order.Cycle interaction) = Order (order.Cycle interaction)
-told_of_order (order.UnknownName rule) = Order (order.UnknownName rule)
-told_of_order order.Memory = Memory
+abbrev pub system_fault_of_order : OrderFault → SystemFault
+system_fault_of_order (order.Cycle interaction) = Order (order.Cycle interaction)
+system_fault_of_order (order.UnknownName rule) = Order (order.UnknownName rule)
+system_fault_of_order order.Memory = Memory

@@ -28,9 +28,9 @@ first_of (Some fault) later = Some fault
 first_of None later = later
 
 -- what the first element tells that tells something; the elements are numbered from n
-abbrev pub first_told : {X F : Type 0} → (ℕ → X → Option F) → ℕ → List X → Option F
-first_told tell n [] = None
-first_told tell n (x ∷ xs) = first_of (tell n x) (first_told tell (suc n) xs)
+abbrev pub first_fault_in : {X F : Type 0} → (ℕ → X → Option F) → ℕ → List X → Option F
+first_fault_in tell n [] = None
+first_fault_in tell n (x ∷ xs) = first_of (tell n x) (first_fault_in tell (suc n) xs)
 
 -- there are no more transfers than a wire may make, and the expression of each has no more words than one may have
 abbrev pub are_small_transfers : List TransferDefinition → Bool
@@ -122,7 +122,7 @@ wire_fault atoms wires k w = option_map (BadWire k) (fault_of_wire atoms (take k
 abbrev pub early_fault : PlantDefinition → Option SystemFault
 early_fault plant =
     if not (is_within_limits plant) then Some Limit else
-    first_of (first_told (atom_fault plant.atoms) 0 plant.atoms) (first_told tree_fault 0 plant.wires)
+    first_of (first_fault_in (atom_fault plant.atoms) 0 plant.atoms) (first_fault_in tree_fault 0 plant.wires)
 
 -- there are no more interactions than a plant may have
 abbrev pub fault_of_count : ℕ → Option SystemFault
@@ -130,7 +130,7 @@ fault_of_count interactions = if nat_lt MAX_INTERACTIONS interactions then Some 
 
 -- the same of those about wires
 abbrev pub fault_of_wires : PlantDefinition → Option SystemFault
-fault_of_wires plant = first_told (wire_fault plant.atoms plant.wires) 0 plant.wires
+fault_of_wires plant = first_fault_in (wire_fault plant.atoms plant.wires) 0 plant.wires
 
 -- the same of those about wires, and about how many interactions there are
 abbrev pub late_fault : PlantDefinition → Option SystemFault

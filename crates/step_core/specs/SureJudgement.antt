@@ -23,7 +23,7 @@ abbrev pub AreSure : PlantDefinition → List (Option Local) → List Interactio
 AreSure plant parts interactions set = (n : ℕ) → contains set n ≡ is_sure_at plant parts interactions n
 
 -- it is that of the parts of a state of a plant, by the plant's interactions: what is offered and possible is that of the states that
--- the parts show, and what is kept as allowed are the sure ones
+-- the parts show, and what is kept are the sure ones
 pub record IsSureJudgement (plant : PlantDefinition) (interactions : List Interaction) (parts : List (Option Local)) (j : SureJudgement) : Type 0 where
   pub offered : AreOffered plant.atoms (shown_in parts) j.judgement.offers.sets
   pub counted : AreCounted plant.atoms j.judgement.offers.sets j.judgement.offers.counts
@@ -31,7 +31,7 @@ pub record IsSureJudgement (plant : PlantDefinition) (interactions : List Intera
   pub ways : AreWays plant.atoms plant.wires (shown_in parts) interactions j.judgement.ways
   pub seen : AreSeen plant.rules (may_be_marked_in parts) j.judgement.seen
   pub opened : AreOpen plant.atoms parts interactions j.opened
-  pub sure : AreSure plant parts interactions j.judgement.allowed
+  pub sure : AreSure plant parts interactions j.judgement.kept
   pub total : j.judgement.total ≡ length (sure_among plant parts interactions)
 
 -- it is that of parts of which all but some were as they are now, and of these some alone have left or come back

@@ -141,7 +141,7 @@ fn found(
     }
 }
 
-/// The exported variable as an expression; 0 where it is not there.
+/// The exported variable as an expression; 0 if it is not there.
 fn one_found(atoms: &[Atom], ports: &[Port], export: Export) -> Expression<AtomVariable>
     ensures { tree_of result ≡ found (map definition_of atoms.now) ports.now (variable export) }
 {

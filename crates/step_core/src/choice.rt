@@ -92,7 +92,7 @@ fn are_same(one: &[Move], other: &[Move]) -> bool
     one == other
 }
 
-/// The atoms of the moves, in the moves' order, with zeros behind them.
+/// The atoms of the moves, in the moves' order, with zeros after them.
 pub(crate) fn atoms_of(moves: &[Move]) -> [u16; MAX_LEAVES]
     requires { length moves.now ≤ MAX_LEAVES }
     ensures atoms { take (length moves.now) result ≡ map (λ m. m.atom) moves.now }

@@ -17,13 +17,13 @@ ghost use Rattle.step_core.specs.Wire.{wire_of};
 ghost use Rattle.priority_filter.specs.Active.{may_be_marked};
 ghost use Rattle.priority_filter.specs.declared.interaction_set.TheConstants.{ROW_WORDS};
 
-use crate::allowed::PriorityJudge;
 use crate::choice::Choice;
 use crate::enabled_transitions::EnabledTransitions;
 use crate::interaction_numbers::numbers_below;
 use crate::judgement::{Judgement, no_ways};
 use crate::limits::MAX_INTERACTIONS;
 use crate::possible::InteractionJudge;
+use crate::priority_judge::PriorityJudge;
 use crate::sights::see_again;
 use crate::state::PlantState;
 use crate::system::System;
@@ -32,7 +32,7 @@ use priority_filter::{InteractionSet, SEEN_ATOMS, Seen};
 impl System {
     ghost use Rattle.step_core.specs.System.{interactions_in, plant_of};
 
-    /// How many choices the state has; none exactly where no interaction is possible.
+    /// How many choices the state has; none exactly if no interaction is possible.
     pub fn count_allowed(&self, states: &PlantState) -> u128
         requires { IsOf (plant_of self.now) states.now }
         ensures count { result ≡ length (choices (plant_of self.now) states.now) }
@@ -63,14 +63,14 @@ impl System {
         let all = numbers_below(self.interactions.len());
         self.judge_touched(states, &offers, &all, &mut possible, &mut ways);
         let seen = states.seen();
-        let mut allowed = InteractionSet::new();
-        let total = self.allow(states, &offers, &possible, &ways, &seen, &mut allowed);
+        let mut kept = InteractionSet::new();
+        let total = self.allow(states, &offers, &possible, &ways, &seen, &mut kept);
         Judgement {
             offers,
             possible,
             ways,
             seen,
-            allowed,
+            kept,
             total,
         }
     }
@@ -93,14 +93,14 @@ impl System {
         let is_seen_new = see_again(&self.order, states, changed, &mut judgement.seen);
         // Where a number of choices does not fit a word, it is not kept, and nobody knows whether it changed.
         if is_new | is_seen_new | !self.fit_words {
-            judgement.allowed.clear();
+            judgement.kept.clear();
             judgement.total = self.allow(
                 states,
                 &judgement.offers,
                 &judgement.possible,
                 &judgement.ways,
                 &judgement.seen,
-                &mut judgement.allowed,
+                &mut judgement.kept,
             );
         }
     }
@@ -125,7 +125,7 @@ impl System {
         ensures told { (n atom port : ℕ) → n < length (interactions_in self.now) → is_noted self.now.dependents.items n (row_of_port atom port) ≡ true → contains touched.new n ≡ false → count_at judgement.new.offers.counts atom port ≡ count_at judgement.old.offers.counts atom port }
         ensures kept { (n : ℕ) → n < length (interactions_in self.now) → contains touched.new n ≡ false → contains touched.old n ≡ false }
         ensures seen { judgement.new.seen ≡ judgement.old.seen }
-        ensures allowed { judgement.new.allowed ≡ judgement.old.allowed }
+        ensures still_kept { judgement.new.kept ≡ judgement.old.kept }
         ensures total { judgement.new.total ≡ judgement.old.total }
     {
         let words = self.interactions.len().div_ceil(64);
@@ -181,7 +181,7 @@ impl System {
         )
     }
 
-    /// Puts the allowed interactions into the set, where it is empty, and says how many choices these have in all.
+    /// Puts the allowed interactions into the empty set, and says how many choices these have in all.
     fn allow<'x>(
         &'x self,
         states: &'x PlantState,
@@ -204,8 +204,8 @@ impl System {
         self.keep(states, offers, possible, ways, seen, possible, allowed)
     }
 
-    /// Puts the possible interactions that no rival is above, by the rules that count as far as is seen, into the set, where it is
-    /// empty, and says how many choices these have in all.
+    /// Puts the possible interactions that no rival is above, by the rules that count as far as is seen, into the empty set,
+    /// and says how many choices these have in all.
     pub(crate) fn keep<'x>(
         &'x self,
         states: &'x PlantState,
@@ -272,7 +272,7 @@ impl System {
     ) -> Option<Choice>
         requires of_plant { IsOf (plant_of self.now) states.now }
         requires judged { IsOffering (plant_of self.now) (interactions_in self.now) states.now judgement.now }
-        ensures { option_map choice_of result ≡ slice_get (choices_in (plant_of self.now).atoms states.now (interactions_in self.now) (contains judgement.now.allowed)) place }
+        ensures { option_map choice_of result ≡ slice_get (choices_in (plant_of self.now).atoms states.now (interactions_in self.now) (contains judgement.now.kept)) place }
     {
         let mut left = place;
         for at in 0..self.interactions.len().div_ceil(64) {
@@ -285,7 +285,7 @@ impl System {
     }
 
     /// The choice with this place among those of the kept interactions from 64 times `at` on, if it is of one of the first 64 of
-    /// these; else its place among those of the interactions behind them.
+    /// these; else its place among those of the interactions after them.
     fn find_in_word(
         &self,
         states: &PlantState,
@@ -296,11 +296,11 @@ impl System {
         requires of_plant { IsOf (plant_of self.now) states.now }
         requires judged { IsOffering (plant_of self.now) (interactions_in self.now) states.now judgement.now }
         requires at { at < ROW_WORDS }
-        ensures here { IfOk result (λ choice. slice_get (choices_in_from (plant_of self.now).atoms states.now (interactions_in self.now) (contains judgement.now.allowed) (64 * at)) place ≡ Some (choice_of choice)) }
-        ensures behind { IfErr result (λ later. slice_get (choices_in_from (plant_of self.now).atoms states.now (interactions_in self.now) (contains judgement.now.allowed) (64 * at)) place ≡ slice_get (choices_in_from (plant_of self.now).atoms states.now (interactions_in self.now) (contains judgement.now.allowed) (64 * (at + 1))) later) }
+        ensures here { IfOk result (λ choice. slice_get (choices_in_from (plant_of self.now).atoms states.now (interactions_in self.now) (contains judgement.now.kept) (64 * at)) place ≡ Some (choice_of choice)) }
+        ensures later { IfErr result (λ later. slice_get (choices_in_from (plant_of self.now).atoms states.now (interactions_in self.now) (contains judgement.now.kept) (64 * at)) place ≡ slice_get (choices_in_from (plant_of self.now).atoms states.now (interactions_in self.now) (contains judgement.now.kept) (64 * (at + 1))) later) }
     {
         let mut left = place;
-        let mut word = judgement.allowed.word(at);
+        let mut word = judgement.kept.word(at);
         while word != 0 {
             let bit = word.trailing_zeros() as usize;
             let number = 64 * at + bit;

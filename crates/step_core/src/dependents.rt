@@ -70,7 +70,7 @@ fn note_read(rows: &mut [InteractionSet], ports: &[Port], number: u16)
 }
 
 /// Puts the interaction with this number into the rows of the atoms whose states guards of the connector can read: of all its
-/// leaves, where it has a guard.
+/// leaves, if it has a guard.
 fn note_guards(
     rows: &mut [InteractionSet],
     wires: &[Wire],

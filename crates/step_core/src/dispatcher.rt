@@ -1,10 +1,10 @@
 //! A plant that runs while some of its atoms are away.
-ghost use Rattle.std.specs.Prelude.{◌≡◌, ◌<◌, [], false, None, Some, map, length, slice_get, slice_set, is_none};
+ghost use Rattle.std.specs.Prelude.{◌≡◌, ◌<◌, [], false, None, Some, IfSome, map, length, slice_get, slice_set, is_none};
 ghost use Rattle.std.specs.Option.{option_map_or};
 ghost use Rattle.petri_atom.specs.Definition.{AtomDefinition, Fits};
 ghost use Rattle.petri_atom.specs.Local.{Local};
 ghost use Rattle.step_core.specs.Chosen.{choice_of};
-ghost use Rattle.step_core.specs.Delivery.{IsTold};
+ghost use Rattle.step_core.specs.Delivery.{IsDelivered};
 ghost use Rattle.step_core.specs.Dispatching.{AllPresentFit, ArePartsOf, state_at};
 ghost use Rattle.step_core.specs.Fitting.{IsOf, AllFit};
 ghost use Rattle.step_core.specs.Interaction.{interaction_of};
@@ -16,9 +16,11 @@ ghost use Rattle.step_core.specs.System.{plant_of};
 
 use crate::choice::{Choice, atoms_of};
 use crate::jobs::Jobs;
+use crate::laws::sure_choices_stand_in_order;
 use crate::leaving::leave;
 use crate::limits::MAX_ATOMS;
 use crate::parts::PlantParts;
+use crate::places::find;
 use crate::state::PlantState;
 use crate::sure::SureJudgement;
 use crate::system::System;
@@ -111,15 +113,24 @@ impl<'s> Dispatcher<'s> {
             .nth_sure_among(&self.parts, &self.judgement, place)
     }
 
-    /// Fires the sure choice, and tells what it delivered: at the place of each move, what its atom got. All atoms that were away
+    /// The place of the choice in the list of the sure choices, if it is one of them.
+    pub fn find_sure(&self, choice: &Choice) -> Option<u128>
+        ensures there { IfSome result (λ place. slice_get (sure_choices (plant_of (system_of self.now)) (parts_in self.now)) place ≡ Some (choice_of choice.now)) }
+        ensures none { result ≡ None → IsSure (plant_of (system_of self.now)) (parts_in self.now) (choice_of choice.now) → ⊥ }
+    {
+        sure_choices_stand_in_order();
+        find(self, choice)
+    }
+
+    /// Fires the sure choice, and writes what it delivered: at the place of each move, what its atom got. All atoms that were away
     /// stay so.
-    pub fn fire_telling(&mut self, choice: &Choice, told: &mut [Delivered; MAX_LEAVES])
+    pub fn fire_telling(&mut self, choice: &Choice, delivered: &mut [Delivered; MAX_LEAVES])
         requires { IsSure (plant_of (system_of self.old)) (parts_in self.old) (choice_of choice.now) }
         ensures system { system_of self.new ≡ system_of self.old }
         ensures parts { parts_in self.new ≡ went_on (plant_of (system_of self.old)) (parts_in self.old) (choice_of choice.now) }
-        ensures told { IsTold choice.now.moves (transfer (plant_of (system_of self.old)) (shown_in (parts_in self.old)) (choice_of choice.now)) told.new }
+        ensures delivered { IsDelivered choice.now.moves (transfer (plant_of (system_of self.old)) (shown_in (parts_in self.old)) (choice_of choice.now)) delivered.new }
     {
-        self.parts.fire(self.system, choice, told);
+        self.parts.fire(self.system, choice, delivered);
         let moves = choice.moves.as_slice();
         let atoms = atoms_of(moves);
         let changed = &atoms[..moves.len()];

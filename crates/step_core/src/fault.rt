@@ -89,9 +89,9 @@ impl From<AllocError> for SystemFault {
 
 impl From<OrderFault> for SystemFault {
     ghost use Rattle.std.specs.Prelude.{◌≡◌};
-    ghost use Rattle.step_core.specs.OrderFaults.{told_of_order};
+    ghost use Rattle.step_core.specs.OrderFaults.{system_fault_of_order};
 
-    ghost from_gives = { λ fault told. told ≡ told_of_order fault };
+    ghost from_gives = { λ fault told. told ≡ system_fault_of_order fault };
 
     fn from(fault: OrderFault) -> Self {
         match fault {

@@ -2,7 +2,7 @@
 ghost use Rattle.std.specs.Prelude.{◌≡◌};
 ghost use Rattle.step_core.specs.Choice.{IsAllowed};
 ghost use Rattle.step_core.specs.Chosen.{choice_of};
-ghost use Rattle.step_core.specs.Delivery.{IsTold};
+ghost use Rattle.step_core.specs.Delivery.{IsDelivered};
 ghost use Rattle.step_core.specs.Fitting.{IsOf, AllFit};
 ghost use Rattle.step_core.specs.Judgement.{IsJudgement};
 ghost use Rattle.step_core.specs.Step.{next, transfer};
@@ -11,7 +11,7 @@ use crate::choice::{Choice, atoms_of};
 use crate::judgement::Judgement;
 use crate::state::PlantState;
 use crate::system::System;
-use crate::transfers::nothing_at_all;
+use crate::transfers::no_deliveries;
 use connector_tree::MAX_LEAVES;
 use petri_atom::Delivered;
 
@@ -27,11 +27,11 @@ impl System {
         ensures next { states.new ≡ next (plant_of self.now) states.old (choice_of choice.now) }
         ensures fits { AllFit (plant_of self.now) states.old → AllFit (plant_of self.now) states.new }
     {
-        let mut told = nothing_at_all();
-        self.fire(states, choice, &mut told);
+        let mut delivered = no_deliveries();
+        self.fire(states, choice, &mut delivered);
     }
 
-    /// The same, and tells what the choice delivered: at the place of each move, what its atom got.
+    /// The same, and writes what the choice delivered: at the place of each move, what its atom got.
     pub(crate) fn fire(
         &self,
         states: &mut PlantState,
@@ -43,7 +43,7 @@ impl System {
         ensures of_plant { IsOf (plant_of self.now) states.new }
         ensures next { states.new ≡ next (plant_of self.now) states.old (choice_of choice.now) }
         ensures fits { AllFit (plant_of self.now) states.old → AllFit (plant_of self.now) states.new }
-        ensures told { IsTold choice.now.moves (transfer (plant_of self.now) states.old (choice_of choice.now)) delivered.new }
+        ensures delivered { IsDelivered choice.now.moves (transfer (plant_of self.now) states.old (choice_of choice.now)) delivered.new }
     {
         self.deliver(states, choice, delivered);
         let moves = choice.moves.as_slice();
@@ -64,7 +64,7 @@ impl System {
         states: &mut PlantState,
         judgement: &mut Judgement,
         choice: &Choice,
-        told: &mut [Delivered; MAX_LEAVES],
+        delivered: &mut [Delivered; MAX_LEAVES],
     )
         requires of_plant { IsOf (plant_of self.now) states.old }
         requires judged { IsJudgement (plant_of self.now) (interactions_in self.now) states.old judgement.old }
@@ -73,9 +73,9 @@ impl System {
         ensures judged { IsJudgement (plant_of self.now) (interactions_in self.now) states.new judgement.new }
         ensures next { states.new ≡ next (plant_of self.now) states.old (choice_of choice.now) }
         ensures fits { AllFit (plant_of self.now) states.old → AllFit (plant_of self.now) states.new }
-        ensures told { IsTold choice.now.moves (transfer (plant_of self.now) states.old (choice_of choice.now)) told.new }
+        ensures delivered { IsDelivered choice.now.moves (transfer (plant_of self.now) states.old (choice_of choice.now)) delivered.new }
     {
-        self.fire(states, choice, told);
+        self.fire(states, choice, delivered);
         let moves = choice.moves.as_slice();
         let atoms = atoms_of(moves);
         self.judge_again(states, &atoms[..moves.len()], judgement);

@@ -2,7 +2,7 @@
 ghost use Rattle.std.specs.Prelude.{◌≡◌, ◌++◌, ◌==◌, ◌≤◌, map, filter, length, IfOk, OnOk};
 ghost use Rattle.connector_tree.specs.Tree.{tree_of};
 ghost use Rattle.connector_tree.specs.Masks.{chosen, is_set};
-ghost use Rattle.connector_tree.specs.Faults.{fault_of, fault_told};
+ghost use Rattle.connector_tree.specs.Faults.{fault_of, fault_of_result};
 ghost use Rattle.step_core.specs.Choice.{by_atom, interactions_of_connector};
 ghost use Rattle.step_core.specs.Interaction.{interaction_of};
 
@@ -19,7 +19,7 @@ pub fn connector_interactions(
     connector: &Connector,
 ) -> Result<Vec<Interaction>, TreeFault>
     ensures list { IfOk result (λ all. map interaction_of all.items ≡ interactions_of_connector atoms number (tree_of connector.now)) }
-    ensures fault { fault_told result ≡ fault_of (tree_of connector.now) }
+    ensures fault { fault_of_result result ≡ fault_of (tree_of connector.now) }
 {
     let masks = connector_tree::interactions(alloc, connector)?;
     let leaves = connector_tree::leaves(alloc, connector)?;

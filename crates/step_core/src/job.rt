@@ -22,15 +22,10 @@ pub struct Job<'s> {
 /// the state before.
 #[derive(Drop)]
 pub struct Done<'s> {
-    definition: &'s Atom,
-    atom: u16,
-    count: u64,
-    transition: u16,
-    delivered: Delivered,
-    before: AtomState,
+    job: Job<'s>,
     after: AtomState,
-    ghost fired: { after ≡ fired (definition_of definition.now) transition delivered before },
-    ghost fits: { Fits (definition_of definition.now) after },
+    ghost fired: { after ≡ fired (definition_of job.definition.now) job.transition job.delivered job.state },
+    ghost fits: { Fits (definition_of job.definition.now) after },
 }
 
 impl<'s> Job<'s> {
@@ -127,23 +122,31 @@ impl<'s> Job<'s> {
     pub fn is_done(&self, done: &Done<'_>) -> bool
         ensures { IsTrue result ↔ (job_of self.now ≡ job_done done.now) }
     {
-        self.has_fields_of(done) && self.definition.same(done.definition)
+        self.has_fields_of(&done.job) && self.definition.same(done.job.definition)
     }
 
-    /// The same but for the definition.
-    fn has_fields_of(&self, done: &Done<'_>) -> bool
-        ensures { IsTrue result ↔ HasFieldsOf (job_of self.now) (job_done done.now) }
+    /// Whether two jobs are the same but for the definition.
+    fn has_fields_of(&self, other: &Job<'_>) -> bool
+        ensures { IsTrue result ↔ HasFieldsOf (job_of self.now) (job_of other.now) }
     {
-        (self.atom == done.atom)
-            & (self.count == done.count)
-            & (self.transition == done.transition)
-            & (self.delivered.row() == done.delivered.row())
-            & self.state.same(&done.before)
+        (self.atom == other.atom)
+            & (self.count == other.count)
+            & (self.transition == other.transition)
+            & (self.delivered.row() == other.delivered.row())
+            & self.state.same(&other.state)
     }
 
-    /// The state that the job leaves, computed on a copy.
+    /// The state that the job leaves.
     pub fn end(&self) -> AtomState
         ensures { result ≡ worked (job_of self.now) }
+    {
+        self.worked()
+    }
+
+    /// The state that the job leaves: the transition fires on a copy. It cannot fail, and takes no memory.
+    fn worked(&self) -> AtomState
+        ensures state { result ≡ worked (job_of self.now) }
+        ensures fits { Fits (job_of self.now).definition result }
     {
         let mut after = self.state.copy();
         self.definition
@@ -151,29 +154,12 @@ impl<'s> Job<'s> {
         after
     }
 
-    /// Fires the transition on a copy of the state. It cannot fail, and takes no memory.
+    /// The job, done. It cannot fail, and takes no memory.
     pub(crate) fn fire(self) -> Done<'s>
         ensures { job_done result ≡ job_of self.entry }
     {
-        let Job {
-            definition,
-            atom,
-            count,
-            transition,
-            delivered,
-            state,
-        } = self;
-        let mut after = state.copy();
-        definition.apply(&mut after, transition, &delivered);
-        Done {
-            definition,
-            atom,
-            count,
-            transition,
-            delivered,
-            before: state,
-            after,
-        }
+        let after = self.worked();
+        Done { job: self, after }
     }
 }
 
@@ -184,42 +170,42 @@ impl<'s> Done<'s> {
     pub fn definition(&self) -> &'s Atom
         ensures { definition_of result.now ≡ (job_done self.now).definition }
     {
-        self.definition
+        self.job.definition
     }
 
     /// The number of the atom.
     pub fn atom(&self) -> u16
         ensures { result ≡ (job_done self.now).atom }
     {
-        self.atom
+        self.job.atom
     }
 
     /// The count that went along.
     pub fn count(&self) -> u64
         ensures { result ≡ (job_done self.now).count }
     {
-        self.count
+        self.job.count
     }
 
     /// The transition that the atom fired.
     pub fn transition(&self) -> u16
         ensures { result ≡ (job_done self.now).transition }
     {
-        self.transition
+        self.job.transition
     }
 
     /// What was delivered to the atom.
     pub fn delivered(&self) -> Delivered
         ensures { result ≡ (job_done self.now).delivered }
     {
-        self.delivered
+        self.job.delivered
     }
 
     /// The state of the atom when it left.
     pub fn before(&self) -> &AtomState
         ensures { result.now ≡ (job_done self.now).state }
     {
-        &self.before
+        &self.job.state
     }
 
     /// The state that the job left.

@@ -39,7 +39,7 @@ impl<'s> Jobs<'s> {
         self.queue.take()
     }
 
-    /// Puts a job behind all others, at this place.
+    /// Puts a job after all others, at this place.
     pub(crate) fn put(&mut self, place: usize, job: Job<'s>)
         requires place { place < MAX_LEAVES }
         requires room { IsRoomFrom place self.old }

@@ -6,15 +6,15 @@ use crate::limits::MAX_INTERACTIONS;
 use priority_filter::{InteractionSet, SEEN_ATOMS, Seen};
 
 /// What a state of a plant offers: what each atom offers, the possible interactions, for each of these how many choices it has
-/// where no priority forbids it, if that fits a word, what is seen of the atoms for the conditions of priority rules, the allowed
-/// interactions, and how many choices these have in all. It is of fixed size and takes no memory.
+/// if no priority forbids it, as far as that fits a word, what is seen of the atoms for the conditions of priority rules, the
+/// interactions that are kept, which no rival is above, and how many choices these have in all. It is of fixed size and takes no memory.
 #[derive(Drop)]
 pub(crate) struct Judgement {
     pub(crate) offers: EnabledTransitions,
     pub(crate) possible: InteractionSet,
     pub(crate) ways: [u64; MAX_INTERACTIONS],
     pub(crate) seen: [Seen; SEEN_ATOMS],
-    pub(crate) allowed: InteractionSet,
+    pub(crate) kept: InteractionSet,
     pub(crate) total: u128,
 }
 

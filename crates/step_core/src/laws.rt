@@ -41,13 +41,13 @@ pub fn an_allowed_choice_is_in_range()
         → IsAllowed plant states c → IsInRange plant c }
 {}
 
-/// A choice is allowed exactly where it takes up an interaction of the plant that is possible, with an offered transition of each of
+/// A choice is allowed exactly if it takes up an interaction of the plant that is possible, with an offered transition of each of
 /// that one's ports in rising order of their atoms, and no possible interaction is above it.
 pub fn what_an_allowed_choice_is()
     ensures { (plant : PlantDefinition) (states : List Local) (c : ChoiceDefinition) → IsAllowed plant states c ↔ IsChoiceOf plant states c }
 {}
 
-/// Priorities lose no choice: a state has none exactly where no interaction is possible, whichever rules count in it.
+/// Priorities lose no choice: a state has none exactly if no interaction is possible, whichever rules count in it.
 pub fn priorities_lose_no_choice()
     ensures { (plant : PlantDefinition) (states : List Local) → fault_of plant ≡ None
         → (length (choices plant states) ≡ 0) ↔ IsStuck plant states }
@@ -59,6 +59,11 @@ pub fn choices_stand_in_order()
     ensures order { (plant : PlantDefinition) (states : List Local) → AllPairs IsBefore (choices plant states) }
     ensures once { (plant : PlantDefinition) (states : List Local) (i j : ℕ) (c : ChoiceDefinition)
         → slice_get (choices plant states) i ≡ Some c → slice_get (choices plant states) j ≡ Some c → i ≡ j }
+{}
+
+/// So do the sure choices while atoms are away.
+pub fn sure_choices_stand_in_order()
+    ensures { (plant : PlantDefinition) (parts : List (Option Local)) → AllPairs IsBefore (sure_choices plant parts) }
 {}
 
 /// The state after a choice, atom by atom: a participant has fired its transition, with what the choice delivers to it, and every
@@ -99,8 +104,8 @@ pub fn runs_append()
         → IsRun plant start xs (fold plant start xs) × IsRun plant (fold plant start xs) ys end }
 {}
 
-/// Each state on a run of a plant of well-formed atoms is one of the plant and fits it, where the first one is and does: the last one,
-/// and the one behind each front of the choices.
+/// Each state on a run of a plant of well-formed atoms is one of the plant and fits it, if the first one is and does: the last one,
+/// and the one after each front of the choices.
 pub fn each_state_on_a_run_fits()
     ensures end { (plant : PlantDefinition) (start end : List Local) (cs : List ChoiceDefinition)
         → list_all is_well_formed plant.atoms ≡ true → IsOf plant start → AllFit plant start
@@ -121,7 +126,7 @@ pub fn with_none_away_sure_is_allowed()
     ensures { (plant : PlantDefinition) (states : List Local) → sure_choices plant (map Some states) ≡ choices plant states }
 {}
 
-/// A choice is sure exactly where it takes up an interaction whose participants are all present and that is possible, with an offered
+/// A choice is sure exactly if it takes up an interaction whose participants are all present and that is possible, with an offered
 /// transition of each of that one's ports in rising order of their atoms, and each interaction above it, by the rules that count or
 /// may, is ruled out.
 pub fn what_a_sure_choice_is()

@@ -12,7 +12,7 @@ use crate::jobs::Jobs;
 use crate::limits::MAX_ATOMS;
 use crate::parts::PlantParts;
 use crate::system::System;
-use crate::transfers::nothing_at_all;
+use crate::transfers::no_deliveries;
 
 /// Takes the states of a sure choice's participants out of the parts, each into a job with what the choice delivers to it on the
 /// values from before, and with its count of these.
@@ -30,8 +30,8 @@ pub(crate) fn leave<'s>(
     ensures parts { parts.new ≡ left_by parts.old choice.now.moves }
     ensures jobs { AreJobsOf (plant_of system.now) parts.old (choice_of choice.now) counts.now choice.now.moves (jobs_of jobs.new) }
 {
-    let mut told = nothing_at_all();
-    system.deliver(parts.shown(), choice, &mut told);
+    let mut delivered = no_deliveries();
+    system.deliver(parts.shown(), choice, &mut delivered);
     let moves = choice.moves.as_slice();
     for place in 0..moves.len() {
         let step = moves[place];
@@ -42,7 +42,7 @@ pub(crate) fn leave<'s>(
             step.atom,
             counts[number],
             step.transition,
-            told[place],
+            delivered[place],
             state,
         );
         jobs.put(place, job);

@@ -3,7 +3,7 @@ ghost use Rattle.std.specs.Prelude.{◌≡◌, ◌<◌, ◌≤◌, true, false, 
 ghost use Rattle.std.specs.List.{list_all};
 ghost use Rattle.std.specs.Option.{option_map_or};
 ghost use Rattle.step_core.specs.Chosen.{choice_of};
-ghost use Rattle.step_core.specs.Delivery.{IsTold};
+ghost use Rattle.step_core.specs.Delivery.{IsDelivered};
 ghost use Rattle.step_core.specs.Dispatching.{AllPresentFit, ArePartsOf, state_at};
 ghost use Rattle.step_core.specs.Parts.{is_present, shown_in};
 ghost use Rattle.step_core.specs.Step.{transfer};
@@ -107,19 +107,19 @@ impl PlantParts {
         self.away &= !(1 << atom);
     }
 
-    /// Fires a sure choice, and tells what it delivered: at the place of each move, what its atom got.
+    /// Fires a sure choice, and writes what it delivered: at the place of each move, what its atom got.
     pub(crate) fn fire(
         &mut self,
         system: &System,
         choice: &Choice,
-        told: &mut [Delivered; MAX_LEAVES],
+        delivered: &mut [Delivered; MAX_LEAVES],
     )
         requires of_plant { ArePartsOf (plant_of system.now) self.old }
         requires sure { IsSure (plant_of system.now) self.old (choice_of choice.now) }
         ensures parts { self.new ≡ went_on (plant_of system.now) self.old (choice_of choice.now) }
         ensures fits { AllPresentFit (plant_of system.now) self.old → AllPresentFit (plant_of system.now) self.new }
-        ensures told { IsTold choice.now.moves (transfer (plant_of system.now) (shown_in self.old) (choice_of choice.now)) told.new }
+        ensures delivered { IsDelivered choice.now.moves (transfer (plant_of system.now) (shown_in self.old) (choice_of choice.now)) delivered.new }
     {
-        system.fire(&mut self.states, choice, told);
+        system.fire(&mut self.states, choice, delivered);
     }
 }

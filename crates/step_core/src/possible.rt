@@ -115,7 +115,7 @@ impl InteractionJudge<'_> {
         u128::from(self.row_count(&ports[..middle])) * u128::from(self.row_count(&ports[middle..]))
     }
 
-    /// What is kept of how many rows there are: the number, where it fits a word; else 1 where there is a row, and 0 where there is none.
+    /// What is kept of how many rows there are: the number, if it fits a word; else 1 if there is a row, and 0 if there is none.
     fn kept_count(&self, ports: &[Port]) -> u64
         requires { length ports.now ≤ MAX_LEAVES }
         ensures none { (result ≡ 0) ↔ (length (combinations (map (moves_of (judged_atoms self.now) self.now.states.now) ports.now)) ≡ 0) }
@@ -128,7 +128,7 @@ impl InteractionJudge<'_> {
         }
     }
 
-    /// How many choices the interaction with this number has, which is possible. The row has this where it fits a word, and where each
+    /// How many choices the interaction with this number has, which is possible. The row has this if it fits a word, and if each
     /// fits one nothing else is looked at.
     pub(crate) fn ways_of(
         &self,
@@ -248,15 +248,15 @@ impl InteractionJudge<'_> {
         while left != 0 {
             let bit = left.trailing_zeros() as usize;
             left &= !(1 << bit);
-            let told = self.judge_one(interactions, rows, place, bit, possible, ways);
-            left &= !told.ruled_out;
-            changed |= told.is_new;
+            let verdict = self.judge_one(interactions, rows, place, bit, possible, ways);
+            left &= !verdict.ruled_out;
+            changed |= verdict.is_new;
         }
         changed | (possible.word(place) != before)
     }
 
     /// Judges one of the 64 interactions from 64 times the place on, which the set does not have yet, if the list has it: its
-    /// ports, and its guards where each port can move.
+    /// ports, and its guards if each port can move.
     fn judge_one(
         &self,
         interactions: &[Interaction],
@@ -318,7 +318,7 @@ impl InteractionJudge<'_> {
     }
 }
 
-/// What judging an interaction told.
+/// What is found of an interaction that is judged.
 #[derive(Drop)]
 struct Verdict {
     /// Some interactions of the same 64 that are not possible.

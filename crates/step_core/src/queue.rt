@@ -1,4 +1,4 @@
-//! A row of places, in which items stand behind one another.
+//! A row of places, in which items stand one after another.
 ghost use Rattle.std.specs.Prelude.{◌≡◌, ◌<◌, ◌+◌, ◌++◌, ◌∷◌, [], None, option_map, slice_get, slice_index_or, slice_set, drop};
 ghost use Rattle.connector_tree.specs.declared.tree.TheConstants.{MAX_LEAVES};
 
@@ -19,10 +19,7 @@ impl<T> Queue<T> {
         ensures { items_in result ≡ [] }
     {
         Queue {
-            places: [
-                None, None, None, None, None, None, None, None, None, None, None, None, None, None,
-                None, None,
-            ],
+            places: [const { None }; MAX_LEAVES],
         }
     }
 

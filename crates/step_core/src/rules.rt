@@ -7,7 +7,7 @@ ghost use Rattle.step_core.specs.declared.limits.TheConstants.{MAX_ATOMS, MAX_WI
 ghost use Rattle.petri_atom.specs.Atom.{definition_of};
 ghost use Rattle.petri_atom.specs.Name.{is_same_text};
 ghost use Rattle.step_core.specs.Made.{plant_by};
-ghost use Rattle.step_core.specs.Rules.{are_small_guards, are_small_transfers, is_small_wire, is_known_place, is_known_condition, are_rules_over, is_within_limits, first_told, atom_fault, tree_fault, early_fault};
+ghost use Rattle.step_core.specs.Rules.{are_small_guards, are_small_transfers, is_small_wire, is_known_place, is_known_condition, are_rules_over, is_within_limits, first_fault_in, atom_fault, tree_fault, early_fault};
 ghost use Rattle.step_core.specs.Wire.{wire_of, transfer_of};
 
 use crate::fault::SystemFault;
@@ -119,7 +119,7 @@ fn have_small_values(transfers: &[Transfer]) -> bool
 /// The first atom that has the name of an earlier one.
 fn fault_of_atoms(atoms: &[Atom]) -> Option<SystemFault>
     requires { length atoms.now ≤ MAX_ATOMS }
-    ensures { result ≡ first_told (atom_fault (map definition_of atoms.now)) 0 (map definition_of atoms.now) }
+    ensures { result ≡ first_fault_in (atom_fault (map definition_of atoms.now)) 0 (map definition_of atoms.now) }
 {
     for (number, atom) in atoms.iter().enumerate() {
         if let Some(fault) = atom_fault(atoms, number, atom) {
@@ -129,7 +129,7 @@ fn fault_of_atoms(atoms: &[Atom]) -> Option<SystemFault>
     None
 }
 
-/// The fault of the atom with the number, where an earlier one has its name.
+/// The fault of the atom with the number, if an earlier one has its name.
 fn atom_fault(atoms: &[Atom], number: usize, atom: &Atom) -> Option<SystemFault>
     requires limit { number < MAX_ATOMS }
     requires there { number < length atoms.now }
@@ -152,7 +152,7 @@ fn has_name(atoms: &[Atom], name: &Name) -> bool
 /// The first connector whose tree breaks a rule.
 fn fault_of_trees(wires: &[Wire]) -> Option<SystemFault>
     requires { length wires.now ≤ MAX_WIRES }
-    ensures { result ≡ first_told tree_fault 0 (map wire_of wires.now) }
+    ensures { result ≡ first_fault_in tree_fault 0 (map wire_of wires.now) }
 {
     for (number, wire) in wires.iter().enumerate() {
         if let Some(fault) = connector_tree::first_fault(&wire.connector) {

@@ -1,4 +1,4 @@
-//! What is seen of a plant's atoms, for the conditions of priority rules: seen once, and again behind a step.
+//! What is seen of a plant's atoms, for the conditions of priority rules: seen once, and again after a step.
 ghost use Rattle.std.specs.Prelude.{◌≡◌, ◌≢◌, ◌<◌, ◌≤◌, Bool, true, false, length};
 ghost use Rattle.priority_filter.specs.Active.{AskAlike, may_be_marked};
 ghost use Rattle.priority_filter.specs.Members.{has_bit};

@@ -1,9 +1,9 @@
 //! A plant that runs: its present state, with what that state offers, judged once.
-ghost use Rattle.std.specs.Prelude.{◌≡◌, ◌↔◌, ◌<◌, Some, IfOk, map, length, slice_get, slice_set};
+ghost use Rattle.std.specs.Prelude.{◌≡◌, ◌↔◌, ◌<◌, None, Some, IfOk, IfSome, map, length, slice_get, slice_set};
 ghost use Rattle.petri_atom.specs.Definition.{AtomDefinition, Fits};
 ghost use Rattle.step_core.specs.Choice.{choices, IsAllowed, IsStuck};
 ghost use Rattle.step_core.specs.Chosen.{choice_of};
-ghost use Rattle.step_core.specs.Delivery.{IsTold};
+ghost use Rattle.step_core.specs.Delivery.{IsDelivered};
 ghost use Rattle.step_core.specs.Fitting.{IsOf, AllFit};
 ghost use Rattle.step_core.specs.Interaction.{interaction_of};
 ghost use Rattle.step_core.specs.Judgement.{IsJudgement};
@@ -12,9 +12,11 @@ ghost use Rattle.step_core.specs.System.{plant_of};
 
 use crate::choice::Choice;
 use crate::judgement::Judgement;
+use crate::laws::choices_stand_in_order;
+use crate::places::find;
 use crate::state::PlantState;
 use crate::system::System;
-use crate::transfers::nothing_at_all;
+use crate::transfers::no_deliveries;
 use connector_tree::MAX_LEAVES;
 use petri_atom::{AtomState, Delivered};
 use std::alloc::{AllocError, Global};
@@ -32,7 +34,7 @@ pub struct Stepper<'s> {
     states: PlantState,
     judgement: Judgement,
     /// What a firing delivers that nobody asks for: room that is made once.
-    told: [Delivered; MAX_LEAVES],
+    delivered: [Delivered; MAX_LEAVES],
     ghost of_plant: { IsOf (plant_of system.now) states },
     ghost fits: { AllFit (plant_of system.now) states },
     ghost judged: { IsJudgement (plant_of system.now) (map interaction_of system.now.interactions.items) states judgement },
@@ -65,7 +67,7 @@ impl<'s> Stepper<'s> {
             system,
             states,
             judgement,
-            told: nothing_at_all(),
+            delivered: no_deliveries(),
         }
     }
 
@@ -109,7 +111,7 @@ impl<'s> Stepper<'s> {
             .judge_again(&self.states, &[atom], &mut self.judgement);
     }
 
-    /// How many choices the present state has; none exactly where no interaction is possible.
+    /// How many choices the present state has; none exactly if no interaction is possible.
     pub fn count(&self) -> u128
         ensures count { result ≡ length (choices (plant_in self.now) (states_in self.now)) }
         ensures stuck { (result ≡ 0) ↔ IsStuck (plant_in self.now) (states_in self.now) }
@@ -126,6 +128,15 @@ impl<'s> Stepper<'s> {
         self.system.nth_among(&self.states, &self.judgement, place)
     }
 
+    /// The place of the choice in the list of the present state's choices, if it is one of them.
+    pub fn find(&self, choice: &Choice) -> Option<u128>
+        ensures there { IfSome result (λ place. slice_get (choices (plant_in self.now) (states_in self.now)) place ≡ Some (choice_of choice.now)) }
+        ensures none { result ≡ None → IsAllowed (plant_in self.now) (states_in self.now) (choice_of choice.now) → ⊥ }
+    {
+        choices_stand_in_order();
+        find(self, choice)
+    }
+
     /// Fires the choice: the present state becomes the next one. What is offered is judged again for the atoms that moved, and
     /// what is possible for the interactions that this can change.
     pub fn fire(&mut self, choice: &Choice)
@@ -139,20 +150,20 @@ impl<'s> Stepper<'s> {
             &mut self.states,
             &mut self.judgement,
             choice,
-            &mut self.told,
+            &mut self.delivered,
         );
     }
 
-    /// Fires the choice as [`Stepper::fire`] does, and tells what it delivered: at the place of each move, what its atom got.
-    pub fn fire_telling(&mut self, choice: &Choice, told: &mut [Delivered; MAX_LEAVES])
+    /// Fires the choice as [`Stepper::fire`] does, and writes what it delivered: at the place of each move, what its atom got.
+    pub fn fire_telling(&mut self, choice: &Choice, delivered: &mut [Delivered; MAX_LEAVES])
         requires { IsAllowed (plant_in self.old) (states_in self.old) (choice_of choice.now) }
         ensures system { system_in self.new ≡ system_in self.old }
         ensures plant { plant_in self.new ≡ plant_in self.old }
         ensures next { states_in self.new ≡ next (plant_in self.old) (states_in self.old) (choice_of choice.now) }
         ensures fits { AllFit (plant_in self.new) (states_in self.new) }
-        ensures told { IsTold choice.now.moves (transfer (plant_in self.old) (states_in self.old) (choice_of choice.now)) told.new }
+        ensures delivered { IsDelivered choice.now.moves (transfer (plant_in self.old) (states_in self.old) (choice_of choice.now)) delivered.new }
     {
         self.system
-            .step(&mut self.states, &mut self.judgement, choice, told);
+            .step(&mut self.states, &mut self.judgement, choice, delivered);
     }
 }

@@ -30,9 +30,8 @@ use crate::state::PlantState;
 use crate::system::System;
 use priority_filter::{InteractionSet, SEEN_ATOMS, Seen};
 
-/// What is sure while atoms are away. It keeps what the states that the parts show offer, with the sure interactions in the place
-/// of the allowed ones, and beside it which interactions are open: a participant is away, and each port of one that is present is
-/// offered. It is of fixed size and takes no memory.
+/// What is sure while atoms are away. It has what the states that the parts show offer, of which the sure interactions are kept, and
+/// beside it which interactions are open: a participant is away, and each port of one that is present is offered. It is of fixed size and takes no memory.
 #[derive(Drop)]
 pub(crate) struct SureJudgement {
     pub(crate) judgement: Judgement,
@@ -85,7 +84,7 @@ impl System {
             &mut judgement.opened,
         );
         if is_new | is_seen_new | is_open_new | !self.fit_words {
-            judgement.judgement.allowed.clear();
+            judgement.judgement.kept.clear();
             judgement.judgement.total = self.keep_sure(
                 parts,
                 &judgement.judgement.offers,
@@ -93,7 +92,7 @@ impl System {
                 &judgement.judgement.ways,
                 &judgement.judgement.seen,
                 &judgement.opened,
-                &mut judgement.judgement.allowed,
+                &mut judgement.judgement.kept,
             );
         }
     }
@@ -151,7 +150,7 @@ impl System {
         judge.judge_touched(&self.interactions, touched, opened)
     }
 
-    /// Puts the sure interactions into the set, where it is empty, and says how many choices these have in all. Rivals are those that
+    /// Puts the sure interactions into the empty set, and says how many choices these have in all. Rivals are those that
     /// are possible or open.
     fn keep_sure<'x>(
         &'x self,

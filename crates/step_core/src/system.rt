@@ -120,7 +120,7 @@ impl System {
         &self.wires
     }
 
-    /// The name of the connector with this number; empty where it is not there.
+    /// The name of the connector with this number; empty if it is not there.
     pub fn wire_name(&self, connector: u16) -> &[u8]
         ensures { result.now ≡ wire_name (plant_of self.now) connector }
     {
@@ -192,7 +192,7 @@ fn order_of(
 }
 
 /// The interactions as priority rules name them: each by its connector and its mask.
-fn names_of(alloc: Global, interactions: &[Interaction]) -> Result<Vec<(u16, u16)>, AllocError>
+pub fn names_of(alloc: Global, interactions: &[Interaction]) -> Result<Vec<(u16, u16)>, AllocError>
     ensures { IfOk result (λ names. names.items ≡ map named (map interaction_of interactions.now)) }
 {
     let mut names = Vec::with_capacity(alloc, interactions.len())?;

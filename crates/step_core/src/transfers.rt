@@ -4,7 +4,7 @@ ghost use Rattle.std.specs.Option.{option_map_or};
 ghost use Rattle.petri_atom.specs.Expression.{tree_of, value_of};
 ghost use Rattle.connector_tree.specs.declared.tree.TheConstants.{MAX_LEAVES};
 ghost use Rattle.step_core.specs.Chosen.{choice_of};
-ghost use Rattle.step_core.specs.Delivery.{AreApart, AreDelivered, IsGiven, IsTold};
+ghost use Rattle.step_core.specs.Delivery.{AreApart, AreDelivered, IsGiven, IsDelivered};
 ghost use Rattle.step_core.specs.Fitting.{IsOf};
 ghost use Rattle.step_core.specs.BoundExpressions.{value_there, delivery_of, has_all, is_for, value_for, given_for};
 ghost use Rattle.step_core.specs.Step.{transfer, nothing_delivered};
@@ -14,7 +14,7 @@ use crate::choice::{Choice, Move};
 use crate::state::PlantState;
 use crate::system::System;
 use connector_tree::{MAX_LEAVES, Mask};
-use petri_atom::Delivered;
+use petri_atom::{Delivered, MAX_EXPORTS};
 
 impl System {
     ghost use Rattle.step_core.specs.System.{plant_of};
@@ -27,7 +27,7 @@ impl System {
         let mask = choice.mask;
         match self.bound.get(usize::from(choice.connector)) {
             Some(bound) => given_for(&bound.deliveries, states, mask, atom),
-            None => Delivered::of([None, None, None, None]),
+            None => nothing_delivered(),
         }
     }
 
@@ -55,14 +55,14 @@ impl System {
 /// Puts that nothing is delivered at the places of the moves.
 fn deliver_nothing(moves: &[Move], delivered: &mut [Delivered; MAX_LEAVES])
     requires { length moves.now ≤ MAX_LEAVES }
-    ensures { IsTold moves.now (λ _. nothing_delivered) delivered.new }
+    ensures { IsDelivered moves.now (λ _. nothing_delivered) delivered.new }
 {
     for place in 0..moves.len() {
-        delivered[place] = Delivered::of([None, None, None, None]);
+        delivered[place] = nothing_delivered();
     }
 }
 
-/// Puts what the deliveries that apply give to the atoms of the moves at the places of the moves, where nothing is delivered yet.
+/// Puts what the deliveries that apply give to the atoms of the moves at the places of the moves, at which nothing is delivered yet.
 fn deliver_all(
     deliveries: &[Delivery],
     states: &PlantState,
@@ -72,7 +72,7 @@ fn deliver_all(
 )
     requires few { length moves.now ≤ MAX_LEAVES }
     requires apart { AreApart moves.now }
-    requires nothing { IsTold moves.now (λ _. nothing_delivered) delivered.old }
+    requires nothing { IsDelivered moves.now (λ _. nothing_delivered) delivered.old }
     ensures { AreDelivered moves.now (given_for states.now (map delivery_of deliveries.now) mask) delivered.new }
 {
     for delivery in deliveries {
@@ -150,11 +150,18 @@ impl Delivery {
     }
 }
 
+/// Nothing delivered.
+pub fn nothing_delivered() -> Delivered
+    ensures { result ≡ nothing_delivered }
+{
+    Delivered::of([None; MAX_EXPORTS])
+}
+
 /// Nothing delivered, at each place.
-pub(crate) fn nothing_at_all() -> [Delivered; MAX_LEAVES]
+pub fn no_deliveries() -> [Delivered; MAX_LEAVES]
     ensures { result ≡ replicate MAX_LEAVES nothing_delivered }
 {
-    [Delivered::of([None, None, None, None]); MAX_LEAVES]
+    [nothing_delivered(); MAX_LEAVES]
 }
 
 /// Gives the atom's exported variable the value at the place of the atom's move, unless it has one there. The move is looked for

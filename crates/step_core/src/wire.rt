@@ -16,7 +16,7 @@ pub struct Transfer {
     pub value: Expression<Export>,
 }
 
-/// A connector with its name, its guard clauses and its transfers. A clause or a transfer applies where each leaf that it names
+/// A connector with its name, its guard clauses and its transfers. A clause or a transfer applies if each leaf that it names
 /// takes part; both are judged on the values from before the firing.
 #[derive(Drop)]
 pub struct Wire {

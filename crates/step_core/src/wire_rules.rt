@@ -6,7 +6,7 @@ ghost use Rattle.petri_atom.specs.Definition.{is_each_once};
 ghost use Rattle.petri_atom.specs.Expression.{tree_of, all_variables};
 ghost use Rattle.petri_atom.specs.Name.{is_same_text};
 ghost use Rattle.connector_tree.specs.Tree.{leaves};
-ghost use Rattle.step_core.specs.Rules.{first_told, tree_fault, is_known_port, is_known_export, is_exported, names_known, is_same_export, first_broken, fault_of_wire, wire_fault};
+ghost use Rattle.step_core.specs.Rules.{first_fault_in, tree_fault, is_known_port, is_known_export, is_exported, names_known, is_same_export, first_broken, fault_of_wire, wire_fault};
 ghost use Rattle.step_core.specs.Wire.{wire_of, transfer_of};
 ghost use Rattle.step_core.specs.declared.limits.TheConstants.{MAX_WIRES};
 
@@ -18,8 +18,8 @@ use petri_atom::{Atom, Expression, Name, VariableTest};
 /// The first wire that breaks a rule of those that are not about its tree alone. It takes no memory.
 pub(crate) fn fault_of_wires(atoms: &[Atom], wires: &[Wire]) -> Option<SystemFault>
     requires few { length wires.now ≤ MAX_WIRES }
-    requires trees { first_told tree_fault 0 (map wire_of wires.now) ≡ None }
-    ensures { result ≡ first_told (wire_fault (map definition_of atoms.now) (map wire_of wires.now)) 0 (map wire_of wires.now) }
+    requires trees { first_fault_in tree_fault 0 (map wire_of wires.now) ≡ None }
+    ensures { result ≡ first_fault_in (wire_fault (map definition_of atoms.now) (map wire_of wires.now)) 0 (map wire_of wires.now) }
 {
     for (number, wire) in wires.iter().enumerate() {
         let row = LeafRow::of(&wire.connector);

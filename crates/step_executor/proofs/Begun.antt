@@ -14,7 +14,7 @@ use Rattle.step_core.specs.Step.{transfer}
 use Rattle.step_core.specs.Sure.{IsSure}
 use Rattle.step_core.specs.declared.choice.Move.{Move}
 use Rattle.step_core.proofs.Membership.{entry-in}
-use Rattle.step_executor.specs.Outstanding.{AreKept, job_by, jobs_behind, put_all, whole_of}
+use Rattle.step_executor.specs.Outstanding.{AreKept, job_by, jobs_after, put_all, whole_of}
 use Rattle.step_executor.proofs.Going.{delivers, job-at, participant-state}
 use Rattle.step_executor.proofs.OneByOne.{past-of-none, put-behind}
 
@@ -34,7 +34,7 @@ module _ (plant : PlantDefinition) (jobs : List (Option JobDefinition)) (parts :
       ap (λ row. Some (record { definition = job.definition; atom = job.atom; count = job.count; transition = job.transition; delivered = row; state = who.1 })) (sym (delivers plant jobs parts kept c sure m.atom) ∙ sym its.delivered) ∙
       ap (λ (t : Local). Some (record { definition = job.definition; atom = job.atom; count = job.count; transition = job.transition; delivered = job.delivered; state = t })) s
 
-  pub put-are : put_all c.moves made jobs ≡ jobs_behind plant (whole_of jobs parts) counts c c.moves jobs
+  pub put-are : put_all c.moves made jobs ≡ jobs_after plant (whole_of jobs parts) counts c c.moves jobs
   put-are = put-behind plant (whole_of jobs parts) counts c c.moves made jobs are.as_many job-is
 
   -- what is delivered is told

@@ -12,7 +12,7 @@ use Rattle.step_core.specs.Plant.{PlantDefinition}
 use Rattle.step_core.specs.Sure.{has_move}
 use Rattle.step_core.specs.declared.choice.Move.{Move}
 use Rattle.step_core.proofs.Membership.{here, later}
-use Rattle.step_executor.specs.Outstanding.{is_out, job_by, jobs_behind}
+use Rattle.step_executor.specs.Outstanding.{is_out, job_by, jobs_after}
 
 -- a job that is put at a number is there, where there is such a place, and at no other
 pub put-out : (jobs : List (Option JobDefinition)) (k : ℕ) (o : Option JobDefinition) (n : ℕ) → k < length jobs → is_some o ≡ true → is_out (set jobs k o) n ≡ (is_out jobs n || (k == n))
@@ -23,7 +23,7 @@ put-out jobs k o n within there = ⊎_elim
 
 module _ (plant : PlantDefinition) (states : List Local) (counts : List ℕ) (c : ChoiceDefinition) where
   abbrev behind : List Move → List (Option JobDefinition) → List (Option JobDefinition)
-  behind = jobs_behind plant states counts c
+  behind = jobs_after plant states counts c
 
   pub length-behind : (ms : List Move) (jobs : List (Option JobDefinition)) → length (behind ms jobs) ≡ length jobs
   length-behind [] jobs = refl

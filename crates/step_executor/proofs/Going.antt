@@ -23,8 +23,8 @@ use Rattle.step_core.proofs.OnRuns.{fold-fits}
 use Rattle.step_core.proofs.PartsKept.{set-here, set-other}
 use Rattle.step_core.proofs.Present.{participant}
 use Rattle.step_core.proofs.Stepping.{length-stepped}
-use Rattle.step_core.proofs.Surely.{delivered-same, goes-on, leaves-behind, sure-allowed}
-use Rattle.step_executor.specs.Outstanding.{AreCommitted, AreKept, committed_by, ended_at, filled, is_out, is_part_away, job_by, jobs_behind, parts_without, whole_of}
+use Rattle.step_core.proofs.SureAllowed.{delivered-same, goes-on, leaves-behind, sure-allowed}
+use Rattle.step_executor.specs.Outstanding.{AreCommitted, AreKept, committed_by, ended_at, filled, is_out, is_part_away, job_by, jobs_after, parts_without, whole_of}
 use Rattle.step_executor.proofs.Behind.{from-behind, length-behind, out-behind}
 use Rattle.step_executor.proofs.Wholes.{away-of, ended-by, filled-at, filled-long, filled-own, filled-put, filled-same, parts-again}
 
@@ -166,7 +166,7 @@ module _ (plant : PlantDefinition) (jobs : List (Option JobDefinition)) (parts :
 
     module _ (valid : fault_of plant ≡ None) (counts : List ℕ) where
       abbrev jobs-then : List (Option JobDefinition)
-      jobs-then = jobs_behind plant whole counts c c.moves jobs
+      jobs-then = jobs_after plant whole counts c c.moves jobs
 
       -- the state of a participant
       pub participant-state : (m : Move) → Contains c.moves m → (a : AtomDefinition) × (s : Local) × (slice_get plant.atoms m.atom ≡ Some a) × (slice_get whole m.atom ≡ Some s) × (slice_get parts m.atom ≡ Some (Some s))

@@ -1,8 +1,8 @@
-pub mod Copied
-pub mod Wholes
-pub mod Behind
-pub mod OneByOne
-pub mod Going
-pub mod Begun
+mod Copied
+mod Wholes
+mod Behind
+mod OneByOne
+mod Going
+mod Begun
 pub mod Standing
 pub mod Crossing

@@ -7,7 +7,7 @@ use Rattle.step_core.specs.Choice.{ChoiceDefinition}
 use Rattle.step_core.specs.Job.{JobDefinition}
 use Rattle.step_core.specs.Plant.{PlantDefinition}
 use Rattle.step_core.specs.declared.choice.Move.{Move}
-use Rattle.step_executor.specs.Outstanding.{job_by, jobs_behind, put_all}
+use Rattle.step_executor.specs.Outstanding.{job_by, jobs_after, put_all}
 
 -- there is nothing only past the end
 pub past-of-none : {X : Type 0} (xs : List X) (k : ℕ) → slice_get xs k ≡ None → length xs ≤ k
@@ -27,9 +27,9 @@ put-next (x ∷ xs) (y ∷ ys) (suc k) m job kept its_move its_job = put-next xs
 -- what is put are the jobs of the moves
 pub put-behind : (plant : PlantDefinition) (states : List Local) (counts : List ℕ) (c : ChoiceDefinition) (moves : List Move) (jobs : List JobDefinition) (kept : List (Option JobDefinition)) → length jobs ≡ length moves
     → ((place : ℕ) (m : Move) (job : JobDefinition) → slice_get moves place ≡ Some m → slice_get jobs place ≡ Some job → job_by plant states counts c m ≡ Some job)
-    → put_all moves jobs kept ≡ jobs_behind plant states counts c moves kept
+    → put_all moves jobs kept ≡ jobs_after plant states counts c moves kept
 put-behind plant states counts c [] jobs kept long each = refl
 put-behind plant states counts c (m ∷ ms) [] kept long each = absurd (omega (arith, long))
 put-behind plant states counts c (m ∷ ms) (job ∷ jobs) kept long each =
     put-behind plant states counts c ms jobs (set kept m.atom (Some job)) (omega (arith, long)) (λ place n j its_move its_job. each (suc place) n j its_move its_job) ∙
-    ap (λ o. jobs_behind plant states counts c ms (set kept m.atom o)) (sym (each 0 m job refl refl))
+    ap (λ o. jobs_after plant states counts c ms (set kept m.atom o)) (sym (each 0 m job refl refl))

@@ -1,12 +1,86 @@
--- The whole state of a plant that runs while atoms are away.
-use Rattle.std.proofs.Common.{◌≡◌, ◌∙◌, length}
+-- The whole state of a plant that runs while atoms are away, and what its calls make of it.
+use Rattle.std.proofs.Common.{◌≡◌, ℕ, sym, ◌∙◌, ap, subst, List, [], ◌∷◌, length, set, cond, true}
+use Rattle.std.specs.Prelude.{Option, Some, None, option_map}
+use Rattle.std.specs.List.{list_all}
+use Rattle.std.proofs.lemmas.List.{map-set}
+use Rattle.petri_atom.specs.Definition.{is_well_formed}
+use Rattle.petri_atom.specs.Local.{Local}
+use Rattle.step_core.specs.Choice.{ChoiceDefinition}
 use Rattle.step_core.specs.Dispatcher.{parts_in}
-use Rattle.step_core.specs.Fitting.{IsOf}
-use Rattle.step_executor.specs.Executing.{plant_in, states_in}
-use Rattle.step_executor.specs.Outstanding.{ended_at, kept_in}
+use Rattle.step_core.specs.Fitting.{AllFit, IsOf}
+use Rattle.step_core.specs.Job.{JobDefinition, job_of}
+use Rattle.step_core.specs.Jobs.{AreJobsOf}
+use Rattle.step_core.specs.Parts.{shown_in}
+use Rattle.step_core.specs.Rules.{fault_of}
+use Rattle.step_core.specs.Step.{next, transfer}
+use Rattle.step_core.specs.Sure.{IsSure, left_by, went_on}
+use Rattle.step_core.specs.declared.choice.Move.{Move}
+use Rattle.step_core.specs.declared.job.Job.{Job}
+use Rattle.step_core.proofs.OnRuns.{fold-fits}
+use Rattle.step_executor.specs.Executing.{committed_in, jobs_in, plant_in, states_in}
+use Rattle.step_executor.specs.Outstanding.{committed_by, ended_at, is_part_away, jobs_after, kept_in, parts_without, put_all, whole_of}
 use Rattle.step_executor.specs.declared.executor.Executor.{Executor}
+use Rattle.step_executor.proofs.Begun.{put-are}
+use Rattle.step_executor.proofs.Going.{begun-whole, delivers, fired-committed, fired-whole, parts-are}
 use Rattle.step_executor.proofs.Wholes.{filled-long}
 
 -- there is a state for each atom
 pub states-many : (run : Executor) → IsOf (plant_in run) (states_in run)
 states-many run = filled-long (ended_at (kept_in run.kept.items)) 0 (parts_in run.dispatcher) ∙ run.dispatcher.of_plant
+
+-- what is known of the state without the atoms that are away is what the dispatcher keeps
+pub parts-known : (run : Executor) → parts_without (jobs_in run) (states_in run) ≡ parts_in run.dispatcher
+parts-known run = parts-are (plant_in run) (jobs_in run) (parts_in run.dispatcher) run.outstanding
+
+-- a state that is put at a number, whichever way both are said
+pub put-same : (parts : List (Option Local)) (k n : ℕ) (s t : Local) → k ≡ n → s ≡ t → set parts k (Some s) ≡ set parts n (Some t)
+put-same parts k n s t at is = ap (λ (j : ℕ). set parts j (Some s)) at ∙ ap (λ r. set parts n (Some r)) is
+
+-- the same of one that is put only where nothing is kept
+pub noted-same : (parts : List (Option Local)) (k n : ℕ) (s t : Local) → k ≡ n → s ≡ t
+    → cond (is_part_away parts k) (set parts k (Some s)) parts ≡ cond (is_part_away parts n) (set parts n (Some t)) parts
+noted-same parts k n s t at is =
+    ap (λ (j : ℕ). cond (is_part_away parts j) (set parts j (Some s)) parts) at ∙ ap (λ r. cond (is_part_away parts n) (set parts n (Some r)) parts) is
+
+-- no job any more at a number
+pub fewer-kept : (kept : List (Option Job)) (k n : ℕ) → k ≡ n → kept_in (set kept k None) ≡ set (kept_in kept) n None
+fewer-kept kept k n at = map-set (λ j. option_map job_of j) kept k None ∙ ap (λ (j : ℕ). set (kept_in kept) j None) at
+
+module _ (run : Executor) (c : ChoiceDefinition) (known : IsSure (plant_in run) (parts_without (jobs_in run) (states_in run)) c) where
+  -- the choice is sure by what the dispatcher keeps
+  pub sure-here : IsSure (plant_in run) (parts_in run.dispatcher) c
+  sure-here = subst (λ ps. IsSure (plant_in run) ps c) (parts-known run) known
+
+  -- its firing makes the model's step of the whole state
+  pub next-fired : (after : List (Option Local)) → after ≡ went_on (plant_in run) (parts_in run.dispatcher) c → whole_of (jobs_in run) after ≡ next (plant_in run) (states_in run) c
+  next-fired after went = ap (whole_of (jobs_in run)) went ∙ fired-whole (plant_in run) (jobs_in run) (parts_in run.dispatcher) run.outstanding c sure-here
+
+  -- the committed state stays as it was
+  pub committed-stays : (after : List Local) → after ≡ next (plant_in run) (states_in run) c → committed_by run.committed after ≡ committed_in run
+  committed-stays after is =
+      ap (committed_by run.committed) is ∙ fired-committed (plant_in run) (jobs_in run) (parts_in run.dispatcher) run.outstanding c sure-here run.committed run.behind
+
+  -- it delivers what the whole state says
+  pub delivers-whole : (atom : ℕ) → transfer (plant_in run) (shown_in (parts_in run.dispatcher)) c atom ≡ transfer (plant_in run) (states_in run) c atom
+  delivers-whole = delivers (plant_in run) (jobs_in run) (parts_in run.dispatcher) run.outstanding c sure-here
+
+  -- the next state fits
+  pub next-fits : list_all is_well_formed (plant_in run).atoms ≡ true → AllFit (plant_in run) (next (plant_in run) (states_in run) c)
+  next-fits formed = (fold-fits (plant_in run) formed (c ∷ []) (states_in run) (states-many run) run.fits).1
+
+  module _ (valid : fault_of (plant_in run) ≡ None) (counts : List ℕ) (made : List JobDefinition) (are : AreJobsOf (plant_in run) (parts_in run.dispatcher) c counts c.moves made) where
+    abbrev pub then : List (Option JobDefinition)
+    then = jobs_after (plant_in run) (states_in run) counts c c.moves (jobs_in run)
+
+    -- the jobs of its participants are kept
+    pub kept-begun : (kept : List (Option JobDefinition)) (moves : List Move) → moves ≡ c.moves → kept ≡ put_all moves made (jobs_in run) → kept ≡ then
+    kept-begun kept moves same put =
+        put ∙ ap (λ ms. put_all ms made (jobs_in run)) same ∙
+        put-are (plant_in run) (jobs_in run) (parts_in run.dispatcher) run.outstanding c sure-here valid counts made are
+
+    -- where they have gone away, the whole state is the model's next one
+    pub next-begun : (kept : List (Option JobDefinition)) (after : List (Option Local)) → kept ≡ then → after ≡ left_by (parts_in run.dispatcher) c.moves
+        → whole_of kept after ≡ next (plant_in run) (states_in run) c
+    next-begun kept after are-then left =
+        ap (λ js. whole_of js after) are-then ∙ ap (whole_of then) left ∙
+        begun-whole (plant_in run) (jobs_in run) (parts_in run.dispatcher) run.outstanding c sure-here valid counts run.dispatcher.of_plant

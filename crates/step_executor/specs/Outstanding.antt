@@ -48,9 +48,9 @@ job_by plant states counts c m = of_atom plant.atoms states m.atom (λ a s. Some
 })) None
 
 -- the jobs that atoms have where the atoms of moves of a choice go away
-abbrev pub jobs_behind : PlantDefinition → List Local → List ℕ → ChoiceDefinition → List Move → List (Option JobDefinition) → List (Option JobDefinition)
-jobs_behind plant states counts c [] jobs = jobs
-jobs_behind plant states counts c (m ∷ ms) jobs = jobs_behind plant states counts c ms (slice_set jobs m.atom (job_by plant states counts c m))
+abbrev pub jobs_after : PlantDefinition → List Local → List ℕ → ChoiceDefinition → List Move → List (Option JobDefinition) → List (Option JobDefinition)
+jobs_after plant states counts c [] jobs = jobs
+jobs_after plant states counts c (m ∷ ms) jobs = jobs_after plant states counts c ms (slice_set jobs m.atom (job_by plant states counts c m))
 
 -- the atom with a number is away, by what is known of it
 abbrev pub is_part_away : List (Option Local) → ℕ → Bool

@@ -1,10 +1,10 @@
 //! A plant that runs while atoms are away.
-ghost use Rattle.std.specs.Prelude.{◌≡◌, ◌≢◌, ◌<◌, [], None, Some, IfOk, IfErr, OnOk, OnErr, IsTrue, ◌↔◌, length, map, option_map, replicate, slice_get, slice_index_or, slice_set, is_some};
+ghost use Rattle.std.specs.Prelude.{◌≡◌, ◌≢◌, ◌<◌, [], None, Some, IfOk, IfErr, IfSome, OnOk, OnErr, IsTrue, ◌↔◌, length, map, option_map, replicate, slice_get, slice_index_or, slice_set, is_some};
 ghost use Rattle.std.specs.List.{list_any};
 ghost use Rattle.connector_tree.specs.declared.tree.TheConstants.{MAX_LEAVES};
 ghost use Rattle.petri_atom.specs.Definition.{AtomDefinition, Fits};
 ghost use Rattle.step_core.specs.Chosen.{choice_of};
-ghost use Rattle.step_core.specs.Delivery.{IsTold};
+ghost use Rattle.step_core.specs.Delivery.{IsDelivered};
 ghost use Rattle.step_core.specs.Dispatcher.{parts_in, system_of};
 ghost use Rattle.step_core.specs.Fitting.{IsOf, AllFit};
 ghost use Rattle.step_core.specs.Job.{job_done, job_of};
@@ -12,7 +12,7 @@ ghost use Rattle.step_core.specs.Jobs.{AreJobsOf, jobs_of};
 ghost use Rattle.step_core.specs.Step.{next, transfer};
 ghost use Rattle.step_core.specs.Sure.{IsSure, sure_choices};
 ghost use Rattle.step_core.specs.System.{plant_of};
-ghost use Rattle.step_executor.specs.Outstanding.{AreCommitted, AreKept, is_out, jobs_behind, kept_in, parts_without, whole_of};
+ghost use Rattle.step_executor.specs.Outstanding.{AreCommitted, AreKept, is_out, jobs_after, kept_in, parts_without, whole_of};
 
 use crate::committing::{commit_back, copied, copy_parts};
 use crate::keeping::keep_jobs;
@@ -29,6 +29,7 @@ use step_core::{Choice, Dispatcher, Done, Job, Jobs, MAX_ATOMS, PlantParts, Plan
 pub struct Executor<'s> {
     dispatcher: Dispatcher<'s>,
     kept: Vec<Option<Job<'s>>>,
+    /// For contracts alone: no call reads it. By it the contracts of what stands on an executor say what was acknowledged.
     committed: PlantParts,
     ghost outstanding: { AreKept (plant_of (system_of dispatcher)) (parts_in dispatcher) (kept_in kept.items) },
     ghost fits: { AllFit (plant_of (system_of dispatcher)) (whole_of (kept_in kept.items) (parts_in dispatcher)) },
@@ -130,28 +131,36 @@ impl<'s> Executor<'s> {
         self.dispatcher.nth_sure(place)
     }
 
-    /// Fires the sure choice, and tells what it delivered, at the places of the moves.
-    pub fn fire_telling(&mut self, choice: &Choice, told: &mut [Delivered; MAX_LEAVES])
+    /// The place of the choice in the list of the sure choices, if it is one of them.
+    pub fn find(&self, choice: &Choice) -> Option<u128>
+        ensures there { IfSome result (λ place. slice_get (sure_choices (plant_in self.now) (parts_without (jobs_in self.now) (states_in self.now))) place ≡ Some (choice_of choice.now)) }
+        ensures none { result ≡ None → IsSure (plant_in self.now) (parts_without (jobs_in self.now) (states_in self.now)) (choice_of choice.now) → ⊥ }
+    {
+        self.dispatcher.find_sure(choice)
+    }
+
+    /// Fires the sure choice, and writes what it delivered at the places of the moves.
+    pub fn fire_telling(&mut self, choice: &Choice, delivered: &mut [Delivered; MAX_LEAVES])
         requires { IsSure (plant_in self.old) (parts_without (jobs_in self.old) (states_in self.old)) (choice_of choice.now) }
         ensures system { system_in self.new ≡ system_in self.old }
         ensures plant { plant_in self.new ≡ plant_in self.old }
         ensures next { states_in self.new ≡ next (plant_in self.old) (states_in self.old) (choice_of choice.now) }
         ensures committed { committed_in self.new ≡ committed_in self.old }
         ensures jobs { jobs_in self.new ≡ jobs_in self.old }
-        ensures told { IsTold choice.now.moves (transfer (plant_in self.old) (states_in self.old) (choice_of choice.now)) told.new }
+        ensures delivered { IsDelivered choice.now.moves (transfer (plant_in self.old) (states_in self.old) (choice_of choice.now)) delivered.new }
     {
         self.dispatcher.system().keeps_its_rules();
-        self.dispatcher.fire_telling(choice, told);
+        self.dispatcher.fire_telling(choice, delivered);
     }
 
-    /// Begins the sure choice: its participants go away, each with a job that carries the atom's count of these, and what is delivered is
-    /// told at the places of the moves.
+    /// Begins the sure choice: its participants go away, each with a job that carries the atom's count of these, and what is delivered
+    /// stands at the places of the moves.
     pub fn begin(
         &mut self,
         choice: &Choice,
         counts: &[u64; MAX_ATOMS],
         jobs: &mut Jobs<'s>,
-        told: &mut [Delivered; MAX_LEAVES],
+        delivered: &mut [Delivered; MAX_LEAVES],
     )
         requires sure { IsSure (plant_in self.old) (parts_without (jobs_in self.old) (states_in self.old)) (choice_of choice.now) }
         requires empty { jobs_of jobs.old ≡ [] }
@@ -159,13 +168,13 @@ impl<'s> Executor<'s> {
         ensures plant { plant_in self.new ≡ plant_in self.old }
         ensures next { states_in self.new ≡ next (plant_in self.old) (states_in self.old) (choice_of choice.now) }
         ensures committed { committed_in self.new ≡ committed_in self.old }
-        ensures kept { jobs_in self.new ≡ jobs_behind (plant_in self.old) (states_in self.old) counts.now (choice_of choice.now) choice.now.moves (jobs_in self.old) }
+        ensures kept { jobs_in self.new ≡ jobs_after (plant_in self.old) (states_in self.old) counts.now (choice_of choice.now) choice.now.moves (jobs_in self.old) }
         ensures jobs { AreJobsOf (plant_in self.old) (parts_without (jobs_in self.old) (states_in self.old)) (choice_of choice.now) counts.now choice.now.moves (jobs_of jobs.new) }
-        ensures told { IsTold choice.now.moves (transfer (plant_in self.old) (states_in self.old) (choice_of choice.now)) told.new }
+        ensures delivered { IsDelivered choice.now.moves (transfer (plant_in self.old) (states_in self.old) (choice_of choice.now)) delivered.new }
     {
         self.dispatcher.system().keeps_its_rules();
         self.dispatcher.begin(choice, counts, jobs);
-        keep_jobs(choice.moves.as_slice(), jobs, &mut self.kept, told);
+        keep_jobs(choice.moves.as_slice(), jobs, &mut self.kept, delivered);
     }
 
     /// Takes a job back that was done: its atom is present again, in the state that the job left. One that is not kept comes back.

@@ -52,20 +52,20 @@ module _ (plant : PlantDefinition) where
     pub next-at-random : (c : ChoiceDefinition) × (slice_get (choices plant (states_at plant session)) (next_place plant session) ≡ Some c)
     next-at-random = entry-at (choices plant (states_at plant session)) (next_place plant session) (mod-lt (pick_at (shifted session.random)) (omega (arith, some)))
 
-    -- the session behind it
+    -- the session after it
     abbrev behind : SessionDefinition
     behind = fired_more session (next_place plant session ∷ []) (shifted session.random)
 
     stands-behind : states_at plant behind ≡ next plant (states_at plant session) next-at-random.0
     stands-behind = behind-more plant session.fired (next_place plant session) next-at-random.0 all next-at-random.1
 
-    -- it takes the first of the places that picks take, and the others are those of the session behind it
+    -- it takes the first of the places that picks take, and the others are those of the session after it
     pub first-at-random : (n : ℕ) → random_places plant session (suc n) ≡ next_place plant session ∷ random_places plant behind n
     first-at-random n =
         ap (λ o. option_map_or (λ c. (pick_at (shifted session.random) % length (choices plant (states_at plant session))) ∷ places_picked plant (next plant (states_at plant session) c) (random_from n (shifted session.random))) o []) next-at-random.1 ∙
         ap (λ states. next_place plant session ∷ places_picked plant states (random_from n (shifted session.random))) (sym stands-behind)
 
-    -- of the lines its own is the first, and the others are those of the session behind it
+    -- of the lines its own is the first, and the others are those of the session after it
     pub lines-first : (places : List ℕ) → firing_lines plant session (next_place plant session ∷ places) ≡ firing_lines plant session (next_place plant session ∷ []) ++ firing_lines plant behind places
     lines-first places =
         let states = states_at plant session in

@@ -10,7 +10,7 @@ use Rattle.step_core.specs.Choice.{ChoiceDefinition, choices}
 use Rattle.step_core.specs.Runs.{IsRun, fold}
 use Rattle.step_core.specs.Step.{initial_states, next}
 use Rattle.step_core.proofs.Membership.{entry-in}
-use Rattle.step_session.specs.Fired.{IsThere, choices_fired, states_behind}
+use Rattle.step_session.specs.Fired.{IsThere, choices_fired, states_after}
 
 -- the entry of a list at a place within it
 pub entry-at : {X : Type 0} (xs : List X) (k : ℕ) → k < length xs → (x : X) × (slice_get xs k ≡ Some x)
@@ -70,7 +70,7 @@ module _ (plant : PlantDefinition) where
   pub one-fired : (states : List Local) (place : ℕ) (c : ChoiceDefinition) → slice_get (choices plant states) place ≡ Some c → choices_fired plant states (place ∷ []) ≡ c ∷ []
   one-fired states place c entry = ap (λ o. option_map_or (λ d. d ∷ choices_fired plant (next plant states d) []) o []) entry
 
-  -- and so do places behind it
+  -- and so do places after it
   pub first-fired : (states : List Local) (place : ℕ) (c : ChoiceDefinition) (places : List ℕ) → slice_get (choices plant states) place ≡ Some c
       → choices_fired plant states (place ∷ places) ≡ c ∷ choices_fired plant (next plant states c) places
   first-fired states place c places entry = ap (λ o. option_map_or (λ d. d ∷ choices_fired plant (next plant states d) places) o []) entry
@@ -84,38 +84,38 @@ module _ (plant : PlantDefinition) where
       each None is one = absurd (omega (arith, one))
       each (Some c) is one = slice_get_within (choices plant states) place c is
 
-  -- more places that have entries behind those that have
-  pub there-append : (places more : List ℕ) → IsThere plant places → length (choices_fired plant (states_behind plant places) more) ≡ length more → IsThere plant (places ++ more)
+  -- more places that have entries after those that have
+  pub there-append : (places more : List ℕ) → IsThere plant places → length (choices_fired plant (states_after plant places) more) ≡ length more → IsThere plant (places ++ more)
   there-append places more all others =
       let start = initial_states plant in
-      ap length (fired-append places more start all) ∙ length-append (choices_fired plant start places) (choices_fired plant (states_behind plant places) more) ∙
-      ap (λ n. n + length (choices_fired plant (states_behind plant places) more)) all ∙ ap (λ n. length places + n) others ∙ sym (length-append places more)
+      ap length (fired-append places more start all) ∙ length-append (choices_fired plant start places) (choices_fired plant (states_after plant places) more) ∙
+      ap (λ n. n + length (choices_fired plant (states_after plant places) more)) all ∙ ap (λ n. length places + n) others ∙ sym (length-append places more)
 
   -- a front of places that have entries
   pub front-there : (places more : List ℕ) → IsThere plant (places ++ more) → IsThere plant places
   front-there places more all = front-fired places more (initial_states plant) all
 
-  -- the last of places that have entries is the place of a choice behind the others
-  pub last-within : (places : List ℕ) (place : ℕ) → IsThere plant (places ++ place ∷ []) → place < length (choices plant (states_behind plant places))
+  -- the last of places that have entries is the place of a choice after the others
+  pub last-within : (places : List ℕ) (place : ℕ) → IsThere plant (places ++ place ∷ []) → place < length (choices plant (states_after plant places))
   last-within places place all =
       let start = initial_states plant in
       let front : length (choices_fired plant start places) ≡ length places = front-there places (place ∷ []) all in
-      let parts : length (choices_fired plant start (places ++ place ∷ [])) ≡ length (choices_fired plant start places) + length (choices_fired plant (states_behind plant places) (place ∷ [])) =
-      ap length (fired-append places (place ∷ []) start front) ∙ length-append (choices_fired plant start places) (choices_fired plant (states_behind plant places) (place ∷ [])) in
+      let parts : length (choices_fired plant start (places ++ place ∷ [])) ≡ length (choices_fired plant start places) + length (choices_fired plant (states_after plant places) (place ∷ [])) =
+      ap length (fired-append places (place ∷ []) start front) ∙ length-append (choices_fired plant start places) (choices_fired plant (states_after plant places) (place ∷ [])) in
       let whole : length (choices_fired plant start (places ++ place ∷ [])) ≡ length places + 1 = all ∙ length_push places place in
-      within-of-one (states_behind plant places) place (omega (arith, front, parts, whole))
+      within-of-one (states_after plant places) place (omega (arith, front, parts, whole))
 
   -- one more place, that of this choice
-  module _ (places : List ℕ) (place : ℕ) (c : ChoiceDefinition) (all : IsThere plant places) (entry : slice_get (choices plant (states_behind plant places)) place ≡ Some c) where
+  module _ (places : List ℕ) (place : ℕ) (c : ChoiceDefinition) (all : IsThere plant places) (entry : slice_get (choices plant (states_after plant places)) place ≡ Some c) where
     pub fired-more : choices_fired plant (initial_states plant) (places ++ place ∷ []) ≡ choices_fired plant (initial_states plant) places ++ c ∷ []
     fired-more =
         fired-append places (place ∷ []) (initial_states plant) all ∙
-        ap (λ cs. choices_fired plant (initial_states plant) places ++ cs) (one-fired (states_behind plant places) place c entry)
+        ap (λ cs. choices_fired plant (initial_states plant) places ++ cs) (one-fired (states_after plant places) place c entry)
 
     pub there-more : IsThere plant (places ++ place ∷ [])
-    there-more = there-append places (place ∷ []) all (ap length (one-fired (states_behind plant places) place c entry))
+    there-more = there-append places (place ∷ []) all (ap length (one-fired (states_after plant places) place c entry))
 
-    pub behind-more : states_behind plant (places ++ place ∷ []) ≡ next plant (states_behind plant places) c
+    pub behind-more : states_after plant (places ++ place ∷ []) ≡ next plant (states_after plant places) c
     behind-more =
         ap (fold plant (initial_states plant)) fired-more ∙ fold-append (choices_fired plant (initial_states plant) places) (c ∷ []) (initial_states plant)
 
@@ -123,12 +123,12 @@ module _ (plant : PlantDefinition) where
   pub take-there : (places : List ℕ) (k : ℕ) → IsThere plant places → IsThere plant (take k places)
   take-there places k all = front-there (take k places) (drop k places) (subst (IsThere plant) (sym (take-append-drop k places)) all)
 
-  -- a plant stands behind the choices at the places before the one at i
-  module _ (places : List ℕ) (all : IsThere plant places) (i : ℕ) (within : i < length places) (now : PlantDefinition) (states : List Local) (same : now ≡ plant) (stands : states ≡ states_behind plant (take i places)) where
+  -- a plant stands after the choices at the places before the one at i
+  module _ (places : List ℕ) (all : IsThere plant places) (i : ℕ) (within : i < length places) (now : PlantDefinition) (states : List Local) (same : now ≡ plant) (stands : states ≡ states_after plant (take i places)) where
     one : take (i + 1) places ≡ take i places ++ get_or places i 0 ∷ []
     one = take_more places i 0 within
 
-    here : choices now states ≡ choices plant (states_behind plant (take i places))
+    here : choices now states ≡ choices plant (states_after plant (take i places))
     here = ap (λ p. choices p states) same ∙ ap (choices plant) stands
 
     -- it has the choice at i
@@ -138,14 +138,14 @@ module _ (plant : PlantDefinition) where
         (last-within (take i places) (get_or places i 0) (subst (IsThere plant) one (take-there places (i + 1) all)))
 
     module _ (c : ChoiceDefinition) (entry : slice_get (choices now states) (get_or places i 0) ≡ Some c) where
-      entry-here : slice_get (choices plant (states_behind plant (take i places))) (get_or places i 0) ≡ Some c
+      entry-here : slice_get (choices plant (states_after plant (take i places))) (get_or places i 0) ≡ Some c
       entry-here = ap (λ cs. slice_get cs (get_or places i 0)) (sym here) ∙ entry
 
       -- which is fired next, and leads on
       pub fired-next : choices_fired plant (initial_states plant) (take (i + 1) places) ≡ choices_fired plant (initial_states plant) (take i places) ++ c ∷ []
       fired-next = ap (choices_fired plant (initial_states plant)) one ∙ fired-more (take i places) (get_or places i 0) c (take-there places i all) entry-here
 
-      pub stands-next : next now states c ≡ states_behind plant (take (i + 1) places)
+      pub stands-next : next now states c ≡ states_after plant (take (i + 1) places)
       stands-next =
           ap (λ p. next p states c) same ∙ ap (λ s. next plant s c) stands ∙
-          sym (behind-more (take i places) (get_or places i 0) c (take-there places i all) entry-here) ∙ ap (states_behind plant) (sym one)
+          sym (behind-more (take i places) (get_or places i 0) c (take-there places i all) entry-here) ∙ ap (states_after plant) (sym one)

@@ -1,5 +1,6 @@
 -- What is kept of the first line of a text asks for the same as the whole line.
 use Rattle.std.proofs.Common.{◌≡◌, ◌∙◌, ap, sym, refl, subst, arith, inl, inr, ⊎_elim, ◌⊎◌, ℕ, zero, suc, ◌+◌, ◌-◌, ◌<◌, ◌≤◌, ◌==◌, Bool, true, false, cond, List, [], ◌∷◌, ◌++◌, length, take, get_or, append-nil}
+use Rattle.std.specs.Prelude.{Option, IfSome}
 use Rattle.std.specs.List.{slice_split, onto_first}
 use Rattle.std.specs.Io.BufRead.{drop_through, take_through}
 use Rattle.std.specs.Str.Lines.{lines_of_parts, strip_carriage_return}
@@ -10,7 +11,7 @@ use Rattle.plant_words.specs.Lines.{lines_of}
 use Rattle.plant_words.specs.Words.{words_of}
 use Rattle.step_session.specs.Command.{command_in, mistaken, said_in, too_long}
 use Rattle.step_session.specs.declared.lines.TheConstants.{KEPT, MAX_LINE}
-use Rattle.step_session.proofs.Reading.{IsUnended, behind-append, is_feed, through-append}
+use Rattle.step_session.proofs.Unended.{IsUnended, behind-append, is_feed, through-append}
 
 -- ---- lines of a text
 
@@ -45,7 +46,7 @@ before-parts : (line : List ℕ) (parts : List (List ℕ)) → 0 < length parts 
 before-parts line [] some = absurd (omega (arith, some))
 before-parts line (part ∷ parts) some = refl
 
--- so its first line is known, and the lines behind it
+-- so its first line is known, and the lines after it
 lines-ended : (line rest : List ℕ) → IsUnended line → lines_of (line ++ 10 ∷ rest) ≡ strip_carriage_return line ∷ lines_of rest
 lines-ended line rest none = ap lines_of_parts (split-ended line rest none) ∙ before-parts line (slice_split is_feed rest) (omega (arith, length-slice_split is_feed rest))
 
@@ -89,6 +90,10 @@ pub record BeginsLike (text line : List ℕ) : Type 0 where
 
 abbrev pub kept : List ℕ → List ℕ
 kept text = take KEPT (take_through 10 text)
+
+-- it is kept of the bytes that a reader had, if they are known
+abbrev pub IsKept : Option (List ℕ) → List ℕ → Type 0
+IsKept old held = IfSome old (λ bytes. held ≡ kept bytes)
 
 module _ (line : List ℕ) (more : List (List ℕ)) where
   -- one line feed, at least

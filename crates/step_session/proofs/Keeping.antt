@@ -23,7 +23,7 @@ module _ (plant : PlantDefinition) where
           there-more plant session.fired number entry.0 all entry.1
       each false is = all
 
-  -- what was fired has its entries behind each command
+  -- what was fired has its entries after each command
   pub after-there : (session : SessionDefinition) (command : CommandDefinition) → IsThere plant session.fired → IsThere plant (session_after plant session command).fired
   after-there session shows all = all
   after-there session (fires number) all = fire-there session number all
@@ -36,7 +36,7 @@ module _ (plant : PlantDefinition) where
   after-there session quits all = all
   after-there session (mistaken mistake) all = all
 
-  -- and behind lines
+  -- and after lines
   pub lines-there : (lines : List (List ℕ)) (session : SessionDefinition) → IsThere plant session.fired → IsThere plant (session_from plant session lines).fired
   lines-there [] session all = all
   lines-there (line ∷ lines) session all = lines-there lines (session_after plant session (command_in line)) (after-there session (command_in line) all)

@@ -1,9 +1,8 @@
-pub mod Named
-pub mod Firing
-pub mod Keeping
-pub mod AtRandom
-pub mod Reading
-pub mod FirstLine
-pub mod Telling
-pub mod Answering
+mod Firing
+mod Keeping
+mod AtRandom
+mod Unended
+mod FirstLine
+mod SoFar
+mod Answering
 mod Rows

@@ -8,7 +8,7 @@ use Rattle.run_text.proofs.RunRows.{sample}
 use Rattle.step_session.specs.Answers.{no_choice_text, saving_text}
 use Rattle.step_session.specs.Command.{command_in, fires_random, fires, left_over, mistaken, no_command, no_count, no_file, no_number, quits, saves_to, shows, takes_back, tells, tells_of}
 use Rattle.step_session.specs.Mistakes.{mistake_text, too_long_text}
-use Rattle.step_session.specs.Told.{session_text, told_of}
+use Rattle.step_session.specs.Transcript.{session_text, transcript_of}
 
 -- ---- what lines ask for
 
@@ -98,8 +98,8 @@ stepped_by_hand : session_text sample [] false (codes "0" ∷ codes "1" ∷ code
 unfolding sample digits moved set_below int_wrap is_overruled is_below
 stepped_by_hand = refl
 
--- at a terminal: send is fired and saved, and what stands behind `quit` is not read
-saved_at_a_terminal : told_of sample [] true (codes "1" ∷ codes "save a.txt" ∷ codes "quit" ∷ codes "0" ∷ []) (true ∷ [])
+-- at a terminal: send is fired and saved, and what stands after `quit` is not read
+saved_at_a_terminal : transcript_of sample [] true (codes "1" ∷ codes "save a.txt" ∷ codes "quit" ∷ codes "0" ∷ []) (true ∷ [])
     ≡ record {
       text =
           codes "state A [s] n=0\nstate B [s] m=0\n0 tick A.t/0\n1 send A.t/0 B.u/0\n" ++
@@ -110,7 +110,7 @@ saved_at_a_terminal : told_of sample [] true (codes "1" ∷ codes "save a.txt" �
 unfolding sample digits moved set_below int_wrap is_overruled is_below
 saved_at_a_terminal = refl
 
--- the random picks go on from one command to the next: the first three of the seed 1 are odd, and each takes send; the input ends behind a prompt
+-- the random picks go on from one command to the next: the first three of the seed 1 are odd, and each takes send; the input ends after a prompt
 random_goes_on : session_text sample [] true (codes "random 2" ∷ codes "random 1" ∷ []) []
     ≡ codes "state A [s] n=0\nstate B [s] m=0\n0 tick A.t/0\n1 send A.t/0 B.u/0\n" ++
     codes "> 1 send A.t/0 B.u/0\n2 send A.t/0 B.u/0\nstate A [s] n=2\nstate B [s] m=1\n0 tick A.t/0\n1 send A.t/0 B.u/0\n" ++

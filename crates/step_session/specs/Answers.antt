@@ -11,7 +11,7 @@ use Rattle.run_text.specs.Line.{states_text}
 use Rattle.blocked_text.specs.Blocked.{connector_text}
 use Rattle.shown_fault.specs.Shown.{shown}
 use Rattle.step_session.specs.Command.{CommandDefinition, shows, fires, takes_back, fires_random, tells, tells_of, saves_to, helps, quits, mistaken, command_in}
-use Rattle.step_session.specs.Connectors.{connector_named}
+use Rattle.step_core.specs.Lookup.{connector_named}
 use Rattle.step_session.specs.Fired.{choices_fired}
 use Rattle.step_session.specs.Help.{help_text}
 use Rattle.step_session.specs.Mistakes.{mistake_text, quoted_text}
@@ -148,10 +148,10 @@ savings_of plant session said helps = []
 savings_of plant session said quits = []
 savings_of plant session said (mistaken mistake) = []
 
--- the session behind lines, from one session on, and from the first
+-- the session after lines, from one session on, and from the first
 abbrev pub session_from : PlantDefinition → SessionDefinition → List (List ℕ) → SessionDefinition
 session_from plant session [] = session
 session_from plant session (line ∷ lines) = session_from plant (session_after plant session (command_in line)) lines
 
-abbrev pub session_behind : PlantDefinition → List (List ℕ) → SessionDefinition
-session_behind plant lines = session_from plant first_session lines
+abbrev pub session_by_lines : PlantDefinition → List (List ℕ) → SessionDefinition
+session_by_lines plant lines = session_from plant first_session lines

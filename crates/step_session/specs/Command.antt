@@ -41,7 +41,7 @@ ends helps = false
 ends quits = true
 ends (mistaken mistake) = false
 
--- a command behind which no word stands
+-- a command after which no word stands
 abbrev pub alone : CommandDefinition → List (List ℕ) → CommandDefinition
 alone command [] = command
 alone command (word ∷ words) = mistaken (left_over word)
@@ -54,24 +54,24 @@ number_in word = option_map_or fires (pick_in word) (mistaken (no_number word))
 abbrev pub count_in : List ℕ → CommandDefinition
 count_in word = option_map_or fires_random (pick_in word) (mistaken (no_number word))
 
--- behind `random` stands how many
+-- after `random` stands how many
 abbrev pub random_in : List (List ℕ) → CommandDefinition
 random_in [] = mistaken no_count
 random_in (word ∷ words) = alone (count_in word) words
 
--- behind `why` stands the name of a connector, or nothing
+-- after `why` stands the name of a connector, or nothing
 abbrev pub why_in : List (List ℕ) → CommandDefinition
 why_in [] = tells
 why_in (name ∷ words) = alone (tells_of name) words
 
--- behind `save` stands a file
+-- after `save` stands a file
 abbrev pub save_in : List (List ℕ) → CommandDefinition
 save_in [] = mistaken no_file
 save_in (path ∷ words) = alone (saves_to path) words
 
--- what a first word and the words behind it ask for
-abbrev pub command_behind : List ℕ → List (List ℕ) → CommandDefinition
-command_behind first words =
+-- what a first word and the words after it ask for
+abbrev pub command_after : List ℕ → List (List ℕ) → CommandDefinition
+command_after first words =
     if is_numeric first then alone (number_in first) words
     else if is_same_text first (codes "back") then alone takes_back words
     else if is_same_text first (codes "random") then random_in words
@@ -85,7 +85,7 @@ command_behind first words =
 -- a line without words asks where the plant stands
 abbrev pub said_in : List (List ℕ) → CommandDefinition
 said_in [] = shows
-said_in (first ∷ words) = command_behind first words
+said_in (first ∷ words) = command_after first words
 
 -- what a line asks for
 abbrev pub command_in : List ℕ → CommandDefinition

@@ -17,6 +17,6 @@ choices_fired plant states (place ∷ places) =
 abbrev pub IsThere : PlantDefinition → List ℕ → Type 0
 IsThere plant places = length (choices_fired plant (initial_states plant) places) ≡ length places
 
--- the state behind them
-abbrev pub states_behind : PlantDefinition → List ℕ → List Local
-states_behind plant places = fold plant (initial_states plant) (choices_fired plant (initial_states plant) places)
+-- the state after them
+abbrev pub states_after : PlantDefinition → List ℕ → List Local
+states_after plant places = fold plant (initial_states plant) (choices_fired plant (initial_states plant) places)

@@ -1,15 +1,13 @@
 pub mod Message
-pub mod Lines
 pub mod Command
 pub mod CommandOf
 pub mod Fired
 pub mod Session
-pub mod Kept
+pub mod SessionOf
 pub mod Random
 pub mod Saved
-pub mod Connectors
 pub mod Help
 pub mod Mistakes
 pub mod Answers
 pub mod AtRandom
-pub mod Told
+pub mod Transcript

@@ -8,13 +8,13 @@ use Rattle.step_core.specs.Step.{next}
 use Rattle.run_text.specs.Picks.{random_from, shifted}
 use Rattle.step_session.specs.Session.{SessionDefinition, states_at}
 
--- the places that picks take from a state on: each is the pick modulo the number of choices; where nothing is possible the picks that are left take none
+-- the places that picks take from a state on: each is the pick modulo the number of choices; if nothing is possible the picks that are left take none
 abbrev pub places_picked : PlantDefinition → List Local → List ℕ → List ℕ
 places_picked plant states [] = []
 places_picked plant states (pick ∷ picks) =
     option_map_or (λ c. (pick % length (choices plant states)) ∷ places_picked plant (next plant states c) picks) (slice_get (choices plant states) (pick % length (choices plant states))) []
 
--- the state of the generator behind so many picks
+-- the state of the generator after so many picks
 abbrev pub shifted_by : ℕ → ℕ → ℕ
 shifted_by zero state = state
 shifted_by (suc n) state = shifted_by n (shifted state)

@@ -1,13 +1,8 @@
 -- What is saved of a session.
-use Rattle.std.specs.Prelude.{◌≡◌, ℕ, Bool, List, [], ◌∷◌, ◌++◌, codes, flat_map}
-use Rattle.step_core.specs.Plant.{PlantDefinition, wire_name}
-use Rattle.step_core.specs.Choice.{ChoiceDefinition}
-use Rattle.run_text.specs.Line.{participant}
+use Rattle.std.specs.Prelude.{◌≡◌, ℕ, Bool, List, [], ◌∷◌, flat_map}
+use Rattle.step_core.specs.Plant.{PlantDefinition}
+use Rattle.run_text.specs.Steps.{saved_line}
 use Rattle.step_session.specs.Session.{SessionDefinition, fired_in}
-
--- a choice as a line: its connector's name, and its participants in rising order of their atoms
-abbrev pub saved_line : PlantDefinition → ChoiceDefinition → List ℕ
-saved_line plant c = wire_name plant c.connector ++ flat_map (λ m. codes " " ++ participant plant.atoms m) c.moves ++ codes "\n"
 
 -- the choices that were fired, in order, each as a line
 abbrev pub saved_text : PlantDefinition → SessionDefinition → List ℕ

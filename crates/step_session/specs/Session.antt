@@ -5,7 +5,7 @@ use Rattle.step_core.specs.Plant.{PlantDefinition}
 use Rattle.step_core.specs.Choice.{ChoiceDefinition}
 use Rattle.step_core.specs.Step.{initial_states}
 use Rattle.run_text.specs.Picks.{seeded}
-use Rattle.step_session.specs.Fired.{choices_fired, states_behind}
+use Rattle.step_session.specs.Fired.{choices_fired, states_after}
 use Rattle.step_session.specs.declared.session.TheConstants.{SEED}
 
 -- the places of the choices that were fired, in order, and the state of the generator of random picks
@@ -21,6 +21,6 @@ first_session = record { fired = []; random = seeded SEED }
 abbrev pub fired_in : PlantDefinition → SessionDefinition → List ChoiceDefinition
 fired_in plant session = choices_fired plant (initial_states plant) session.fired
 
--- the state in which the plant stands: the one behind them
+-- the state in which the plant stands: the one after them
 abbrev pub states_at : PlantDefinition → SessionDefinition → List Local
-states_at plant session = states_behind plant session.fired
+states_at plant session = states_after plant session.fired

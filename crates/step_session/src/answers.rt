@@ -1,6 +1,6 @@
 //! The answer to each command.
 ghost use Rattle.std.specs.Prelude.{◌≡◌, OnOk};
-ghost use Rattle.std.specs.Io.KnownBytes.{Appends};
+ghost use Rattle.run_text.specs.Seen.{Prints};
 ghost use Rattle.step_session.specs.Answers.{interactions_text, no_choice_text, save_text, saving_text, there_text};
 
 use crate::command::Command;
@@ -19,8 +19,8 @@ impl Session<'_> {
     ghost use Rattle.blocked_text.specs.Asked.{plant_asked};
     ghost use Rattle.step_session.specs.Answers.{back_text, random_session, random_text, fire_session, fire_text, without_last};
     ghost use Rattle.step_session.specs.CommandOf.{command_of};
-    ghost use Rattle.step_session.specs.Kept.{plant_stepped, session_of};
-    ghost use Rattle.step_session.specs.Told.{IsAnswered, IsSaved};
+    ghost use Rattle.step_session.specs.SessionOf.{plant_stepped, session_of};
+    ghost use Rattle.step_session.specs.Transcript.{IsAnswered, IsSaved};
 
     /// Answers a command. The reasons are those of the plant, and rule k of it stands on the line `rule_lines[k]` of its text.
     pub(crate) fn answer<W: Write, S: Saver>(
@@ -51,11 +51,10 @@ impl Session<'_> {
         }
     }
 
-    /// Fires the choice with the number, and prints where the plant stands then; where it is not there, which choices there are.
+    /// Fires the choice with the number, and prints where the plant stands then; if it is not there, which choices there are.
     fn fire<W: Write>(&mut self, number: u64, output: &mut W) -> Result<(), StepFault>
         ensures session { OnOk result (session_of self.new ≡ fire_session (plant_stepped self.old) (session_of self.old) number) }
-        ensures printed { OnOk result (Appends (W.contents output.old) (W.contents output.new)
-            (fire_text (plant_stepped self.old) (session_of self.old) number)) }
+        ensures printed { Prints result (W.contents output.old) (W.contents output.new) (fire_text (plant_stepped self.old) (session_of self.old) number) }
         ensures plant { plant_stepped self.new ≡ plant_stepped self.old }
     {
         let count = self.run.count();
@@ -68,11 +67,10 @@ impl Session<'_> {
         self.print_standing(output)
     }
 
-    /// Takes the last firing back, and prints where the plant stands then; where there is none, that.
+    /// Takes the last firing back, and prints where the plant stands then; if there is none, that.
     fn back<W: Write>(&mut self, output: &mut W) -> Result<(), StepFault>
         ensures session { OnOk result (session_of self.new ≡ without_last (session_of self.old)) }
-        ensures printed { OnOk result (Appends (W.contents output.old) (W.contents output.new)
-            (back_text (plant_stepped self.old) (session_of self.old))) }
+        ensures printed { Prints result (W.contents output.old) (W.contents output.new) (back_text (plant_stepped self.old) (session_of self.old)) }
         ensures plant { plant_stepped self.new ≡ plant_stepped self.old }
     {
         if self.fired.is_empty() {
@@ -85,8 +83,7 @@ impl Session<'_> {
     /// Fires so many random choices, until nothing is possible, and prints where the plant stands then.
     fn fire_random<W: Write>(&mut self, count: u64, output: &mut W) -> Result<(), StepFault>
         ensures session { OnOk result (session_of self.new ≡ random_session (plant_stepped self.old) (session_of self.old) count) }
-        ensures printed { OnOk result (Appends (W.contents output.old) (W.contents output.new)
-            (random_text (plant_stepped self.old) (session_of self.old) count)) }
+        ensures printed { Prints result (W.contents output.old) (W.contents output.new) (random_text (plant_stepped self.old) (session_of self.old) count) }
         ensures plant { plant_stepped self.new ≡ plant_stepped self.old }
     {
         self.fire_at_random(count, output)?;
@@ -111,7 +108,7 @@ impl Session<'_> {
 
 /// Prints that there is no choice with the number, and which of so many there are.
 fn print_no_choice<W: Write>(number: u64, count: u128, output: &mut W) -> Result<(), WriteFault>
-    ensures { OnOk result (Appends (W.contents output.old) (W.contents output.new) (no_choice_text number count)) }
+    ensures { Prints result (W.contents output.old) (W.contents output.new) (no_choice_text number count) }
 {
     print_text(output, b"no choice ")?;
     print_number(output, number)?;
@@ -122,7 +119,7 @@ fn print_no_choice<W: Write>(number: u64, count: u128, output: &mut W) -> Result
 
 /// Prints which of so many choices there are.
 fn print_there<W: Write>(count: u128, output: &mut W) -> Result<(), WriteFault>
-    ensures { OnOk result (Appends (W.contents output.old) (W.contents output.new) (there_text count)) }
+    ensures { Prints result (W.contents output.old) (W.contents output.new) (there_text count) }
 {
     if count == 0 {
         return print_text(output, b"nothing can be fired");
@@ -142,7 +139,7 @@ fn print_save_answer<W: Write>(
     said: bool,
     output: &mut W,
 ) -> Result<(), WriteFault>
-    ensures { OnOk result (Appends (W.contents output.old) (W.contents output.new) (save_text count shown.now said)) }
+    ensures { Prints result (W.contents output.old) (W.contents output.new) (save_text count shown.now said) }
 {
     print_save_outcome(count, said, output)?;
     print_text(output, shown)?;
@@ -151,7 +148,7 @@ fn print_save_answer<W: Write>(
 
 /// Prints what stands before the path.
 fn print_save_outcome<W: Write>(count: u64, said: bool, output: &mut W) -> Result<(), WriteFault>
-    ensures { OnOk result (Appends (W.contents output.old) (W.contents output.new) (saving_text count said)) }
+    ensures { Prints result (W.contents output.old) (W.contents output.new) (saving_text count said) }
 {
     if !said {
         return print_text(output, b"could not save to ");

@@ -1,6 +1,6 @@
 //! What a line asks for.
 ghost use Rattle.std.specs.Prelude.{◌≡◌};
-ghost use Rattle.step_session.specs.Command.{alone, command_behind, command_in, count_in, ends, number_in, random_in, save_in, why_in};
+ghost use Rattle.step_session.specs.Command.{alone, command_after, command_in, count_in, ends, number_in, random_in, save_in, why_in};
 ghost use Rattle.step_session.specs.CommandOf.{command_of};
 
 use crate::lines::MAX_LINE;
@@ -38,7 +38,7 @@ pub(crate) enum Mistake<'a> {
     TooLong,
     /// Its first word is neither a number nor a command.
     NoCommand(&'a [u8]),
-    /// A word stands behind the last one that belongs to the command.
+    /// A word stands after the last one that belongs to the command.
     LeftOver(&'a [u8]),
     /// A word has to be a number within 64 bits, and is none.
     NoNumber(&'a [u8]),
@@ -66,14 +66,14 @@ pub(crate) fn read_command(line: &[u8]) -> Command<'_>
     }
     let mut words = Words::new(line);
     match words.next_word() {
-        Some(first) => command_behind(first, &mut words),
+        Some(first) => command_after(first, &mut words),
         None => Command::Show,
     }
 }
 
-/// What a first word and the words behind it ask for.
-fn command_behind<'a>(first: &'a [u8], words: &mut Words<'a>) -> Command<'a>
-    ensures { command_of result ≡ command_behind first.now words.old }
+/// What a first word and the words after it ask for.
+fn command_after<'a>(first: &'a [u8], words: &mut Words<'a>) -> Command<'a>
+    ensures { command_of result ≡ command_after first.now words.old }
 {
     if is_numeric(first) {
         alone(number_in(first), words)
@@ -96,7 +96,7 @@ fn command_behind<'a>(first: &'a [u8], words: &mut Words<'a>) -> Command<'a>
     }
 }
 
-/// The command, where no word stands behind it.
+/// The command, if no word stands after it.
 fn alone<'a>(command: Command<'a>, words: &mut Words<'a>) -> Command<'a>
     ensures { command_of result ≡ alone (command_of command.entry) words.old }
 {
@@ -116,7 +116,7 @@ fn number_in(word: &[u8]) -> Command<'_>
     }
 }
 
-/// What the words behind `random` ask for.
+/// What the words after `random` ask for.
 fn random_in<'a>(words: &mut Words<'a>) -> Command<'a>
     ensures { command_of result ≡ random_in words.old }
 {
@@ -136,7 +136,7 @@ fn count_in(word: &[u8]) -> Command<'_>
     }
 }
 
-/// What the words behind `why` ask for.
+/// What the words after `why` ask for.
 fn why_in<'a>(words: &mut Words<'a>) -> Command<'a>
     ensures { command_of result ≡ why_in words.old }
 {
@@ -146,7 +146,7 @@ fn why_in<'a>(words: &mut Words<'a>) -> Command<'a>
     }
 }
 
-/// What the words behind `save` ask for.
+/// What the words after `save` ask for.
 fn save_in<'a>(words: &mut Words<'a>) -> Command<'a>
     ensures { command_of result ≡ save_in words.old }
 {

@@ -2,7 +2,7 @@
 ghost use Rattle.std.specs.Prelude.{◌≡◌};
 
 use std::alloc::{AllocError, AllocFailed};
-use std::fmt;
+use std::{fmt, io};
 use text_io::WriteFault;
 use thiserror::Error;
 
@@ -49,6 +49,16 @@ impl<T: Drop> From<AllocFailed<T>> for StepFault {
 
     fn from(_: AllocFailed<T>) -> Self {
         Self::Memory
+    }
+}
+
+impl From<io::Error> for StepFault {
+    ghost use Rattle.step_session.specs.declared.fault.StepFault.TheVariants.{Read};
+
+    ghost from_gives = { λ _ fault. fault ≡ Read };
+
+    fn from(_: io::Error) -> Self {
+        Self::Read
     }
 }
 

@@ -1,6 +1,5 @@
 //! The list of what can be asked for.
-ghost use Rattle.std.specs.Prelude.{OnOk};
-ghost use Rattle.std.specs.Io.KnownBytes.{Appends};
+ghost use Rattle.run_text.specs.Seen.{Prints};
 ghost use Rattle.step_session.specs.Help.{help_text};
 
 use crate::fault::StepFault;
@@ -20,7 +19,7 @@ quit       ends, as the end of the input does
 
 /// Prints the list of the commands.
 pub(crate) fn print_help<W: Write>(output: &mut W) -> Result<(), StepFault>
-    ensures { OnOk result (Appends (W.contents output.old) (W.contents output.new) help_text) }
+    ensures { Prints result (W.contents output.old) (W.contents output.new) help_text }
 {
     print_text(output, HELP)?;
     Ok(())

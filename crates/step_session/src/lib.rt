@@ -4,15 +4,15 @@
 //! `random N` fires random choices, `why` tells why a connector can't be fired, and `save` saves what was fired, so that a trace can repeat it.
 //! [`step_by_hand`] is the whole session, from a reader of lines to a writer of answers.
 //!
-//! What a session prints is one definition, `told_of` (`specs/Told.antt`): of the plant, the lines, and what the [`Saver`] says. A session keeps
+//! What a session prints and saves is one definition, `transcript_of` (`specs/Transcript.antt`): of the plant, the lines, and what the [`Saver`] says. A session keeps
 //! the places of the choices that were fired (`specs/Session.antt`), and the plant stands in the state that they lead to. Contracts say that exactly
-//! this text was appended to a writer, where its type says which bytes it took, and the type of the reader which bytes it gave. They say
+//! this text was appended to a writer, if its type says which bytes it took, and the type of the reader which bytes it gave. They say
 //! nothing of when a reader or a writer fails.
 //!
-//! - `stepping`: the session, line by line. `lines`: a line is read into a bounded buffer. `command`: what a line asks for.
+//! - `stepping`: the session, line by line. `lines`: how long a line may be. `command`: what a line asks for.
 //! - `session`: where the plant stands, and what was fired. `answers`: the answer to each command. `random`: the generator of random picks.
-//! - `why`: why connectors can't be fired. `connectors`: a connector by its name.
-//! - `saver`: who saves what was fired. `saved`: a choice as a line that a trace can repeat.
+//! - `why`: why connectors can't be fired.
+//! - `saver`: who saves what was fired.
 //! - `mistakes`: what is said of a line that asks for nothing. `help`: the list of what can be asked for.
 //! - `fault`: why a session was not held to its end.
 //! - `laws`: what a session says of the plant.
@@ -22,14 +22,12 @@
 
 mod answers;
 mod command;
-mod connectors;
 mod fault;
 mod help;
 pub mod laws;
 mod lines;
 mod mistakes;
 mod random;
-mod saved;
 mod saver;
 mod session;
 mod stepping;

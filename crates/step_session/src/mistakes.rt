@@ -1,6 +1,5 @@
 //! What is said of a line that asks for nothing.
-ghost use Rattle.std.specs.Prelude.{OnOk};
-ghost use Rattle.std.specs.Io.KnownBytes.{Appends};
+ghost use Rattle.run_text.specs.Seen.{Prints};
 ghost use Rattle.step_session.specs.CommandOf.{mistake_of};
 ghost use Rattle.step_session.specs.Mistakes.{mistake_text, quoted_text, too_long_text};
 
@@ -18,7 +17,7 @@ pub(crate) fn print_mistake<W: Write>(
     mistake: &Mistake<'_>,
     output: &mut W,
 ) -> Result<(), StepFault>
-    ensures { OnOk result (Appends (W.contents output.old) (W.contents output.new) (mistake_text (mistake_of mistake.now))) }
+    ensures { Prints result (W.contents output.old) (W.contents output.new) (mistake_text (mistake_of mistake.now)) }
 {
     match mistake {
         Mistake::TooLong => print_too_long(output),
@@ -44,7 +43,7 @@ pub(crate) fn print_mistake<W: Write>(
 
 /// Prints that a line is too long.
 fn print_too_long<W: Write>(output: &mut W) -> Result<(), StepFault>
-    ensures { OnOk result (Appends (W.contents output.old) (W.contents output.new) too_long_text) }
+    ensures { Prints result (W.contents output.old) (W.contents output.new) too_long_text }
 {
     print_text(output, b"the line has more than ")?;
     print_number(output, MAX_LINE as u64)?;
@@ -59,7 +58,7 @@ pub(crate) fn print_quoted<W: Write>(
     said: &[u8],
     output: &mut W,
 ) -> Result<(), StepFault>
-    ensures { OnOk result (Appends (W.contents output.old) (W.contents output.new) (quoted_text word.now said.now)) }
+    ensures { Prints result (W.contents output.old) (W.contents output.new) (quoted_text word.now said.now) }
 {
     let shown = shown_name(alloc, word)?;
     print_text(output, b"'")?;
@@ -71,7 +70,7 @@ pub(crate) fn print_quoted<W: Write>(
 
 /// Prints a line as it is.
 pub(crate) fn print_line<W: Write>(line: &[u8], output: &mut W) -> Result<(), StepFault>
-    ensures { OnOk result (Appends (W.contents output.old) (W.contents output.new) line.now) }
+    ensures { Prints result (W.contents output.old) (W.contents output.new) line.now }
 {
     print_text(output, line)?;
     Ok(())

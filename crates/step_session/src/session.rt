@@ -1,13 +1,11 @@
 //! A plant that is stepped by hand: where it stands, and what was fired.
 ghost use Rattle.std.specs.Prelude.{◌≡◌, length, IfOk};
-ghost use Rattle.step_core.specs.Running.{plant_in, states_in};
-ghost use Rattle.step_core.specs.System.{plant_of};
-ghost use Rattle.step_session.specs.Fired.{IsThere, states_behind};
+ghost use Rattle.run_text.specs.Seen.{plant_in, plant_of, states_in};
+ghost use Rattle.step_session.specs.Fired.{IsThere, states_after};
 
 use crate::fault::StepFault;
 use crate::random::{next_state, pick_of};
-use crate::saved::print_saved_line;
-use run_text::{print_choice, print_choices, print_states};
+use run_text::{print_choice, print_choices, print_saved_line, print_states};
 use std::alloc::{AllocError, Global};
 use std::io::Write;
 use std::mem;
@@ -26,16 +24,15 @@ pub struct Session<'s> {
     pub(crate) fired: Vec<u128>,
     pub(crate) random: u64,
     ghost there: { IsThere (plant_in run) fired.items },
-    ghost stands: { states_in run ≡ states_behind (plant_in run) fired.items },
+    ghost stands: { states_in run ≡ states_after (plant_in run) fired.items },
 }
 
 impl<'s> Session<'s> {
     ghost use Rattle.std.specs.Prelude.{◌≢◌, ◌+◌, ◌<◌, ◌∷◌, [], Err, OnOk};
-    ghost use Rattle.std.specs.Io.KnownBytes.{Appends};
-    ghost use Rattle.step_core.specs.Choice.{choices};
+    ghost use Rattle.run_text.specs.Seen.{Prints, choices};
     ghost use Rattle.step_session.specs.Answers.{fired_more, firing_lines, standing_text, without_last};
     ghost use Rattle.step_session.specs.AtRandom.{FiresAtRandom, IsFiredAtRandom};
-    ghost use Rattle.step_session.specs.Kept.{plant_stepped, session_of};
+    ghost use Rattle.step_session.specs.SessionOf.{plant_stepped, session_of};
     ghost use Rattle.step_session.specs.Saved.{saved_text};
     ghost use Rattle.step_session.specs.Session.{first_session, states_at};
     ghost use Rattle.step_session.specs.declared.fault.StepFault.TheVariants.{Memory};
@@ -56,8 +53,7 @@ impl<'s> Session<'s> {
 
     /// Prints where the plant stands: the line of each atom's state, and the choices by their numbers.
     pub(crate) fn print_standing<W: Write>(&self, output: &mut W) -> Result<(), StepFault>
-        ensures { OnOk result (Appends (W.contents output.old) (W.contents output.new)
-            (standing_text (plant_stepped self.now) (session_of self.now))) }
+        ensures { Prints result (W.contents output.old) (W.contents output.new) (standing_text (plant_stepped self.now) (session_of self.now)) }
     {
         print_states(self.run.system(), self.run.states(), output)?;
         print_choices(&self.run, output)?;
@@ -68,8 +64,7 @@ impl<'s> Session<'s> {
     pub(crate) fn fire_at<W: Write>(&mut self, place: u128, output: &mut W) -> Result<(), StepFault>
         requires { place < length (choices (plant_stepped self.old) (states_at (plant_stepped self.old) (session_of self.old))) }
         ensures session { OnOk result (session_of self.new ≡ fired_more (session_of self.old) (place ∷ []) (session_of self.old).random) }
-        ensures printed { OnOk result (Appends (W.contents output.old) (W.contents output.new)
-            (firing_lines (plant_stepped self.old) (session_of self.old) (place ∷ []))) }
+        ensures printed { Prints result (W.contents output.old) (W.contents output.new) (firing_lines (plant_stepped self.old) (session_of self.old) (place ∷ [])) }
         ensures plant { plant_stepped self.new ≡ plant_stepped self.old }
     {
         let choice = self.run.nth(place);
@@ -128,8 +123,7 @@ impl<'s> Session<'s> {
     /// Prints what was fired, each choice as a line that `trace` takes as a pick: its connector, and its participants. The plant runs again from
     /// its first state for that; the memory is taken before anything is printed.
     pub fn print_fired<W: Write>(&self, output: &mut W) -> Result<(), StepFault>
-        ensures printed { OnOk result (Appends (W.contents output.old) (W.contents output.new)
-            (saved_text (plant_stepped self.now) (session_of self.now))) }
+        ensures printed { Prints result (W.contents output.old) (W.contents output.new) (saved_text (plant_stepped self.now) (session_of self.now)) }
         ensures nothing_written { result ≡ Err Memory → output.new ≡ output.old }
     {
         let mut run = Stepper::first(self.alloc, self.run.system())?;
@@ -142,7 +136,7 @@ impl<'s> Session<'s> {
     }
 }
 
-/// The plant behind the choices with these places, fired one after another from its first state on.
+/// The plant after the choices with these places, fired one after another from its first state on.
 fn run_again<'s>(
     alloc: Global,
     system: &'s System,
@@ -150,7 +144,7 @@ fn run_again<'s>(
 ) -> Result<Stepper<'s>, AllocError>
     requires { IsThere (plant_of system.now) places.now }
     ensures plant { IfOk result (λ run. plant_in run ≡ plant_of system.now) }
-    ensures states { IfOk result (λ run. states_in run ≡ states_behind (plant_of system.now) places.now) }
+    ensures states { IfOk result (λ run. states_in run ≡ states_after (plant_of system.now) places.now) }
 {
     let mut run = Stepper::first(alloc, system)?;
     for place in places {

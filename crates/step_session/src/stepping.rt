@@ -1,15 +1,15 @@
 //! The session, line by line.
-ghost use Rattle.std.specs.Prelude.{◌≡◌, IfSome, OnOk};
-ghost use Rattle.std.specs.Io.KnownBytes.{Appends, Keeps};
+ghost use Rattle.std.specs.Prelude.{◌≡◌, [], IfSome, OnOk, if◌then◌else◌};
+ghost use Rattle.std.specs.Io.KnownBytes.{Keeps};
+ghost use Rattle.run_text.specs.Seen.{Prints, plant_of};
 ghost use Rattle.blocked_text.specs.Asked.{plant_asked};
 ghost use Rattle.plant_words.specs.Lines.{lines_of};
-ghost use Rattle.step_core.specs.System.{plant_of};
-ghost use Rattle.step_session.specs.Kept.{plant_stepped, session_of};
-ghost use Rattle.step_session.specs.Told.{IsTold, end_text, prompt_text, told_from, told_of};
+ghost use Rattle.step_session.specs.SessionOf.{plant_stepped, session_of};
+ghost use Rattle.step_session.specs.Transcript.{IsTranscript, transcript_from, transcript_of};
 
 use crate::command::read_command;
 use crate::fault::StepFault;
-use crate::lines::read_line;
+use crate::lines::KEPT;
 use crate::saver::Saver;
 use crate::session::Session;
 use arrayvec::ArrayVec;
@@ -18,10 +18,10 @@ use plant_words::Lines;
 use std::alloc::Global;
 use std::io::{BufRead, Write};
 use step_core::System;
-use text_io::{WriteFault, print_text};
+use text_io::{WriteFault, print_text, read_line};
 
 /// Lets an engineer step the plant of the system by hand: prints where it stands, and then answers each line of the input until one asks to quit,
-/// or to the input's end. A prompt is printed before each line where that is asked for. Rule k of the plant stands on the line `rule_lines[k]` of its
+/// or to the input's end. A prompt is printed before each line if that is asked for. Rule k of the plant stands on the line `rule_lines[k]` of its
 /// text. What was fired is saved by the saver.
 ///
 /// The output is flushed before each line is read, and at the end: who types sees the answer first.
@@ -35,7 +35,7 @@ pub fn step_by_hand<R: BufRead, W: Write, S: Saver>(
     saver: &mut S,
 ) -> Result<(), StepFault>
     ensures { OnOk result (IfSome (R.remaining input.old) (λ bytes.
-        IsTold S.saves (told_of (plant_of system.now) rule_lines.now prompt (lines_of bytes)) saver.old saver.new (W.contents output.old) (W.contents output.new))) }
+        IsTranscript S.saves (transcript_of (plant_of system.now) rule_lines.now prompt (lines_of bytes)) saver.old saver.new (W.contents output.old) (W.contents output.new))) }
 {
     let reasons = Reasons::new(alloc, system)?;
     let mut session = Session::new(alloc, system)?;
@@ -63,15 +63,15 @@ fn answer_lines<R: BufRead, W: Write, S: Saver>(
 ) -> Result<(), StepFault>
     requires { plant_asked reasons.now ≡ plant_stepped session.old }
     ensures { OnOk result (IfSome (R.remaining input.old) (λ bytes.
-        IsTold S.saves (told_from (plant_stepped session.old) rule_lines.now prompt (session_of session.old) (lines_of bytes)) saver.old saver.new (W.contents output.old) (W.contents output.new))) }
+        IsTranscript S.saves (transcript_from (plant_stepped session.old) rule_lines.now prompt (session_of session.old) (lines_of bytes)) saver.old saver.new (W.contents output.old) (W.contents output.new))) }
 {
-    let mut line = ArrayVec::new();
+    let mut line: ArrayVec<u8, KEPT> = ArrayVec::new();
     for _ in 0..u64::MAX {
-        print_prompt(prompt, output)?;
+        print_if(prompt, b"> ", output)?;
         hand_on(output)?;
         read_line(input, &mut line)?;
         let Some(typed) = Lines::new(line.as_slice()).next_line() else {
-            print_end(prompt, output)?;
+            print_if(prompt, b"\n", output)?;
             return hand_on(output);
         };
         let command = read_command(typed);
@@ -83,23 +83,12 @@ fn answer_lines<R: BufRead, W: Write, S: Saver>(
     Err(StepFault::Read)
 }
 
-/// Prints the prompt, where one is asked for.
-fn print_prompt<W: Write>(prompt: bool, output: &mut W) -> Result<(), WriteFault>
-    ensures { OnOk result (Appends (W.contents output.old) (W.contents output.new) (prompt_text prompt)) }
+/// Prints the text, if it is asked for.
+fn print_if<W: Write>(asked: bool, text: &[u8], output: &mut W) -> Result<(), WriteFault>
+    ensures { Prints result (W.contents output.old) (W.contents output.new) (if asked then text.now else []) }
 {
-    if prompt {
-        print_text(output, b"> ")
-    } else {
-        Ok(())
-    }
-}
-
-/// Ends the line in which the last prompt stands, where there is one.
-fn print_end<W: Write>(prompt: bool, output: &mut W) -> Result<(), WriteFault>
-    ensures { OnOk result (Appends (W.contents output.old) (W.contents output.new) (end_text prompt)) }
-{
-    if prompt {
-        print_text(output, b"\n")
+    if asked {
+        print_text(output, text)
     } else {
         Ok(())
     }

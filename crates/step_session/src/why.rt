@@ -1,11 +1,9 @@
 //! Why connectors can't be fired.
-ghost use Rattle.std.specs.Prelude.{◌≡◌, OnOk};
-ghost use Rattle.std.specs.Io.KnownBytes.{Appends};
+ghost use Rattle.std.specs.Prelude.{◌≡◌};
+ghost use Rattle.run_text.specs.Seen.{Prints, plant_in, states_in};
 ghost use Rattle.blocked_text.specs.Asked.{plant_asked};
-ghost use Rattle.step_core.specs.Running.{plant_in, states_in};
 ghost use Rattle.step_session.specs.Answers.{why_of_text, why_text};
 
-use crate::connectors::connector_named;
 use crate::fault::StepFault;
 use crate::mistakes::print_quoted;
 use blocked_text::Reasons;
@@ -21,8 +19,7 @@ pub(crate) fn print_why<W: Write>(
     output: &mut W,
 ) -> Result<(), StepFault>
     requires { plant_asked reasons.now ≡ plant_in run.now }
-    ensures { OnOk result (Appends (W.contents output.old) (W.contents output.new)
-        (why_text (plant_in run.now) rule_lines.now (states_in run.now))) }
+    ensures { Prints result (W.contents output.old) (W.contents output.new) (why_text (plant_in run.now) rule_lines.now (states_in run.now)) }
 {
     let system = run.system();
     system.keeps_its_rules();
@@ -32,7 +29,7 @@ pub(crate) fn print_why<W: Write>(
     Ok(())
 }
 
-/// The same of the connector with the name; where there is none, that.
+/// The same of the connector with the name; if there is none, that.
 pub(crate) fn print_why_of<W: Write>(
     alloc: Global,
     reasons: &Reasons<'_>,
@@ -42,10 +39,9 @@ pub(crate) fn print_why_of<W: Write>(
     output: &mut W,
 ) -> Result<(), StepFault>
     requires { plant_asked reasons.now ≡ plant_in run.now }
-    ensures { OnOk result (Appends (W.contents output.old) (W.contents output.new)
-        (why_of_text (plant_in run.now) rule_lines.now (states_in run.now) name.now)) }
+    ensures { Prints result (W.contents output.old) (W.contents output.new) (why_of_text (plant_in run.now) rule_lines.now (states_in run.now) name.now) }
 {
-    match connector_named(run.system(), name) {
+    match run.system().connector_named(name) {
         Some(connector) => {
             reasons.print_blocked_of(run.states(), connector, rule_lines, output)?;
             Ok(())

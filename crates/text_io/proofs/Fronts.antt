@@ -12,7 +12,7 @@ pub gives_up_after : (fault : TextFault) (old now new : Option (List ℕ)) (text
 gives_up_after fault old now new text part count before more =
     (text ++ part, subst (IsReadBefore fault) (sym (length-append text part)) count, Consumes-trans old now new text part before more)
 
--- what holds of a fault holds of a result that tells it
-pub told_fault : {X : Type 0} (result : Result X TextFault) (fault : TextFault) (P : TextFault → Type 0) → IsErrAnd result (λ told. told ≡ fault) → P fault → IfErr result P
-told_fault (Ok x) fault P told holds = tt
-told_fault (Err e) fault P told holds = subst P (sym told) holds
+-- what holds of a fault holds of a result that answers it
+pub found_fault : {X : Type 0} (result : Result X TextFault) (fault : TextFault) (P : TextFault → Type 0) → IsErrAnd result (λ told. told ≡ fault) → P fault → IfErr result P
+found_fault (Ok x) fault P told holds = tt
+found_fault (Err e) fault P told holds = subst P (sym told) holds

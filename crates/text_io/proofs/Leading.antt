@@ -30,14 +30,14 @@ pub leads-element : {X : Type 0} (say : ℕ → X → List ℕ) (xs : List X) (i
     → Leads start next (numbered say (i + 1) (drop (i + 1) xs)) all
 leads-element say xs i x start now next all within here l p = leads-more _ _ _ _ _ _ (leads-same l (numbered-left say xs i x within here)) p
 
--- a text is printed, and behind it what the last call prints
-pub told-last : {T E : Type 0} (result : Result T E) (start now after : Option (List ℕ)) (text last : List ℕ)
+-- a text is printed, and after it what the last call prints
+pub printed-last : {T E : Type 0} (result : Result T E) (start now after : Option (List ℕ)) (text last : List ℕ)
     → Appends start now text → OnOk result (Appends now after last) → OnOk result (Appends start after (text ++ last))
-told-last (Err fault) start now after text last begins ends = tt
-told-last (Ok done) start now after text last begins ends = Appends-trans start now after text last begins ends
+printed-last (Err fault) start now after text last begins ends = tt
+printed-last (Ok done) start now after text last begins ends = Appends-trans start now after text last begins ends
 
 -- all of a text is printed where the last call prints what is left of it
-pub told-left : {T E : Type 0} (result : Result T E) (start now after : Option (List ℕ)) (left all : List ℕ)
+pub printed-left : {T E : Type 0} (result : Result T E) (start now after : Option (List ℕ)) (left all : List ℕ)
     → Leads start now left all → OnOk result (Appends now after left) → OnOk result (Appends start after all)
-told-left (Err fault) start now after left all l ends = tt
-told-left (Ok done) start now after left all l ends = l.by after ends
+printed-left (Err fault) start now after left all l ends = tt
+printed-left (Ok done) start now after left all l ends = l.by after ends

@@ -1,3 +1,4 @@
-pub mod Fronts
+mod Fronts
 pub mod Leading
+mod LineParts
 mod Rows

@@ -36,10 +36,10 @@ most_bytes_of_a_text = refl
 one_byte_more : IsReadBefore TooLong 1048577
 one_byte_more = refl
 
--- the limit is told in decimal
-limit_is_told : message_of TooLong ≡ codes "the text has more than 1048576 bytes"
+-- the limit is printed in decimal
+limit_is_printed : message_of TooLong ≡ codes "the text has more than 1048576 bytes"
 unfolding digits
-limit_is_told = refl
+limit_is_printed = refl
 
 -- an error after two of three bytes leaves the third
 error_after_two : GivesUp Read (Some (97 ∷ 98 ∷ 99 ∷ [])) (Some (99 ∷ []))
@@ -55,7 +55,7 @@ digest_of_nothing : sha256 [] ≡ 227 ∷ 176 ∷ 196 ∷ 66 ∷ 152 ∷ 252 ∷
 unfolding sha256 digest_bytes hash_after compress first_words schedule rounds
 digest_of_nothing = refl
 
--- and of the sample plant, as `sha256sum` tells it
+-- and of the sample plant, as `sha256sum` prints it
 digest_of_the_sample : sha256 (codes "atom A\nplace s init\nvar n 0\nport t n\ntrans t from s to s do n := + n 1\natom B\nplace s init\nvar m 0\nport u m\ntrans u from s to s\nconnector tick A.t\nconnector send A.t B.u\nmove B.m := A.n\n") ≡ 156 ∷ 126 ∷ 17 ∷ 69 ∷ 201 ∷ 174 ∷ 8 ∷ 196 ∷ 35 ∷ 240 ∷ 247 ∷ 202 ∷ 144 ∷ 228 ∷ 51 ∷ 16 ∷ 224 ∷ 174 ∷ 219 ∷ 217 ∷ 76 ∷ 189 ∷ 191 ∷ 184 ∷ 37 ∷ 160 ∷ 221 ∷ 239 ∷ 178 ∷ 8 ∷ 27 ∷ 72 ∷ []
 unfolding sha256 digest_bytes hash_after compress first_words schedule rounds
 digest_of_the_sample = refl

@@ -1,3 +1,4 @@
+pub mod LineParts
 pub mod Numbered
 pub mod Printing
 pub mod Reading

@@ -6,7 +6,7 @@ use Rattle.text_io.specs.declared.reading.TheConstants.{MAX_TEXT}
 use Rattle.text_io.specs.declared.reading.TextFault.{TextFault}
 use Rattle.text_io.specs.declared.reading.TextFault.TheVariants.{TooLong, Memory, Read}
 
--- how many bytes are read before a fault: one more than a text may have tells that it is too long
+-- how many bytes are read before a fault: one more than a text may have shows that it is too long
 abbrev pub IsReadBefore : TextFault → ℕ → Type 0
 IsReadBefore TooLong count = count ≡ MAX_TEXT + 1
 IsReadBefore Memory count = count ≤ MAX_TEXT

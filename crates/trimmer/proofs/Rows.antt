@@ -17,12 +17,12 @@ second = record { number = 2; participations = record { atom = 0; number = 2 } �
 third : MarkFields
 third = record { number = 3; participations = record { atom = 0; number = 3 } ∷ [] }
 
--- with atom 0 saved behind three firings and atom 1 behind none, the second record keeps itself and the third
+-- with atom 0 saved after three firings and atom 1 after none, the second record keeps itself and the third
 a_slow_atom_keeps_what_follows : prefix_len (is_covered (record { count = 3; at = 3 } ∷ record { count = 0; at = 0 } ∷ [])) (first ∷ second ∷ third ∷ []) ≡ 1
 unfolding first second third
 a_slow_atom_keeps_what_follows = refl
 
--- with atom 1 saved behind its firing all three may go
+-- with atom 1 saved after its firing all three may go
 all_may_go_where_all_are_saved : prefix_len (is_covered (record { count = 3; at = 3 } ∷ record { count = 1; at = 2 } ∷ [])) (first ∷ second ∷ third ∷ []) ≡ 3
 unfolding first second third
 all_may_go_where_all_are_saved = refl

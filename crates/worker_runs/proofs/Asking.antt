@@ -13,7 +13,7 @@ module _ (plant : PlantDefinition) (opening : View) (workers worker : ℕ) (even
   abbrev pub LeadsOn : ℕ → List Entry → List Entry → Type 0
   LeadsOn place start now = (after : List Entry) → AreAsked plant opening workers worker place (drop place events) now after → AreAsked plant opening workers worker 0 events start after
 
-  -- one more event is behind
+  -- one more event was asked
   pub leads-past : (place : ℕ) (event : Event) (start now next : List Entry) → place < length events → event ≡ get_or events place event →
       IsTurn plant opening (place % workers == worker) event now next → LeadsOn place start now → LeadsOn (place + 1) start next
   leads-past place event start now next within here turn leads after asked =

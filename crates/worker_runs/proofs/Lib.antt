@@ -1,4 +1,4 @@
-pub mod Asking
-pub mod Growing
-pub mod Seen
-pub mod Standing
+mod Asking
+mod Growing
+mod Seen
+mod Standing

@@ -1,4 +1,4 @@
--- What was done, printed and left, told of the same plant and device by other names.
+-- What was done, printed and left, for the same plant and device by other names.
 use Rattle.std.proofs.Common.{◌≡◌, ◌∙◌, sym, subst, ℕ, ◌+◌, true, false, List, ◌++◌, Option}
 use Rattle.std.specs.Io.KnownBytes.{Appends, Keeps}
 use Rattle.std.proofs.KnownBytes.{Appends-trans}
@@ -13,7 +13,7 @@ use Rattle.worker_runs.specs.Asked.{AreShared}
 use Rattle.worker_runs.specs.Printed.{by_line}
 use Rattle.worker_runs.specs.Runs.{IsRunByWorkers}
 
--- a run whose two texts were appended one behind the other
+-- a run whose two texts were appended one after the other
 pub run-by : (p q r : PlantDefinition) (digest : List ℕ) (s : DiskState) (seats workers : ℕ) (events : List Event) (before after : View) (fired : ℕ) (a b c d : Option (List ℕ)) →
     p ≡ q → r ≡ p → seats ≡ workers → IsBootedFrom q digest s before → AreShared p before seats events after → fired + fired_number before ≡ fired_number after →
     Appends a b (standing_text r after) → Appends b c (by_line fired) → Keeps c d → IsRunByWorkers q digest s workers events after a d
@@ -28,9 +28,9 @@ run-by p q r digest s seats workers events before after fired a b c d same own a
 }
 
 -- the plant that was booted stands, on the device as it is left, for what it acknowledged
-pub stands-told : (p q : PlantDefinition) (text digest : List ℕ) (s m image : DiskState) (v : View) → p ≡ q → text ≡ digest → m.keeps ≡ s.keeps → image ≡ m → v.broken ≡ false →
+pub stands-so : (p q : PlantDefinition) (text digest : List ℕ) (s m image : DiskState) (v : View) → p ≡ q → text ≡ digest → m.keeps ≡ s.keeps → image ≡ m → v.broken ≡ false →
     (m.keeps ≡ true → v.broken ≡ false → StandsForAllAcked p text m v) → s.keeps ≡ true → StandsForAllAcked q digest image v
-stands-told p q text digest s m image v same_plant same_text same_kind same_device whole stands keeps =
+stands-so p q text digest s m image v same_plant same_text same_kind same_device whole stands keeps =
     subst (λ (d : DiskState). StandsForAllAcked q digest d v) (sym same_device)
     (subst (λ (t : List ℕ). StandsForAllAcked q t m v) same_text
     (subst (λ (plant : PlantDefinition). StandsForAllAcked plant text m v) same_plant (stands (same_kind ∙ keeps) whole)))

@@ -1,4 +1,4 @@
--- What a run by workers prints behind where the plant stands.
+-- What a run by workers prints after where the plant stands.
 use Rattle.std.specs.Prelude.{ℕ, List, ◌++◌, codes, decimal}
 
 -- how many choices were fired by all workers together

@@ -8,7 +8,7 @@ use Rattle.plant_core.specs.View.{View, fired_number}
 use Rattle.plant_core.specs.declared.events.Event.{Event}
 use Rattle.script_lines.specs.Answers.{standing_text}
 use Rattle.image_commands.specs.Runs.{IsBootedFrom, StandsForAllAcked}
-use Rattle.image_commands.specs.Endings.{IsToldOf}
+use Rattle.image_commands.specs.Endings.{IsEndingOf}
 use Rattle.worker_runs.specs.Asked.{AreShared}
 use Rattle.worker_runs.specs.Printed.{by_line}
 use Rattle.worker_runs.specs.declared.ending.WorkersEnding.{WorkersEnding}
@@ -33,6 +33,6 @@ pub record HasRunByWorkers (plant : PlantDefinition) (digest : List ℕ) (s : Di
   pub stands : s.keeps ≡ true → StandsForAllAcked plant digest image after
 
 -- An ending before the workers began: an image is refused by what is wrong with it.
-abbrev pub IsToldOfWorkers : Option ImageFault → WorkersEnding → Type 0
-IsToldOfWorkers found Memory = Unit {0}
-IsToldOfWorkers found (Image ending) = IsToldOf found ending
+abbrev pub IsEndingOfWorkers : Option ImageFault → WorkersEnding → Type 0
+IsEndingOfWorkers found Memory = Unit {0}
+IsEndingOfWorkers found (Image ending) = IsEndingOf found ending

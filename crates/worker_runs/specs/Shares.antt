@@ -13,6 +13,6 @@ pub record IsShare (events : List Event) (workers worker : ℕ) (share : Share) 
   pub workers_are : share.workers ≡ workers
   pub worker_is : share.worker ≡ worker
 
--- a watch that knew nothing has been told of the share's events
+-- a watch that knew nothing knows the share's events
 abbrev pub HasAsked : PlantDefinition → View → Share → List Entry → Type 0
 HasAsked plant opening share seen = AreAsked plant opening share.workers share.worker 0 share.events.now [] seen

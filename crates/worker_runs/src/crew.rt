@@ -24,7 +24,7 @@ struct Share<'a> {
     worker: usize,
 }
 
-/// A worker comes back with its seat once it has asked its share of the events; or without, if it was told not to begin.
+/// A worker comes back with its seat once it has asked its share of the events; or without, if it was not to begin.
 #[derive(Drop)]
 struct AsksItsShare<'a, N>(Share<'a>, PhantomData<N>);
 
@@ -39,7 +39,7 @@ impl<'a, N: Naming> Promise<Option<Seat<N>>> for AsksItsShare<'a, N> {
 type Worker<'a, N> = PromisedHandle<Option<Seat<N>>, AsksItsShare<'a, N>>;
 
 /// Has a worker in each seat ask its share of the events, each in a thread of its own, and gives the seats back when all are done. Where there is no
-/// memory, or a thread can't be made, no event was asked. By `start` the workers are told whether to begin.
+/// memory, or a thread can't be made, no event was asked. By `start` the workers learn whether to begin.
 pub(crate) fn ask_all<
     'a,
     D: Disk + Drop + Send,

@@ -5,7 +5,7 @@
 //! here, and no answer is printed.
 //!
 //! - `running`: the run. `sharing`: a host whose events are shared out. `crew`: its workers, each in a thread. `worker`: what one worker does.
-//! - `printing`: the line of what was fired. `progress`: who is told how far a run is. `ending`: why a run ends early.
+//! - `printing`: the line of what was fired. `progress`: who learns how far a run is. `ending`: why a run ends early.
 #![tactic(auto)]
 
 mod crew;

@@ -1,4 +1,4 @@
-//! Who is told how far a run is.
+//! Who learns how far a run is.
 use plant_core::Front;
 
 /// Told how far a run by workers is, by each worker and without the lock of the host.

@@ -1,15 +1,13 @@
 //! Running a plant on its image by workers.
-ghost use Rattle.std.specs.Prelude.{◌≡◌, ◌+◌, ◌≤◌, true, IfErr, IfOk, Err};
-ghost use Rattle.disk_model.specs.DiskState.{DiskState, size_of};
-ghost use Rattle.disk_model.specs.Cells.{seen_cells};
-ghost use Rattle.disk_model.specs.declared.cells.TheConstants.{BODY};
+ghost use Rattle.std.specs.Prelude.{◌≡◌, ◌≤◌, true, IfErr, IfOk, Err};
+ghost use Rattle.disk_model.specs.DiskState.{DiskState};
 ghost use Rattle.engine_host.specs.declared.opening.TheConstants.{MOST_SEATS};
 ghost use Rattle.step_core.specs.System.{digest_of, plant_of};
-ghost use Rattle.plant_image.specs.Faults.{fault_of};
 ghost use Rattle.plant_core.specs.View.{View};
+ghost use Rattle.image_commands.specs.Runs.{fault_on};
 ghost use Rattle.image_commands.specs.declared.refusal.ImageRefusal.{ImageRefusal};
 ghost use Rattle.image_commands.specs.declared.ending.ImageEnding.TheVariants.{Failed, Refused};
-ghost use Rattle.worker_runs.specs.Runs.{HasRunByWorkers, IsRunByWorkers, IsToldOfWorkers};
+ghost use Rattle.worker_runs.specs.Runs.{HasRunByWorkers, IsRunByWorkers, IsEndingOfWorkers};
 ghost use Rattle.worker_runs.specs.declared.ending.WorkersEnding.TheVariants.{Image, Memory};
 
 use crate::ending::WorkersEnding;
@@ -18,7 +16,7 @@ use crate::progress::RunProgress;
 use crate::sharing::share_out;
 use disk_model::Disk;
 use engine_host::{Closed, name};
-use image_commands::{ImageEnding, booted, hand_on};
+use image_commands::{ImageEnding, booted};
 use plant_core::Event;
 use script_lines::print_standing;
 use std::alloc::Global;
@@ -27,6 +25,7 @@ use std::marker::Brand;
 use std::sync::Wait;
 use std::thread::Threads;
 use step_core::System;
+use text_io::hand_on;
 
 /// Boots the plant of the system from the device, after any stop, and has so many workers ask the events of it, each in a thread where one can be
 /// made: the event at a place, counted from 0, is of the worker with that number modulo theirs. Then it prints where the plant stands, and how
@@ -47,8 +46,7 @@ pub fn run_by_workers<R: Threads + Wait + Sync, D: Disk + Drop + Send, W: Write,
     requires to { workers ≤ MOST_SEATS }
     ensures ran { IfOk result (λ image. HasRunByWorkers (plant_of system.now) (digest_of system.now) (D.state disk) workers events.now (D.state image) (W.contents output.old) (W.contents output.new)) }
     ensures failed { result ≡ Err (Image Failed) → (after : View) × (after.broken ≡ true) × IsRunByWorkers (plant_of system.now) (digest_of system.now) (D.state disk) workers events.now after (W.contents output.old) (W.contents output.new) }
-    ensures told { (D.state disk).keeps ≡ true → IfErr result (IsToldOfWorkers (fault_of (plant_of system.now) (digest_of system.now)
-        (size_of (D.state disk)) (seen_cells (BODY + 1) (D.state disk)))) }
+    ensures ending { (D.state disk).keeps ≡ true → IfErr result (IsEndingOfWorkers (fault_on (plant_of system.now) (digest_of system.now) (D.state disk))) }
     ensures nothing_printed { (refusal : ImageRefusal) → result ≡ Err (Image (Refused refusal)) → output.new ≡ output.old }
     ensures no_memory { result ≡ Err Memory → output.new ≡ output.old }
 {

@@ -33,7 +33,7 @@ pub(crate) fn ask_own<D: Disk, N: Naming, P: RunProgress>(
     }
 }
 
-/// Asks an event where it is the worker's own, and tells how far the plant is then.
+/// Asks an event if it is the worker's own, and gives how far the plant is then.
 fn take_turn<D: Disk, N: Naming, P: RunProgress>(
     rt: &impl Wait,
     host: &Host<'_, D, N>,

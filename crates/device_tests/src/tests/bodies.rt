@@ -1,9 +1,8 @@
-// The bodies of cells, byte for byte, and which single bytes of them may change.
-ghost use Rattle.std.specs.Prelude.{◌<◌, ◌≤◌, length};
+//! The bodies of cells, byte for byte, and which single bytes of them may change.
+ghost use Rattle.std.specs.Prelude.{◌<◌};
 
+use super::common::{BASE, RECORD, SAVED, body_of};
 use record_codec::{BODY, Base, Entry, Fired, Identity, Saved};
-
-const BASE: [u8; 8] = [0, 0, 0, 0, 0, 0, 0, 9];
 
 // What an identity begins with, of two atoms and a ring of 8, and of the most that there may be.
 const SAMPLE_FRONT: [u8; 12] = [0x42, 0x49, 0x50, 0x46, 0, 2, 0, 2, 0, 0, 0, 8];
@@ -16,35 +15,10 @@ const DIGEST: [u8; 32] = [
     0xe0, 0xae, 0xdb, 0xd9, 0x4c, 0xbd, 0xbf, 0xb8, 0x25, 0xa0, 0xdd, 0xef, 0xb2, 0x08, 0x1b, 0x48,
 ];
 
-// Atom 0 at count 4, copied at number 4, place 0 marked, one variable with value 4.
-const SAVED: [u8; 35] = [
-    0, 0, 0, 0, 0, 0, 0, 0, 0, 4, 0, 0, 0, 0, 0, 0, 0, 4, 0, 0, 0, 0, 0, 0, 0, 1, 1, 0, 0, 0, 0, 0,
-    0, 0, 4,
-];
-
-// Record 2 of the sample plant's run: A and B took part, and 1 was delivered to B's variable.
-const RECORD: [u8; 47] = [
-    0, 0, 0, 0, 0, 0, 0, 2, 0, 1, 2, 0, 0, 0, 0, 0, 0, 0, 0, 0, 0, 0, 2, 0, 0, 0, 1, 0, 0, 0, 0, 0,
-    0, 0, 0, 0, 1, 1, 1, 0, 0, 0, 0, 0, 0, 0, 1,
-];
-
-// The bytes, and zeros behind them.
-fn body_of(front: &[u8]) -> [u8; BODY]
-    requires { length front.now ≤ BODY }
-{
-    let mut body = [0; BODY];
-    body[..front.len()].copy_from_slice(front);
-    body
-}
-
 // Atom 63, count and number 2^63 - 1, all places marked, and 16 values -1: 155 bytes.
 fn longest_saved() -> [u8; BODY] {
-    let mut body = [0; BODY];
-    for i in 2..155 {
-        body[i] = 0xff;
-    }
-    body[1] = 63;
-    body[2] = 0x7f;
+    let mut body: [u8; BODY] = body_of(&[0xff; 155]);
+    body[..3].copy_from_slice(&[0, 63, 0x7f]);
     body[10] = 0x7f;
     body[26] = 16;
     body
@@ -53,14 +27,9 @@ fn longest_saved() -> [u8; BODY] {
 // Number 2^63 - 1, connector 63, and sixteen entries of atoms 48 to 63, each with transition 127,
 // participation number 2^63 - 1 and four values -1: 747 bytes.
 fn longest_record() -> [u8; BODY] {
-    let mut body = [0; BODY];
-    for i in 0..747 {
-        body[i] = 0xff;
-    }
+    let mut body: [u8; BODY] = body_of(&[0xff; 747]);
     body[0] = 0x7f;
-    body[8] = 0;
-    body[9] = 63;
-    body[10] = 16;
+    body[8..11].copy_from_slice(&[0, 63, 16]);
     for entry in 0..16 {
         let at = 11 + 46 * entry;
         body[at] = 0;
@@ -74,7 +43,7 @@ fn longest_record() -> [u8; BODY] {
     body
 }
 
-// What the bodies hold, told with no contract: a test compares values alone.
+// What the bodies hold, with no contract: a test compares values alone.
 fn base_in(body: &[u8; BODY]) -> Option<u64> {
     let base = Base::from_body(body)?;
     Some(base.number())
@@ -109,7 +78,7 @@ fn base_of_nine() -> [u8; BODY] {
     Base::new(9).to_body()
 }
 
-/// Number 2^63 is the last. A byte behind the number, an empty body and a number past the last are refused.
+/// Number 2^63 is the last. A byte after the number, an empty body and a number past the last are refused.
 #[test]
 fn bases(rt: HostRuntime) {
     for (front, at_the_end, number) in [
@@ -126,7 +95,7 @@ fn bases(rt: HostRuntime) {
 }
 
 /// An identity with this front.
-fn identity_behind(front: [u8; 12]) -> [u8; BODY] {
+fn identity_after(front: [u8; 12]) -> [u8; BODY] {
     let mut body = body_of(&front);
     body[12..44].copy_from_slice(&DIGEST);
     body
@@ -168,7 +137,7 @@ fn identities(rt: HostRuntime) {
         ),
         ([0; 12], None, None),
     ] {
-        let body = identity_behind(front);
+        let body = identity_after(front);
         assert_eq!(rt;
             (version_in(&body), identity_numbers(&body)),
             (version, numbers)
@@ -185,10 +154,7 @@ fn identities_of(digest: [u8; 32]) -> [[u8; BODY]; 2] {
 
 #[test]
 fn identities_are_written(rt: HostRuntime) {
-    let wanted = [
-        identity_behind(SAMPLE_FRONT),
-        identity_behind(LARGEST_FRONT),
-    ];
+    let wanted = [identity_after(SAMPLE_FRONT), identity_after(LARGEST_FRONT)];
     assert!(rt; identities_of(DIGEST) == wanted);
 }
 
@@ -240,7 +206,7 @@ fn sample_record() -> [u8; BODY] {
     Fired::new(2, 1, &[FIRST, SECOND]).to_body()
 }
 
-/// The number, the connector and how many entries there are, where the record is written so again.
+/// The number, the connector and how many entries there are, if the record is written so again.
 fn numbers_in(body: &[u8; BODY]) -> Option<(u64, u16, usize)> {
     let record = Fired::from_body(body)?;
     if record.to_body() != *body {
@@ -301,7 +267,7 @@ enum Kind {
 fn body_for(kind: Kind) -> [u8; BODY] {
     match kind {
         Kind::Base => body_of(&BASE),
-        Kind::Identity => identity_behind(SAMPLE_FRONT),
+        Kind::Identity => identity_after(SAMPLE_FRONT),
         Kind::Saved => body_of(&SAVED),
         Kind::LongestSaved => longest_saved(),
         Kind::Record => body_of(&RECORD),

@@ -1,4 +1,4 @@
-// A caller of two calls that knows only that there is a device, and a device on which its conditions are met.
+//! A caller of two calls that knows only that there is a device, and a device on which its conditions are met.
 ghost use Rattle.std.specs.Prelude.{◌≡◌, ◌+◌, ◌<◌, ◌≤◌, List, true, length, IfOk, OnOk, Some};
 ghost use Rattle.disk_model.specs.DiskState.{size_of};
 ghost use Rattle.disk_model.specs.Cells.{cell_count, seen_cells, Leaves};
@@ -41,7 +41,7 @@ fn append_then_move<D: Disk>(
     journal.move_base(cells, base)
 }
 
-/// A new device with base 1, for a ring of eight records behind two atoms.
+/// A new device with base 1, for a ring of eight records after the slots of two atoms.
 fn new_cells(alloc: Global) -> Result<Cells<MemDisk>, Fail>
     ensures keeps { IfOk result (λ s. s.keeps ≡ true) }
     ensures size { IfOk result (λ s. size_of s ≡ 15360) }

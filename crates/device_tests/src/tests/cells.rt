@@ -1,4 +1,4 @@
-// What a stop leaves, call by call, on devices of five cells. The bodies of the cells are of one byte all through.
+//! What a stop leaves, call by call, on devices of five cells. The bodies of the cells are of one byte all through.
 ghost use Rattle.std.specs.Prelude.{◌≡◌, IfOk, ◌+◌, ◌<◌, ◌∷◌, [], true};
 ghost use Rattle.disk_model.specs.DiskState.{IsSettled, size_of};
 ghost use Rattle.disk_model.specs.Cells.{cell_count, seen_cells, Leaves, OldOrEmptyAt};
@@ -109,7 +109,7 @@ fn allowed(call: Call) -> [(u8, u8); 5] {
     }
 }
 
-/// Whether the cells are what a stop may leave, and where the call ended what they have to be.
+/// Whether the cells are what a stop may leave, and if the call ended what they have to be.
 fn is_right(call: Call, ok: bool, cells: &[u8; 5]) -> bool {
     for (cell, (before, after)) in cells.iter().zip(&allowed(call)) {
         if cell != after && (ok || cell != before) {
@@ -119,7 +119,7 @@ fn is_right(call: Call, ok: bool, cells: &[u8; 5]) -> bool {
     true
 }
 
-/// What the cells are behind the call, stopped at its `k`-th device call under this tear, and whether it ended before.
+/// What the cells are after the call, stopped at its `k`-th device call under this tear, and whether it ended before.
 fn left_by(
     rt: &impl Abort,
     alloc: Global,

@@ -1,4 +1,4 @@
-// What a device in memory makes of fuses, stops and changes without room.
+//! What a device in memory makes of fuses, stops and changes without room.
 ghost use Rattle.std.specs.Prelude.{◌≡◌, ◌+◌, ◌≤◌, length, IfOk};
 ghost use Rattle.disk_model.specs.DiskState.{size_of};
 ghost use Rattle.disk_model.specs.MemDisk.{state_of};
@@ -8,7 +8,7 @@ use record_codec::ring::{IDENTITY_CELL, base_cell, device_cells, record_cell, sl
 use std::alloc::{AllocError, Global};
 use std::test::Fail;
 
-// Calls of a device, of which contracts are told its size alone.
+// Calls of a device, of which contracts know its size alone.
 fn new_disk(alloc: Global, size: u64, room: usize) -> Result<MemDisk, AllocError>
     ensures { IfOk result (λ d. size_of (state_of d) ≡ size) }
 {
@@ -28,7 +28,7 @@ fn synced(disk: &mut MemDisk) -> bool
     disk.sync().is_ok()
 }
 
-fn told_size(disk: &mut MemDisk) -> Option<u64>
+fn answered_size(disk: &mut MemDisk) -> Option<u64>
     ensures { size_of (state_of disk.new) ≡ size_of (state_of disk.old) }
 {
     disk.size().ok()
@@ -44,7 +44,7 @@ fn front_of(disk: &mut MemDisk) -> Result<[u8; 9], DiskFault>
     Ok(bytes)
 }
 
-/// The same behind a stop.
+/// The same after a stop.
 fn front_left(disk: MemDisk, tear: Tear) -> Result<[u8; 9], DiskFault>
     requires { 9 ≤ size_of (state_of disk) }
 {
@@ -79,13 +79,13 @@ fn each_tear_makes_its_own_of_what_is_pending(rt: HostRuntime) -> Result<(), Fai
 fn a_fuse_cuts_a_write_in_half(rt: HostRuntime) -> Result<(), Fail> {
     let mut disk = new_disk(rt.alloc(), 16, 8)?;
     disk.fuse_once(2);
-    let told = (told_size(&mut disk), wrote(&mut disk, 1, &[7; 5]));
+    let answers = (answered_size(&mut disk), wrote(&mut disk, 1, &[7; 5]));
     let found = [front_of(&mut disk)?, front_left(disk, Tear::Gates)?];
     let wanted = [
         [0, 7, 7, 0, 0, 0, 0, 0, 0],
         [0, 0xA5, 0xA5, 0xA5, 0xA5, 0xA5, 0, 0, 0],
     ];
-    assert_eq!(rt; (told, found), ((Some(16), false), wanted));
+    assert_eq!(rt; (answers, found), ((Some(16), false), wanted));
     Ok(())
 }
 
@@ -94,9 +94,9 @@ fn a_fuse_cuts_a_write_in_half(rt: HostRuntime) -> Result<(), Fail> {
 fn a_fuse_counts_changes_alone(rt: HostRuntime) -> Result<(), Fail> {
     let mut disk = new_disk(rt.alloc(), 16, 8)?;
     disk.fuse_change(2);
-    let before = (wrote(&mut disk, 0, &[1]), told_size(&mut disk));
-    let behind = (synced(&mut disk), told_size(&mut disk));
-    assert_eq!(rt; (before, behind), ((true, Some(16)), (false, None)));
+    let before = (wrote(&mut disk, 0, &[1]), answered_size(&mut disk));
+    let after = (synced(&mut disk), answered_size(&mut disk));
+    assert_eq!(rt; (before, after), ((true, Some(16)), (false, None)));
     assert_eq!(rt; disk.changes(), 2);
     Ok(())
 }
@@ -105,7 +105,7 @@ fn a_fuse_counts_changes_alone(rt: HostRuntime) -> Result<(), Fail> {
 #[test]
 fn a_change_past_the_room_changes_nothing(rt: HostRuntime) -> Result<(), Fail> {
     let mut disk = new_disk(rt.alloc(), 2048, 1)?;
-    let told = [
+    let answers = [
         wrote(&mut disk, 0, &[1; 1025]),
         wrote(&mut disk, 0, &[1; 2]),
         wrote(&mut disk, 0, &[2; 2]),
@@ -113,13 +113,13 @@ fn a_change_past_the_room_changes_nothing(rt: HostRuntime) -> Result<(), Fail> {
     ];
     let front = front_of(&mut disk)?;
     assert_eq!(rt;
-        (told, front),
+        (answers, front),
         ([false, true, false, false], [1, 1, 0, 0, 0, 0, 0, 0, 0])
     );
     Ok(())
 }
 
-/// The last byte of a device of so many bytes, which was written and synced, behind a stop.
+/// The last byte of a device of so many bytes, which was written and synced, after a stop.
 fn last_byte_left(alloc: Global, size: u64) -> Result<u8, Fail> {
     if size == 0 {
         return Err(Fail::new("no byte"));
@@ -163,7 +163,7 @@ fn the_sample_has_fifteen_cells(rt: HostRuntime) {
 }
 
 #[test]
-fn a_failure_is_told(rt: HostRuntime) -> Result<(), Fail> {
+fn a_failure_is_answered(rt: HostRuntime) -> Result<(), Fail> {
     let said = DiskFault.to_string(rt.alloc())?;
     assert_eq!(rt; said.as_str(), "the device failed");
     Ok(())

@@ -1,4 +1,4 @@
-// A device over a file, on files in the folder where the tests run, and on one in memory that forgets.
+//! A device over a file, on files in the folder where the tests run, and on one in memory that forgets.
 use disk_model::{BODY, CELL, Cells, Disk};
 use file_disk::{FileDisk, FileFault, LARGEST_IMAGE};
 use record_codec::ring::device_cells;
@@ -26,12 +26,12 @@ fn ends(disk: &mut FileDisk, bytes: u64) -> Result<[u8; 8], Fail> {
     Ok(ends)
 }
 
-/// Why a file of so many bytes is not created, where it is not.
+/// Why a file of so many bytes is not created, or `None` if it is.
 fn refused_new(rt: &impl Files<File = File>, path: &str, bytes: u64) -> Option<FileFault> {
     FileDisk::create(rt, path, bytes).err()
 }
 
-/// Why the file is not opened, where it is not.
+/// Why the file is not opened, or `None` if it is.
 fn refused(rt: &impl Files<File = File>, path: &str) -> Option<FileFault> {
     FileDisk::open(rt, path).err()
 }
@@ -203,7 +203,7 @@ fn a_read_past_the_end_fails(rt: HostRuntime) -> Result<(), Fail> {
     Ok(())
 }
 
-/// The body of cell 2, where it is full. Then it is filled.
+/// The body of cell 2, if it is full. Then it is filled.
 fn filled(disk: FileDisk) -> Result<Option<[u8; BODY]>, Fail> {
     let mut cells = Cells::new(disk);
     if cells.size()? / CELL <= 2 {
@@ -327,7 +327,7 @@ fn range(from: usize, to: usize) -> [bool; SIZE] {
     range
 }
 
-/// A write and a sync behind it.
+/// A write and a sync after it.
 #[derive(Drop)]
 struct Round {
     at: u64,
@@ -406,9 +406,9 @@ fn a_gate_is_written_again_alone(rt: HostRuntime) -> Result<(), Fail> {
     Ok(())
 }
 
-/// What a user is told.
+/// What is printed for a user.
 #[test]
-fn a_fault_is_told(rt: HostRuntime) -> Result<(), Fail> {
+fn a_fault_is_printed(rt: HostRuntime) -> Result<(), Fail> {
     for (fault, text) in [
         (FileFault::TooLarge, "an image has at most 4328448 bytes"),
         (FileFault::InUse, "in use: end the program that has it open"),

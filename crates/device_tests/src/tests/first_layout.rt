@@ -1,6 +1,5 @@
-// The bodies of the first layout, byte for byte, and what today's readers make of them.
-ghost use Rattle.std.specs.Prelude.{◌≤◌, length};
-
+//! The bodies of the first layout, byte for byte, and what today's readers make of them.
+use super::common::{BASE, RECORD, SAVED, body_of};
 use record_codec::{Base, Fired, Identity, Saved, v1};
 
 // What an identity begins with, of two atoms and a ring of 8, and the SHA-256 of the sample plant's text, with which it ends.
@@ -10,39 +9,16 @@ const IDENTITY: [u8; 44] = [
     0x25, 0xa0, 0xdd, 0xef, 0xb2, 0x08, 0x1b, 0x48,
 ];
 
-const BASE: [u8; 8] = [0, 0, 0, 0, 0, 0, 0, 9];
-
-// Atom 0 at count 4, copied at number 4, place 0 marked, one variable with value 4.
-const SAVED: [u8; 35] = [
-    0, 0, 0, 0, 0, 0, 0, 0, 0, 4, 0, 0, 0, 0, 0, 0, 0, 4, 0, 0, 0, 0, 0, 0, 0, 1, 1, 0, 0, 0, 0, 0,
-    0, 0, 4,
-];
-
-// Record 2 of the sample plant's run: A and B took part, and 1 was delivered to B's variable.
-const RECORD: [u8; 47] = [
-    0, 0, 0, 0, 0, 0, 0, 2, 0, 1, 2, 0, 0, 0, 0, 0, 0, 0, 0, 0, 0, 0, 2, 0, 0, 0, 1, 0, 0, 0, 0, 0,
-    0, 0, 0, 0, 1, 1, 1, 0, 0, 0, 0, 0, 0, 0, 1,
-];
-
-/// The bytes, and zeros behind them.
-fn body_of(front: &[u8]) -> [u8; v1::BODY]
-    requires { length front.now ≤ 511 }
-{
-    let mut body = [0; v1::BODY];
-    body[..front.len()].copy_from_slice(front);
-    body
-}
-
 /// An identity of the sample plant with this version.
 fn identity_of(version: u8) -> [u8; v1::BODY] {
-    let mut body = body_of(&IDENTITY);
+    let mut body: [u8; v1::BODY] = body_of(&IDENTITY);
     body[5] = version;
     body
 }
 
 /// Record 9, in which the atoms 0 to 8 and more took part, so many of them.
 fn record_of(entries: u8) -> [u8; v1::BODY] {
-    let mut body = body_of(&[0, 0, 0, 0, 0, 0, 0, 9, 0, 1]);
+    let mut body: [u8; v1::BODY] = body_of(&[0, 0, 0, 0, 0, 0, 0, 9, 0, 1]);
     body[10] = entries;
     for entry in 0..usize::from(entries.min(9)) {
         body[11 + 14 * entry + 1] = entry as u8;
@@ -62,8 +38,8 @@ fn identities(body: &[u8; v1::BODY]) -> (Option<(u16, u32)>, Option<(u16, u32)>)
 }
 
 fn bases(body: &[u8; v1::BODY]) -> (Option<u64>, Option<u64>) {
-    let first = match v1::base_from_body(body) {
-        Some(read) if v1::base_to_body(&read) == *body => Some(read.number()),
+    let first = match Base::from_body(body) {
+        Some(read) if read.to_body() == *body => Some(read.number()),
         _ => None,
     };
     let today = Base::from_body(&v1::todays_body(body));
@@ -71,8 +47,8 @@ fn bases(body: &[u8; v1::BODY]) -> (Option<u64>, Option<u64>) {
 }
 
 fn saved_states(body: &[u8; v1::BODY]) -> (Option<u64>, Option<u64>) {
-    let first = match v1::saved_from_body(body) {
-        Some(read) if v1::saved_to_body(&read) == *body => Some(read.count()),
+    let first = match Saved::from_body(body) {
+        Some(read) if read.to_body() == *body => Some(read.count()),
         _ => None,
     };
     match Saved::from_body(&v1::todays_body(body)) {
@@ -92,7 +68,7 @@ fn records(body: &[u8; v1::BODY]) -> (Option<usize>, Option<usize>) {
     }
 }
 
-/// How many entries the record has, where it is written as this body.
+/// How many entries the record has, if it is written as this body.
 fn written_again(record: &Fired, body: &[u8; v1::BODY]) -> Option<usize> {
     let entries = record.entries().len();
     if entries > v1::MOST_ENTRIES || v1::fired_to_body(record) != *body {
@@ -105,8 +81,8 @@ fn written_again(record: &Fired, body: &[u8; v1::BODY]) -> Option<usize> {
 #[test]
 fn identities_of_the_first_layout(rt: HostRuntime) {
     let sample = Some((2, 8));
-    for (version, told) in [(1, (sample, sample)), (2, (None, None)), (3, (None, None))] {
-        assert_eq!(rt; identities(&identity_of(version)), told);
+    for (version, wanted) in [(1, (sample, sample)), (2, (None, None)), (3, (None, None))] {
+        assert_eq!(rt; identities(&identity_of(version)), wanted);
     }
 }
 
@@ -120,11 +96,11 @@ fn bases_and_saved_states_of_the_first_layout(rt: HostRuntime) {
 #[test]
 fn records_of_the_first_layout(rt: HostRuntime) {
     assert_eq!(rt; records(&body_of(&RECORD)), (Some(2), Some(2)));
-    for (entries, told) in [
+    for (entries, wanted) in [
         (8, (Some(8), Some(8))),
         (9, (None, None)),
         (0, (None, None)),
     ] {
-        assert_eq!(rt; records(&record_of(entries)), told);
+        assert_eq!(rt; records(&record_of(entries)), wanted);
     }
 }

@@ -1,4 +1,4 @@
-// What a stop leaves of an atom's slots, call by call, on devices of two atoms. Each state's marking and value are its count.
+//! What a stop leaves of an atom's slots, call by call, on devices of two atoms. Each state's marking and value are its count.
 ghost use Rattle.std.specs.Prelude.{◌≡◌, ◌<◌, ◌≤◌};
 
 use super::common::TEARS;
@@ -16,7 +16,7 @@ type Engine = Cells<MemDisk>;
 /// The last record when the states are taken.
 const AT: u64 = 100;
 
-/// What is told of a state that is not as it was stored.
+/// What stands for a state that is not as it was stored.
 const ANOTHER: u64 = 999;
 
 /// The state of atom 0 or 1 that had taken part so often.
@@ -54,7 +54,7 @@ fn stopped(disk: MemDisk, slot: u8, parcel: Parcel, k: u64) -> Result<(bool, Mem
     Ok((ok, cells.into_disk()))
 }
 
-/// The count in the slot, and 0 where it holds no state.
+/// The count in the slot, and 0 if it holds no state.
 fn count_in(cells: &mut Engine, atom: u16, slot: u8) -> Result<u64, DiskFault> {
     if cells.size()? / CELL <= slot_cell(atom, slot) {
         return Ok(ANOTHER);
@@ -65,7 +65,7 @@ fn count_in(cells: &mut Engine, atom: u16, slot: u8) -> Result<u64, DiskFault> {
     }
 }
 
-/// The slot and the count of the newest state, and slot 2 where there is none.
+/// The slot and the count of the newest state, and slot 2 if there is none.
 fn newest_in(cells: &mut Engine, atom: u16) -> Result<(u8, u64), DiskFault> {
     if cells.size()? / CELL <= slot_cell(atom, 1) {
         return Ok((2, ANOTHER));
@@ -127,7 +127,7 @@ struct Row {
     newest: (u8, u64),
 }
 
-/// Whether the slots are what a stop may leave, and where the call ended what they have to be.
+/// Whether the slots are what a stop may leave, and if the call ended what they have to be.
 fn is_right(row: Row, ok: bool, found: [Slots; 2]) -> bool {
     let [(counts, newest), others] = found;
     let (written, old, kept) = if row.slot == 0 {
@@ -205,7 +205,7 @@ fn a_stop_inside_a_store_leaves_the_old_newest_or_the_new(rt: HostRuntime) -> Re
     Ok(())
 }
 
-/// What the other slot is for: stopped behind the emptying of the newest's own slot, a store loses the newest.
+/// What the other slot is for: stopped after the emptying of the newest's own slot, a store loses the newest.
 #[test]
 fn a_store_over_the_newest_may_lose_it(rt: HostRuntime) -> Result<(), Fail> {
     let disk = prepared(rt.alloc(), [4, 7])?;

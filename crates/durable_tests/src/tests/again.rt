@@ -1,6 +1,6 @@
-// Stops on a device that an earlier run or an earlier stop has left: it is formatted again, or booted. What writes and syncs there are, and what each leaves, is
-// worked out by hand.
-use super::common::{TEARS, Untold, sample};
+//! Stops on a device that an earlier run or an earlier stop has left: it is formatted again, or booted. What writes and syncs there are, and what each leaves, is
+//! worked out by hand.
+use super::common::{OpaqueDisk, TEARS, sample};
 use super::runs::{
     A_SAVED, FIRE_0, FLUSH, NEVER, Shown, booted_to, run, settled, shown, torn_flush, try_boot,
     wanted_at, whole_run,
@@ -16,7 +16,7 @@ use step_core::System;
 fn formatted_again(alloc: Global, system: &System, k: u64, tear: Tear) -> Result<MemDisk, Fail> {
     let mut disk = whole_run(alloc, system, &A_SAVED)?.disk;
     disk.fuse_change(k);
-    match format(alloc, Untold::over(disk), system, 8) {
+    match format(alloc, OpaqueDisk::over(disk), system, 8) {
         Ok(disk) => Ok(disk.into_memory().stop(tear)),
         Err(refused) if refused.fault == FormatFault::Disk => Ok(
             refused.disk.into_memory().stop(tear),
@@ -79,7 +79,7 @@ fn booted_until(
 ) -> Result<(bool, MemDisk), Fail> {
     let mut disk = disk;
     disk.fuse_change(k);
-    match try_boot(alloc, Untold::over(disk), system)? {
+    match try_boot(alloc, OpaqueDisk::over(disk), system)? {
         Ok(plant) => Ok((true, plant.into_disk().into_memory().stop(tear))),
         Err(disk) => Ok((false, disk.into_memory().stop(tear))),
     }
@@ -98,7 +98,7 @@ fn booted_twice(
     Ok((ended, shown(alloc, system, left)?))
 }
 
-/// The first of so many writes and syncs of the boot, or the one behind them, at which a stop does something else.
+/// The first of so many writes and syncs of the boot, or the one after them, at which a stop does something else.
 fn first_wrong_boot(
     alloc: Global,
     system: &System,
@@ -117,7 +117,7 @@ fn first_wrong_boot(
     Ok(None)
 }
 
-/// Two records are acknowledged, and the gates of two more are torn. A boot syncs, closes the gate of a record behind one that is closed, and syncs.
+/// Two records are acknowledged, and the gates of two more are torn. A boot syncs, closes the gate of a record after one that is closed, and syncs.
 #[test]
 fn however_often_a_boot_is_stopped_the_same_is_booted(rt: HostRuntime) -> Result<(), Fail> {
     let system = sample(rt.alloc())?;
@@ -140,7 +140,7 @@ fn one_more(alloc: Global, system: &System, disk: MemDisk) -> Result<(Front, Sho
 }
 
 /// Records 3 and 4 go in one flush, which is stopped with the first gate closed and the second open. The boot empties the second, and so it is
-/// never read behind another record 3.
+/// never read after another record 3.
 #[test]
 fn a_record_past_the_end_is_never_read_again(rt: HostRuntime) -> Result<(), Fail> {
     let alloc = rt.alloc();

@@ -1,5 +1,5 @@
-// An atom that is away when the power is cut.
-use super::common::{Untold, sample};
+//! An atom that is away when the power is cut.
+use super::common::{OpaqueDisk, sample};
 use super::runs::{new_device, settled, try_boot, value_of};
 use disk_model::{MemDisk, Tear};
 use plant_core::{BackRefused, Plant, Refused};
@@ -8,8 +8,12 @@ use std::test::Fail;
 use step_core::{Done, Jobs, System, work};
 
 /// The plant that the device is booted to.
-fn booted<'s>(alloc: Global, system: &'s System, disk: MemDisk) -> Result<Plant<'s, Untold>, Fail> {
-    match try_boot(alloc, Untold::over(disk), system)? {
+fn booted<'s>(
+    alloc: Global,
+    system: &'s System,
+    disk: MemDisk,
+) -> Result<Plant<'s, OpaqueDisk>, Fail> {
+    match try_boot(alloc, OpaqueDisk::over(disk), system)? {
         Ok(plant) => Ok(plant),
         Err(_) => Err(Fail::new("the device failed")),
     }
@@ -31,7 +35,7 @@ fn done_before_a_stop<'s>(alloc: Global, system: &'s System) -> Result<(Done<'s>
     Ok((work(job), plant.into_disk().into_memory().stop(Tear::New)))
 }
 
-/// What began stands whole behind the restart, and the old job changes nothing: it comes back.
+/// What began stands whole after the restart, and the old job changes nothing: it comes back.
 #[test]
 fn an_old_job_is_a_stranger_behind_a_restart(rt: HostRuntime) -> Result<(), Fail> {
     let system = sample(rt.alloc())?;

@@ -1,4 +1,4 @@
-// What several tests share: a plant, and a device of which contracts are told little, so that to prove the tests costs little.
+//! What several tests share: a plant, and a device of which contracts say little, so that to prove the tests costs little.
 ghost use Rattle.std.specs.Prelude.{◌≡◌, ◌^◌, ◌<◌, false};
 ghost use Rattle.disk_model.specs.DiskState.{size_of};
 ghost use Rattle.disk_model.specs.MemDisk.{state_of};
@@ -16,12 +16,12 @@ use step_core::System;
 pub(super) const SAMPLE: &[u8] =
     b"atom A\nplace s init\nvar n 0\nport t n\ntrans t from s to s do n := + n 1\natom B\nplace s init\nvar m 0\nport u m\ntrans u from s to s\nconnector tick A.t\nconnector send A.t B.u\nmove B.m := A.n\n";
 
-/// The sample, of which contracts are told nothing.
+/// The sample, of which contracts say nothing.
 pub(super) fn sample(alloc: Global) -> Result<System, Fail> {
     plant(alloc, SAMPLE)
 }
 
-/// The plant of a text, of which contracts are told nothing.
+/// The plant of a text, of which contracts say nothing.
 pub(super) fn plant(alloc: Global, text: &[u8]) -> Result<System, Fail> {
     Ok(plant_of_text(alloc, text)?)
 }
@@ -29,24 +29,24 @@ pub(super) fn plant(alloc: Global, text: &[u8]) -> Result<System, Fail> {
 /// All ways in which a stop tears what is pending.
 pub(super) const TEARS: [Tear; 4] = [Tear::Old, Tear::New, Tear::Gates, Tear::Mixed];
 
-/// A device in memory of which contracts are told the size and the counts alone: what its cells read for is seen by running. It counts
+/// A device in memory of which contracts say the size and the counts alone: what its cells read for is seen by running. It counts
 /// its calls.
 #[derive(Drop)]
-pub(super) struct Untold {
+pub(super) struct OpaqueDisk {
     disk: MemDisk,
     calls: u64,
     ghost small: { size_of (state_of disk) < 2 ^ 64 },
 }
 
-impl Untold {
-    pub(super) fn over(disk: MemDisk) -> Untold
+impl OpaqueDisk {
+    pub(super) fn over(disk: MemDisk) -> OpaqueDisk
         ensures { result.disk ≡ disk }
     {
-        Untold { disk, calls: 0 }
+        OpaqueDisk { disk, calls: 0 }
     }
 
     pub(super) fn into_memory(self) -> MemDisk {
-        let Untold { disk, .. } = self;
+        let OpaqueDisk { disk, .. } = self;
         disk
     }
 
@@ -55,7 +55,7 @@ impl Untold {
     }
 }
 
-impl Disk for Untold {
+impl Disk for OpaqueDisk {
     ghost use Rattle.std.specs.Prelude.{false};
     ghost use Rattle.disk_model.specs.MemDisk.{state_of};
 
@@ -96,7 +96,7 @@ pub(super) fn formatted(
     }
     system.keeps_its_rules();
     let bytes = CELL * device_cells(system.atoms().len() as u16, ring);
-    let disk = Untold::over(MemDisk::with_cells(alloc, bytes, room, CELL)?);
+    let disk = OpaqueDisk::over(MemDisk::with_cells(alloc, bytes, room, CELL)?);
     match format(alloc, disk, system, ring) {
         Ok(disk) => Ok(disk.into_memory()),
         Err(_) => Err(Fail::new("the device was not formatted")),
@@ -104,7 +104,7 @@ pub(super) fn formatted(
 }
 
 /// Writes the bytes to the device at this place.
-pub(super) fn put(disk: &mut Untold, at: u64, bytes: &[u8]) -> Result<(), Fail> {
+pub(super) fn put(disk: &mut OpaqueDisk, at: u64, bytes: &[u8]) -> Result<(), Fail> {
     let size = disk.size()?;
     if at > size || bytes.len() as u64 > size - at {
         return Err(Fail::new("no such place"));

@@ -1,4 +1,4 @@
-// Runs that are stopped at each write and sync, and devices that are judged. Numbers of writes and syncs are worked out by hand.
+//! Runs that are stopped at each write and sync, and devices that are judged. Numbers of writes and syncs are worked out by hand.
 ghost use Rattle.std.specs.Prelude.{IfOk, map};
 ghost use Rattle.crash_explorer.specs.Judging.{IsRunOf};
 ghost use Rattle.step_core.specs.Chosen.{choice_of};
@@ -25,7 +25,7 @@ const TRIM: Event = Event::Trim;
 
 const NONE: [Event; 0] = [];
 
-/// Tick, send, tick, send, all of it acknowledged, and A saved behind all of them; then the records that no restart needs are dropped: the first
+/// Tick, send, tick, send, all of it acknowledged, and A saved after all of them; then the records that no restart needs are dropped: the first
 /// alone, since B, of which nothing is saved, took part in the second.
 const A_SAVED_AND_TRIMMED: [Event; 8] = [FIRE_0, FIRE_1, FIRE_0, FIRE_1, FLUSH, ASK_A, PUT_A, TRIM];
 
@@ -45,7 +45,7 @@ const TWELVE: [Event; 12] = [
     FIRE_1,
 ];
 
-/// Fourteen events, of which three save an atom: A behind two firings and behind four, B behind both sends.
+/// Fourteen events, of which three save an atom: A after two firings and after four, B after both sends.
 const FOURTEEN: [Event; 14] = [
     FIRE_0, FIRE_1, FLUSH, ASK_A, PUT_A, FIRE_1, FIRE_0, ASK_B, ASK_A, FLUSH, PUT_A, PUT_B, FIRE_0,
     FLUSH,
@@ -56,7 +56,7 @@ const TRIMMED_TWICE: [Event; 13] = [
     FIRE_0, FIRE_0, FLUSH, ASK_A, PUT_A, TRIM, FIRE_1, FLUSH, ASK_A, PUT_A, ASK_B, PUT_B, TRIM,
 ];
 
-/// Six ticks, A saved behind them and their records dropped, and four ticks more: their records go to the last cell of the ring and the first three.
+/// Six ticks, A saved after them and their records dropped, and four ticks more: their records go to the last cell of the ring and the first three.
 const OVER_THE_END: [Event; 15] = [
     FIRE_0, FIRE_0, FIRE_0, FIRE_0, FIRE_0, FIRE_0, FLUSH, ASK_A, PUT_A, TRIM, FIRE_0, FIRE_0,
     FIRE_0, FIRE_0, FLUSH,
@@ -92,7 +92,7 @@ fn a_run_is_stopped_at_each_of_its_writes_and_syncs(rt: HostRuntime) -> Result<(
     Ok(())
 }
 
-/// What is told of a trial: the tear, what the device boots to, how many choices were fired and how many of them acknowledged, and whether it stopped a
+/// What is found of a trial: the tear, what the device boots to, how many choices were fired and how many of them acknowledged, and whether it stopped a
 /// sync of the running plant and is right.
 type Told = (Tear, Found, u64, u64, bool);
 
@@ -102,7 +102,7 @@ fn told_of(trial: &Trial) -> Told {
     (trial.tear, trial.found, trial.fired, trial.acked, is_right)
 }
 
-/// How many stops and how many trials there are of these events, and what is told of those at the last stop.
+/// How many stops and how many trials there are of these events, and what is found of those at the last stop.
 fn last_trials(
     alloc: Global,
     system: &System,

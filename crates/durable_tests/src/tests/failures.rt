@@ -1,5 +1,5 @@
-// Plants on devices of which one call fails, and those behind it serve again. Numbers and states are worked out by hand.
-use super::common::{Untold, sample};
+//! Plants on devices of which one call fails, and those after it serve again. Numbers and states are worked out by hand.
+use super::common::{OpaqueDisk, sample};
 use super::runs::{
     FIRE_0, FIRE_1, FLUSH, NEVER, answers_of, boots_right, new_device, refusal_in, settled,
     torn_flush, try_boot, value_of,
@@ -10,7 +10,7 @@ use std::alloc::Global;
 use std::test::Fail;
 use step_core::System;
 
-/// Tick, send, tick, send, all of it acknowledged, A saved behind all of them, and one event more of each kind.
+/// Tick, send, tick, send, all of it acknowledged, A saved after all of them, and one event more of each kind.
 const A_SAVED_AND_ON: [Event; 11] = [
     FIRE_0,
     FIRE_1,
@@ -30,8 +30,8 @@ fn booted<'s>(
     alloc: Global,
     system: &'s System,
     disk: MemDisk,
-) -> Result<(Plant<'s, Untold>, u64), Fail> {
-    let disk = match try_boot(alloc, Untold::over(disk), system)? {
+) -> Result<(Plant<'s, OpaqueDisk>, u64), Fail> {
+    let disk = match try_boot(alloc, OpaqueDisk::over(disk), system)? {
         Ok(plant) => return Ok((plant, 0)),
         Err(disk) => disk,
     };
@@ -41,7 +41,7 @@ fn booted<'s>(
     }
 }
 
-/// How many of the answers tell that the device failed. Behind the first of them the plant is broken, for whatever is asked.
+/// How many of the answers say that the device failed. After the first of them the plant is broken, for whatever is asked.
 fn failures_in(answers: &[Happened]) -> Result<u64, Fail> {
     let mut failed = 0u64;
     for happened in answers {
@@ -55,7 +55,7 @@ fn failures_in(answers: &[Happened]) -> Result<u64, Fail> {
     Ok(failed)
 }
 
-/// The run of these events on the device: what it leaves, the front, and how many of the calls tell that the device failed.
+/// The run of these events on the device: what it leaves, the front, and how many of the calls answer that the device failed.
 fn driven(
     alloc: Global,
     system: &System,
@@ -69,7 +69,7 @@ fn driven(
     Ok((plant.into_disk().into_memory(), front, failed))
 }
 
-/// The run of these events on a device of which the `k`-th call fails: how many of the calls tell it. Booted again without a stop, the device has to stand
+/// The run of these events on a device of which the `k`-th call fails: how many of the calls answer so. Booted again without a stop, the device has to stand
 /// for what was acknowledged, and a front of the rest.
 fn failing_once(
     alloc: Global,
@@ -88,8 +88,8 @@ fn failing_once(
     Ok(failed)
 }
 
-/// The boot makes 18 calls, the flushes of four and of one 10 and 4, the put 7 and the trim 8. Each of them fails in turn, while those before and behind
-/// it serve. The call behind the last is never made.
+/// The boot makes 18 calls, the flushes of four and of one 10 and 4, the put 7 and the trim 8. Each of them fails in turn, while those before and after
+/// it serve. The call after the last is never made.
 #[test]
 fn each_call_that_fails_is_told_once(rt: HostRuntime) -> Result<(), Fail> {
     let alloc = rt.alloc();
@@ -116,7 +116,7 @@ fn booted_at(alloc: Global, system: &System, k: u64) -> Result<(u64, i64, i64, F
     ))
 }
 
-/// The boot makes a sync, asks the size, reads 15 cells, closes the gate of record 4, and syncs. It reads no cell again. The call behind the last is never
+/// The boot makes a sync, asks the size, reads 15 cells, closes the gate of record 4, and syncs. It reads no cell again. The call after the last is never
 /// made.
 #[test]
 fn a_boot_that_the_device_fails_is_made_again(rt: HostRuntime) -> Result<(), Fail> {

@@ -1,11 +1,11 @@
-// What a stop leaves of a journal, call by call, on devices of two atoms. Each record's body is compared with what was written.
+//! What a stop leaves of a journal, call by call, on devices of two atoms. Each record's body is compared with what was written.
 ghost use Rattle.std.specs.Prelude.{◌≡◌, ◌^◌, ◌<◌, true, false, IfOk};
 ghost use Rattle.disk_model.specs.DiskState.{size_of};
 ghost use Rattle.disk_model.specs.MemDisk.{state_of};
 ghost use Rattle.gated_journal.specs.Rings.{IsRing};
 ghost use Rattle.durable_tests.specs.Opened.{IsOpened};
 
-use super::common::{TEARS, Untold};
+use super::common::{OpaqueDisk, TEARS};
 use disk_model::{BODY, CELL, Cells, Disk, DiskFault, MemDisk, Tear};
 use gated_journal::{Journal, Ring};
 use record_codec::ring::{base_cell, device_cells, record_cell};
@@ -16,13 +16,13 @@ use std::test::Fail;
 
 const ATOMS: u16 = 2;
 
-type Engine = Cells<Untold>;
+type Engine = Cells<OpaqueDisk>;
 
 fn cells_of(disk: MemDisk) -> Engine
     ensures untold { result.keeps ≡ false }
     ensures size { size_of result ≡ size_of (state_of disk) }
 {
-    Cells::new(Untold::over(disk))
+    Cells::new(OpaqueDisk::over(disk))
 }
 
 fn disk_of(cells: Engine) -> MemDisk {
@@ -225,7 +225,7 @@ fn prepared(alloc: Global, n: Ring, both: bool) -> Result<MemDisk, Fail> {
     Ok(disk)
 }
 
-/// The device before the call: as `prepared`, or behind a batch of two that was stopped at its last sync, with the first gate
+/// The device before the call: as `prepared`, or after a batch of two that was stopped at its last sync, with the first gate
 /// closed and the second open.
 #[derive(Clone, Copy)]
 enum Start {
@@ -387,7 +387,7 @@ fn a_stop_inside_cleaning_leaves_the_live_records(rt: HostRuntime) -> Result<(),
     Ok(())
 }
 
-/// What the cells of a device with a stale record read for behind these calls.
+/// What the cells of a device with a stale record read for after these calls.
 fn read_behind(alloc: Global, calls: &[Call]) -> Result<(u64, u64, u64), Fail> {
     let n = journal_of(8, 1, 0);
     let mut disk = started(alloc, n, Start::OpenPastTheEnd)?;
@@ -398,7 +398,7 @@ fn read_behind(alloc: Global, calls: &[Call]) -> Result<(u64, u64, u64), Fail> {
     Ok(read(disk, n.ring)?)
 }
 
-/// Record 2 of a batch that was stopped stands open behind the empty cell of record 1. Cleaned, it is never read. Without that, it would be the second.
+/// Record 2 of a batch that was stopped stands open after the empty cell of record 1. Cleaned, it is never read. Without that, it would be the second.
 #[test]
 fn a_stale_record_is_never_read(rt: HostRuntime) -> Result<(), Fail> {
     for (calls, found) in [

@@ -1,11 +1,11 @@
-// A plant that is read, formatted, booted, driven and explored while one growth of memory is refused. Here none is: the tests of the program run these tests
-// once more for each growth, refuse that one, and read which call was refused it. Made again, the call succeeds.
+//! A plant that is read, formatted, booted, driven and explored while one growth of memory is refused. Here none is: the tests of the program run these tests
+//! once more for each growth, refuse that one, and read which call was refused it. Made again, the call succeeds.
 ghost use Rattle.std.specs.Prelude.{IfOk, length};
 ghost use Rattle.plant_core.specs.Handed.{hands_of};
 ghost use Rattle.plant_core.specs.Hands.{AreHandsFor};
 ghost use Rattle.plant_core.specs.Plants.{definition_of};
 
-use super::common::{SAMPLE, Untold};
+use super::common::{OpaqueDisk, SAMPLE};
 use super::runs::{FIRE_0, FIRE_1, FLUSH, ROOM, Shown, settled, value_of};
 use crash_explorer::{ExploreFault, Report, explore};
 use disk_model::{BODY, CELL, Cells, Disk, MemDisk};
@@ -23,7 +23,7 @@ const BYTES: usize = 15_360;
 /// The cell of record 5.
 const FIFTH: u64 = 12;
 
-/// Tick, send, both acknowledged, and A saved behind both.
+/// Tick, send, both acknowledged, and A saved after both.
 const TWO: [Event; 5] = [FIRE_0, FIRE_1, FLUSH, Event::Ask(0), Event::Put(0)];
 
 /// The plant that is read, and before it one line where memory was refused.
@@ -39,7 +39,7 @@ fn plant_read(rt: &impl Print, alloc: Global) -> Result<System, Fail> {
 }
 
 /// All that the device holds.
-fn bytes_of(disk: &mut Untold) -> Result<[u8; BYTES], Fail> {
+fn bytes_of(disk: &mut OpaqueDisk) -> Result<[u8; BYTES], Fail> {
     if disk.size()? < BYTES as u64 {
         return Err(Fail::new("the device is too small"));
     }
@@ -49,12 +49,12 @@ fn bytes_of(disk: &mut Untold) -> Result<[u8; BYTES], Fail> {
 }
 
 /// A device of zeros.
-fn new_disk(rt: &impl Print, alloc: Global) -> Result<Untold, Fail> {
+fn new_disk(rt: &impl Print, alloc: Global) -> Result<OpaqueDisk, Fail> {
     if let Ok(disk) = MemDisk::with_cells(alloc, BYTES as u64, ROOM, CELL) {
-        return Ok(Untold::over(disk));
+        return Ok(OpaqueDisk::over(disk));
     }
     rt.println("device")?;
-    Ok(Untold::over(MemDisk::with_cells(alloc, BYTES as u64, ROOM, CELL)?))
+    Ok(OpaqueDisk::over(MemDisk::with_cells(alloc, BYTES as u64, ROOM, CELL)?))
 }
 
 /// The device, formatted for the plant.
@@ -62,8 +62,8 @@ fn formatted(
     rt: &impl Print,
     alloc: Global,
     system: &System,
-    disk: Untold,
-) -> Result<Untold, Fail> {
+    disk: OpaqueDisk,
+) -> Result<OpaqueDisk, Fail> {
     let calls = disk.calls();
     let refused = match format(alloc, disk, system, 8) {
         Ok(disk) => return Ok(disk),
@@ -80,7 +80,7 @@ fn formatted(
 }
 
 /// The device with a full cell of the ring that no record needs: a boot empties it.
-fn with_a_stale_cell(disk: Untold) -> Result<Untold, Fail> {
+fn with_a_stale_cell(disk: OpaqueDisk) -> Result<OpaqueDisk, Fail> {
     let mut cells = Cells::new(disk);
     if cells.size()? / CELL <= FIFTH {
         return Err(Fail::new("no such cell"));
@@ -90,7 +90,7 @@ fn with_a_stale_cell(disk: Untold) -> Result<Untold, Fail> {
 }
 
 /// Whether the device holds the same as before.
-fn is_unchanged(disk: &mut Untold, before: &[u8; BYTES]) -> Result<bool, Fail> {
+fn is_unchanged(disk: &mut OpaqueDisk, before: &[u8; BYTES]) -> Result<bool, Fail> {
     Ok(bytes_of(disk)? == *before)
 }
 
@@ -99,8 +99,8 @@ fn booted<'s>(
     rt: &impl Print,
     alloc: Global,
     system: &'s System,
-    disk: Untold,
-) -> Result<Plant<'s, Untold>, Fail> {
+    disk: OpaqueDisk,
+) -> Result<Plant<'s, OpaqueDisk>, Fail> {
     let mut disk = disk;
     let before = bytes_of(&mut disk)?;
     let mut refused = match boot(alloc, disk, system) {
@@ -134,7 +134,7 @@ fn new_hands<'s>(rt: &impl Print, alloc: Global, atoms: usize) -> Result<Hands<'
 fn driven<'s>(
     rt: &impl Print,
     alloc: Global,
-    plant: &mut Plant<'s, Untold>,
+    plant: &mut Plant<'s, OpaqueDisk>,
     hands: &mut Hands<'s>,
 ) -> Result<Vec<Happened>, Fail>
     requires { AreHandsFor (length (definition_of plant.old).atoms) (hands_of hands.old) }
@@ -150,7 +150,7 @@ fn driven<'s>(
 }
 
 /// A device that is formatted for the plant, with a cell that a boot empties.
-fn new_plant(rt: &impl Print, alloc: Global, system: &System) -> Result<Untold, Fail> {
+fn new_plant(rt: &impl Print, alloc: Global, system: &System) -> Result<OpaqueDisk, Fail> {
     let disk = new_disk(rt, alloc)?;
     with_a_stale_cell(formatted(rt, alloc, system, disk)?)
 }
@@ -159,7 +159,7 @@ fn new_plant(rt: &impl Print, alloc: Global, system: &System) -> Result<Untold, 
 fn answers_of(
     rt: &impl Print,
     alloc: Global,
-    plant: &mut Plant<'_, Untold>,
+    plant: &mut Plant<'_, OpaqueDisk>,
 ) -> Result<usize, Fail> {
     let mut hands = new_hands(rt, alloc, plant.system().atoms().len())?;
     let answers = driven(rt, alloc, plant, &mut hands)?;
@@ -167,7 +167,7 @@ fn answers_of(
 }
 
 /// What the plant shows.
-fn shown_by(plant: &Plant<'_, Untold>) -> Shown {
+fn shown_by(plant: &Plant<'_, OpaqueDisk>) -> Shown {
     (value_of(plant, 0), value_of(plant, 1), plant.front())
 }
 
@@ -176,7 +176,7 @@ fn booted_and_driven(
     rt: &impl Print,
     alloc: Global,
     system: &System,
-    disk: Untold,
+    disk: OpaqueDisk,
 ) -> Result<(usize, Shown), Fail> {
     let mut plant = booted(rt, alloc, system, disk)?;
     let count = answers_of(rt, alloc, &mut plant)?;

@@ -1,5 +1,5 @@
-// Stops while an image of the first layout is brought over. What is written and synced there, and what each stop leaves, is worked out by hand.
-use super::common::{TEARS, Untold, formatted, put, sample};
+//! Stops while an image of the first layout is brought over. What is written and synced there, and what each stop leaves, is worked out by hand.
+use super::common::{OpaqueDisk, TEARS, formatted, put, sample};
 use super::runs::{Shown, booted_to, settled, wanted_at};
 use disk_model::{Disk, FIRST_CELL, MemDisk, Tear};
 use plant_core::Front;
@@ -8,7 +8,7 @@ use std::alloc::Global;
 use std::test::Fail;
 use step_core::System;
 
-// The gates and fields of the full cells of an image of the first layout, behind tick, send, tick and send of the sample and a save of A.
+// The gates and fields of the full cells of an image of the first layout, after tick, send, tick and send of the sample and a save of A.
 const IDENTITY: [u8; 45] = [
     0xa5, 0x42, 0x49, 0x50, 0x46, 0, 1, 0, 2, 0, 0, 0, 8, 0x9c, 0x7e, 0x11, 0x45, 0xc9, 0xae, 8,
     0xc4, 0x23, 0xf0, 0xf7, 0xca, 0x90, 0xe4, 0x33, 0x10, 0xe0, 0xae, 0xdb, 0xd9, 0x4c, 0xbd, 0xbf,
@@ -54,13 +54,13 @@ const RECORD_4: [u8; 48] = [
 const BYTES: usize = 15 * 512;
 
 /// Writes the bytes from the beginning of the cell on.
-fn put_cell(disk: &mut Untold, cell: u64, front: &[u8]) -> Result<(), Fail> {
+fn put_cell(disk: &mut OpaqueDisk, cell: u64, front: &[u8]) -> Result<(), Fail> {
     put(disk, cell.saturating_mul(FIRST_CELL), front)
 }
 
 /// A device that holds that image, and nothing is pending.
 fn old_image(alloc: Global) -> Result<MemDisk, Fail> {
-    let mut disk = Untold::over(MemDisk::new(alloc, BYTES as u64, 64)?);
+    let mut disk = OpaqueDisk::over(MemDisk::new(alloc, BYTES as u64, 64)?);
     put_cell(&mut disk, 0, &IDENTITY)?;
     put_cell(&mut disk, 1, &BASE)?;
     put_cell(&mut disk, 3, &FIRST_OF_A)?;
@@ -76,7 +76,7 @@ fn old_image(alloc: Global) -> Result<MemDisk, Fail> {
 
 /// All bytes of the device.
 fn bytes_of(disk: MemDisk) -> Result<[u8; BYTES], Fail> {
-    let mut disk = Untold::over(disk);
+    let mut disk = OpaqueDisk::over(disk);
     let mut bytes = [0; BYTES];
     if disk.size()? != BYTES as u64 {
         return Err(Fail::new("a device of another size"));
@@ -100,8 +100,8 @@ fn left_at(
 ) -> Result<(bool, Option<Shown>), Fail> {
     let mut new = formatted(alloc, system, 8, 128)?;
     new.fuse_change(k);
-    let old = Untold::over(old_image(alloc)?);
-    let (old, new) = match migrate(alloc, old, Untold::over(new), system, 8) {
+    let old = OpaqueDisk::over(old_image(alloc)?);
+    let (old, new) = match migrate(alloc, old, OpaqueDisk::over(new), system, 8) {
         Ok(devices) => devices,
         Err(
             MigrateRefused {
@@ -166,8 +166,8 @@ fn a_stop_while_an_image_is_brought_over_leaves_what_was_there_or_nothing_or_the
 fn left_by_old(alloc: Global, system: &System, tear: Tear) -> Result<(bool, Option<Shown>), Fail> {
     let mut old = old_image(alloc)?;
     old.fuse_change(1);
-    let new = Untold::over(formatted(alloc, system, 8, 128)?);
-    match migrate(alloc, Untold::over(old), new, system, 8) {
+    let new = OpaqueDisk::over(formatted(alloc, system, 8, 128)?);
+    match migrate(alloc, OpaqueDisk::over(old), new, system, 8) {
         Err(
             MigrateRefused {
                 old,

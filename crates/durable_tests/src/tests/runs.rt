@@ -1,5 +1,5 @@
-// Runs of durable plants on devices in memory, stopped and booted again.
-use super::common::{Untold, formatted};
+//! Runs of durable plants on devices in memory, stopped and booted again.
+use super::common::{OpaqueDisk, formatted};
 use disk_model::{MemDisk, Tear};
 use plant_core::{Event, Front, Hands, Happened, Plant, Refused, drive};
 use plant_image::ImageFault;
@@ -33,9 +33,9 @@ pub(super) struct Outcome {
 /// The plant that the device is booted to, or the device, where it failed.
 pub(super) fn try_boot<'s>(
     alloc: Global,
-    disk: Untold,
+    disk: OpaqueDisk,
     system: &'s System,
-) -> Result<Result<Plant<'s, Untold>, Untold>, Fail> {
+) -> Result<Result<Plant<'s, OpaqueDisk>, OpaqueDisk>, Fail> {
     match boot(alloc, disk, system) {
         Ok(plant) => Ok(Ok(plant)),
         Err(refused) if refused.fault == BootFault::Disk => Ok(Err(refused.disk)),
@@ -53,7 +53,7 @@ pub(super) fn run(
 ) -> Result<Outcome, Fail> {
     let mut disk = disk;
     disk.fuse_dead(k);
-    match try_boot(alloc, Untold::over(disk), system)? {
+    match try_boot(alloc, OpaqueDisk::over(disk), system)? {
         Ok(plant) => driven(alloc, plant, events),
         Err(disk) => Ok(ended(disk, settled(0), None)),
     }
@@ -77,7 +77,7 @@ pub(super) fn stopped_run(
 /// The answers of the plant to these events.
 pub(super) fn answers_of(
     alloc: Global,
-    plant: &mut Plant<'_, Untold>,
+    plant: &mut Plant<'_, OpaqueDisk>,
     events: &[Event],
 ) -> Result<Vec<Happened>, Fail> {
     let mut hands = Hands::new(alloc, plant.system().atoms().len())?;
@@ -85,7 +85,7 @@ pub(super) fn answers_of(
 }
 
 /// The run that these events make on the plant.
-fn driven(alloc: Global, plant: Plant<'_, Untold>, events: &[Event]) -> Result<Outcome, Fail> {
+fn driven(alloc: Global, plant: Plant<'_, OpaqueDisk>, events: &[Event]) -> Result<Outcome, Fail> {
     let mut plant = plant;
     let answers = answers_of(alloc, &mut plant, events)?;
     let last = match answers.last() {
@@ -96,7 +96,7 @@ fn driven(alloc: Global, plant: Plant<'_, Untold>, events: &[Event]) -> Result<O
     Ok(ended(plant.into_disk(), front, last))
 }
 
-fn ended(disk: Untold, front: Front, refused: Option<Refused>) -> Outcome {
+fn ended(disk: OpaqueDisk, front: Front, refused: Option<Refused>) -> Outcome {
     let calls = disk.calls();
     Outcome {
         disk: disk.into_memory(),
@@ -137,7 +137,7 @@ pub(super) fn booted_to(
     system: &System,
     disk: MemDisk,
 ) -> Result<Option<Shown>, Fail> {
-    match boot(alloc, Untold::over(disk), system) {
+    match boot(alloc, OpaqueDisk::over(disk), system) {
         Ok(plant) => Ok(Some((value_of(&plant, 0), value_of(&plant, 1), plant.front()))),
         Err(refused) if refused.fault == BootFault::Image(ImageFault::NotFormatted) => Ok(None),
         Err(_) => Err(Fail::new("the image is refused")),
@@ -163,7 +163,7 @@ pub(super) fn wanted_at(
 }
 
 /// The first value of the atom; 0 where it has none.
-pub(super) fn value_of(plant: &Plant<'_, Untold>, atom: u16) -> i64 {
+pub(super) fn value_of(plant: &Plant<'_, OpaqueDisk>, atom: u16) -> i64 {
     match plant.look(atom) {
         Some(state) => match state.values().first() {
             Some(value) => *value,
@@ -192,7 +192,7 @@ pub(super) const ASK_A: Event = Event::Ask(0);
 
 pub(super) const PUT_A: Event = Event::Put(0);
 
-/// Tick, send, tick, send, all of it acknowledged, and A saved behind all of them. B is saved behind none of its two.
+/// Tick, send, tick, send, all of it acknowledged, and A saved after all of them. B is saved after none of its two.
 pub(super) const A_SAVED: [Event; 7] = [FIRE_0, FIRE_1, FIRE_0, FIRE_1, FLUSH, ASK_A, PUT_A];
 
 /// Tick, send, tick, send, of which two are acknowledged before the others are fired.
@@ -206,17 +206,17 @@ pub(super) fn torn_flush(alloc: Global, system: &System, tear: Tear) -> Result<M
 }
 
 /// Fires the choice of this pick.
-fn step(stepper: &mut Stepper<'_>, pick: u64) -> Result<(), Fail> {
+fn step(stepper: &mut Stepper<'_>, pick: u128) -> Result<(), Fail> {
     let choices = stepper.count();
     if choices == 0 {
         return Err(Fail::new("no choice"));
     }
-    let choice = stepper.nth(u128::from(pick) % choices);
+    let choice = stepper.nth(pick % choices);
     stepper.fire(&choice);
     Ok(())
 }
 
-/// The plant behind the first `count` choices that these events fire, stepped without a device.
+/// The plant after the first `count` choices that these events fire, stepped without a device.
 fn stepped<'s>(
     alloc: Global,
     system: &'s System,
@@ -238,7 +238,7 @@ fn stepped<'s>(
 }
 
 /// Whether the plant shows the states of the stepped one.
-fn shows(plant: &Plant<'_, Untold>, wanted: &Stepper<'_>) -> bool {
+fn shows(plant: &Plant<'_, OpaqueDisk>, wanted: &Stepper<'_>) -> bool {
     let count = wanted.states().len();
     for atom in 0..count {
         match plant.look(atom as u16) {
@@ -249,16 +249,16 @@ fn shows(plant: &Plant<'_, Untold>, wanted: &Stepper<'_>) -> bool {
     plant.look(count as u16).is_none()
 }
 
-/// Whether this front is all acknowledged, is one of what was told to be fired, with all that was told to be acknowledged, and has the base that was told or
-/// one behind it, up to this.
+/// Whether this front is all acknowledged, is one of what was said to be fired, with all that was said to be acknowledged, and has the base that was said or
+/// one after it, up to this.
 fn is_left(found: Front, told: Front, last_base: u64) -> bool {
     let is_fired = told.acked <= found.fired && found.fired <= told.fired;
     let is_based = told.base <= found.base && found.base <= last_base;
     is_fired && is_based && found.acked == found.fired
 }
 
-/// Whether the image that a stop of the run left boots to a state behind some front of what was fired, with all that was acknowledged; the base is the
-/// one that was told or one behind it, up to this.
+/// Whether the image that a stop of the run left boots to a state after some front of what was fired, with all that was acknowledged; the base is the
+/// one that was said or one after it, up to this.
 pub(super) fn boots_right(
     alloc: Global,
     system: &System,
@@ -267,7 +267,7 @@ pub(super) fn boots_right(
     last_base: u64,
     events: &[Event],
 ) -> Result<bool, Fail> {
-    let Ok(plant) = boot(alloc, Untold::over(left), system) else {
+    let Ok(plant) = boot(alloc, OpaqueDisk::over(left), system) else {
         return Ok(false);
     };
     let found = plant.front();

@@ -1,5 +1,5 @@
-// States that are asked for and put, but are not those that a plant keeps. What is put as it was asked for is a case of the program.
-use super::common::{Untold, sample};
+//! States that are asked for and put, but are not those that a plant keeps. What is put as it was asked for is a case of the program.
+use super::common::{OpaqueDisk, sample};
 use super::runs::{FIRE_0, new_device, try_boot, whole_run};
 use petri_atom::AtomState;
 use plant_core::{Event, Plant, PutRefused, Refused};
@@ -31,15 +31,19 @@ fn an_atom_that_is_not_there_is_neither_copied_nor_stored(rt: HostRuntime) -> Re
 }
 
 /// A new plant.
-fn booted<'s>(alloc: Global, system: &'s System) -> Result<Plant<'s, Untold>, Fail> {
-    match try_boot(alloc, Untold::over(new_device(alloc, system, 8)?), system)? {
+fn booted<'s>(alloc: Global, system: &'s System) -> Result<Plant<'s, OpaqueDisk>, Fail> {
+    match try_boot(
+        alloc,
+        OpaqueDisk::over(new_device(alloc, system, 8)?),
+        system,
+    )? {
         Ok(plant) => Ok(plant),
         Err(_) => Err(Fail::new("the device failed")),
     }
 }
 
 /// Ticks, and asks for A.
-fn ticked(plant: &mut Plant<'_, Untold>) -> Result<Parcel, Fail> {
+fn ticked(plant: &mut Plant<'_, OpaqueDisk>) -> Result<Parcel, Fail> {
     if plant.fire(0).is_err() {
         return Err(Fail::new("the tick is refused"));
     }
@@ -49,11 +53,11 @@ fn ticked(plant: &mut Plant<'_, Untold>) -> Result<Parcel, Fail> {
     }
 }
 
-/// The sample behind two ticks, of which A was asked for behind each, all of it acknowledged: the plant, the first state and the second.
+/// The sample after two ticks, of which A was asked for after each, all of it acknowledged: the plant, the first state and the second.
 fn asked_twice<'s>(
     alloc: Global,
     system: &'s System,
-) -> Result<(Plant<'s, Untold>, Parcel, Parcel), Fail> {
+) -> Result<(Plant<'s, OpaqueDisk>, Parcel, Parcel), Fail> {
     let mut plant = booted(alloc, system)?;
     let first = ticked(&mut plant)?;
     let second = ticked(&mut plant)?;
@@ -64,7 +68,7 @@ fn asked_twice<'s>(
 }
 
 /// The last record of the state that is stored, or why it is not.
-fn put(plant: &mut Plant<'_, Untold>, state: Parcel) -> Result<u64, Refused> {
+fn put(plant: &mut Plant<'_, OpaqueDisk>, state: Parcel) -> Result<u64, Refused> {
     match plant.put(encode(state)) {
         Ok(at) => Ok(at),
         Err(PutRefused { refused, .. }) => Err(refused),
@@ -72,7 +76,10 @@ fn put(plant: &mut Plant<'_, Untold>, state: Parcel) -> Result<u64, Refused> {
 }
 
 /// Why the state is not stored, and the state, which comes back.
-fn refused_put(plant: &mut Plant<'_, Untold>, state: Parcel) -> Result<(Refused, Parcel), Fail> {
+fn refused_put(
+    plant: &mut Plant<'_, OpaqueDisk>,
+    state: Parcel,
+) -> Result<(Refused, Parcel), Fail> {
     match plant.put(encode(state)) {
         Ok(_) => Err(Fail::new("the state is stored")),
         Err(PutRefused { encoded, refused }) => Ok((refused, encoded.into_parcel())),
@@ -81,7 +88,7 @@ fn refused_put(plant: &mut Plant<'_, Untold>, state: Parcel) -> Result<(Refused,
 
 /// Puts the first state, then the second, and then the first again, as it came back.
 fn put_in_turn(
-    plant: &mut Plant<'_, Untold>,
+    plant: &mut Plant<'_, OpaqueDisk>,
     first: Parcel,
     second: Parcel,
 ) -> Result<[Result<u64, Refused>; 3], Fail> {
@@ -116,7 +123,7 @@ fn state_of(atom: u16, count: u64, at: u64, marking: u64, value: i64) -> Result<
 type Row = (u16, u64, u64, u64, i64, Result<u64, Refused>);
 
 /// Whether that comes of it, and it is the same as the one that was asked for if it is stored.
-fn is_right(plant: &mut Plant<'_, Untold>, asked: &Parcel, row: &Row) -> Result<bool, Fail> {
+fn is_right(plant: &mut Plant<'_, OpaqueDisk>, asked: &Parcel, row: &Row) -> Result<bool, Fail> {
     let (atom, count, at, marking, value, wanted) = *row;
     let state = state_of(atom, count, at, marking, value)?;
     let is_same = state.same(asked);
@@ -125,7 +132,7 @@ fn is_right(plant: &mut Plant<'_, Untold>, asked: &Parcel, row: &Row) -> Result<
 
 /// The number of the first row of which another thing comes.
 fn first_wrong(
-    plant: &mut Plant<'_, Untold>,
+    plant: &mut Plant<'_, OpaqueDisk>,
     asked: &Parcel,
     rows: &[Row],
 ) -> Result<Option<usize>, Fail> {

@@ -1,5 +1,5 @@
-// A durable plant under a lock, which two threads fire and flush.
-use super::common::{Untold, formatted, sample};
+//! A durable plant under a lock, which two threads fire and flush.
+use super::common::{OpaqueDisk, formatted, sample};
 use super::runs::{try_boot, value_of};
 use disk_model::Disk;
 use plant_core::Plant;
@@ -16,16 +16,16 @@ const ROUNDS: u64 = 20;
 const RING: u32 = 64;
 
 /// A plant in its first state, with nothing fired.
-fn first_plant(alloc: Global, system: &System) -> Result<Plant<'_, Untold>, Fail> {
+fn first_plant(alloc: Global, system: &System) -> Result<Plant<'_, OpaqueDisk>, Fail> {
     let disk = formatted(alloc, system, RING, 1_000)?;
-    match try_boot(alloc, Untold::over(disk), system)? {
+    match try_boot(alloc, OpaqueDisk::over(disk), system)? {
         Ok(plant) => Ok(plant),
         Err(_) => Err(Fail::new("the device failed")),
     }
 }
 
-/// Fires by the pick and flushes, time after time, and tells how many choices it fired.
-fn fire_and_flush<D: Disk>(rt: &impl Wait, shared: &Mutex<Plant<'_, D>>, pick: u64) -> u64 {
+/// Fires by the pick and flushes, time after time, and gives how many choices it fired.
+fn fire_and_flush<D: Disk>(rt: &impl Wait, shared: &Mutex<Plant<'_, D>>, pick: u128) -> u64 {
     let mut fired = 0u64;
     for _ in 0..ROUNDS {
         let mut plant = shared.lock(rt);
@@ -48,8 +48,8 @@ fn by_two_threads<D: Disk + Send, R: Threads + Wait + Sync>(
     )
 }
 
-/// What the plant shows behind both threads: how many were fired and acknowledged, and what A has counted.
-fn counts_in(plant: &Plant<'_, Untold>) -> (u64, u64, i64) {
+/// What the plant shows after both threads: how many were fired and acknowledged, and what A has counted.
+fn counts_in(plant: &Plant<'_, OpaqueDisk>) -> (u64, u64, i64) {
     let front = plant.front();
     (front.fired, front.acked, value_of(plant, 0))
 }

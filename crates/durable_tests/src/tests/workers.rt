@@ -1,8 +1,8 @@
-// Restarts by several workers: they answer as one does, and work at once. Images and answers are worked out by hand.
+//! Restarts by several workers: they answer as one does, and work at once. Images and answers are worked out by hand.
 ghost use Rattle.std.specs.Prelude.{◌≤◌};
 ghost use Rattle.parallel_replay.specs.declared.workers.TheConstants.{MOST_WORKERS};
 
-use super::common::{Untold, put, sample};
+use super::common::{OpaqueDisk, put, sample};
 use super::runs::{A_SAVED, Shown, settled, value_of, whole_run};
 use disk_model::CELL;
 use plant_core::{Event, Plant};
@@ -18,7 +18,7 @@ use step_core::System;
 /// How often a worker looks for the other.
 const TURNS: u64 = 1_000_000;
 
-/// Two workers meet: each waits, before it replays its atom, until the other is told too.
+/// Two workers meet: each waits, before it replays its atom, until the other has begun too.
 #[derive(Drop)]
 struct Meeting {
     of_a: AtomicBool,
@@ -61,7 +61,7 @@ impl Turn for Meeting {
 /// What a restart answers: what the plant shows, or why there is none.
 type Answer = Result<Shown, BootFault>;
 
-fn answer(booted: Result<Plant<'_, Untold>, BootRefused<Untold>>) -> Answer {
+fn answer(booted: Result<Plant<'_, OpaqueDisk>, BootRefused<OpaqueDisk>>) -> Answer {
     match booted {
         Ok(plant) => Ok((value_of(&plant, 0), value_of(&plant, 1), plant.front())),
         Err(refused) => Err(refused.fault),
@@ -74,7 +74,7 @@ fn met<R: Threads + Sync>(rt: &R, alloc: Global, workers: usize) -> Result<(bool
     requires few { workers ≤ MOST_WORKERS }
 {
     let system = sample(alloc)?;
-    let disk = Untold::over(whole_run(alloc, &system, &A_SAVED)?.disk);
+    let disk = OpaqueDisk::over(whole_run(alloc, &system, &A_SAVED)?.disk);
     let meeting = Meeting::new();
     let found = answer(boot_par(rt, alloc, disk, &system, workers, &meeting));
     Ok((!meeting.late.load(Ordering::SeqCst), found))
@@ -99,8 +99,8 @@ fn changed(
     system: &System,
     events: &[Event],
     changes: &[(u64, u8)],
-) -> Result<Untold, Fail> {
-    let mut disk = Untold::over(whole_run(alloc, system, events)?.disk);
+) -> Result<OpaqueDisk, Fail> {
+    let mut disk = OpaqueDisk::over(whole_run(alloc, system, events)?.disk);
     for (at, byte) in changes {
         put(&mut disk, *at, &[*byte])?;
     }
@@ -122,10 +122,10 @@ fn answers<R: Threads + Sync>(
     Ok((by_one, by_two))
 }
 
-/// Base 4 stands in cell 2: the records of both atoms begin too late, and A's gap is told.
+/// Base 4 stands in cell 2: the records of both atoms begin too late, and A's gap is answered.
 const BASE_4: [(u64, u8); 2] = [(2 * CELL, 0xa5), (2 * CELL + 8, 4)];
 
-/// The cell of record 3 is closed: so record 4 is not live, and A was saved behind four.
+/// The cell of record 3 is closed: so record 4 is not live, and A was saved after four.
 const RECORD_3_CLOSED: [(u64, u8); 1] = [(10 * CELL, 0)];
 
 /// And of record 2 the number is 5 with which B took part, which no record 2 can have.

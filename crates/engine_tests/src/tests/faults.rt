@@ -1,4 +1,4 @@
-//! That each fault is told in its words. A contract says which words these are where the fault is told, and not that it is.
+//! That each fault is printed in its words. A contract says which words these are if the fault is printed, and not that it is.
 use connector_tree::TreeFault;
 use petri_atom::AtomFault;
 use plant_text::{Fault, PlantFault};

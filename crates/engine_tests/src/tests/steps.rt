@@ -45,7 +45,7 @@ fn a_state_tells_its_choices(rt: HostRuntime) -> Result<(), Fail> {
 const ONCE: &[u8] =
     b"atom A\nplace s init\nplace d\nport t\ntrans t from s to d\natom B\nplace s init\nport u\ntrans u from s to s\nconnector bc A.t' B.u\n";
 
-/// How many choices there are behind the choice, and once the first atom has its state from before again.
+/// How many choices there are after the choice, and once the first atom has its state from before again.
 fn counts_of_a_return(run: &mut Stepper<'_>, choice: &Choice) -> (u128, u128)
     requires there { 0 < length (states_in run.old) }
     requires allowed { IsAllowed (plant_in run.old) (states_in run.old) (choice_of choice.now) }

@@ -16,7 +16,7 @@ fn sure(run: &Dispatcher<'_>) -> [Option<u16>; 3] {
     connectors
 }
 
-/// Fires the sure choice with this place, if there is one, and tells the connector.
+/// Fires the sure choice with this place, if there is one, and gives the connector.
 fn fire(run: &mut Dispatcher<'_>, place: u128) -> Option<u16> {
     if place < run.count_sure() {
         let choice = run.nth_sure(place);

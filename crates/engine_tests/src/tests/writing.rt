@@ -121,7 +121,7 @@ fn print(
     }
 }
 
-/// Whether it is printed to its end where there is room for it, so many bytes at a write, and is otherwise cut off there and told.
+/// Whether it is printed to its end where there is room for it, so many bytes at a write, and is otherwise cut off there, with an error.
 fn is_cut_off(
     alloc: Global,
     system: &System,

@@ -1,4 +1,4 @@
-// A host over a device that fails.
+//! A host over a device that fails.
 ghost use Rattle.std.specs.Prelude.{◌≡◌, ◌^◌, ◌<◌};
 ghost use Rattle.disk_model.specs.DiskState.{size_of};
 ghost use Rattle.disk_model.specs.MemDisk.{state_of};
@@ -22,7 +22,7 @@ const RING: u32 = 8;
 /// How many calls a boot makes of a device for the sample with such a ring: `durable_tests` counts them.
 const BOOT_CALLS: u64 = 18;
 
-/// A device in memory of which contracts are told the size and the counts alone: what its cells read for is seen by running.
+/// A device in memory of which contracts say the size and the counts alone: what its cells read for is seen by running.
 #[derive(Drop)]
 struct Untold {
     disk: MemDisk,
@@ -67,7 +67,7 @@ impl Disk for Untold {
     }
 }
 
-/// One seat's flush meets the failure, and the other's fire is refused behind it. What was fired before still counts.
+/// One seat's flush meets the failure, and the other's fire is refused after it. What was fired before still counts.
 fn two_seats<D: Disk + Drop, N: Naming, R: Wait + Abort>(
     rt: &R,
     alloc: Global,

@@ -1,4 +1,4 @@
-// What several tests share: plants, and a device of which contracts are told little, so that to prove the tests costs little.
+//! What several tests share: plants, and a device of which contracts say little, so that to prove the tests costs little.
 ghost use Rattle.std.specs.Prelude.{◌≤◌};
 ghost use Rattle.record_codec.specs.declared.layout.TheConstants.{LEAST_RING, MOST_RING};
 

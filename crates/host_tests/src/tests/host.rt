@@ -1,4 +1,4 @@
-// A host of a durable plant, whose seats are in two threads.
+//! A host of a durable plant, whose seats are in two threads.
 ghost use Rattle.std.specs.Prelude.{◌≡◌, ◌≤◌};
 ghost use Rattle.engine_host.specs.Names.{IsNamedFor, hosted};
 

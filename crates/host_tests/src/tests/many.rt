@@ -1,4 +1,4 @@
-// Threads that make many events of one plant.
+//! Threads that make many events of one plant.
 ghost use Rattle.std.specs.Prelude.{◌≡◌, ◌≤◌};
 ghost use Rattle.engine_host.specs.Names.{IsNamedFor, hosted};
 
@@ -32,7 +32,7 @@ fn workers_of<N: Naming>(alloc: Global, seats: Vec<Seat<N>>) -> Result<Vec<Worke
     Ok(workers)
 }
 
-/// The seats of the workers, and what they were told together.
+/// The seats of the workers, and what they were answered together.
 fn parted<N: Naming>(
     alloc: Global,
     workers: Vec<Worker<N>>,
@@ -46,7 +46,7 @@ fn parted<N: Naming>(
     Ok((seats, all))
 }
 
-/// What the threads of a host were told is one run of the plant, and leads to where it stands.
+/// What the threads of a host were answered is one run of the plant, and leads to where it stands.
 fn many_seats<D: Disk + Drop + Send, N: Naming + Send + Sync, R: Threads + Wait + Abort + Sync>(
     rt: &R,
     alloc: Global,

@@ -1,5 +1,5 @@
-// A host that is named and opened while one growth of memory is refused. Here none is: the tests of the program run this test once more for each
-// growth behind its first line, refuse that one, and read which call was refused it. Made again, the call succeeds.
+//! A host that is named and opened while one growth of memory is refused. Here none is: the tests of the program run this test once more for each
+//! growth after its first line, refuse that one, and read which call was refused it. Made again, the call succeeds.
 ghost use Rattle.std.specs.Prelude.{◌≡◌, ◌≤◌, [], IfOk, vec_capacity};
 ghost use Rattle.engine_host.specs.Names.{IsNamedFor, hosted};
 ghost use Rattle.engine_host.specs.Views.{front_in};

@@ -1,4 +1,4 @@
-// What all threads were told, replayed as one run.
+//! What all threads were answered, replayed as one run.
 ghost use Rattle.step_core.specs.Fitting.{IsOf};
 ghost use Rattle.step_core.specs.System.{plant_of};
 

@@ -1,4 +1,4 @@
-// What a host answers, worked out by hand.
+//! What a host answers, worked out by hand.
 ghost use Rattle.std.specs.Prelude.{◌≡◌};
 ghost use Rattle.engine_host.specs.Names.{IsNamedFor, hosted};
 
@@ -23,7 +23,7 @@ pub(super) fn fires<D: Disk, N: Naming>(
     rt: &impl Wait,
     host: &Host<'_, D, N>,
     seat: &mut Seat<N>,
-    picks: &[u64],
+    picks: &[u128],
 ) -> bool {
     let mut all = true;
     for pick in picks {
@@ -32,7 +32,7 @@ pub(super) fn fires<D: Disk, N: Naming>(
     all
 }
 
-/// A watch that was told, and another seat that fires.
+/// A watch that knows the history so far, and another seat that fires.
 fn told<D: Disk, N: Naming, R: Wait + Abort>(
     rt: &R,
     host: &Host<'_, D, N>,
@@ -75,7 +75,7 @@ fn a_watch_reads_no_less_than_it_was_told(rt: HostRuntime) -> Result<(), Fail> {
     run_row::<BareDisk, Brand, _>(&rt, rt.alloc(), named, plant)
 }
 
-/// Three seats of a host fire five times, never and twice. With one of them missing it does not close; with all three it tells seven.
+/// Three seats of a host fire five times, never and twice. With one of them missing it does not close; with all three it answers seven.
 fn three_seats<D: Disk + Drop, N: Naming, R: Wait + Abort>(
     rt: &R,
     alloc: Global,
@@ -126,7 +126,7 @@ fn fired_by<D: Disk, N: Naming>(
     rt: &impl Wait,
     host: &Host<'_, D, N>,
     seat: &mut Seat<N>,
-    pick: u64,
+    pick: u128,
 ) -> Option<(u64, u16)> {
     match host.fire(rt, seat, pick) {
         Ok(fired) => Some((fired.number, fired.choice.connector)),
@@ -203,7 +203,7 @@ fn one_seat<D: Disk + Drop, N: Naming, R: Wait + Abort>(
     Ok(())
 }
 
-/// One seat does this to a plant behind so many ticks and sends in turn.
+/// One seat does this to a plant after so many ticks and sends in turn.
 fn one_seat_behind<R: Wait + Abort>(
     rt: &R,
     alloc: Global,
@@ -215,7 +215,7 @@ fn one_seat_behind<R: Wait + Abort>(
     let system = plant_of_text(alloc, SAMPLE)?;
     let mut plant = first_plant(alloc, &system, 8)?;
     for pick in 0..before {
-        assert!(rt; plant.fire(pick).is_ok());
+        assert!(rt; plant.fire(u128::from(pick)).is_ok());
     }
     let named = name(alloc, &plant, 1)?;
     one_seat::<BareDisk, Brand, R>(rt, alloc, named, plant, course, wanted, values)

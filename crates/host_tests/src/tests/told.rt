@@ -1,4 +1,4 @@
-// What one thread asks of a host, and what it is told.
+//! What one thread asks of a host, and what it is answered.
 use super::common::Open;
 use disk_model::Disk;
 use engine_host::{Host, Naming, Seat};
@@ -16,7 +16,7 @@ pub(super) struct Fire {
     pub(super) fired: FiredAs,
 }
 
-/// What a thread was told.
+/// What a thread was answered.
 #[derive(Drop)]
 pub(super) struct Told {
     /// Each choice that it fired.
@@ -25,7 +25,7 @@ pub(super) struct Told {
     pub(super) others: u64,
     /// Whether each flush acknowledged all that this thread knew of, and each look at the word showed it.
     pub(super) is_in_order: bool,
-    /// The highest number that it was told.
+    /// The highest number that it was answered.
     highest: u64,
 }
 
@@ -46,7 +46,7 @@ impl Told {
         let _ = self.fires.push(Fire { pick, fired });
     }
 
-    /// All up to this number is there: that has to be all that was told.
+    /// All up to this number is there: that has to be all that was answered.
     fn reach(&mut self, number: u64) {
         self.is_in_order &= self.highest <= number;
         self.highest = number;
@@ -57,7 +57,7 @@ impl Told {
         self.others = self.others.saturating_add(u64::from(is_ok));
     }
 
-    /// Adds what another thread was told.
+    /// Adds what another thread was answered.
     pub(super) fn add(&mut self, mut other: Told) -> Result<(), AllocError> {
         self.others = self.others.saturating_add(other.others);
         self.is_in_order &= other.is_in_order;
@@ -65,7 +65,7 @@ impl Told {
     }
 }
 
-/// A thread's seat, and what it was told.
+/// A thread's seat, and what it was answered.
 #[derive(Drop)]
 pub(super) struct Worker<N: Naming> {
     pub(super) seat: Seat<N>,
@@ -93,7 +93,7 @@ fn ask_one<D: Disk, N: Naming>(
         ),
         7 => told.count(host.trim(rt, seat).is_ok()),
         _ => {
-            if let Ok(fired) = host.fire(rt, seat, number) {
+            if let Ok(fired) = host.fire(rt, seat, u128::from(number)) {
                 told.fire(number, fired);
             }
         }
@@ -105,7 +105,7 @@ fn fired_by_word<D: Disk, N: Naming>(host: &Host<'_, D, N>, seat: &mut Seat<N>) 
     host.front(&mut seat.watch).fired
 }
 
-/// Asks for all events of one thread, and looks at the word behind each of them.
+/// Asks for all events of one thread, and looks at the word after each of them.
 pub(super) fn ask_all<D: Disk, N: Naming>(
     rt: &impl Wait,
     host: &Host<'_, D, N>,

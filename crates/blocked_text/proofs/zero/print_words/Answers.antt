@@ -8,7 +8,7 @@ use Rattle.blocked_text.specs.Separated.{separated_after}
 use Rattle.blocked_text.specs.Variables.{variables_in}
 use Rattle.blocked_text.specs.Zero.{value_word}
 use Rattle.blocked_text.proofs.Seeking.{few-variables}
-use Rattle.blocked_text.proofs.Separating.{leads-numbered, none-left, told-all}
+use Rattle.blocked_text.proofs.Separating.{leads-numbered, none-left, printed-all}
 use Rattle.blocked_text.proofs.zero.print_words.Goals as goal
 
 pub overflow_add-place : goal.overflow_add-place
@@ -39,5 +39,5 @@ pub returns : goal.returns
 returns g c =
     let vars = variables_in (tree_of c.args.expression.now) in
     let word = value_word g.V.Same.same (g.N.Names.name_of c.args.names.now) (g.S.Valuation.value_at c.args.values.now) vars in
-    told-all _ _ _ _ c.loop-variable.invariant
+    printed-all _ _ _ _ c.loop-variable.invariant
     (ap (λ vs. separated_after c.loop-variable.before.now (codes ", ") (numbered word c.loop-variable.place vs)) (none-left vars c.loop-variable.place (sym c.variable_at.ensures ∙ c.in_default.is)))

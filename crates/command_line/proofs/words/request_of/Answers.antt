@@ -1,4 +1,4 @@
--- The request is what the words ask for that were found behind the command's name.
+-- The request is what the words ask for that were found after the command's name.
 use Rattle.std.proofs.Common.{rules}
 use Rattle.clap.specs.Matches.{found_of}
 use Rattle.command_line.proofs.words.request_of.Goals as goal

@@ -2,7 +2,7 @@ use Rattle.std.proofs.Common.{◌≡◌, ◌∙◌, sym, ap, codes, drop}
 use Rattle.std.proofs.lemmas.List.{drop-drop}
 use Rattle.plant_words.specs.Reading.{first_keyword}
 use Rattle.plant_words.proofs.Exits.{passes}
-use Rattle.connector_lines.specs.Conditions.{rule_behind}
+use Rattle.connector_lines.specs.Conditions.{rule_after}
 use Rattle.connector_lines.specs.Sides.{side_in}
 use Rattle.connector_lines.proofs.rule.read_priority.Goals as goal
 
@@ -20,4 +20,4 @@ returns g c =
     sym (passes _ (sym c.in_ok-left.ensures.side)
     (passes _ (ap (first_keyword (codes "<")) (sym c.read_side.ensures.taken) ∙ sym c.in_ok-next_keyword.ensures.keyword)
     (passes _ (ap (side_in named has) second ∙ sym c.in_ok-right.ensures.side)
-    (ap (rule_behind atoms places c.in_ok-left.left c.in_ok-right.right) third ∙ sym c.read_behind.ensures))))
+    (ap (rule_after atoms places c.in_ok-left.left c.in_ok-right.right) third ∙ sym c.read_behind.ensures))))

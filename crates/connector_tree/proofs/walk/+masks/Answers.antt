@@ -4,7 +4,7 @@ use Rattle.connector_tree.specs.Tree.{branch_of, tree_in}
 use Rattle.connector_tree.specs.Walk.{seen, seen_children, count_all}
 use Rattle.connector_tree.specs.MaskLists.{joined, masks_taken}
 use Rattle.connector_tree.proofs.Walks.{is_seen}
-use Rattle.connector_tree.proofs.Walked.{seen_child, next_child, child_taken, all_taken, same_marks}
+use Rattle.connector_tree.proofs.NextChild.{seen_child, next_child, child_taken, all_taken, same_marks}
 use Rattle.connector_tree.proofs.FromTree.{count_all-push, is_local, are_local, candidates, candidates-push, candidates_below, candidates_part_below, choices_made, masks_taken-seen}
 use Rattle.connector_tree.proofs.walk.+masks.Goals as goal
 

@@ -5,7 +5,7 @@ use Rattle.connector_tree.specs.Tree.{bracket, tree_of, tree_in}
 use Rattle.connector_tree.specs.Masks.{interactions_of}
 use Rattle.connector_tree.specs.Walk.{seen, takes}
 use Rattle.connector_tree.specs.MaskLists.{masks_seen}
-use Rattle.connector_tree.proofs.Sound.{told_itself}
+use Rattle.connector_tree.proofs.Sound.{fault_itself}
 use Rattle.connector_tree.proofs.Walks.{is_seen}
 use Rattle.connector_tree.proofs.Filtered.{passing}
 use Rattle.connector_tree.proofs.Exact.{interactions_are, interactions_exact, interactions_rise}
@@ -20,7 +20,7 @@ children_masks-requires c =
 
 pub returns-in-Some-clause-fault : goal.returns-in-Some-clause-fault
 returns-in-Some-clause-fault c =
-    told_itself (Vec ℕ Global) c.in-Some.fault (tree_of c.args.connector.now) (sym c.first_fault.ensures.fault ∙ c.in-Some.is)
+    fault_itself (Vec ℕ Global) c.in-Some.fault (tree_of c.args.connector.now) (sym c.first_fault.ensures.fault ∙ c.in-Some.is)
 
 -- the masks that the tree gives are the interactions
 listed : (c : In_ok-masks-in-None) → c.in_ok-masks-in-None.masks.items ≡ interactions_of (tree_of c.args.connector.now)

@@ -8,7 +8,7 @@ use Rattle.connector_tree.specs.MaskLists.{with_later, joined}
 use Rattle.connector_tree.proofs.walk.joined.Goals as goal
 use Rattle.connector_tree.proofs.walk.joined.Goals.{After-from}
 
--- a mask of the leaves from `at` on loses none of them where it is moved up
+-- a mask of the leaves from `at` on loses none of them when it is moved up
 moved : (part at : ℕ) → at ≤ MAX_LEAVES → part < 2 ^ (MAX_LEAVES - at) → part * 2 ^ at % 4294967296 ≡ part * 2 ^ at
 moved part at few below = shl_whole part (MAX_LEAVES - at) at 32 below (omega arith)
 

@@ -14,7 +14,7 @@ use Rattle.step_core.specs.Chosen.{choice_of}
 use Rattle.step_core.specs.Plant.{PlantDefinition}
 use Rattle.step_core.specs.System.{digest_of, plant_of}
 use Rattle.crash_explorer.proofs.Fronts.{asks-none}
-use Rattle.crash_explorer.proofs.Judged.{judged, told-wrong}
+use Rattle.crash_explorer.proofs.Judged.{judged, wrong-of-fault}
 use Rattle.crash_explorer.proofs.judging.verdict_on.Goals as goal
 
 pub returns-in-Ok-clause-verdict : goal.returns-in-Ok-clause-verdict
@@ -47,7 +47,7 @@ returns c =
     c.deref.ensures.value ∙ c.in_ok-cells.ensures.cells ∙ ap (λ (m : Moment). cells_of (BODY + 1) m.seen) c.size-bytes.ensures.kept.same.now in
     let fault : ImageFault = c.in-Err.fault in
     let told : fault_of plant digest c.size-bytes.result c.deref.result.now ≡ Some fault =
-    told-wrong (fault_of plant digest c.size-bytes.result c.deref.result.now) fault c.in_default.not-Memory c.in-Err.ensures in
+    wrong-of-fault (fault_of plant digest c.size-bytes.result c.deref.result.now) fault c.in_default.not-Memory c.in-Err.ensures in
     record {
       verdict = subst (λ (l : List Cell). fault_of plant digest (size_of old) l ≡ Some fault) cells (subst (λ (n : ℕ). fault_of plant digest n c.deref.result.now ≡ Some fault) bytes told);
       kept = record {

@@ -7,7 +7,7 @@ use Rattle.step_core.specs.Plant.{PlantDefinition}
 use Rattle.step_core.specs.Running.{plant_in, states_in}
 use Rattle.step_core.specs.Runs.{IsRun, fold}
 use Rattle.step_core.specs.System.{plant_of}
-use Rattle.crash_explorer.specs.Judging.{state_behind}
+use Rattle.crash_explorer.specs.Judging.{state_after}
 use Rattle.crash_explorer.proofs.Fronts.{acked-run, cut-front, front-leads, front-run}
 use Rattle.crash_explorer.proofs.states.are_behind_front.Goals as goal
 
@@ -35,11 +35,11 @@ fire_all-requires-2 c =
     let states : List Local = states_in c.fire_all.new.stepper in
     let ran : plant_in c.in_ok-stepper.stepper ≡ plant = c.in_ok-stepper.ensures.plant in
     let runs : plant_in c.fire_all.new.stepper ≡ plant = c.fire_all.ensures.plant ∙ ran in
-    let there : states ≡ state_behind plant acked =
+    let there : states ≡ state_after plant acked =
     c.fire_all.ensures.states ∙ ap (λ (p : PlantDefinition). fold p first acked) ran ∙ ap (λ (s : List Local). fold plant s acked) c.in_ok-stepper.ensures.first in
     subst (λ (p : PlantDefinition). RunsOn p states part) (sym runs)
     (subst (λ (s : List Local). RunsOn plant s part) (sym there)
-    (subst (λ (l : List ChoiceDefinition). RunsOn plant (state_behind plant acked) l) (sym (cut-front choice_of k c.args.tail.now)) (front-run plant acked tail k c.requires)))
+    (subst (λ (l : List ChoiceDefinition). RunsOn plant (state_after plant acked) l) (sym (cut-front choice_of k c.args.tail.now)) (front-run plant acked tail k c.requires)))
 
 pub returns : goal.returns
 returns c =
@@ -52,14 +52,14 @@ returns c =
     let states : List Local = states_in c.fire_all.new.stepper in
     let ran : plant_in c.in_ok-stepper.stepper ≡ plant = c.in_ok-stepper.ensures.plant in
     let runs : plant_in c.fire_all.new.stepper ≡ plant = c.fire_all.ensures.plant ∙ ran in
-    let there : states ≡ state_behind plant acked =
+    let there : states ≡ state_after plant acked =
     c.fire_all.ensures.states ∙ ap (λ (p : PlantDefinition). fold p first acked) ran ∙ ap (λ (s : List Local). fold plant s acked) c.in_ok-stepper.ensures.first in
-    let reached : c.states.result.now ≡ state_behind plant (acked ++ take k tail) =
+    let reached : c.states.result.now ≡ state_after plant (acked ++ take k tail) =
     c.states.ensures.states
     ∙ c.fire_all-2.ensures.states
     ∙ ap (λ (p : PlantDefinition). fold p states part) runs
     ∙ ap (λ (s : List Local). fold plant s part) there
-    ∙ ap (λ (l : List ChoiceDefinition). fold plant (state_behind plant acked) l) (cut-front choice_of k c.args.tail.now)
+    ∙ ap (λ (l : List ChoiceDefinition). fold plant (state_after plant acked) l) (cut-front choice_of k c.args.tail.now)
     ∙ front-leads plant acked tail k in
     let acked_many : length acked ≡ length c.args.acked.now = length-map c.args.acked.now choice_of in
     let tail_many : length tail ≡ length c.args.tail.now = length-map c.args.tail.now choice_of in
@@ -69,5 +69,5 @@ returns c =
       λ found.
           let j : ℕ = found.0 in
           let as_many : k ≡ j = omega (arith, found.3) in
-          c.are_same.ensures.1 (reached ∙ ap (λ (n : ℕ). state_behind plant (acked ++ take n tail)) as_many ∙ sym found.2),
+          c.are_same.ensures.1 (reached ∙ ap (λ (n : ℕ). state_after plant (acked ++ take n tail)) as_many ∙ sym found.2),
     )

@@ -1,6 +1,6 @@
 use Rattle.std.proofs.Common.{false, ◌+◌, ◌∙◌, get_or, refl, arith}
 use Rattle.disk_model.proofs.CallLemmas.{reads_same}
-use Rattle.disk_model.proofs.RunLemmas.{erase_start, erase_more, full_behind, seen_none, seen_emptied_more}
+use Rattle.disk_model.proofs.RunLemmas.{erase_start, erase_more, full_after, seen_none, seen_emptied_more}
 use Rattle.disk_model.proofs.run.close_gates.Goals as goal
 use Rattle.disk_model.specs.Moments.{counts_then, unchanged_from}
 
@@ -21,7 +21,7 @@ returns-in_err-close_gate-clause-leaves g c keeps =
 pub loop-k-preserved : goal.loop-k-preserved
 loop-k-preserved g c = record {
   counts = counts_then false false (g.D.Disk.state c.args.disk.now) (g.D.Disk.state c.loop-k.disk) (g.D.Disk.state c.close_gate.new.disk) c.loop-k.invariant.counts c.in_ok-close_gate.ensures.counts;
-  full = λ keeps known. full_behind (g.row.B + 1) (g.D.Disk.state c.loop-k.disk) (g.D.Disk.state c.close_gate.new.disk) c.args.ks.now c.loop-k.k-index (get_or c.args.ks.now c.loop-k.k-index 0) (c.requires.differ known) (omega arith) refl
+  full = λ keeps known. full_after (g.row.B + 1) (g.D.Disk.state c.loop-k.disk) (g.D.Disk.state c.close_gate.new.disk) c.args.ks.now c.loop-k.k-index (get_or c.args.ks.now c.loop-k.k-index 0) (c.requires.differ known) (omega arith) refl
       (c.loop-k.invariant.full keeps known) (c.in_ok-close_gate.ensures.seen (c.loop-k.invariant.counts.keeps ∙ keeps));
   leaves = λ keeps. erase_more (g.row.B + 1) (g.D.Disk.state c.args.disk.now) (g.D.Disk.state c.loop-k.disk) (g.D.Disk.state c.close_gate.new.disk) c.args.ks.now c.loop-k.k-index (get_or c.args.ks.now c.loop-k.k-index 0) (omega arith) refl
       (c.loop-k.invariant.leaves keeps) (c.close_gate.ensures.steps (c.loop-k.invariant.counts.keeps ∙ keeps));

@@ -1,4 +1,4 @@
-use Rattle.std.proofs.Common.{◌+◌, ℕ, List, length, sym, subst, arith}
+use Rattle.std.proofs.Common.{◌≡◌, ◌+◌, ℕ, List, length, sym, subst, arith}
 use Rattle.disk_model.specs.declared.cells.TheConstants.{BODY}
 use Rattle.disk_model.specs.DiskState.{DiskState}
 use Rattle.disk_model.specs.Cells.{Leaves, EmptyOrNew, Filled}
@@ -27,24 +27,21 @@ set_run-requires-clause-closed g c keeps =
     let s : DiskState = c.args.cells.now in
     subst (λ (ks : List ℕ). AreClosed (BODY + 1) s ks) (sym c.write_places.ensures) (places_closed j (length c.args.room.now) s (c.requires.ready keeps) (omega arith))
 
+-- what holds of the cells that were written down holds of the places of the new records
+at_places : (j : Ring) (ks : List ℕ) (many count : ℕ) (P : List ℕ → Type 0) → ks ≡ places j (j.last + 1) many → many ≡ count → P ks → P (places j (j.last + 1) count)
+at_places j ks many count P written as_many held = subst (λ (n : ℕ). P (places j (j.last + 1) n)) as_many (subst P written held)
+
 pub returns-clause-leaves : goal.returns-clause-leaves
 returns-clause-leaves g c keeps news are =
-    let j : Ring = c.args.ring in
-    let old : DiskState = c.args.cells.now in
-    let new : DiskState = c.set_run.new.self in
-    let bodies : List (List ℕ) = c.args.bodies.now in
-    let run : Leaves (BODY + 1) (EmptyOrNew (BODY + 1) old (places j (j.last + 1) (length bodies)) bodies) old new =
-    subst (λ (n : ℕ). Leaves (BODY + 1) (EmptyOrNew (BODY + 1) old (places j (j.last + 1) n) bodies) old new) c.requires.as_many
-    (subst (λ (ks : List ℕ). Leaves (BODY + 1) (EmptyOrNew (BODY + 1) old ks bodies) old new) c.write_places.ensures (c.set_run.ensures.leaves keeps)) in
-    append_leaves j bodies news old new c.requires.ring (c.requires.ready keeps) are c.requires.room run
+    append_leaves c.args.ring c.args.bodies.now news c.args.cells.now c.set_run.new.self c.requires.ring (c.requires.ready keeps) are c.requires.room
+    (at_places c.args.ring c.write_places.new.places _ _ (λ ks. Leaves (BODY + 1) (EmptyOrNew (BODY + 1) c.args.cells.now ks c.args.bodies.now) c.args.cells.now c.set_run.new.self) c.write_places.ensures c.requires.as_many (c.set_run.ensures.leaves keeps))
 
 pub returns-clause-appended : goal.returns-clause-appended
 returns-clause-appended g c keeps news are =
-    let j : Ring = c.args.ring in
     let old : DiskState = c.args.cells.now in
     let new : DiskState = c.set_run.new.self in
     let bodies : List (List ℕ) = c.args.bodies.now in
-    on_ok c.set_run.result (Filled (BODY + 1) c.write_places.new.places bodies old new) (HasAppendedAll j news old new)
-    (λ filled. has_appended_all j bodies news old new c.requires.ring (c.requires.ready keeps) are c.requires.room c.set_run.ensures.counts.size
-    (subst (λ (n : ℕ). Filled (BODY + 1) (places j (j.last + 1) n) bodies old new) c.requires.as_many (subst (λ (ks : List ℕ). Filled (BODY + 1) ks bodies old new) c.write_places.ensures filled)))
+    on_ok c.set_run.result (Filled (BODY + 1) c.write_places.new.places bodies old new) (HasAppendedAll c.args.ring news old new)
+    (λ filled. has_appended_all c.args.ring bodies news old new c.requires.ring (c.requires.ready keeps) are c.requires.room c.set_run.ensures.counts.size
+    (at_places c.args.ring c.write_places.new.places _ _ (λ ks. Filled (BODY + 1) ks bodies old new) c.write_places.ensures c.requires.as_many filled))
     (c.set_run.ensures.filled keeps)

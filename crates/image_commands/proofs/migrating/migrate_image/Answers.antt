@@ -14,7 +14,7 @@ returns-clause-printed g c old_keeps new_keeps =
     let number =
     migrated_number _ _ c.args.ring (held_by_old (plant_of c.args.system.now) (g.D1.Disk.state c.args.old)) (g.D2.Disk.state c.in-Ok.devices.1) (view_of c.in-Ok-booted.plant) (c.in-Ok.ensures.migrated old_keeps new_keeps)
     c.in-Ok-booted.ensures.booted (c.in-Ok.ensures.new_counts.keeps ∙ new_keeps) in
-    subst (λ (n : ℕ). Appends (g.W.Write.contents c.args.output.now) (g.W.Write.contents c.hand_on.new.output) (migrated_line n)) (c.front.ensures.acked ∙ number)
+    subst (λ (n : ℕ). Appends (g.W.Write.contents c.args.output.now) (g.W.Write.contents c.hand_on.new.writer) (migrated_line n)) (c.front.ensures.acked ∙ number)
     (appended_and_kept _ _ _ _ c.in_ok-print_migrated.ensures c.in_ok-hand_on.ensures)
 
 pub returns-clause-stands : goal.returns-clause-stands

@@ -1,4 +1,4 @@
--- The plant that was booted is the one of which it is told.
+-- The plant that was booted is the one whose state is printed.
 use Rattle.plant_core.specs.Plants.{view_of}
 use Rattle.image_commands.proofs.Appending.{standing_and_kept}
 use Rattle.image_commands.proofs.Standing.{recovered_stands}

@@ -1,4 +1,4 @@
--- The parts are appended one behind another, where there are any.
+-- The parts are appended one after another, where there are any.
 use Rattle.std.proofs.Common.{◌++◌, Bool, List, [], ℕ, Option, OnOk, subst, sym}
 use Rattle.std.proofs.KnownBytes.{Appends-trans}
 use Rattle.std.specs.Io.KnownBytes.{Appends}

@@ -1,4 +1,4 @@
--- The parts of a trial's line are appended one behind another.
+-- The parts of a trial's line are appended one after another.
 use Rattle.std.proofs.KnownBytes.{Appends-trans}
 use Rattle.image_commands.proofs.Trials.{appended_last}
 use Rattle.image_commands.proofs.trial_line.print_trial.Goals as goal

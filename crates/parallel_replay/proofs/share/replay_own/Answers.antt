@@ -7,7 +7,7 @@ use Rattle.record_codec.specs.Saved.{SavedFields}
 use Rattle.step_core.specs.System.{plant_of}
 use Rattle.plant_image.specs.Contents.{unsaved}
 use Rattle.plant_image.specs.Faults.{is_of_atom}
-use Rattle.plant_image.proofs.FirstTold.{mapped_at}
+use Rattle.plant_image.proofs.FirstFault.{mapped_at}
 use Rattle.parallel_replay.proofs.share.replay_own.Goals as goal
 
 pub replay_saved-requires : goal.replay_saved-requires

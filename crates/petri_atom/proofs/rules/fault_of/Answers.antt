@@ -5,12 +5,12 @@ use Rattle.petri_atom.specs.declared.fault.AtomFault.TheVariants.{Limit, Twice, 
 use Rattle.petri_atom.specs.Parts.{definition_by}
 use Rattle.petri_atom.proofs.rules.fault_of.Goals as goal
 
--- a limit that is passed is told first
+-- a limit that is passed is found first
 past_limits : (a : AtomDefinition) → is_within_limits a ≡ false → Some Limit ≡ fault_of a
 past_limits a e =
     sym (ap (λ b. cond (not b) (Some Limit) (cond (not (has_each_once a)) (Some Twice) (cond (not (has_known_numbers a)) (Some Unknown) (cond (not (has_sources_and_targets a)) (Some NoPlace) None)))) e)
 
--- no rule is broken where each is kept
+-- no rule is broken if each is kept
 unbroken : (a : AtomDefinition) → is_within_limits a ≡ true → has_each_once a ≡ true → has_known_numbers a ≡ true → has_sources_and_targets a ≡ true → None ≡ fault_of a
 unbroken a within once known places =
     sym (ap (λ b. cond (not b) (Some Limit) (cond (not (has_each_once a)) (Some Twice) (cond (not (has_known_numbers a)) (Some Unknown) (cond (not (has_sources_and_targets a)) (Some NoPlace) None)))) within ∙

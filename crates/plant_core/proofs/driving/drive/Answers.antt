@@ -3,7 +3,7 @@ use Rattle.std.proofs.lemmas.List.{take_all, take_more}
 use Rattle.disk_model.specs.Cells.{Leaves}
 use Rattle.disk_model.specs.DiskState.{size_of}
 use Rattle.disk_model.specs.declared.cells.TheConstants.{BODY}
-use Rattle.plant_core.specs.Events.{AreHandsBehind, IsEvent, IsHandedIn}
+use Rattle.plant_core.specs.Events.{AreHandsAfter, IsEvent, IsHandedIn}
 use Rattle.plant_core.specs.Driven.{IsDriven}
 use Rattle.plant_core.specs.Handed.{hands_of}
 use Rattle.plant_core.specs.Hands.{AreHandsFor}
@@ -50,7 +50,7 @@ loop-event-preserved g c =
     driven-one (definition_of p) (text_digest p) (view_of q) (device_of q) held c.meet.result (view_of r) (device_of r) after event (get_or events i (asked.Fire 0)) c.meet.ensures.asked
     (λ keeps. subst (λ (digest : List ℕ). Leaves (BODY + 1) (StandsForFront (definition_of p) digest (size_of (device_of q)) (view_of q)) (device_of q) (device_of r)) told
     (subst (λ d. Leaves (BODY + 1) (StandsForFront d (text_digest q) (size_of (device_of q)) (view_of q)) (device_of q) (device_of r)) same (c.meet.ensures.stops keeps)))
-    c.meet.ensures.cause c.meet.ensures.idle c.meet.ensures.untouched c.meet.ensures.size c.meet.ensures.keeps (subst (λ d. IsHandedIn d held c.meet.result) same c.meet.ensures.handed_in) (subst (λ d. AreHandsBehind d (view_of q) held c.meet.result after) same c.meet.ensures.hands) in
+    c.meet.ensures.cause c.meet.ensures.idle c.meet.ensures.untouched c.meet.ensures.size c.meet.ensures.keeps (subst (λ d. IsHandedIn d held c.meet.result) same c.meet.ensures.handed_in) (subst (λ d. AreHandsAfter d (view_of q) held c.meet.result after) same c.meet.ensures.hands) in
     let more = driven-join (definition_of p) (text_digest p) (view_of p) (view_of q) (view_of r) (device_of p) (device_of q) (device_of r) hands held after (take i events) (get_or events i (asked.Fire 0) ∷ []) before (c.meet.result ∷ []) p.fits_together.leads
     c.loop-event.invariant.so_far one in
     record {

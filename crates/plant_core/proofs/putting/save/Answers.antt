@@ -1,8 +1,7 @@
-use Rattle.std.proofs.Common.{ℕ, ◌+◌, ◌∙◌, ap, false}
+use Rattle.std.proofs.Common.{◌+◌, ◌∙◌, false}
 use Rattle.disk_model.specs.Cells.{seen_cells}
 use Rattle.disk_model.specs.Reading.{reads_leave}
 use Rattle.disk_model.specs.declared.cells.TheConstants.{BODY}
-use Rattle.record_codec.specs.Saved.{SavedFields}
 use Rattle.snapshot_writer.specs.Slots.{other_slot}
 use Rattle.snapshot_writer.specs.Storing.{HasStored}
 use Rattle.plant_core.proofs.Stored.{nothing-stored, stored-behind-reads}
@@ -13,13 +12,9 @@ returns-in_err-slot-clause-leaves g c = λ keeps.
     let old = c.args.cells.now in
     let saved = c.args.encoded.now in
     let free = other_slot saved.atom (seen_cells (BODY + 1) old) in
-    reads_leave (BODY + 1) (HasStored free saved (seen_cells (BODY + 1) old)) old c.slot_to_write.new.cells c.slot_to_write.ensures.reads keeps (nothing-stored free saved old (c.requires.settled keeps))
+    reads_leave (BODY + 1) (HasStored free saved (seen_cells (BODY + 1) old)) old c.slot_to_fill.new.cells c.slot_to_fill.ensures.reads keeps (nothing-stored free saved old (c.requires.settled keeps))
 
 pub returns-clause-leaves : goal.returns-clause-leaves
 returns-clause-leaves g c = λ keeps.
-    let old = c.args.cells.now in
-    let mid = c.slot_to_write.new.cells in
-    let saved = c.args.encoded.now in
-    let reads = c.in_ok-slot.ensures.reads in
-    stored-behind-reads {failed = false} c.in_ok-slot.slot (other_slot saved.atom (seen_cells (BODY + 1) old)) saved old mid c.store.new.cells (c.requires.settled keeps) reads keeps (c.in_ok-slot.ensures.slot keeps ∙ ap (λ (n : ℕ). other_slot n (seen_cells (BODY + 1) old)) (c.atom.ensures.value ∙ ap (λ (s : SavedFields). s.atom) c.parcel.ensures))
-    (c.store.ensures.leaves (reads.counts.keeps ∙ keeps))
+    let found = c.in_ok-slot.ensures in
+    stored-behind-reads {failed = false} c.in_ok-slot.slot (other_slot c.args.encoded.now.atom (seen_cells (BODY + 1) c.args.cells.now)) c.args.encoded.now c.args.cells.now c.slot_to_fill.new.cells c.store.new.cells (c.requires.settled keeps) found.reads keeps (found.slot keeps) (c.store.ensures.leaves (found.reads.counts.keeps ∙ keeps))

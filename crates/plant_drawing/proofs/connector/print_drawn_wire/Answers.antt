@@ -16,7 +16,7 @@ returns g c =
     let start = g.W.Write.contents c.args.output.now in
     let after = g.W.Write.contents c.print_wire.new.output in
     let known : map definition_of c.atoms-atoms.result.now ≡ plant.atoms = c.atoms-atoms.ensures ∙ ap (λ (p : PlantDefinition). p.atoms) c.system.ensures.plant in
-    let told : OnOk c.print_wire.result (Appends start after (connector_lines plant.atoms c.args.drawn coloured c.args.number wire)) =
+    let printed : OnOk c.print_wire.result (Appends start after (connector_lines plant.atoms c.args.drawn coloured c.args.number wire)) =
     subst (λ atoms. OnOk c.print_wire.result (Appends start after (connector_lines atoms c.args.drawn coloured c.args.number wire))) known
     (subst (λ b. OnOk c.print_wire.result (Appends start after (connector_lines (map definition_of c.atoms-atoms.result.now) c.args.drawn b c.args.number wire))) c.is_coloured-coloured.ensures c.print_wire.ensures) in
-    subst (λ b. OnOk c.print_wire.result (Appends start after (cond b (connector_lines plant.atoms c.args.drawn coloured c.args.number wire) []))) c.if-not-is_drawn.ensures told
+    subst (λ b. OnOk c.print_wire.result (Appends start after (cond b (connector_lines plant.atoms c.args.drawn coloured c.args.number wire) []))) c.if-not-is_drawn.ensures printed

@@ -29,26 +29,26 @@ print_words-returns g t c =
     (wraps-same {rest = map say (children_tokens (drop c.loop-child.child-index children))} c.loop-child.invariant (ap (λ cs. map say (children_tokens cs)) done)).by
     (g.W.Write.contents c.loop-child.output) c.loop-child.now (wraps-none c.loop-child.now (g.W.Write.contents c.loop-child.output))
 
-pub print_node_words-returns-in_ok-behind-in-Fusion : goal.print_node_words-returns-in_ok-behind-in-Fusion
-print_node_words-returns-in_ok-behind-in-Fusion g t c =
+pub print_node_words-returns-in_ok-inside-in-Fusion : goal.print_node_words-returns-in_ok-inside-in-Fusion
+print_node_words-returns-in_ok-inside-in-Fusion g t c =
     let say = token_word (map definition_of c.args.atoms.now) in
     let trigger = c.args.trigger in
     let left = c.args.left in
     let now = c.in_ok-now-in-Fusion.now in
-    let behind = c.in_ok-behind-in-Fusion.behind in
+    let inside = c.in_ok-inside-in-Fusion.inside in
     let items = c.in-Fusion.children.items in
     let inner = map say (children_tokens items) in
     let last : List (List ℕ) = (codes "]" ++ trigger_mark trigger) ∷ [] in
     let start = g.W.Write.contents c.args.output.now in
     let begun = g.W.Write.contents c.print_word.new.output in
-    let told = g.W.Write.contents c.print_words.new.output in
+    let printed = g.W.Write.contents c.print_words.new.output in
     let after = g.W.Write.contents c.print_close.new.output in
-    let children : Wraps now inner begun told behind =
-    subst (λ cs. Wraps now (map say (children_tokens cs)) begun told behind) c.deref.ensures.value c.in_ok-behind-in-Fusion.ensures in
+    let children : Wraps now inner begun printed inside =
+    subst (λ cs. Wraps now (map say (children_tokens cs)) begun printed inside) c.deref.ensures.value c.in_ok-inside-in-Fusion.ensures in
     let words : map say (node_tokens c.args.node.now trigger) ≡ codes "[" ∷ (inner ++ last) =
     ap (λ node. map say (node_tokens node trigger)) c.in-Fusion.is
     ∙ ap (map say) (tokens-fusion c.in-Fusion.children trigger)
     ∙ ap (λ ws. codes "[" ∷ ws) (map-append say (children_tokens items) (Close trigger ∷ [])) in
     subst (λ ws. IfOk c.print_close.result (Wraps left ws start after)) (sym words)
-    (wraps-last left behind c.print_close.result (codes "[" ∷ inner) last start told after
-    (wraps-then left now behind (codes "[" ∷ []) inner start begun told c.in_ok-now-in-Fusion.ensures children) c.print_close.ensures)
+    (wraps-last left inside c.print_close.result (codes "[" ∷ inner) last start printed after
+    (wraps-then left now inside (codes "[" ∷ []) inner start begun printed c.in_ok-now-in-Fusion.ensures children) c.print_close.ensures)

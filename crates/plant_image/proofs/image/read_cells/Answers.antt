@@ -13,7 +13,7 @@ use Rattle.record_codec.specs.Fired.{FiredFields}
 use Rattle.record_codec.specs.Ring.{base_cell}
 use Rattle.record_codec.specs.declared.layout.TheConstants.{LAST_NUMBER}
 use Rattle.step_core.specs.Plant.{PlantDefinition}
-use Rattle.step_core.specs.Rules.{first_told}
+use Rattle.step_core.specs.Rules.{first_fault_in}
 use Rattle.step_core.specs.System.{plant_of, digest_of}
 use Rattle.plant_image.specs.Contents.{contents_of, newest_held, ring_held, base_held, unsaved}
 use Rattle.plant_image.specs.Faults.{identity_fault, base_fault, atom_fault, is_of_atom, numbers_fault, records_fault}
@@ -28,7 +28,7 @@ returns-in_err-records-clause-held c =
     let ring : c.ring-ring.result ≡ ring_held cells = c.ring-ring.ensures.value ∙ sym (ring_is cells c.in_ok-identity.identity c.in_ok-identity.ensures.1.0) in
     let base : c.in_ok-base.base.base ≡ base_held cells = c.in_ok-base.ensures.base.1.1 in
     rw (p.1, p.2) (told_of_same (numbers_fault plant cells c.ring-ring.result (range_with_len c.in_ok-base.base.base c.ring-ring.result)) _ _
-    (fourth_is (identity_fault (length plant.atoms) (digest_of c.args.system.now) c.args.bytes cells) (base_fault cells) (first_told (atom_fault cells) 0 plant.atoms) (records_fault plant cells) c.in_ok-identity.ensures.0 c.in_ok-base.ensures.base.0 c.in_ok-slots.ensures.0
+    (fourth_is (identity_fault (length plant.atoms) (digest_of c.args.system.now) c.args.bytes cells) (base_fault cells) (first_fault_in (atom_fault cells) 0 plant.atoms) (records_fault plant cells) c.in_ok-identity.ensures.0 c.in_ok-base.ensures.base.0 c.in_ok-slots.ensures.0
     ∙ sym (records_judged cells c.ring-ring.result c.in_ok-base.base.base ring base plant))
     c.in_err-records.ensures.records)
 
@@ -44,7 +44,7 @@ returns-clause-held c =
     let to : base_cell_of cells ≤ base_cell 1 = omega (arith, c.in_ok-base.ensures.cell.1, at) in
     let some : 1 ≤ base_held cells = omega (arith, c.in_ok-base.ensures.in_range.0, base) in
     let last : base_held cells + length (contents_of (length plant.atoms) cells).records ≤ LAST_NUMBER + 1 = omega (arith, c.in_ok-records.ensures.in_range, base, ap (λ (l : List FiredFields). length l) read) in (
-      fourth_is (identity_fault (length plant.atoms) (digest_of c.args.system.now) c.args.bytes cells) (base_fault cells) (first_told (atom_fault cells) 0 plant.atoms) (records_fault plant cells) c.in_ok-identity.ensures.0 c.in_ok-base.ensures.base.0 c.in_ok-slots.ensures.0
+      fourth_is (identity_fault (length plant.atoms) (digest_of c.args.system.now) c.args.bytes cells) (base_fault cells) (first_fault_in (atom_fault cells) 0 plant.atoms) (records_fault plant cells) c.in_ok-identity.ensures.0 c.in_ok-base.ensures.base.0 c.in_ok-slots.ensures.0
           ∙ sym (records_judged cells c.ring-ring.result c.in_ok-base.base.base ring base plant) ∙ c.in_ok-records.ensures.records.0,
       record {
         contents = contents_read cells c.ring-ring.result c.in_ok-base.base.base ring base (length plant.atoms) c.in_ok-base.base.cell c.in_ok-slots.slots.items c.in_ok-records.records.items at c.in_ok-slots.ensures.1 read;

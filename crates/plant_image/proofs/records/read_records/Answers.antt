@@ -9,7 +9,7 @@ use Rattle.record_codec.specs.declared.layout.TheConstants.{LAST_NUMBER}
 use Rattle.step_core.specs.Plant.{PlantDefinition}
 use Rattle.step_core.specs.System.{plant_of}
 use Rattle.plant_image.specs.Faults.{numbers_fault, record_fault}
-use Rattle.plant_image.proofs.FirstTold.{told_first}
+use Rattle.plant_image.proofs.FirstFault.{told_first}
 use Rattle.plant_image.proofs.NumberFaults.{record_at, numbers_first, numbers_rest, numbers_end, live_first, live_ends}
 use Rattle.plant_image.proofs.records.read_records.Goals as goal
 

@@ -1,7 +1,7 @@
 use Rattle.std.proofs.Common.{◌≡◌, map, drop, nat_lt}
 use Rattle.petri_atom.specs.Atom.{definition_of}
 use Rattle.petri_atom.specs.Definition.{AtomDefinition}
-use Rattle.step_core.specs.Rules.{first_told}
+use Rattle.step_core.specs.Rules.{first_fault_in}
 use Rattle.record_replay.specs.Records.{count_of}
 use Rattle.plant_image.specs.Faults.{fault_where}
 use Rattle.plant_image.specs.declared.fault.ImageFault.TheVariants.{Gap}
@@ -9,5 +9,5 @@ use Rattle.plant_image.proofs.replaying.judge_counts.Given as goal
 
 -- the whole is the answer for the rest
 abbrev pub invariant-loop-number : goal.invariant-loop-number
-invariant-loop-number l = first_told (λ atom (a : AtomDefinition). fault_where (nat_lt l.last (count_of l.counts atom)) (Gap atom)) 0 (map definition_of l.atoms)
-    ≡ first_told (λ atom (a : AtomDefinition). fault_where (nat_lt l.last (count_of l.counts atom)) (Gap atom)) l.number (drop l.number (map definition_of l.atoms))
+invariant-loop-number l = first_fault_in (λ atom (a : AtomDefinition). fault_where (nat_lt l.last (count_of l.counts atom)) (Gap atom)) 0 (map definition_of l.atoms)
+    ≡ first_fault_in (λ atom (a : AtomDefinition). fault_where (nat_lt l.last (count_of l.counts atom)) (Gap atom)) l.number (drop l.number (map definition_of l.atoms))

@@ -16,14 +16,14 @@ use Rattle.step_core.specs.Plant.{PlantDefinition}
 use Rattle.step_core.specs.System.{plant_of}
 use Rattle.step_core.specs.declared.limits.TheConstants.{MAX_ATOMS}
 use Rattle.plant_image.specs.Contents.{unsaved, replayed}
-use Rattle.plant_image.specs.Faults.{is_of_atom, replay_told}
-use Rattle.plant_image.specs.Reading.{IsTold, contents_in}
-use Rattle.plant_image.proofs.FirstTold.{told_first, mapped_at}
+use Rattle.plant_image.specs.Faults.{is_of_atom, fault_of_replay}
+use Rattle.plant_image.specs.Reading.{IsFault, contents_in}
+use Rattle.plant_image.proofs.FirstFault.{told_first, mapped_at}
 use Rattle.plant_image.proofs.SoFar.{SoFar, ends_told, none_so_far, so_far_more, told_of_atom}
 use Rattle.plant_image.proofs.replaying.replay_all.Goals as goal
 
 pub loop-number-init : goal.loop-number-init
-loop-number-init c = none_so_far (plant_of c.args.system.now) (contents_in c.args.held.now) c.in_ok-states.states c.in_ok-states.ensures.of_plant c.in_ok-states.ensures.fits
+loop-number-init c = none_so_far (plant_of c.args.system.now) (contents_in c.args.held) c.in_ok-states.states c.in_ok-states.ensures.of_plant c.in_ok-states.ensures.fits
 
 -- replay from the slot is that of what was read
 replayed_is : (n : ℕ) (a : AtomDefinition) (slots : List SavedFields) (records : List FiredFields) (saved : SavedFields) (over : List FiredFields) → saved ≡ get_or slots n (unsaved n) → over ≡ records
@@ -33,7 +33,7 @@ replayed_is n a slots records saved over is are = ap (λ (s : SavedFields). repl
 pub replay_saved-requires : goal.replay_saved-requires
 replay_saved-requires c =
     let n : ℕ = c.loop-number.number in
-    let slots : List SavedFields = c.args.held.now.slots.items in
+    let slots : List SavedFields = c.args.held.slots.items in
     let at : slice_get (plant_of c.args.system.now).atoms n ≡ Some (definition_of c.atom-item.result) = ap (λ (l : List AtomDefinition). slice_get l n) (sym c.atoms-atom-items.ensures) ∙ mapped_at definition_of c.atoms-atom-items.result.now n c.atom-item.result c.atom-item.is c.loop-number-test.true in
     let within : n < length slots = omega (arith, c.requires.as_many, slice_get_within (plant_of c.args.system.now).atoms n (definition_of c.atom-item.result) at) in
     let is : get_or slots n (unsaved n) ≡ c.index.result.now = get_or_default slots n (unsaved n) c.index.result.now within ∙ sym c.index.ensures in
@@ -45,31 +45,31 @@ returns-in_err-reached c =
     let n : ℕ = c.loop-number.number in
     let plant : PlantDefinition = plant_of c.args.system.now in
     let a : AtomDefinition = definition_of c.atom-item.result in
-    let slots : List SavedFields = c.args.held.now.slots.items in
+    let slots : List SavedFields = c.args.held.slots.items in
     let at : slice_get plant.atoms n ≡ Some a = ap (λ (l : List AtomDefinition). slice_get l n) (sym c.atoms-atom-items.ensures) ∙ mapped_at definition_of c.atoms-atom-items.result.now n c.atom-item.result c.atom-item.is c.loop-number-test.true in
     let within : n < length slots = omega (arith, c.requires.as_many, slice_get_within plant.atoms n a at) in
     let is : c.index.result.now ≡ get_or slots n (unsaved n) = c.index.ensures ∙ get_or_default slots n c.index.result.now (unsaved n) within in
-    rw (p.1, p.2) (told_first (replay_told n (replayed (contents_in c.args.held.now) n a)) _ _ _
-    (told_of_atom plant (contents_in c.args.held.now) n c.loop-number.states c.loop-number.counts c.loop-number.invariant a at)
-    (subst (λ (r : Result Position ReplayFault). IsTold (replay_told n r) c.in_err-reached.field-0.0) (replayed_is n a slots c.args.held.now.records.items c.index.result.now c.deref.result.now is c.deref.ensures.value) c.in_err-reached.ensures.reached))
+    rw (p.1, p.2) (told_first (fault_of_replay n (replayed (contents_in c.args.held) n a)) _ _ _
+    (told_of_atom plant (contents_in c.args.held) n c.loop-number.states c.loop-number.counts c.loop-number.invariant a at)
+    (subst (λ (r : Result Position ReplayFault). IsFault (fault_of_replay n r) c.in_err-reached.field-0.0) (replayed_is n a slots c.args.held.records.items c.index.result.now c.deref.result.now is c.deref.ensures.value) c.in_err-reached.ensures.reached))
 
 pub loop-number-preserved : goal.loop-number-preserved
 loop-number-preserved c =
     let n : ℕ = c.loop-number.number in
     let plant : PlantDefinition = plant_of c.args.system.now in
     let a : AtomDefinition = definition_of c.atom-item.result in
-    let slots : List SavedFields = c.args.held.now.slots.items in
+    let slots : List SavedFields = c.args.held.slots.items in
     let end : Position = record { state = c.in_ok-reached.reached.state; count = c.in_ok-reached.reached.count } in
     let at : slice_get plant.atoms n ≡ Some a = ap (λ (l : List AtomDefinition). slice_get l n) (sym c.atoms-atom-items.ensures) ∙ mapped_at definition_of c.atoms-atom-items.result.now n c.atom-item.result c.atom-item.is c.loop-number-test.true in
     let within : n < length slots = omega (arith, c.requires.as_many, slice_get_within plant.atoms n a at) in
     let is : c.index.result.now ≡ get_or slots n (unsaved n) = c.index.ensures ∙ get_or_default slots n c.index.result.now (unsaved n) within in
-    let ends : replayed (contents_in c.args.held.now) n a ≡ Ok end = sym (replayed_is n a slots c.args.held.now.records.items c.index.result.now c.deref.result.now is c.deref.ensures.value) ∙ c.in_ok-reached.ensures.reached.1 in
+    let ends : replayed (contents_in c.args.held) n a ≡ Ok end = sym (replayed_is n a slots c.args.held.records.items c.index.result.now c.deref.result.now is c.deref.ensures.value) ∙ c.in_ok-reached.ensures.reached.1 in
     let few : length plant.atoms ≤ MAX_ATOMS = c.keeps_its_rules.ensures.few in
-    let far : SoFar plant (contents_in c.args.held.now) (n + 1) (set c.loop-number.states n c.in_ok-reached.reached.state) (set c.loop-number.counts n c.in_ok-reached.reached.count) = so_far_more plant (contents_in c.args.held.now) n c.loop-number.states c.loop-number.counts c.loop-number.invariant a at few end ends c.in_ok-reached.ensures.fits in
-    subst (λ (s : List Local). SoFar plant (contents_in c.args.held.now) (n + 1) s (set c.loop-number.counts n c.in_ok-reached.reached.count)) (sym c.set.ensures) far
+    let far : SoFar plant (contents_in c.args.held) (n + 1) (set c.loop-number.states n c.in_ok-reached.reached.state) (set c.loop-number.counts n c.in_ok-reached.reached.count) = so_far_more plant (contents_in c.args.held) n c.loop-number.states c.loop-number.counts c.loop-number.invariant a at few end ends c.in_ok-reached.ensures.fits in
+    subst (λ (s : List Local). SoFar plant (contents_in c.args.held) (n + 1) s (set c.loop-number.counts n c.in_ok-reached.reached.count)) (sym c.set.ensures) far
 
 pub returns : goal.returns
 returns c =
     let plant : PlantDefinition = plant_of c.args.system.now in
     let all : c.loop-number.number ≡ length plant.atoms = omega (arith, ap (λ (l : List AtomDefinition). length l) c.atoms-atom-items.ensures, length-map c.atoms-atom-items.result.now definition_of) in
-    ends_told plant (contents_in c.args.held.now) c.loop-number.number c.loop-number.states c.loop-number.counts c.loop-number.invariant all
+    ends_told plant (contents_in c.args.held) c.loop-number.number c.loop-number.states c.loop-number.counts c.loop-number.invariant all _ refl refl refl

@@ -4,11 +4,11 @@ use Rattle.std.specs.List.{range_with_len}
 use Rattle.std.proofs.lemmas.List.FromFn.{map-range_with_len_more}
 use Rattle.record_codec.specs.Saved.{SavedFields}
 use Rattle.petri_atom.specs.Atom.{definition_of}
-use Rattle.step_core.specs.Rules.{first_of, first_told}
+use Rattle.step_core.specs.Rules.{first_of, first_fault_in}
 use Rattle.plant_image.specs.Contents.{newest_held}
 use Rattle.plant_image.specs.Faults.{atom_fault}
 use Rattle.plant_image.specs.declared.fault.ImageFault.{ImageFault}
-use Rattle.plant_image.proofs.FirstTold.{told_from, told_first}
+use Rattle.plant_image.proofs.FirstFault.{told_from, told_first}
 use Rattle.plant_image.proofs.slots.read_slots.Goals as goal
 
 pub returns-in_err-newest_saved : goal.returns-in_err-newest_saved
@@ -16,14 +16,14 @@ returns-in_err-newest_saved c =
     let p = err_from_is_err_and c.from_residual-in_err-newest_saved.result c.from_residual-in_err-newest_saved.ensures.1 in
     let within : c.loop-number.number < length c.atoms-atoms.result.now = omega arith in
     rw (p.1, p.2) (told_first (atom_fault c.args.cells.now c.loop-number.number (definition_of c.index-atoms-number.result)) _ _ _
-    (ap (first_told (atom_fault c.args.cells.now) 0) (sym c.atoms-atoms.ensures) ∙ c.loop-number.invariant.rest ∙ told_from definition_of (atom_fault c.args.cells.now) c.atoms-atoms.result.now c.loop-number.number c.index-atoms-number.result c.index-atoms-number.is within)
+    (ap (first_fault_in (atom_fault c.args.cells.now) 0) (sym c.atoms-atoms.ensures) ∙ c.loop-number.invariant.rest ∙ told_from definition_of (atom_fault c.args.cells.now) c.atoms-atoms.result.now c.loop-number.number c.index-atoms-number.result c.index-atoms-number.is within)
     c.in_err-newest_saved.ensures)
 
 pub loop-number-preserved : goal.loop-number-preserved
 loop-number-preserved c =
     let within : c.loop-number.number < length c.atoms-atoms.result.now = omega arith in
     let i : ℕ = c.loop-number.number in
-    let next : Option ImageFault = first_told (atom_fault c.args.cells.now) (i + 1) (drop (i + 1) (map definition_of c.atoms-atoms.result.now)) in
+    let next : Option ImageFault = first_fault_in (atom_fault c.args.cells.now) (i + 1) (drop (i + 1) (map definition_of c.atoms-atoms.result.now)) in
     record {
       room = omega arith;
       long = omega arith;

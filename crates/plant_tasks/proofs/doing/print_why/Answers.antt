@@ -1,8 +1,8 @@
--- What is printed is what is printed behind the picks, by the state that they lead to.
+-- What is printed is what is printed after the picks, by the state that they lead to.
 use Rattle.std.proofs.Common.{◌∙◌}
 use Rattle.part_lines.specs.Lookup.{rule_lines}
 use Rattle.plant_tasks.specs.Printed.{plant_read}
-use Rattle.plant_tasks.proofs.Telling.{why_printed}
+use Rattle.plant_tasks.proofs.AfterPicks.{why_printed}
 use Rattle.plant_tasks.proofs.doing.print_why.Goals as goal
 
 pub returns-clause-printed : goal.returns-clause-printed

@@ -6,11 +6,11 @@ use Rattle.step_core.specs.System.{plant_of}
 use Rattle.text_io.specs.Numbered.{numbered}
 use Rattle.text_io.proofs.Leading.{Leads}
 use Rattle.plant_warnings.specs.Atoms.{atom_warnings}
-use Rattle.plant_warnings.specs.Report.{told_in}
+use Rattle.plant_warnings.specs.Report.{line_in}
 use Rattle.plant_warnings.proofs.atoms.print_of_atoms.Given as goal
 
 abbrev pub invariant-loop-number : goal.invariant-loop-number
 invariant-loop-number g l =
     Leads (g.W.Write.contents l.initial.output) (g.W.Write.contents l.output)
-    (flat_map (told_in l.report) (numbered (atom_warnings (plant_of l.report.system.now)) l.number (drop l.number (map definition_of l.atoms))))
-    (flat_map (told_in l.report) (numbered (atom_warnings (plant_of l.report.system.now)) 0 (map definition_of l.atoms)))
+    (flat_map (line_in l.report) (numbered (atom_warnings (plant_of l.report.system.now)) l.number (drop l.number (map definition_of l.atoms))))
+    (flat_map (line_in l.report) (numbered (atom_warnings (plant_of l.report.system.now)) 0 (map definition_of l.atoms)))

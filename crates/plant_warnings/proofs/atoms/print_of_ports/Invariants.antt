@@ -6,12 +6,12 @@ use Rattle.step_core.specs.System.{plant_of}
 use Rattle.text_io.specs.Numbered.{numbered}
 use Rattle.text_io.proofs.Leading.{Leads}
 use Rattle.plant_warnings.specs.Atoms.{port_warnings}
-use Rattle.plant_warnings.specs.Report.{told_in}
+use Rattle.plant_warnings.specs.Report.{line_in}
 use Rattle.plant_warnings.proofs.atoms.print_of_ports.Given as goal
 
 abbrev pub invariant-loop-port : goal.invariant-loop-port
 invariant-loop-port g l =
     let give = port_warnings (plant_of l.report.system.now) l.number (definition_of l.atom) in
     Leads (g.W.Write.contents l.initial.output) (g.W.Write.contents l.output)
-    (flat_map (told_in l.report) (numbered give l.port (drop l.port (definition_of l.atom).ports)))
-    (flat_map (told_in l.report) (numbered give 0 (definition_of l.atom).ports))
+    (flat_map (line_in l.report) (numbered give l.port (drop l.port (definition_of l.atom).ports)))
+    (flat_map (line_in l.report) (numbered give 0 (definition_of l.atom).ports))

@@ -4,14 +4,14 @@ use Rattle.petri_atom.specs.Atom.{definition_of}
 use Rattle.step_core.specs.System.{plant_of}
 use Rattle.text_io.specs.Numbered.{numbered}
 use Rattle.plant_warnings.specs.Atoms.{variable_warnings}
-use Rattle.plant_warnings.specs.Report.{told_in}
+use Rattle.plant_warnings.specs.Report.{line_in}
 use Rattle.plant_warnings.proofs.Warned.{leads-warned_at}
 use Rattle.plant_warnings.proofs.atoms.print_of_variables.Goals as goal
 
 pub loop-variable-preserved : goal.loop-variable-preserved
 loop-variable-preserved g c =
     let i = c.loop-variable.variable in
-    let say = told_in c.args.report.now in
+    let say = line_in c.args.report.now in
     let give = variable_warnings (plant_of c.args.report.now.system.now) c.args.number (definition_of c.args.atom.now) in
     let variables = (definition_of c.args.atom.now).variables in
     let within : i < length variables = subst (λ vs. i < length vs) c.variables-items.ensures c.loop-variable-test.true in

@@ -6,12 +6,12 @@ use Rattle.step_core.specs.System.{plant_of}
 use Rattle.text_io.specs.Numbered.{numbered}
 use Rattle.text_io.proofs.Leading.{Leads}
 use Rattle.plant_warnings.specs.Atoms.{variable_warnings}
-use Rattle.plant_warnings.specs.Report.{told_in}
+use Rattle.plant_warnings.specs.Report.{line_in}
 use Rattle.plant_warnings.proofs.atoms.print_of_variables.Given as goal
 
 abbrev pub invariant-loop-variable : goal.invariant-loop-variable
 invariant-loop-variable g l =
     let give = variable_warnings (plant_of l.report.system.now) l.number (definition_of l.atom) in
     Leads (g.W.Write.contents l.initial.output) (g.W.Write.contents l.output)
-    (flat_map (told_in l.report) (numbered give l.variable (drop l.variable (definition_of l.atom).variables)))
-    (flat_map (told_in l.report) (numbered give 0 (definition_of l.atom).variables))
+    (flat_map (line_in l.report) (numbered give l.variable (drop l.variable (definition_of l.atom).variables)))
+    (flat_map (line_in l.report) (numbered give 0 (definition_of l.atom).variables))

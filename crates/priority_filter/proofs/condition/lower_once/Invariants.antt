@@ -5,7 +5,7 @@ use Rattle.priority_filter.specs.Active.{may_be_marked}
 use Rattle.priority_filter.specs.Conditions.{IsClosedBy, IsClosed}
 use Rattle.priority_filter.proofs.condition.lower_once.Given as goal
 
--- where nothing came in, the set is closed by the conditions so far; and all that came in is in each closed set
+-- if nothing came in, the set is closed by the conditions so far; and all that came in is in each closed set
 abbrev pub invariant-loop-condition : goal.invariant-loop-condition
 invariant-loop-condition l = record {
   same : l.added ≡ false → l.over ≡ l.initial.over;

@@ -22,8 +22,8 @@ loop-k-preserved c =
           let right = w.in-UnderAt.right in
           let condition : Condition = record { at = w.in-UnderAt.at; below = w.up_to_side.result; above = w.from_side.result } in
           let is : IsConditionOf rules interactions left right condition = record {
-            below = λ n. let told = up-same Up Below c.requires.below interactions left n in (λ yes_. told.0 ((w.up_to_side.ensures n).0 yes_), λ some. (w.up_to_side.ensures n).1 (told.1 some));
-            above = λ n. let told = from-same Up Below c.requires.below interactions right n in (λ yes_. told.0 ((w.from_side.ensures n).0 yes_), λ some. (w.from_side.ensures n).1 (told.1 some));
+            below = λ n. let decides = up-same Up Below c.requires.below interactions left n in (λ yes_. decides.0 ((w.up_to_side.ensures n).0 yes_), λ some. (w.up_to_side.ensures n).1 (decides.1 some));
+            above = λ n. let decides = from-same Up Below c.requires.below interactions right n in (λ yes_. decides.0 ((w.from_side.ensures n).0 yes_), λ some. (w.from_side.ensures n).1 (decides.1 some));
           } in
           subst (HasFirst rules interactions (k + 1)) (sym (ap (λ v. v.items) w.conditions-is ∙ w.in_ok-push.ensures.items))
           (first-more rules interactions k now left right condition c.loop-k-test.true c.loop-k.invariant w.in-UnderAt.is is)

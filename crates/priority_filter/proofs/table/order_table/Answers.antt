@@ -9,7 +9,9 @@ pub returns-clause-below : goal.returns-clause-below
 returns-clause-below c =
     let rules = c.args.rules.now in
     let interactions = c.args.interactions.now in
+    let steps = c.add_rules.new.rows in
     let closed = c.close.new.rows in
     subst (λ rows. (a b : ℕ) → Above rows a b ↔ IsBelow rules interactions a b)
-    (sym (take_at closed _ c.in_ok-rows.rows.len (c.close.auto.rows ∙ c.deref_mut.ensures.len)))
-    (chains_of_steps rules interactions c.in_ok-rows.rows.items c.deref_mut.result.now closed c.deref_mut.ensures.value c.in_ok-rows.ensures.steps c.close.ensures)
+    (sym (take_at closed _ c.in_ok-rows.rows.len (c.close.auto.rows ∙ c.deref_mut-2.ensures.len)))
+    (chains_of_steps rules interactions steps c.deref_mut-2.result.now closed
+    (c.deref_mut-2.ensures.value ∙ take_at steps _ c.in_ok-rows.rows.len (c.add_rules.auto.rows ∙ c.deref_mut.ensures.len)) c.add_rules.ensures c.close.ensures)

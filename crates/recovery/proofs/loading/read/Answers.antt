@@ -6,7 +6,7 @@ use Rattle.disk_model.specs.Moments.{seen_length}
 use Rattle.step_core.specs.Plant.{PlantDefinition}
 use Rattle.step_core.specs.System.{plant_of, digest_of}
 use Rattle.plant_image.specs.Faults.{fault_of}
-use Rattle.plant_image.specs.Reading.{IsStanding, IsTold}
+use Rattle.plant_image.specs.Reading.{IsStanding, IsFault}
 use Rattle.recovery.proofs.PartlyLoaded.{fault_judged, standing_judged}
 use Rattle.recovery.proofs.loading.read.Goals as goal
 
@@ -25,7 +25,7 @@ returns-in_err-read_image-clause-refused g c keeps =
     let given : List Cell = seen_cells size old in
     rw (p.1, p.2) (fault_judged plant digest (g.C.ReadAsToday.todays_bytes (size_of old)) (cells_in size (size_of old)) old.keeps (g.C.ReadAsToday.todays (length plant.atoms) given) c.in_ok-loaded.loaded c.keeps_its_rules.ensures.few
     (g.met.C.ReadAsToday.as_many (length plant.atoms) given ∙ seen_length size old) (g.met.C.ReadAsToday.exact (size_of old)) c.in_ok-loaded.ensures.loaded keeps c.in_err-read_image.field-0.0
-    (subst (λ (l : List Cell). IsTold (fault_of plant digest c.in_ok-loaded.loaded.bytes l) c.in_err-read_image.field-0.0) c.deref.ensures.value c.in_err-read_image.ensures))
+    (subst (λ (l : List Cell). IsFault (fault_of plant digest c.in_ok-loaded.loaded.bytes l) c.in_err-read_image.field-0.0) c.deref.ensures.value c.in_err-read_image.ensures))
 
 pub returns-clause-read : goal.returns-clause-read
 returns-clause-read g c =

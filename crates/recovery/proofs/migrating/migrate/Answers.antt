@@ -11,7 +11,7 @@ use Rattle.plant_image.specs.Contents.{last_number}
 use Rattle.plant_image.specs.Reading.{contents_in}
 use Rattle.plant_image.specs.declared.fault.ImageFault.{ImageFault}
 use Rattle.recovery.specs.Booting as booting
-use Rattle.recovery.specs.Migrating.{IsToldOfOld, is_new_disk, is_old_disk}
+use Rattle.recovery.specs.Migrating.{IsMigrateFault, is_new_disk, is_old_disk}
 use Rattle.recovery.specs.OldImage.{OldWasRead, old_fault_of, todays_cells, todays_size}
 use Rattle.recovery.specs.Writing.{HasWritten}
 use Rattle.recovery.specs.declared.fault.BootFault.{BootFault}
@@ -96,7 +96,7 @@ returns-clause-refused g c keeps =
     let old : DiskState = g.D1.Disk.state c.args.old in
     let standing : Standing = c.in-Ok-judged.standing in
     let found : Option ImageFault = old_fault_of plant digest (size_of old) (seen_cells (FIRST_BODY + 1) old) in
-    subst (IsToldOfOld found) (sym c.into-in-Err-written.ensures) (told_new found c.in-Err-written.fault
+    subst (IsMigrateFault found) (sym c.into-in-Err-written.ensures) (told_new found c.in-Err-written.fault
     (sound_read plant digest (todays_size (size_of old)) old.keeps (todays_cells (length plant.atoms) (seen_cells (FIRST_BODY + 1) old)) standing
     (was_read plant digest old c.judge_old-old.result.1 standing c.judge_old-old.ensures.read c.in-Ok-judged.is) keeps))
 

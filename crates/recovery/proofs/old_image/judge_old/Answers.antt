@@ -8,12 +8,12 @@ use Rattle.disk_model.proofs.RunLemmas.{leaves_sync, settles, stage_start}
 use Rattle.step_core.specs.Plant.{PlantDefinition}
 use Rattle.step_core.specs.System.{plant_of, digest_of}
 use Rattle.plant_image.specs.Faults.{fault_of}
-use Rattle.recovery.specs.Booting.{IsToldBy, has_failed}
+use Rattle.recovery.specs.Booting.{IsBootFault, has_failed}
 use Rattle.recovery.specs.OldImage.{OldWasRead, old_fault_of, todays_cells, todays_size}
 use Rattle.recovery.proofs.PartlyLoaded.{judged_counts}
 use Rattle.recovery.proofs.old_image.judge_old.Goals as goal
 
--- behind the sync the device is read alone
+-- after the sync the device is read alone
 module _ (g : _) (c : goal.After-into_disk g) where
   abbrev old : DiskState
   old = g.D.Disk.state c.args.disk
@@ -25,8 +25,8 @@ module _ (g : _) (c : goal.After-into_disk g) where
   new = g.D.Disk.state c.into_disk.result
 
   reads : Reads (has_failed c.read-judged.result) mid new
-  reads = subst (λ (s : DiskState). Reads (has_failed c.read-judged.result) s new) c.new-cells.ensures
-      (subst (λ (s : DiskState). Reads (has_failed c.read-judged.result) c.new-cells.result s) (sym c.into_disk.ensures) c.read-judged.ensures.reads)
+  reads = subst (λ (s : DiskState). Reads (has_failed c.read-judged.result) s new) c.new.ensures
+      (subst (λ (s : DiskState). Reads (has_failed c.read-judged.result) c.new.result s) (sym c.into_disk.ensures) c.read-judged.ensures.reads)
 
   keeps_mid : old.keeps ≡ true → mid.keeps ≡ true
   keeps_mid keeps = c.in-Ok.ensures.counts.keeps ∙ keeps
@@ -57,13 +57,13 @@ returns-clause-read g c =
       sound = subst (λ (n : ℕ). fault_of plant digest (todays_size n) was.cells ≡ None) c.in-Ok.ensures.counts.size was.sound;
       is = was.is;
     })
-    (subst (λ (s : DiskState). IfOk c.read-judged.result (OldWasRead plant digest s)) c.new-cells.ensures c.read-judged.ensures.read)
+    (subst (λ (s : DiskState). IfOk c.read-judged.result (OldWasRead plant digest s)) c.new.ensures c.read-judged.ensures.read)
 
 pub returns-clause-refused : goal.returns-clause-refused
 returns-clause-refused g c keeps =
     let plant : PlantDefinition = plant_of c.args.system.now in
     let digest : List ℕ = digest_of c.args.system.now in
-    let at_mid : IfErr c.read-judged.result (IsToldBy (old_fault_of plant digest (size_of (mid g c)) (seen_cells (FIRST_BODY + 1) (mid g c)))) =
-    subst (λ (s : DiskState). s.keeps ≡ true → IfErr c.read-judged.result (IsToldBy (old_fault_of plant digest (size_of s) (seen_cells (FIRST_BODY + 1) s)))) c.new-cells.ensures c.read-judged.ensures.refused (keeps_mid g c keeps) in
-    subst (λ (cells : List Cell). IfErr c.read-judged.result (IsToldBy (old_fault_of plant digest (size_of (old g c)) cells))) (settled g c keeps).same
-    (subst (λ (n : ℕ). IfErr c.read-judged.result (IsToldBy (old_fault_of plant digest n (seen_cells (FIRST_BODY + 1) (mid g c))))) c.in-Ok.ensures.counts.size at_mid)
+    let at_mid : IfErr c.read-judged.result (IsBootFault (old_fault_of plant digest (size_of (mid g c)) (seen_cells (FIRST_BODY + 1) (mid g c)))) =
+    subst (λ (s : DiskState). s.keeps ≡ true → IfErr c.read-judged.result (IsBootFault (old_fault_of plant digest (size_of s) (seen_cells (FIRST_BODY + 1) s)))) c.new.ensures c.read-judged.ensures.refused (keeps_mid g c keeps) in
+    subst (λ (cells : List Cell). IfErr c.read-judged.result (IsBootFault (old_fault_of plant digest (size_of (old g c)) cells))) (settled g c keeps).same
+    (subst (λ (n : ℕ). IfErr c.read-judged.result (IsBootFault (old_fault_of plant digest n (seen_cells (FIRST_BODY + 1) (mid g c))))) c.in-Ok.ensures.counts.size at_mid)

@@ -17,7 +17,7 @@ use Rattle.recovery.proofs.Ranges.{few_values}
 use Rattle.recovery.proofs.WrittenCells.{base_leaves, first_closed, has_written, identity_leaves, states_leave, unformatted_leaves}
 use Rattle.recovery.proofs.writing.write_cells.Goals as goal
 
--- counts of setting one cell, where it went well and where not
+-- counts of setting one cell, if it went well and if not
 ok_counts : (old new : DiskState) → CountsTwo true old new → CountsUpTo false 2 old new
 ok_counts old new counts = up_to_two {V = ℕ} {E = ℕ} (Ok 0) old new counts
 
@@ -88,7 +88,7 @@ returns-in_err-store_states-clause-stops g c keeps =
 filled_base : (g : _) (c : goal.After-set-2 g) → c.empty_cells.new.cells.keeps ≡ true → Filled (BODY + 1) (1 ∷ []) (c.to_body.result ∷ []) c.empty_cells.new.cells c.set.new.self
 filled_base g c keeps = subst (λ (k : ℕ). Filled (BODY + 1) (k ∷ []) (c.to_body.result ∷ []) c.empty_cells.new.cells c.set.new.self) c.base_cell.ensures (c.in_ok-set.ensures.filled keeps)
 
--- its body is that of the base behind the number
+-- its body is that of the base after the number
 spelled_base : (g : _) (c : goal.After-set-2 g) → c.to_body.result ≡ padded BODY (base_bytes (c.args.number + 1))
 spelled_base g c = c.to_body.ensures.spelled ∙ ap (λ (n : ℕ). padded BODY (base_bytes n)) c.new.ensures
 

@@ -13,8 +13,8 @@ loop-number-preserved g c =
     let atom = definition_of c.atom-item.result in
     let now = g.W.Write.contents c.loop-number.output in
     let next = g.W.Write.contents c.print_atom.new.output in
-    let told : Appends now next (changes_to c.args.before.now i atom c.state-new.result.now) =
+    let shown : Appends now next (changes_to c.args.before.now i atom c.state-new.result.now) =
     subst (λ found. Appends now next (option_map_or (λ old. atom_changes i atom old c.state-new.result.now) found [])) (sym c.state-old.ensures) c.in_ok-print_atom.ensures in
     leads-atom (plant_of c.args.system.now) c.atoms-atom-items.result.now i c.atom-item.result c.atoms-atom-items.ensures (omega arith) c.atom-item.is
     c.args.states.now c.state-new.result.now (g.W.Write.contents c.args.output.now) now next _
-    c.state-new.ensures (changes_to c.args.before.now) c.loop-number.invariant told
+    c.state-new.ensures (changes_to c.args.before.now) c.loop-number.invariant shown

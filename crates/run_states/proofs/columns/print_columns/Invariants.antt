@@ -10,5 +10,5 @@ use Rattle.run_states.proofs.columns.print_columns.Given as goal
 abbrev pub invariant-loop-number : goal.invariant-loop-number
 invariant-loop-number g l =
     Leads (g.W.Write.contents l.initial.output) (g.W.Write.contents l.output)
-    (numbered (of_atom (λ n. atom_columns) l.states) l.number (drop l.number (plant_of l.system).atoms))
-    (columns_of (plant_of l.system) l.states)
+    (numbered (of_atom (λ n. atom_columns) l.plant.states.now) l.number (drop l.number (plant_of l.plant.system.now).atoms))
+    (columns_of (plant_of l.plant.system.now) l.plant.states.now)

@@ -11,5 +11,5 @@ use Rattle.run_states.proofs.objects.print_objects.Given as goal
 abbrev pub invariant-loop-number : goal.invariant-loop-number
 invariant-loop-number g l =
     Leads (g.W.Write.contents l.initial.output) (g.W.Write.contents l.output)
-    (separated_after l.between (codes ",") (numbered (of_atom (λ n a state. atom_object a state ∷ []) l.states) l.number (drop l.number (plant_of l.system).atoms)))
-    (separated_by (codes ",") (objects_of (plant_of l.system) l.states))
+    (separated_after l.between (codes ",") (numbered (of_atom (λ n a state. atom_object a state ∷ []) l.plant.states.now) l.number (drop l.number (plant_of l.plant.system.now).atoms)))
+    (separated_by (codes ",") (objects_of (plant_of l.plant.system.now) l.plant.states.now))

@@ -10,5 +10,5 @@ use Rattle.run_states.proofs.values.print_values.Given as goal
 abbrev pub invariant-loop-number : goal.invariant-loop-number
 invariant-loop-number g l =
     Leads (g.W.Write.contents l.initial.output) (g.W.Write.contents l.output)
-    (numbered (of_atom atom_values l.states) l.number (drop l.number (plant_of l.system).atoms))
-    (values_of (plant_of l.system) l.states)
+    (numbered (of_atom atom_values l.plant.states.now) l.number (drop l.number (plant_of l.plant.system.now).atoms))
+    (values_of (plant_of l.plant.system.now) l.plant.states.now)

@@ -1,7 +1,7 @@
 use Rattle.std.proofs.KnownBytes.{Appends-trans}
-use Rattle.text_io.proofs.Leading.{told-last}
+use Rattle.text_io.proofs.Leading.{printed-last}
 use Rattle.run_states.proofs.waves.print_start.Goals as goal
 
 pub returns : goal.returns
 returns g c =
-    told-last c.print_text-2.result _ _ _ _ _ (Appends-trans _ _ _ _ _ c.in_ok-print_text.ensures c.in_ok-print_values.ensures) c.print_text-2.ensures
+    printed-last c.print_text-2.result _ _ _ _ _ (Appends-trans _ _ _ _ _ c.in_ok-print_text.ensures c.in_ok-print_values.ensures) c.print_text-2.ensures

@@ -6,7 +6,7 @@ use Rattle.step_core.specs.Running.{plant_in, states_in}
 use Rattle.run_text.specs.declared.choices.TheConstants.{MOST_LISTED}
 use Rattle.run_text.specs.Choices.{choice_text, choices_text, more_text}
 use Rattle.text_io.specs.Numbered.{numbered}
-use Rattle.text_io.proofs.Leading.{told-last}
+use Rattle.text_io.proofs.Leading.{printed-last}
 use Rattle.run_text.proofs.Listed.{choices-listed}
 use Rattle.run_text.proofs.choices.print_choices.Goals as goal
 
@@ -23,4 +23,4 @@ returns g c =
     let same : numbered (choice_text plant) 0 (take c.min-listed.result all) ++ more_text (c.count-count.result - c.from-2.result) ≡ choices_text plant all =
     ap (λ n. numbered (choice_text plant) 0 (take n all) ++ more_text (c.count-count.result - c.from-2.result)) listed ∙
     ap (λ more. numbered (choice_text plant) 0 (take (min MOST_LISTED (length all)) all) ++ more_text more) rest ∙ choices-listed plant all some in
-    subst (λ text. OnOk c.print_more.result (Appends start after text)) same (told-last c.print_more.result start _ after _ _ c.in_ok-print_listed.ensures c.print_more.ensures)
+    subst (λ text. OnOk c.print_more.result (Appends start after text)) same (printed-last c.print_more.result start _ after _ _ c.in_ok-print_listed.ensures c.print_more.ensures)

@@ -4,7 +4,7 @@ use Rattle.std.specs.Io.KnownBytes.{Appends}
 use Rattle.std.proofs.KnownBytes.{Appends-trans}
 use Rattle.petri_atom.specs.Atom.{definition_of}
 use Rattle.text_io.specs.declared.format.Format.TheVariants.{Csv}
-use Rattle.text_io.proofs.Leading.{told-last}
+use Rattle.text_io.proofs.Leading.{printed-last}
 use Rattle.run_text.specs.Line.{places_text, value_words}
 use Rattle.run_text.specs.Word.{separated_by}
 use Rattle.run_text.proofs.csv.print_state_row.Goals as goal
@@ -24,5 +24,5 @@ returns g c =
     subst (Appends _ _) (ap (places_text Csv c.places-2.result) c.places.ensures ∙ ap (λ marking. places_text Csv marking atom.places) c.places-2.ensures) c.in_ok-print_places.ensures in
     let begun : Appends start now (codes "state,," ++ atom.name ++ codes "," ++ places_text Csv state.marking atom.places ++ codes ",") =
     Appends-trans _ _ _ _ _ (Appends-trans _ _ _ _ _ (Appends-trans _ _ _ _ _ (Appends-trans _ _ _ _ _ c.in_ok-print_text.ensures named) c.in_ok-print_text-3.ensures) placed) c.in_ok-print_text-4.ensures in
-    told-last c.print_values.result _ _ _ _ _ begun
+    printed-last c.print_values.result _ _ _ _ _ begun
     (subst (λ text. OnOk c.print_values.result (Appends now (g.W.Write.contents c.print_values.new.output) text)) same c.print_values.ensures)

@@ -24,12 +24,12 @@ loop-export-preserved g c =
     let next = g.W.Write.contents c.print_export.new.output in
     let within : k < length exports = subst (λ xs. k < length xs) c.exports_by-variable-items.ensures (omega arith) in
     let here : get_or exports k 0 ≡ get_or exports k (get_or exports k 0) = get_or_default exports k 0 (get_or exports k 0) within in
-    let told : export_words format atom (get_or c.exports_by-variable-items.result.now k 0) c.value-value.result ≡ words k (get_or exports k 0) =
+    let shown : export_words format atom (get_or c.exports_by-variable-items.result.now k 0) c.value-value.result ≡ words k (get_or exports k 0) =
     ap (λ xs. export_words format atom (get_or xs k 0) c.value-value.result) c.exports_by-variable-items.ensures ∙ ap (export_words format atom (get_or exports k 0)) c.value-value.ensures in
     let printed : Appends now next (separated_after before between (words k (get_or exports k 0))) =
-    subst (λ ws. Appends now next (separated_after before between ws)) told c.in_ok-between.ensures.printed in
+    subst (λ ws. Appends now next (separated_after before between ws)) shown c.in_ok-between.ensures.printed in
     let after : after_words before between (words k (get_or exports k 0)) ≡ c.in_ok-between.between.now =
-    sym (c.in_ok-between.ensures.next ∙ ap (after_words before between) told) in
+    sym (c.in_ok-between.ensures.next ∙ ap (after_words before between) shown) in
     record {
       left = subst (λ b. Leads start next (separated_after b between (numbered words (k + 1) (drop (k + 1) exports))) (separated_after c.args.before.now between all)) after
           (leads-numbered words exports k (get_or exports k 0) before between start now next _ within here c.loop-export.invariant.left printed);

@@ -1,4 +1,4 @@
--- The exported variables from this place on are left, and what stands before the next word is told by them.
+-- The exported variables from this place on are left, and what stands before the next word is known by them.
 use Rattle.std.proofs.Common.{◌≡◌, drop}
 use Rattle.petri_atom.specs.Atom.{definition_of}
 use Rattle.text_io.specs.Numbered.{numbered}

@@ -4,7 +4,7 @@ use Rattle.std.specs.Io.KnownBytes.{Appends}
 use Rattle.petri_atom.specs.Atom.{definition_of}
 use Rattle.step_core.specs.System.{plant_of}
 use Rattle.step_core.specs.Plant.{wire_name}
-use Rattle.text_io.proofs.Leading.{told-last}
+use Rattle.text_io.proofs.Leading.{printed-last}
 use Rattle.run_text.specs.Line.{participant}
 use Rattle.run_text.specs.Word.{separated_after}
 use Rattle.run_text.proofs.Separating.{separated-each}
@@ -21,5 +21,5 @@ returns g c =
     ap (λ atoms. flat_map (λ m. codes " " ++ participant atoms m) moves) c.atoms.ensures ∙
     ap (flat_map (λ m. codes " " ++ participant plant.atoms m)) c.as_slice.ensures.moves in
     let begun : Appends start named (wire_name plant c.args.choice.now.connector) = subst (Appends start named) c.wire_name.ensures c.in_ok-print_text.ensures in
-    told-last c.print_moves.result _ _ _ _ _ begun
+    printed-last c.print_moves.result _ _ _ _ _ begun
     (subst (λ text. OnOk c.print_moves.result (Appends named (g.W.Write.contents c.print_moves.new.output) text)) same c.print_moves.ensures)

@@ -3,7 +3,7 @@ use Rattle.std.specs.Io.KnownBytes.{Appends}
 use Rattle.std.proofs.KnownBytes.{Appends-trans}
 use Rattle.petri_atom.specs.Atom.{definition_of}
 use Rattle.text_io.specs.declared.format.Format.TheVariants.{Jsonl}
-use Rattle.text_io.proofs.Leading.{told-last}
+use Rattle.text_io.proofs.Leading.{printed-last}
 use Rattle.run_text.specs.Line.{places_text, value_words}
 use Rattle.run_text.specs.Word.{quoted, separated_by}
 use Rattle.run_text.proofs.jsonl.print_state_members.Goals as goal
@@ -23,4 +23,4 @@ returns g c =
     let begun : Appends start now
     (codes "\"atom\":" ++ quoted atom.name ++ codes ",\"places\":[" ++ places_text Jsonl state.marking atom.places ++ codes "],\"variables\":{" ++ separated_by (codes ",") (value_words Jsonl state.values atom.variables)) =
     Appends-trans _ _ _ _ _ (Appends-trans _ _ _ _ _ (Appends-trans _ _ _ _ _ (Appends-trans _ _ _ _ _ (Appends-trans _ _ _ _ _ c.in_ok-print_text.ensures named) c.in_ok-print_text-2.ensures) placed) c.in_ok-print_text-3.ensures) valued in
-    told-last c.print_text-4.result _ _ _ _ _ begun c.print_text-4.ensures
+    printed-last c.print_text-4.result _ _ _ _ _ begun c.print_text-4.ensures

@@ -3,13 +3,13 @@ use Rattle.std.specs.Prelude.{None, Some}
 use Rattle.step_core.specs.Chosen.{choice_of}
 use Rattle.step_core.specs.Running.{plant_in, states_in}
 use Rattle.run_text.specs.Picks.{Gives, PickDefinition, take_of}
-use Rattle.run_text.proofs.GoingOn.{IsPast, Stand, goes-behind, if-known, past-refused, past-stuck, past-the-last, told-all, told-last}
+use Rattle.run_text.proofs.GoingOn.{IsPast, Stand, goes-behind, if-known, past-refused, past-stuck, past-the-last, told-all, printed-last}
 use Rattle.run_text.proofs.Takes.{fires-allowed}
 use Rattle.run_text.proofs.running.run_picks.Goals.{in-Some+in-Stuck+in_ok-tell_stuck-in-Stuck, in_default}
 use Rattle.run_text.proofs.running.run_picks.Goals as goal
 
-pub tell_and_save-requires-clause-allowed : goal.tell_and_save-requires-clause-allowed
-tell_and_save-requires-clause-allowed g c =
+pub fire_and_print-requires-clause-allowed : goal.fire_and_print-requires-clause-allowed
+fire_and_print-requires-clause-allowed g c =
     (fires-allowed (plant_in c.loop-pick.run) (states_in c.loop-pick.run) (c.loop-pick.fired + 1) (take_of c.in-Some.pick.take) (choice_of c.in-Fires.choice) (sym c.in-Fires.ensures)).0
 
 pub loop-pick-preserved : goal.loop-pick-preserved
@@ -17,18 +17,18 @@ loop-pick-preserved g c =
     let l = c.loop-pick in
     let start : Stand = record { states = states_in c.args.run.now; number = 1; left = g.P.Picks.left c.args.picks.now; printed = g.W.Write.contents c.args.output.now; saved = g.S.Write.contents c.args.saved.now } in
     let now : Stand = record { states = states_in l.run; number = l.fired + 1; left = g.P.Picks.left l.picks; printed = g.W.Write.contents l.output; saved = g.S.Write.contents l.saved } in
-    let told = c.in_ok-tell_and_save-in-Fires.ensures in
+    let shown = c.in_ok-fire_and_print-in-Fires.ensures in
     record {
-      system = told.system ∙ l.invariant.system;
-      plant = told.plant ∙ l.invariant.plant;
-      parts = told.same ∙ l.invariant.parts;
-      ready = told.ready;
+      system = shown.system ∙ l.invariant.system;
+      plant = shown.plant ∙ l.invariant.plant;
+      parts = shown.same ∙ l.invariant.parts;
+      ready = shown.ready;
       goes = λ picks known.
           goes-behind (g.T.Telling.parts c.args.telling.now) (plant_in c.args.run.now) picks start now (l.invariant.goes picks known) (g.T.Telling.parts l.telling) (plant_in l.run) l.invariant.parts l.invariant.plant
-          c.in-Some.pick (choice_of c.in-Fires.choice) (states_in c.tell_and_save.new.run) (l.fired + 1 + 1) (g.P.Picks.left c.next_pick.new.self)
-          (g.W.Write.contents c.tell_and_save.new.output) (g.S.Write.contents c.tell_and_save.new.saved)
+          c.in-Some.pick (choice_of c.in-Fires.choice) (states_in c.fire_and_print.new.run) (l.fired + 1 + 1) (g.P.Picks.left c.next_pick.new.self)
+          (g.W.Write.contents c.fire_and_print.new.output) (g.S.Write.contents c.fire_and_print.new.saved)
           (subst (Gives (g.P.Picks.left l.picks) (g.P.Picks.left c.next_pick.new.self)) c.in-Some.is c.in_ok-pick.ensures)
-          (sym c.in-Fires.ensures) told.next refl told.printed told.saved;
+          (sym c.in-Fires.ensures) shown.next refl shown.printed shown.saved;
     }
 
 pub returns-in-Refused : goal.returns-in-Refused
@@ -80,7 +80,7 @@ returns g c =
       plant = l.invariant.plant;
       states = if-known start.left _ (λ picks known. (past picks known).end_is);
       refusal = if-known start.left _ (λ picks known. (past picks known).refusal_is);
-      printed = if-known start.left _ (λ picks known. told-last _ (past picks known) c.in_ok-tell_end.ensures);
+      printed = if-known start.left _ (λ picks known. printed-last _ (past picks known) c.in_ok-tell_end.ensures);
       saved = if-known start.left _ (λ picks known. (past picks known).saved_all);
       no_memory = λ same. cc;
     }

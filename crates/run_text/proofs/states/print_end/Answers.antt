@@ -20,11 +20,11 @@ loop-number-preserved g c =
     let now = g.W.Write.contents c.loop-number.output in
     let next = g.W.Write.contents c.end_line.new.writer in
     let within : i < length atoms = omega arith in
-    let here : definition_of atom ≡ get_or (plant_of c.args.system.now).atoms i (definition_of atom) =
+    let here : definition_of atom ≡ get_or (plant_of c.args.plant.now.system.now).atoms i (definition_of atom) =
     ap definition_of c.atom-item.is ∙ sym (get_or-map definition_of atoms i atom (definition_of atom) within) ∙ ap (λ xs. get_or xs i (definition_of atom)) known in
     let line : Appends now next (atom_text c.args.format (definition_of atom) c.state.result.now ++ codes "\n") =
     Appends-trans _ _ _ _ _ (c.in_ok-print_atom.ensures) (c.in_ok-end_line.ensures) in
-    let piece : Appends now next (state_text (atom_text c.args.format) c.args.states.now i (definition_of atom)) =
+    let piece : Appends now next (state_text (atom_text c.args.format) c.args.plant.now.states.now i (definition_of atom)) =
     subst (λ found. Appends now next (option_map_or (λ state. atom_text c.args.format (definition_of atom) state ++ codes "\n") found [])) (sym c.state.ensures) line in
-    leads-element (state_text (atom_text c.args.format) c.args.states.now) (plant_of c.args.system.now).atoms i (definition_of atom) start now next _
+    leads-element (state_text (atom_text c.args.format) c.args.plant.now.states.now) (plant_of c.args.plant.now.system.now).atoms i (definition_of atom) start now next _
     (subst (λ n. i < n) (sym (length-map atoms definition_of) ∙ ap length known) within) here c.loop-number.invariant piece

@@ -10,5 +10,5 @@ use Rattle.run_text.proofs.states.print_end.Given as goal
 abbrev pub invariant-loop-number : goal.invariant-loop-number
 invariant-loop-number g l =
     Leads (g.W.Write.contents l.initial.output) (g.W.Write.contents l.output)
-    (numbered (state_text (atom_text l.format) l.states) l.number (drop l.number (plant_of l.system).atoms))
-    (end_text l.format (plant_of l.system) l.states)
+    (numbered (state_text (atom_text l.format) l.plant.states.now) l.number (drop l.number (plant_of l.plant.system.now).atoms))
+    (end_text l.format (plant_of l.plant.system.now) l.plant.states.now)

@@ -5,7 +5,7 @@ use Rattle.std.proofs.KnownBytes.{Appends-trans}
 use Rattle.petri_atom.specs.Atom.{definition_of}
 use Rattle.petri_atom.specs.Local.{value_in}
 use Rattle.text_io.specs.declared.format.Format.TheVariants.{Lines}
-use Rattle.text_io.proofs.Leading.{told-last}
+use Rattle.text_io.proofs.Leading.{printed-last}
 use Rattle.run_text.specs.Line.{places_text, value_words, values_text}
 use Rattle.run_text.specs.Word.{assigned_text, separated_after}
 use Rattle.run_text.proofs.Separating.{separated-numbered}
@@ -26,5 +26,5 @@ returns g c =
     subst (Appends _ _) (ap (places_text Lines c.places-2.result) c.places.ensures ∙ ap (λ marking. places_text Lines marking atom.places) c.places-2.ensures) c.in_ok-print_places.ensures in
     let begun : Appends start now (codes "state " ++ atom.name ++ codes " [" ++ places_text Lines state.marking atom.places ++ codes "]") =
     Appends-trans _ _ _ _ _ (Appends-trans _ _ _ _ _ (Appends-trans _ _ _ _ _ (Appends-trans _ _ _ _ _ c.in_ok-print_text.ensures named) c.in_ok-print_text-3.ensures) placed) c.in_ok-print_text-4.ensures in
-    told-last c.print_values.result _ _ _ _ _ begun
+    printed-last c.print_values.result _ _ _ _ _ begun
     (subst (λ text. OnOk c.print_values.result (Appends now (g.W.Write.contents c.print_values.new.output) text)) same c.print_values.ensures)

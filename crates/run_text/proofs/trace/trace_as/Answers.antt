@@ -12,5 +12,5 @@ pub returns-clause-not_refused : goal.returns-clause-not_refused
 returns-clause-not_refused g c = λ refusal is.
     let plant = plant_of c.args.system.now in
     let few : length c.args.picks.now < 2 ^ 64 = omega arith in
-    let told : Some refusal ≡ refusal_of plant c.of-given.result = subst (λ r. IfRan r (λ found. found ≡ refusal_of plant c.of-given.result)) is c.trace_by.ensures.refusal in
-    none-some refusal (sym (told ∙ ap (refusal_of plant) c.of-given.ensures ∙ counted-not-refused plant c.args.picks.now (initial_states plant) 1 1 (omega (arith, few))))
+    let shown : Some refusal ≡ refusal_of plant c.of-given.result = subst (λ r. IfRan r (λ found. found ≡ refusal_of plant c.of-given.result)) is c.tell_run.ensures.refusal in
+    none-some refusal (sym (shown ∙ ap (refusal_of plant) c.of-given.ensures ∙ counted-not-refused plant c.args.picks.now (initial_states plant) 1 1 (omega (arith, few))))

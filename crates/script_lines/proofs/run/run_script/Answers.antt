@@ -100,5 +100,5 @@ returns-clause-run g c =
     let p = c.args.plant.now in
     let told = g.W.Write.contents c.print_standing.new.output in
     run-of-all (definition_of p) (text_digest p) (view_of p) (view_of l.plant) (device_of p) (device_of l.plant) (hands_of c.args.hands.now) (hands_of l.hands) c.args.events.now l.event-index (omega arith) l.failed
-    (g.W.Write.contents c.args.output.now) (g.W.Write.contents l.output) l.invariant.so_far told (g.W.Write.contents c.hand_on.new.output)
+    (g.W.Write.contents c.args.output.now) (g.W.Write.contents l.output) l.invariant.so_far told (g.W.Write.contents c.hand_on.new.writer)
     (subst (λ x. Appends (g.W.Write.contents l.output) told (standing_text x (view_of l.plant))) l.invariant.plant c.in_ok-print_standing.ensures) c.in_ok-hand_on.ensures

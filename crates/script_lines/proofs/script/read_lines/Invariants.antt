@@ -1,4 +1,4 @@
--- What is left to read means, behind events that were kept where there was memory for them, what the script means; and the number of each
+-- What is left to read means, after events that were kept where there was memory for them, what the script means; and the number of each
 -- line fits.
 use Rattle.std.proofs.Common.{◌≡◌, ◌+◌, ◌≤◌, List, length, IfOk}
 use Rattle.step_core.specs.System.{plant_of}

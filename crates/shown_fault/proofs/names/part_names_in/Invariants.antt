@@ -1,4 +1,4 @@
--- The names of the lines that are left stand behind those so far.
+-- The names of the lines that are left stand after those so far.
 use Rattle.std.proofs.Common.{◌≡◌, ◌++◌, drop}
 use Rattle.shown_fault.specs.Lent.{lists_of}
 use Rattle.shown_fault.specs.Names.{part_names_from, part_names_in}

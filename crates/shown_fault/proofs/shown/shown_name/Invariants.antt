@@ -1,4 +1,4 @@
--- What is left to show is shown behind what was shown.
+-- What is left to show is shown after what was shown.
 use Rattle.std.proofs.Common.{◌≡◌, ◌++◌, drop}
 use Rattle.shown_fault.specs.Shown.{shown}
 use Rattle.shown_fault.proofs.shown.shown_name.Given as goal

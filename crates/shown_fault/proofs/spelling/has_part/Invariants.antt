@@ -3,8 +3,8 @@ use Rattle.std.proofs.Common.{◌≡◌, length}
 use Rattle.shown_fault.specs.Spelling.{has_part}
 use Rattle.shown_fault.proofs.spelling.has_part.Given as goal
 
-abbrev pub invariant-loop-behind : goal.invariant-loop-behind
-invariant-loop-behind l = has_part l.rest l.part ≡ has_part l.word l.part
+abbrev pub invariant-loop-after : goal.invariant-loop-after
+invariant-loop-after l = has_part l.rest l.part ≡ has_part l.word l.part
 
-abbrev pub decreases-loop-behind : goal.decreases-loop-behind
-decreases-loop-behind l = length l.rest
+abbrev pub decreases-loop-after : goal.decreases-loop-after
+decreases-loop-after l = length l.rest

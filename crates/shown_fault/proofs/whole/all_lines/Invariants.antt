@@ -1,4 +1,4 @@
--- The lines that are left stand behind those so far.
+-- The lines that are left stand after those so far.
 use Rattle.std.proofs.Common.{◌≡◌, ◌++◌, length}
 use Rattle.shown_fault.specs.Lent.{lists_of}
 use Rattle.plant_words.specs.Lines.{lines_of}

@@ -1,4 +1,4 @@
-use Rattle.std.proofs.Common.{◌≡◌, ◌∙◌, ℕ, ◌+◌, ◌<◌, List, [], ◌∷◌, ◌++◌, ap, sym, map, length, get_or, take}
+use Rattle.std.proofs.Common.{◌≡◌, ◌∙◌, ℕ, ◌+◌, ◌<◌, ◌≤◌, List, [], ◌∷◌, ◌++◌, ap, sym, map, length, get_or, take}
 use Rattle.std.proofs.lemmas.List.{take_all, take_more, map-append}
 use Rattle.petri_atom.specs.Atom.{definition_of}
 use Rattle.petri_atom.specs.Definition.{AtomDefinition}
@@ -9,7 +9,7 @@ use Rattle.step_core.specs.declared.wire.Wire.{Wire}
 use Rattle.step_core.proofs.Guarding.{guarding-found, delivering-found}
 use Rattle.step_core.proofs.bound_expressions.bound_wires.Goals as goal
 
--- what is found of one more wire, behind what was found of those before it
+-- what is found of one more wire, after what was found of those before it
 one_more : (atoms : List AtomDefinition) (wires : List Wire) (i : ℕ) (wire : Wire) (before after : List BoundExpressions) (made : BoundExpressions) → i < length wires → wire ≡ get_or wires i wire → after ≡ before ++ made ∷ [] → bound_of made ≡ bound_by atoms (wire_of wire)
     → map bound_of before ≡ map (bound_by atoms) (map wire_of (take i wires)) → map bound_of after ≡ map (bound_by atoms) (map wire_of (take (i + 1) wires))
 one_more atoms wires i wire before after made within here joined found so_far =
@@ -22,6 +22,11 @@ one_more atoms wires i wire before after made within here joined found so_far =
     ∙ ap (map (bound_by atoms)) (map-append wire_of (take i wires) (get_or wires i wire ∷ []))
     ∙ map-append (bound_by atoms) (map wire_of (take i wires)) (wire_of (get_or wires i wire) ∷ []))
 
+-- what is found of all wires
+all_bound : (atoms : List AtomDefinition) (wires : List Wire) (k : ℕ) (all : List BoundExpressions) → length wires ≤ k
+    → map bound_of all ≡ map (bound_by atoms) (map wire_of (take k wires)) → map bound_of all ≡ map (bound_by atoms) (map wire_of wires)
+all_bound atoms wires k all past found = found ∙ ap (λ ws. map (bound_by atoms) (map wire_of ws)) (take_all k wires past)
+
 pub loop-wire-preserved : goal.loop-wire-preserved
 loop-wire-preserved c =
     one_more (map definition_of c.args.atoms.now) c.args.wires.now c.loop-wire.wire-index c.wire-item.result c.loop-wire.all.items c.push.new.self.items c.in_ok-of.field-0
@@ -29,14 +34,10 @@ loop-wire-preserved c =
 
 pub returns-clause-guarding : goal.returns-clause-guarding
 returns-clause-guarding c =
-    let atoms = map definition_of c.args.atoms.now in
-    let wires = c.args.wires.now in
-    guarding-found atoms (map wire_of wires) c.loop-wire.all.items
-    (c.loop-wire.invariant ∙ ap (λ ws. map (bound_by atoms) (map wire_of ws)) (take_all c.loop-wire.wire-index wires c.loop-wire-test.false))
+    guarding-found (map definition_of c.args.atoms.now) (map wire_of c.args.wires.now) c.loop-wire.all.items
+    (all_bound (map definition_of c.args.atoms.now) c.args.wires.now c.loop-wire.wire-index c.loop-wire.all.items c.loop-wire-test.false c.loop-wire.invariant)
 
 pub returns-clause-delivering : goal.returns-clause-delivering
 returns-clause-delivering c =
-    let atoms = map definition_of c.args.atoms.now in
-    let wires = c.args.wires.now in
-    delivering-found atoms (map wire_of wires) c.loop-wire.all.items
-    (c.loop-wire.invariant ∙ ap (λ ws. map (bound_by atoms) (map wire_of ws)) (take_all c.loop-wire.wire-index wires c.loop-wire-test.false))
+    delivering-found (map definition_of c.args.atoms.now) (map wire_of c.args.wires.now) c.loop-wire.all.items
+    (all_bound (map definition_of c.args.atoms.now) c.args.wires.now c.loop-wire.wire-index c.loop-wire.all.items c.loop-wire-test.false c.loop-wire.invariant)

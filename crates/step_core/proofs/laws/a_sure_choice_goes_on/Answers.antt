@@ -1,4 +1,4 @@
-use Rattle.step_core.proofs.Surely.{delivered-same, goes-on, leaves-behind}
+use Rattle.step_core.proofs.SureAllowed.{delivered-same, goes-on, leaves-behind}
 use Rattle.step_core.proofs.laws.a_sure_choice_goes_on.Goals as goal
 
 pub returns-clause-stays : goal.returns-clause-stays

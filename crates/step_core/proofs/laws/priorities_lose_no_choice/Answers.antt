@@ -1,4 +1,4 @@
-use Rattle.step_core.proofs.Alive.{order-sound, stuck-told}
+use Rattle.step_core.proofs.NoDeadlock.{order-sound, stuck-told}
 use Rattle.step_core.proofs.laws.priorities_lose_no_choice.Goals as goal
 
 pub returns : goal.returns

@@ -1,4 +1,4 @@
-use Rattle.step_core.proofs.Surely.{sure-allowed}
+use Rattle.step_core.proofs.SureAllowed.{sure-allowed}
 use Rattle.step_core.proofs.laws.sure_is_allowed.Goals as goal
 
 pub returns : goal.returns

@@ -4,7 +4,7 @@ use Rattle.std.specs.List.{list_any}
 use Rattle.petri_atom.specs.Atom.{definition_of}
 use Rattle.petri_atom.specs.Name.{is_same_text}
 use Rattle.step_core.specs.declared.fault.SystemFault.TheVariants.{BadAtom}
-use Rattle.step_core.proofs.FirstTold.{any-of-first}
+use Rattle.step_core.proofs.FirstFault.{any-of-first}
 use Rattle.step_core.proofs.rules.atom_fault.Goals as goal
 
 pub returns-then-has_name : goal.returns-then-has_name

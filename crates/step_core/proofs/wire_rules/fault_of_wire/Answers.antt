@@ -7,7 +7,7 @@ use Rattle.petri_atom.specs.Expression.{tree_of, all_variables}
 use Rattle.petri_atom.specs.Name.{is_same_text}
 use Rattle.step_core.specs.Rules.{first_broken, is_known_port, is_known_export, names_known, is_same_export}
 use Rattle.step_core.specs.Wire.{wire_of, transfer_of}
-use Rattle.step_core.proofs.FirstTold.{list_any-map, same_targets, four, both}
+use Rattle.step_core.proofs.FirstFault.{list_any-map, same_targets, four, both}
 use Rattle.step_core.proofs.wire_rules.fault_of_wire.Goals as goal
 
 pub returns : goal.returns

@@ -2,9 +2,9 @@ use Rattle.std.proofs.Common.{◌∙◌, refl, ap, sym, length, map}
 use Rattle.std.specs.Prelude.{option_map}
 use Rattle.std.proofs.lemmas.Option.{slice_get_read, slice_get-map}
 use Rattle.petri_atom.specs.Atom.{definition_of}
-use Rattle.step_core.specs.Rules.{first_told, wire_fault}
+use Rattle.step_core.specs.Rules.{first_fault_in, wire_fault}
 use Rattle.step_core.specs.Wire.{wire_of}
-use Rattle.step_core.proofs.FirstTold.{told-now, told-later}
+use Rattle.step_core.proofs.FirstFault.{told-now, told-later}
 use Rattle.step_core.proofs.TreeRules.{few_leaves}
 use Rattle.step_core.proofs.wire_rules.fault_of_wires.Goals as goal
 
@@ -26,9 +26,9 @@ wire_fault-requires c = record {
 pub returns-in-Some : goal.returns-in-Some
 returns-in-Some c =
     let tell = wire_fault (map definition_of c.args.atoms.now) (map wire_of c.args.wires.now) in
-    told-now tell wire_of c.args.wires.now c.loop-number.number c.index-wires-number.result c.loop-number-test.true c.index-wires-number.is (first_told tell 0 (map wire_of c.args.wires.now)) c.loop-number.invariant c.in-Some.fault (sym c.wire_fault.ensures ∙ c.in-Some.is)
+    told-now tell wire_of c.args.wires.now c.loop-number.number c.index-wires-number.result c.loop-number-test.true c.index-wires-number.is (first_fault_in tell 0 (map wire_of c.args.wires.now)) c.loop-number.invariant c.in-Some.fault (sym c.wire_fault.ensures ∙ c.in-Some.is)
 
 pub loop-number-preserved : goal.loop-number-preserved
 loop-number-preserved c =
     let tell = wire_fault (map definition_of c.args.atoms.now) (map wire_of c.args.wires.now) in
-    told-later tell wire_of c.args.wires.now c.loop-number.number c.index-wires-number.result c.loop-number-test.true c.index-wires-number.is (first_told tell 0 (map wire_of c.args.wires.now)) c.loop-number.invariant (sym c.wire_fault.ensures ∙ c.in_default.is)
+    told-later tell wire_of c.args.wires.now c.loop-number.number c.index-wires-number.result c.loop-number-test.true c.index-wires-number.is (first_fault_in tell 0 (map wire_of c.args.wires.now)) c.loop-number.invariant (sym c.wire_fault.ensures ∙ c.in_default.is)

@@ -40,15 +40,15 @@ loop-place-preserved c =
           ap (put_all (drop (suc k) moves) (drop (suc k) jobs)) put ∙
           sym (put-next moves jobs k m job (kept_in items) its_move its_job) ∙ c.loop-place.invariant.kept;
       long = length-set items c.from.result (Some c.copy.result) ∙ c.loop-place.invariant.long;
-      row = length-set c.loop-place.told k c.delivered.result ∙ c.loop-place.invariant.row;
-      told = λ place j below its. ⊎_elim
+      row = length-set c.loop-place.delivered k c.delivered.result ∙ c.loop-place.invariant.row;
+      delivered = λ place j below its. ⊎_elim
           (λ same.
-          let here : slice_get (set c.loop-place.told k c.delivered.result) k ≡ Some c.delivered.result = set-here c.loop-place.told k c.delivered.result (omega (arith, c.loop-place.invariant.row, c.loop-place-test.true, c.requires.few)) in
+          let here : slice_get (set c.loop-place.delivered k c.delivered.result) k ≡ Some c.delivered.result = set-here c.loop-place.delivered k c.delivered.result (omega (arith, c.loop-place.invariant.row, c.loop-place-test.true, c.requires.few)) in
           let is : Some job ≡ Some j = sym its_job ∙ sym (ap (slice_get jobs) same) ∙ its in
-          ap (slice_get (set c.loop-place.told k c.delivered.result)) same ∙ here ∙ ap Some (c.delivered.ensures ∙ ap (λ (d : JobDefinition). d.delivered) (same_Some job j is)))
-          (λ other. set-other c.loop-place.told k c.delivered.result place other ∙ c.loop-place.invariant.told place j (omega (arith, below, other)) its)
+          ap (slice_get (set c.loop-place.delivered k c.delivered.result)) same ∙ here ∙ ap Some (c.delivered.ensures ∙ ap (λ (d : JobDefinition). d.delivered) (same_Some job j is)))
+          (λ other. set-other c.loop-place.delivered k c.delivered.result place other ∙ c.loop-place.invariant.delivered place j (omega (arith, below, other)) its)
           (cases_eq place k);
     }
 
-pub returns-clause-told : goal.returns-clause-told
-returns-clause-told c place job its = c.loop-place.invariant.told place job (omega (arith, slice_get_within (jobs_of c.args.jobs.now) place job its, c.requires.as_many, c.loop-place-test.false)) its
+pub returns-clause-delivered : goal.returns-clause-delivered
+returns-clause-delivered c place job its = c.loop-place.invariant.delivered place job (omega (arith, slice_get_within (jobs_of c.args.jobs.now) place job its, c.requires.as_many, c.loop-place-test.false)) its

@@ -11,6 +11,6 @@ abbrev pub invariant-loop-place : goal.invariant-loop-place
 invariant-loop-place l = record {
   kept : put_all (drop l.place l.moves) (drop l.place (jobs_of l.jobs)) (kept_in l.kept.items) ≡ put_all l.moves (jobs_of l.jobs) (kept_in l.initial.kept.items);
   long : length l.kept.items ≡ length l.initial.kept.items;
-  row : length l.told ≡ MAX_LEAVES;
-  told : (place : ℕ) (job : JobDefinition) → place < l.place → slice_get (jobs_of l.jobs) place ≡ Some job → slice_get l.told place ≡ Some job.delivered;
+  row : length l.delivered ≡ MAX_LEAVES;
+  delivered : (place : ℕ) (job : JobDefinition) → place < l.place → slice_get (jobs_of l.jobs) place ≡ Some job → slice_get l.delivered place ≡ Some job.delivered;
 }

@@ -5,10 +5,10 @@ use Rattle.std.proofs.lemmas.Result.{on_ok_weaker}
 use Rattle.plant_words.specs.Lines.{lines_of}
 use Rattle.step_core.specs.System.{plant_of}
 use Rattle.step_session.specs.Answers.{standing_text}
-use Rattle.step_session.specs.Kept.{session_of}
+use Rattle.step_session.specs.SessionOf.{session_of}
 use Rattle.step_session.specs.Session.{first_session}
-use Rattle.step_session.specs.Told.{IsTold, told_from}
-use Rattle.step_session.proofs.Telling.{told-behind}
+use Rattle.step_session.specs.Transcript.{IsTranscript, transcript_from}
+use Rattle.step_session.proofs.SoFar.{told-behind}
 use Rattle.step_session.proofs.stepping.step_by_hand.Goals as goal
 
 pub returns : goal.returns
@@ -25,8 +25,8 @@ returns g c =
     let begun : Appends start old (standing_text plant first_session) =
     subst (Appends start old) (ap (λ p. standing_text p (session_of session)) c.in_ok-session.ensures.plant ∙ ap (standing_text plant) c.in_ok-session.ensures.first) c.in_ok-print_standing.ensures in
     on_ok_weaker c.answer_lines.result
-    (λ told. IfSome_then (g.R.Read.remaining c.args.input.now) told
-    (λ bytes t. told-behind saves (told_from plant rules c.args.prompt first_session (lines_of bytes)) before after start old new (standing_text plant first_session) begun
-    (subst (λ s. IsTold saves (told_from plant rules c.args.prompt s (lines_of bytes)) before after old new) c.in_ok-session.ensures.first
-    (subst (λ p. IsTold saves (told_from p rules c.args.prompt (session_of session) (lines_of bytes)) before after old new) c.in_ok-session.ensures.plant t))))
+    (λ transcript. IfSome_then (g.R.Read.remaining c.args.input.now) transcript
+    (λ bytes t. told-behind saves (transcript_from plant rules c.args.prompt first_session (lines_of bytes)) before after start old new (standing_text plant first_session) begun
+    (subst (λ s. IsTranscript saves (transcript_from plant rules c.args.prompt s (lines_of bytes)) before after old new) c.in_ok-session.ensures.first
+    (subst (λ p. IsTranscript saves (transcript_from p rules c.args.prompt (session_of session) (lines_of bytes)) before after old new) c.in_ok-session.ensures.plant t))))
     c.answer_lines.ensures

@@ -13,7 +13,7 @@ loop-connector-preserved g c =
     let rules = c.args.rule_lines.now in
     let k = c.loop-connector.connector in
     let say = connector_text plant (states_in c.args.run.now) rules in
-    let told : connector_text (plant_asked c.args.reasons.now) c.states.result.now rules k ≡ say k =
+    let said : connector_text (plant_asked c.args.reasons.now) c.states.result.now rules k ≡ say k =
     ap (λ p. connector_text p c.states.result.now rules k) c.requires ∙ ap (λ states. connector_text plant states rules k) c.states.ensures.states in
     subst (Appends (g.W.Write.contents c.args.output.now) (g.W.Write.contents c.print_blocked_of.new.output)) (sym (said-more say k))
-    (Appends-trans _ _ _ _ _ c.loop-connector.invariant (subst (Appends _ _) told c.in_ok-print_blocked_of.ensures))
+    (Appends-trans _ _ _ _ _ c.loop-connector.invariant (subst (Appends _ _) said c.in_ok-print_blocked_of.ensures))

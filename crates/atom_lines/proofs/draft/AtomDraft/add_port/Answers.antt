@@ -8,9 +8,9 @@ use Rattle.atom_lines.specs.Lookup.{port_number}
 use Rattle.atom_lines.specs.Rows.{port_row, exports_in}
 use Rattle.plant_words.specs.Reading.{check, first_name}
 use Rattle.plant_words.specs.declared.line_fault.LineFault.TheVariants.{Limit, Twice, Memory}
-use Rattle.plant_words.proofs.Early.{check_takes_none, name_takes_none, told_before, told_last}
+use Rattle.plant_words.proofs.Early.{check_takes_none, name_takes_none, found_before, found_last}
 use Rattle.atom_lines.proofs.Early.{exports_take_none}
-use Rattle.plant_words.proofs.Exits.{fails, passes, told_fault, told_memory, at_fault, room_for, new_name}
+use Rattle.plant_words.proofs.Exits.{fails, passes, found_fault, found_memory, at_fault, room_for, new_name}
 use Rattle.atom_lines.proofs.Making.{port_says}
 use Rattle.atom_lines.proofs.SoundParts.{exports_sound}
 use Rattle.atom_lines.proofs.draft.AtomDraft.add_port.Goals as goal
@@ -20,12 +20,12 @@ returns-in_err-check-clause-added c = IfOk-from_err c.from_residual.result _ c.f
 
 pub returns-in_err-check-clause-fault : goal.returns-in_err-check-clause-fault
 returns-in_err-check-clause-fault c =
-    told_fault Memory (port_row c.args.words.now (drafted c.args.self.now)) c.from_residual.result c.in_err-check.field-0.0 c.from_residual.ensures.1
+    found_fault Memory (port_row c.args.words.now (drafted c.args.self.now)) c.from_residual.result c.in_err-check.field-0.0 c.from_residual.ensures.1
     (λ _. fails _ (room_for c.args.self.now.ports.items port_of MAX_PORTS c.len.result Limit (Err c.in_err-check.field-0.0) (c.len.ensures ∙ c.args.self.now.ports.ok.0) c.in_err-check.ensures))
 
 pub returns-in_err-check-clause-memory : goal.returns-in_err-check-clause-memory
 returns-in_err-check-clause-memory c =
-    told_before (port_row c.args.words.now (drafted c.args.self.now)) (check (nat_lt c.len.result MAX_PORTS) Limit) c.from_residual.result c.in_err-check.field-0.0 c.from_residual.ensures.1 (sym c.in_err-check.ensures) (check_takes_none (nat_lt c.len.result MAX_PORTS) Limit (λ is. absurd (cc)))
+    found_before (port_row c.args.words.now (drafted c.args.self.now)) (check (nat_lt c.len.result MAX_PORTS) Limit) c.from_residual.result c.in_err-check.field-0.0 c.from_residual.ensures.1 (sym c.in_err-check.ensures) (check_takes_none (nat_lt c.len.result MAX_PORTS) Limit (λ is. absurd (cc)))
 
 pub returns-in_err-check-clause-unchanged : goal.returns-in_err-check-clause-unchanged
 returns-in_err-check-clause-unchanged c = at_fault c.from_residual.result refl
@@ -35,12 +35,12 @@ returns-in_err-name-clause-added c = IfOk-from_err c.from_residual-in_err-name.r
 
 pub returns-in_err-name-clause-fault : goal.returns-in_err-name-clause-fault
 returns-in_err-name-clause-fault c =
-    told_fault Memory (port_row c.args.words.now (drafted c.args.self.now)) c.from_residual-in_err-name.result c.in_err-name.field-0.0 c.from_residual-in_err-name.ensures.1
+    found_fault Memory (port_row c.args.words.now (drafted c.args.self.now)) c.from_residual-in_err-name.result c.in_err-name.field-0.0 c.from_residual-in_err-name.ensures.1
     (λ _. passes _ (room_for c.args.self.now.ports.items port_of MAX_PORTS c.len.result Limit (Ok c.in_ok-check.field-0) (c.len.ensures ∙ c.args.self.now.ports.ok.0) c.in_ok-check.ensures) (fails _ (sym c.in_err-name.ensures.name)))
 
 pub returns-in_err-name-clause-memory : goal.returns-in_err-name-clause-memory
 returns-in_err-name-clause-memory c =
-    told_before (port_row c.args.words.now (drafted c.args.self.now)) (first_name c.args.words.now) c.from_residual-in_err-name.result c.in_err-name.field-0.0 c.from_residual-in_err-name.ensures.1 (sym c.in_err-name.ensures.name) (name_takes_none c.args.words.now)
+    found_before (port_row c.args.words.now (drafted c.args.self.now)) (first_name c.args.words.now) c.from_residual-in_err-name.result c.in_err-name.field-0.0 c.from_residual-in_err-name.ensures.1 (sym c.in_err-name.ensures.name) (name_takes_none c.args.words.now)
 
 pub returns-in_err-name-clause-unchanged : goal.returns-in_err-name-clause-unchanged
 returns-in_err-name-clause-unchanged c = at_fault c.from_residual-in_err-name.result refl
@@ -50,12 +50,12 @@ returns-in_err-check-2-clause-added c = IfOk-from_err c.from_residual-in_err-che
 
 pub returns-in_err-check-2-clause-fault : goal.returns-in_err-check-2-clause-fault
 returns-in_err-check-2-clause-fault c =
-    told_fault Memory (port_row c.args.words.now (drafted c.args.self.now)) c.from_residual-in_err-check-2.result c.in_err-check-2.field-0.0 c.from_residual-in_err-check-2.ensures.1
+    found_fault Memory (port_row c.args.words.now (drafted c.args.self.now)) c.from_residual-in_err-check-2.result c.in_err-check-2.field-0.0 c.from_residual-in_err-check-2.ensures.1
     (λ _. passes _ (room_for c.args.self.now.ports.items port_of MAX_PORTS c.len.result Limit (Ok c.in_ok-check.field-0) (c.len.ensures ∙ c.args.self.now.ports.ok.0) c.in_ok-check.ensures) (passes _ (sym c.in_ok-name.ensures.name) (fails _ (new_name (port_number (drafted c.args.self.now)) c.in_ok-name.name c.as_bytes.result.now c.find_port.result c.is_none.result Twice (Err c.in_err-check-2.field-0.0) c.as_bytes.ensures c.find_port.ensures c.is_none.ensures c.in_err-check-2.ensures))))
 
 pub returns-in_err-check-2-clause-memory : goal.returns-in_err-check-2-clause-memory
 returns-in_err-check-2-clause-memory c =
-    told_before (port_row c.args.words.now (drafted c.args.self.now)) (check c.is_none.result Twice) c.from_residual-in_err-check-2.result c.in_err-check-2.field-0.0 c.from_residual-in_err-check-2.ensures.1 (sym c.in_err-check-2.ensures) (check_takes_none c.is_none.result Twice (λ is. absurd (cc)))
+    found_before (port_row c.args.words.now (drafted c.args.self.now)) (check c.is_none.result Twice) c.from_residual-in_err-check-2.result c.in_err-check-2.field-0.0 c.from_residual-in_err-check-2.ensures.1 (sym c.in_err-check-2.ensures) (check_takes_none c.is_none.result Twice (λ is. absurd (cc)))
 
 pub returns-in_err-check-2-clause-unchanged : goal.returns-in_err-check-2-clause-unchanged
 returns-in_err-check-2-clause-unchanged c = at_fault c.from_residual-in_err-check-2.result refl
@@ -65,22 +65,22 @@ returns-in_err-numbers-clause-added c = IfOk-from_err c.from_residual-in_err-num
 
 pub returns-in_err-numbers-clause-fault : goal.returns-in_err-numbers-clause-fault
 returns-in_err-numbers-clause-fault c =
-    told_fault Memory (port_row c.args.words.now (drafted c.args.self.now)) c.from_residual-in_err-numbers.result c.in_err-numbers.field-0.0 c.from_residual-in_err-numbers.ensures.1
+    found_fault Memory (port_row c.args.words.now (drafted c.args.self.now)) c.from_residual-in_err-numbers.result c.in_err-numbers.field-0.0 c.from_residual-in_err-numbers.ensures.1
     (λ other. passes _ (room_for c.args.self.now.ports.items port_of MAX_PORTS c.len.result Limit (Ok c.in_ok-check.field-0) (c.len.ensures ∙ c.args.self.now.ports.ok.0) c.in_ok-check.ensures) (passes _ (sym c.in_ok-name.ensures.name) (passes _ (new_name (port_number (drafted c.args.self.now)) c.in_ok-name.name c.as_bytes.result.now c.find_port.result c.is_none.result Twice (Ok c.in_ok-check-2.field-0) c.as_bytes.ensures c.find_port.ensures c.is_none.ensures c.in_ok-check-2.ensures) (fails _ (ap (exports_in (drafted c.args.self.now) []) (sym c.next_name.ensures.taken) ∙ c.in_err-numbers.ensures.fault)))))
 
 pub returns-in_err-numbers-clause-memory : goal.returns-in_err-numbers-clause-memory
 returns-in_err-numbers-clause-memory c =
-    told_before (port_row c.args.words.now (drafted c.args.self.now)) (exports_in (drafted c.args.self.now) [] c.next_name.new.words) c.from_residual-in_err-numbers.result c.in_err-numbers.field-0.0 c.from_residual-in_err-numbers.ensures.1 c.in_err-numbers.ensures.fault (exports_take_none (drafted c.args.self.now) [] c.next_name.new.words)
+    found_before (port_row c.args.words.now (drafted c.args.self.now)) (exports_in (drafted c.args.self.now) [] c.next_name.new.words) c.from_residual-in_err-numbers.result c.in_err-numbers.field-0.0 c.from_residual-in_err-numbers.ensures.1 c.in_err-numbers.ensures.fault (exports_take_none (drafted c.args.self.now) [] c.next_name.new.words)
 
 pub returns-in_err-numbers-clause-unchanged : goal.returns-in_err-numbers-clause-unchanged
 returns-in_err-numbers-clause-unchanged c = at_fault c.from_residual-in_err-numbers.result refl
 
 pub returns-in_err-exports-clause-fault : goal.returns-in_err-exports-clause-fault
-returns-in_err-exports-clause-fault c = told_memory Memory (port_row c.args.words.now (drafted c.args.self.now)) c.from_residual-in_err-exports.result c.from_residual-in_err-exports.ensures.1
+returns-in_err-exports-clause-fault c = found_memory Memory (port_row c.args.words.now (drafted c.args.self.now)) c.from_residual-in_err-exports.result c.from_residual-in_err-exports.ensures.1
 
 pub returns-in_err-exports-clause-memory : goal.returns-in_err-exports-clause-memory
 returns-in_err-exports-clause-memory c =
-    told_last (port_row c.args.words.now (drafted c.args.self.now)) _ c.from_residual-in_err-exports.result
+    found_last (port_row c.args.words.now (drafted c.args.self.now)) _ c.from_residual-in_err-exports.result
     (port_says (drafted c.args.self.now) c.args.words.now c.next_name.new.words c.in_ok-name.name c.in_ok-numbers.numbers.items c.in_ok-numbers.numbers.items c.in_ok-check.field-0 c.in_ok-check-2.field-0
     (room_for c.args.self.now.ports.items port_of MAX_PORTS c.len.result Limit (Ok c.in_ok-check.field-0) (c.len.ensures ∙ c.args.self.now.ports.ok.0) c.in_ok-check.ensures)
     (sym c.in_ok-name.ensures.name)
@@ -92,11 +92,11 @@ push_port-requires-clause-sound c =
     exports_sound (drafted c.args.self.now) c.next_name.new.words c.in_ok-name.name c.in_ok-exports.exports.items (c.in_ok-numbers.ensures.exports ∙ ap Ok (sym (c.in_ok-exports.ensures ∙ c.deref.ensures.0)))
 
 pub returns-in_err-push_port-clause-fault : goal.returns-in_err-push_port-clause-fault
-returns-in_err-push_port-clause-fault c = told_memory Memory (port_row c.args.words.now (drafted c.args.self.now)) c.from_residual-in_err-push_port.result c.from_residual-in_err-push_port.ensures.1
+returns-in_err-push_port-clause-fault c = found_memory Memory (port_row c.args.words.now (drafted c.args.self.now)) c.from_residual-in_err-push_port.result c.from_residual-in_err-push_port.ensures.1
 
 pub returns-in_err-push_port-clause-memory : goal.returns-in_err-push_port-clause-memory
 returns-in_err-push_port-clause-memory c =
-    told_last (port_row c.args.words.now (drafted c.args.self.now)) _ c.from_residual-in_err-push_port.result
+    found_last (port_row c.args.words.now (drafted c.args.self.now)) _ c.from_residual-in_err-push_port.result
     (port_says (drafted c.args.self.now) c.args.words.now c.next_name.new.words c.in_ok-name.name c.in_ok-numbers.numbers.items c.in_ok-numbers.numbers.items c.in_ok-check.field-0 c.in_ok-check-2.field-0
     (room_for c.args.self.now.ports.items port_of MAX_PORTS c.len.result Limit (Ok c.in_ok-check.field-0) (c.len.ensures ∙ c.args.self.now.ports.ok.0) c.in_ok-check.ensures)
     (sym c.in_ok-name.ensures.name)

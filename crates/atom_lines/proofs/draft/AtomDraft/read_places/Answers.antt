@@ -5,7 +5,7 @@ use Rattle.atom_lines.specs.Draft.{drafted}
 use Rattle.atom_lines.specs.Transitions.{place_in}
 use Rattle.atom_lines.proofs.Bounds.{are_below-more}
 use Rattle.atom_lines.proofs.Few.{few_below}
-use Rattle.atom_lines.proofs.SoundParts.{Listed, more_listed, place_behind}
+use Rattle.atom_lines.proofs.SoundParts.{Listed, more_listed, place_after}
 use Rattle.atom_lines.proofs.draft.AtomDraft.read_places.Goals as goal
 
 pub push-requires : goal.push-requires
@@ -26,7 +26,7 @@ loop-word-preserved c =
     let place = c.in_ok-place.place in
     let read : place_in (drafted d) before c.in-Some.word.now ≡ Ok place = ap (λ places. place_in (drafted d) places c.in-Some.word.now) (sym c.deref.ensures.0) ∙ sym c.in_ok-place.ensures.place in
     record {
-      so_far = place_behind (drafted d) before c.push.new.self.items c.in-Some.word.now c.next_in_places.new.words c.loop-word.words place c.push.ensures.items c.in-Some.ensures.word c.in-Some.ensures.end read ∙ c.loop-word.invariant.so_far;
+      so_far = place_after (drafted d) before c.push.new.self.items c.in-Some.word.now c.next_in_places.new.words c.loop-word.words place c.push.ensures.items c.in-Some.ensures.word c.in-Some.ensures.end read ∙ c.loop-word.invariant.so_far;
       listed = subst (Listed (length d.places.items)) (sym c.push.ensures.items) (more_listed (drafted d) before c.in-Some.word.now place c.loop-word.invariant.listed read);
     }
 

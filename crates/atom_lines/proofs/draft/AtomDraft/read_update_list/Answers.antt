@@ -3,7 +3,7 @@ use Rattle.std.proofs.lemmas.Result.{err_from_is_err_and}
 use Rattle.atom_lines.specs.Draft.{drafted}
 use Rattle.atom_lines.specs.Transitions.{updates_from}
 use Rattle.atom_lines.proofs.Making.{one_more_is_made}
-use Rattle.atom_lines.proofs.Updates.{one_update_too_many, fault_in_update, fault_behind_update, updates_behind_update}
+use Rattle.atom_lines.proofs.Updates.{one_update_too_many, fault_in_update, fault_after_update, updates_after_update}
 use Rattle.atom_lines.proofs.draft.AtomDraft.read_update_list.Goals as goal
 
 pub returns-then-left-eq0-clause-fault : goal.returns-then-left-eq0-clause-fault
@@ -27,7 +27,7 @@ returns-in_err-more-clause-fault c =
     let some : 0 < c.loop-more.left = omega arith in
     let p = err_from_is_err_and c.from_residual-in_err-more.result c.from_residual-in_err-more.ensures.1 in
     rw (p.1, p.2) (sym seen.so_far ∙ ap (λ more. updates_from (drafted c.args.self.now) c.loop-more.left seen.before more c.loop-more.words) c.loop-more-test.true
-    ∙ fault_behind_update (drafted c.args.self.now) c.loop-more.left seen.before c.loop-more.words read.value c.read_update.new.words c.in_err-more.field-0.0 some read.says (sym c.in_err-more.ensures.goes_on))
+    ∙ fault_after_update (drafted c.args.self.now) c.loop-more.left seen.before c.loop-more.words read.value c.read_update.new.words c.in_err-more.field-0.0 some read.says (sym c.in_err-more.ensures.goes_on))
 
 pub loop-more-preserved : goal.loop-more-preserved
 loop-more-preserved c =
@@ -38,7 +38,7 @@ loop-more-preserved c =
       before = seen.before ++ read.value ∷ [];
       are_made = one_more_is_made seen.before read.value c.loop-more.updates c.with_update-updates.result c.in_ok-update.update seen.are_made read.is_made c.with_update-updates.ensures;
       so_far = ap (updates_from (drafted c.args.self.now) (c.loop-more.left - 1) (seen.before ++ read.value ∷ []) c.in_ok-more.more) c.in_ok-more.ensures.taken
-          ∙ sym (updates_behind_update (drafted c.args.self.now) c.loop-more.left seen.before c.loop-more.words read.value c.read_update.new.words c.in_ok-more.more some read.says (sym c.in_ok-more.ensures.goes_on))
+          ∙ sym (updates_after_update (drafted c.args.self.now) c.loop-more.left seen.before c.loop-more.words read.value c.read_update.new.words c.in_ok-more.more some read.says (sym c.in_ok-more.ensures.goes_on))
           ∙ sym (ap (λ more. updates_from (drafted c.args.self.now) c.loop-more.left seen.before more c.loop-more.words) c.loop-more-test.true)
           ∙ seen.so_far;
     }

@@ -6,7 +6,7 @@ use Rattle.atom_lines.specs.Transitions.{updates_from}
 use Rattle.atom_lines.specs.Draft.{drafted}
 use Rattle.atom_lines.proofs.draft.AtomDraft.read_update_list.Given as goal
 
--- what is left to read leads to the same end as all of it did, behind updates that were made where there was memory for them
+-- what is left to read leads to the same end as all of it did, after updates that were made if there was memory for them
 abbrev pub invariant-loop-more : goal.invariant-loop-more
 invariant-loop-more l = record {
   before : List UpdateDefinition;

@@ -3,8 +3,8 @@ use Rattle.std.specs.Prelude.{is_none}
 use Rattle.step_core.specs.Interaction.{interaction_of}
 use Rattle.blocked_text.specs.Asked.{plant_asked}
 use Rattle.blocked_text.specs.Reason.{first_idle, zero_of}
-use Rattle.blocked_text.proofs.Finding.{told-none}
-use Rattle.blocked_text.proofs.Reasoning.{possible-told}
+use Rattle.blocked_text.proofs.Finding.{none-by}
+use Rattle.blocked_text.proofs.Reasoning.{possible-known}
 use Rattle.blocked_text.proofs.reasons.Reasons.is_possible.Goals as goal
 
 pub returns-then-is_none : goal.returns-then-is_none
@@ -15,9 +15,9 @@ returns-then-is_none c =
     let zero = zero_of plant.atoms plant.wires states i in
     let ready : is_none (first_idle plant.atoms states i.ports) ≡ true =
     sym (ap is_none (c.first_idle.ensures ∙ ap (λ atoms. first_idle atoms states c.deref.result.now) c.atoms.ensures ∙ ap (first_idle plant.atoms states) c.deref.ensures.value)) ∙
-    told-none c.first_idle.result c.is_none.result c.is_none.ensures ∙ c.if-is_none.true in
-    sym (told-none c.zero_of.result c.is_none-then-is_none.result c.is_none-then-is_none.ensures) ∙ ap is_none c.zero_of.ensures ∙
-    sym (ap (λ b. b && is_none zero) ready) ∙ possible-told plant.atoms plant.wires states i
+    none-by c.first_idle.result c.is_none.result c.is_none.ensures ∙ c.if-is_none.true in
+    sym (none-by c.zero_of.result c.is_none-then-is_none.result c.is_none-then-is_none.ensures) ∙ ap is_none c.zero_of.ensures ∙
+    sym (ap (λ b. b && is_none zero) ready) ∙ possible-known plant.atoms plant.wires states i
 
 pub returns-else-is_none : goal.returns-else-is_none
 returns-else-is_none c =
@@ -27,5 +27,5 @@ returns-else-is_none c =
     let zero = zero_of plant.atoms plant.wires states i in
     let idle : is_none (first_idle plant.atoms states i.ports) ≡ false =
     sym (ap is_none (c.first_idle.ensures ∙ ap (λ atoms. first_idle atoms states c.deref.result.now) c.atoms.ensures ∙ ap (first_idle plant.atoms states) c.deref.ensures.value)) ∙
-    told-none c.first_idle.result c.is_none.result c.is_none.ensures ∙ c.if-is_none.false in
-    c.if-is_none.false ∙ sym (ap (λ b. b && is_none zero) idle) ∙ possible-told plant.atoms plant.wires states i
+    none-by c.first_idle.result c.is_none.result c.is_none.ensures ∙ c.if-is_none.false in
+    c.if-is_none.false ∙ sym (ap (λ b. b && is_none zero) idle) ∙ possible-known plant.atoms plant.wires states i

@@ -7,5 +7,5 @@ use Rattle.crash_explorer.proofs.watched.WatchedDisk.size.Goals as goal
 pub invariant_of-self-clause-stopped : goal.invariant_of-self-clause-stopped
 invariant_of-self-clause-stopped c = λ cut is few same.
     let self = c.args.self.now in
-    let rest = c.size.ensures.rest in
+    let rest = c.size.ensures.asked.rest in
     ∥∥₁_map (self.stopped cut is few (sym rest.changes ∙ same)) (stopped-still self.asked cut self.disk c.size.new.self (c.size.ensures.same refl) rest)

@@ -3,8 +3,8 @@ use Rattle.std.proofs.lemmas.List.{length-replicate}
 use Rattle.std.proofs.lemmas.Slice.{pushed}
 use Rattle.disk_model.specs.declared.change.Change.TheVariants.{Sync}
 use Rattle.disk_model.specs.DiskState.{Moment}
-use Rattle.disk_model.specs.Recording.{Recording, at_rest, moments_before}
-use Rattle.disk_model.proofs.Replay.{replayed_more, before_more, lent_back, moment_of_marks}
+use Rattle.disk_model.specs.Recording.{Recording, at_rest}
+use Rattle.disk_model.proofs.Replay.{replayed_more, past_more, lent_back, moment_of_marks}
 use Rattle.disk_model.proofs.recorded.Recorded.sync.Goals as goal
 
 pub invariant_of-self : goal.invariant_of-self
@@ -26,8 +26,4 @@ invariant_of-self c =
     }
 
 pub returns-clause-past : goal.returns-clause-past
-returns-clause-past c =
-    let inside = c.self.inside in
-    let present : Moment = record { seen = inside.bytes.items; pending = inside.marks.items } in
-    subst (λ (s : Recording). moments_before (at_rest inside.first.items) c.push.new.self.items ≡ s.past ++ s.present ∷ []) c.self.view_is
-    (before_more (at_rest inside.first.items) present inside.changes.items c.push.new.self.items Sync c.self.invariant.replayed (pushed (Sync ∷ []) refl c.unwrap.ensures c.push.ensures.items))
+returns-clause-past c = past_more c.self.inside _ c.push.new.self.items Sync c.self.invariant c.self.view_is (pushed (Sync ∷ []) refl c.unwrap.ensures c.push.ensures.items)

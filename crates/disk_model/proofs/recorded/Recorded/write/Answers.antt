@@ -5,9 +5,9 @@ use Rattle.std.proofs.lemmas.Grind.{common_steps}
 use Rattle.disk_model.specs.declared.change.Change.{Change}
 use Rattle.disk_model.specs.declared.change.Change.TheVariants.{Write}
 use Rattle.disk_model.specs.DiskState.{Moment, overwritten}
-use Rattle.disk_model.specs.Recording.{Recording, at_rest, moments_before}
+use Rattle.disk_model.specs.Recording.{Recording, at_rest}
 use Rattle.disk_model.proofs.Overwrites.{length-overwritten}
-use Rattle.disk_model.proofs.Replay.{replayed_more, before_more, lent_back, moment_same, kept_part}
+use Rattle.disk_model.proofs.Replay.{replayed_more, past_more, lent_back, moment_same, kept_part}
 use Rattle.disk_model.proofs.recorded.Recorded.write.Goals as goal
 
 pub invariant_of-self : goal.invariant_of-self
@@ -41,8 +41,5 @@ invariant_of-self c =
 
 pub returns-clause-past : goal.returns-clause-past
 returns-clause-past c =
-    let inside = c.self.inside in
-    let present : Moment = record { seen = inside.bytes.items; pending = inside.marks.items } in
     let change : Change = Write (record { at = c.args.at; count = length c.args.from.now; put = c.args.put; bytes = c.overwrite-2.new.whole }) in
-    subst (λ (s : Recording). moments_before (at_rest inside.first.items) c.push.new.self.items ≡ s.past ++ s.present ∷ []) c.self.view_is
-    (before_more (at_rest inside.first.items) present inside.changes.items c.push.new.self.items change c.self.invariant.replayed (pushed (change ∷ []) refl c.unwrap.ensures c.push.ensures.items))
+    past_more c.self.inside _ c.push.new.self.items change c.self.invariant c.self.view_is (pushed (change ∷ []) refl c.unwrap.ensures c.push.ensures.items)

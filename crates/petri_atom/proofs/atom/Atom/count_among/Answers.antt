@@ -15,16 +15,16 @@ returns-clause-few c =
     ones-le 128 (bit_and word mask) small
 
 pub returns-clause-count : goal.returns-clause-count
-returns-clause-count c state told =
+returns-clause-count c state given =
     let atom = definition_of c.args.self.now in
-    ap (λ w. ones (bit_and w c.mask_of.result)) (c.offered.view_is ∙ told) ∙
+    ap (λ w. ones (bit_and w c.mask_of.result)) (c.offered.view_is ∙ given) ∙
     ap (λ m. ones (bit_and (offered_set atom state) m)) c.mask_of.ensures ∙
     ones-of_port (offers_number atom state) c.args.port atom.transitions
 
 pub returns-then-word-eq0-clause-count : goal.returns-then-word-eq0-clause-count
-returns-then-word-eq0-clause-count c state told =
+returns-then-word-eq0-clause-count c state given =
     let atom = definition_of c.args.self.now in
     sym (ap ones c.if-word-eq0.true ∙ ones-none) ∙
-    ap (λ w. ones (bit_and w c.mask_of.result)) (c.offered.view_is ∙ told) ∙
+    ap (λ w. ones (bit_and w c.mask_of.result)) (c.offered.view_is ∙ given) ∙
     ap (λ m. ones (bit_and (offered_set atom state) m)) c.mask_of.ensures ∙
     ones-of_port (offers_number atom state) c.args.port atom.transitions

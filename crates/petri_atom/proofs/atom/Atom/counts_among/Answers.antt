@@ -15,16 +15,16 @@ zeros n k z = ⊎_elim
     (cases_lt k n)
 
 pub loop-port-init : goal.loop-port-init
-loop-port-init c = (λ state told k below. absurd (omega arith), λ k _. zeros 32 k 0, λ k. omega (arith, zeros 32 k 0), refl)
+loop-port-init c = (λ state given k below. absurd (omega arith), λ k _. zeros 32 k 0, λ k. omega (arith, zeros 32 k 0), refl)
 
 pub returns-clause-counts : goal.returns-clause-counts
-returns-clause-counts c state told port =
+returns-clause-counts c state given port =
     let atom = c.args.self.now in
     let ts = map transition_of atom.transitions.items in
     let as_many : length c.ports-port-end.result.now ≡ length atom.ports.items =
     sym (length-map c.ports-port-end.result.now _) ∙ ap length c.ports-port-end.ensures ∙ length-map atom.ports.items _ in
     ⊎_elim
-    (λ below. c.loop-port.invariant.0 state told port below)
+    (λ below. c.loop-port.invariant.0 state given port below)
     (λ past. c.loop-port.invariant.1 port past ∙
     sym (ap (λ ns. length (filter (offers_number (definition_of atom) state) ns)) (numbers-none (length atom.ports.items) port 0 ts (known_ports_of atom) (omega (arith, as_many, c.loop-port-test.false, past)))))
     (cases_lt port c.loop-port.port)

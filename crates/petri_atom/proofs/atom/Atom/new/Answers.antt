@@ -15,53 +15,53 @@ use Rattle.petri_atom.proofs.Fitting.{formed-when-sound, few_ports, few_transiti
 use Rattle.petri_atom.proofs.atom.Atom.new.Goals as goal
 
 -- the rule that the parts break, as they were lent, is the one that they break under any name
-of_lent : (name : List ℕ) (places lent-places : List Place) (variables lent-variables : List Variable) (ports lent-ports : List Port) (transitions lent-transitions : List Transition) (told : Option AtomFault) → told ≡ fault_of (definition_by [] lent-places lent-variables lent-ports lent-transitions) → lent-places ≡ places → lent-variables ≡ variables → lent-ports ≡ ports → lent-transitions ≡ transitions → told ≡ fault_of (definition_by name places variables ports transitions)
-of_lent name places lent-places variables lent-variables ports lent-ports transitions lent-transitions told e p v o t =
+of_lent : (name : List ℕ) (places lent-places : List Place) (variables lent-variables : List Variable) (ports lent-ports : List Port) (transitions lent-transitions : List Transition) (found : Option AtomFault) → found ≡ fault_of (definition_by [] lent-places lent-variables lent-ports lent-transitions) → lent-places ≡ places → lent-variables ≡ variables → lent-ports ≡ ports → lent-transitions ≡ transitions → found ≡ fault_of (definition_by name places variables ports transitions)
+of_lent name places lent-places variables lent-variables ports lent-ports transitions lent-transitions found e p v o t =
     e ∙ ap (λ xs. fault_of (definition_by [] xs lent-variables lent-ports lent-transitions)) p ∙
     ap (λ xs. fault_of (definition_by [] places xs lent-ports lent-transitions)) v ∙
     ap (λ xs. fault_of (definition_by [] places variables xs lent-transitions)) o ∙
     ap (λ xs. fault_of (definition_by [] places variables ports xs)) t
 
 -- the rule that is broken is the fault
-broken : (fault : AtomFault) (told : Option AtomFault) → told ≡ Some fault → IsFaultOf fault told
+broken : (fault : AtomFault) (found : Option AtomFault) → found ≡ Some fault → IsFaultOf fault found
 broken fault None e = absurd (none-some fault e)
 broken fault (Some rule) e = sym (same_Some rule fault e)
 
 pub returns-in-Some-clause-fault : goal.returns-in-Some-clause-fault
 returns-in-Some-clause-fault c =
     let a = definition_by c.args.name c.args.places.items c.args.variables.items c.args.ports.items c.args.transitions.items in
-    let told : c.fault_of.result ≡ fault_of a = of_lent c.args.name _ _ _ _ _ _ _ _ _ c.fault_of.ensures c.deref.ensures.value c.deref-2.ensures.value c.deref-3.ensures.value c.deref-4.ensures.value in
-    broken c.in-Some.fault (fault_of a) (sym told ∙ c.in-Some.is)
+    let found : c.fault_of.result ≡ fault_of a = of_lent c.args.name _ _ _ _ _ _ _ _ _ c.fault_of.ensures c.deref.ensures.value c.deref-2.ensures.value c.deref-3.ensures.value c.deref-4.ensures.value in
+    broken c.in-Some.fault (fault_of a) (sym found ∙ c.in-Some.is)
 
 pub masks_by_port-requires-clause-ports : goal.masks_by_port-requires-clause-ports
 masks_by_port-requires-clause-ports c =
     let a = definition_by c.args.name c.args.places.items c.args.variables.items c.args.ports.items c.args.transitions.items in
-    let told : c.fault_of.result ≡ fault_of a = of_lent c.args.name _ _ _ _ _ _ _ _ _ c.fault_of.ensures c.deref.ensures.value c.deref-2.ensures.value c.deref-3.ensures.value c.deref-4.ensures.value in
-    omega (arith, few_ports a (formed-when-sound a (sym told ∙ c.in_default.is)), length-map c.args.ports.items port_of, c.len.ensures, c.args.ports.ok.0)
+    let found : c.fault_of.result ≡ fault_of a = of_lent c.args.name _ _ _ _ _ _ _ _ _ c.fault_of.ensures c.deref.ensures.value c.deref-2.ensures.value c.deref-3.ensures.value c.deref-4.ensures.value in
+    omega (arith, few_ports a (formed-when-sound a (sym found ∙ c.in_default.is)), length-map c.args.ports.items port_of, c.len.ensures, c.args.ports.ok.0)
 
 pub masks_by_port-requires-clause-transitions : goal.masks_by_port-requires-clause-transitions
 masks_by_port-requires-clause-transitions c =
     let a = definition_by c.args.name c.args.places.items c.args.variables.items c.args.ports.items c.args.transitions.items in
-    let told : c.fault_of.result ≡ fault_of a = of_lent c.args.name _ _ _ _ _ _ _ _ _ c.fault_of.ensures c.deref.ensures.value c.deref-2.ensures.value c.deref-3.ensures.value c.deref-4.ensures.value in
-    omega (arith, few_transitions a (formed-when-sound a (sym told ∙ c.in_default.is)), length-map c.args.transitions.items transition_of, ap length c.deref-5.ensures.value)
+    let found : c.fault_of.result ≡ fault_of a = of_lent c.args.name _ _ _ _ _ _ _ _ _ c.fault_of.ensures c.deref.ensures.value c.deref-2.ensures.value c.deref-3.ensures.value c.deref-4.ensures.value in
+    omega (arith, few_transitions a (formed-when-sound a (sym found ∙ c.in_default.is)), length-map c.args.transitions.items transition_of, ap length c.deref-5.ensures.value)
 
 pub groups_of-requires : goal.groups_of-requires
 groups_of-requires c =
     let a = definition_by c.args.name c.args.places.items c.args.variables.items c.args.ports.items c.args.transitions.items in
-    let told : c.fault_of.result ≡ fault_of a = of_lent c.args.name _ _ _ _ _ _ _ _ _ c.fault_of.ensures c.deref.ensures.value c.deref-2.ensures.value c.deref-3.ensures.value c.deref-4.ensures.value in
-    omega (arith, few_transitions a (formed-when-sound a (sym told ∙ c.in_default.is)), length-map c.args.transitions.items transition_of, ap length c.deref-6.ensures.value)
+    let found : c.fault_of.result ≡ fault_of a = of_lent c.args.name _ _ _ _ _ _ _ _ _ c.fault_of.ensures c.deref.ensures.value c.deref-2.ensures.value c.deref-3.ensures.value c.deref-4.ensures.value in
+    omega (arith, few_transitions a (formed-when-sound a (sym found ∙ c.in_default.is)), length-map c.args.transitions.items transition_of, ap length c.deref-6.ensures.value)
 
 pub mask_of_unguarded-unguarded-requires : goal.mask_of_unguarded-unguarded-requires
 mask_of_unguarded-unguarded-requires c =
     let a = definition_by c.args.name c.args.places.items c.args.variables.items c.args.ports.items c.args.transitions.items in
-    let told : c.fault_of.result ≡ fault_of a = of_lent c.args.name _ _ _ _ _ _ _ _ _ c.fault_of.ensures c.deref.ensures.value c.deref-2.ensures.value c.deref-3.ensures.value c.deref-4.ensures.value in
-    omega (arith, few_transitions a (formed-when-sound a (sym told ∙ c.in_default.is)), length-map c.args.transitions.items transition_of, ap length c.deref-7.ensures.value)
+    let found : c.fault_of.result ≡ fault_of a = of_lent c.args.name _ _ _ _ _ _ _ _ _ c.fault_of.ensures c.deref.ensures.value c.deref-2.ensures.value c.deref-3.ensures.value c.deref-4.ensures.value in
+    omega (arith, few_transitions a (formed-when-sound a (sym found ∙ c.in_default.is)), length-map c.args.transitions.items transition_of, ap length c.deref-7.ensures.value)
 
 pub invariant_of-result-clause-well_formed : goal.invariant_of-result-clause-well_formed
 invariant_of-result-clause-well_formed c =
     let a = definition_by c.args.name c.args.places.items c.args.variables.items c.args.ports.items c.args.transitions.items in
-    let told : c.fault_of.result ≡ fault_of a = of_lent c.args.name _ _ _ _ _ _ _ _ _ c.fault_of.ensures c.deref.ensures.value c.deref-2.ensures.value c.deref-3.ensures.value c.deref-4.ensures.value in
-    formed-when-sound a (sym told ∙ c.in_default.is)
+    let found : c.fault_of.result ≡ fault_of a = of_lent c.args.name _ _ _ _ _ _ _ _ _ c.fault_of.ensures c.deref.ensures.value c.deref-2.ensures.value c.deref-3.ensures.value c.deref-4.ensures.value in
+    formed-when-sound a (sym found ∙ c.in_default.is)
 
 pub invariant_of-result-clause-masked : goal.invariant_of-result-clause-masked
 invariant_of-result-clause-masked c =

@@ -5,24 +5,11 @@ use Rattle.petri_atom.specs.Same.{is_same_place, is_same_variable, is_same_port}
 use Rattle.petri_atom.specs.SameTransition.{is_same_transition}
 use Rattle.petri_atom.specs.declared.parts.Place.{Place}
 use Rattle.petri_atom.specs.declared.parts.Variable.{Variable}
-use Rattle.petri_atom.proofs.Sameness.{same_places, same_variables, same_ports, same_transitions, at_lists}
+use Rattle.petri_atom.proofs.Sameness.{same_places, same_variables, same_ports, same_transitions, same_of_five, at_lists}
 use Rattle.petri_atom.proofs.atom.Atom.same.Goals as goal
 
--- an atom made of its parts
-abbrev parts : List ℕ → List Place → List Variable → List PortDefinition → List TransitionDefinition → AtomDefinition
-parts name places variables ports transitions = record {
-  name = name;
-  places = places;
-  variables = variables;
-  ports = ports;
-  transitions = transitions;
-}
-
--- atoms of the same parts are the same
-made : {m n : List ℕ} {ps qs : List Place} {us vs : List Variable} {os rs : List PortDefinition} {ss ts : List TransitionDefinition} → m ≡ n → ps ≡ qs → us ≡ vs → os ≡ rs → ss ≡ ts → parts m ps us os ss ≡ parts n qs vs rs ts
-made {m = m} {n = n} {ps = ps} {qs = qs} {us = us} {vs = vs} {os = os} {rs = rs} {ss = ss} {ts = ts} en ep ev eo et =
-    ap (λ x. parts x ps us os ss) en ∙ ap (λ x. parts n x us os ss) ep ∙ ap (λ x. parts n qs x os ss) ev ∙
-    ap (λ x. parts n qs vs x ss) eo ∙ ap (λ x. parts n qs vs rs x) et
+abbrev make : List ℕ → List Place → List Variable → List PortDefinition → List TransitionDefinition → AtomDefinition
+make name places variables ports transitions = record { name = name; places = places; variables = variables; ports = ports; transitions = transitions }
 
 pub returns : goal.returns
 returns c =
@@ -32,7 +19,7 @@ returns c =
     let variables = Decides-at c.all_same-2.result _ (at_lists is_same_variable c.all_same-2.result _ _ _ _ c.all_same-2.ensures c.deref-3.ensures.value c.deref-4.ensures.value) (same_variables mine.variables.items theirs.variables.items) in
     let ports = Decides-at c.all_same-3.result _ (at_lists is_same_port c.all_same-3.result _ _ _ _ c.all_same-3.ensures c.deref-5.ensures.value c.deref-6.ensures.value) (same_ports mine.ports.items theirs.ports.items) in
     let transitions = Decides-at c.all_same-4.result _ (at_lists is_same_transition c.all_same-4.result _ _ _ _ c.all_same-4.ensures c.deref-7.ensures.value c.deref-8.ensures.value) (same_transitions mine.transitions.items theirs.transitions.items) in
-    Decides-like _ (λ same. made same.0.0.0.0 same.0.0.0.1 same.0.0.1 same.0.1 same.1)
+    Decides-like _ (λ same. same_of_five make same.0.0.0.0 same.0.0.0.1 same.0.0.1 same.0.1 same.1)
     (λ e. ((((ap (λ x. x.name) e, ap (λ x. x.places) e), ap (λ x. x.variables) e), ap (λ x. x.ports) e), ap (λ x. x.transitions) e))
     (Decides-and _ _
     (Decides-and _ _ (Decides-and _ _ (Decides-and _ _ c.same.ensures.same places) variables) ports) transitions)

@@ -8,9 +8,9 @@ use Rattle.petri_atom.specs.Update.{update_of}
 use Rattle.petri_atom.specs.declared.transition.Update.{Update}
 use Rattle.petri_atom.proofs.transition.Transition.update.Goals as goal
 
--- behind one update, the others lead to the same values
-one_behind : (updates : List Update) (n : ℕ) (update : Update) (values next end : List ℤ) → n < length updates → update ≡ get_or updates n update → next ≡ slice_set values update.variable (value_of (value_in values) (tree_of update.value)) → updated (map update_of (drop n updates)) values ≡ end → updated (map update_of (drop (n + 1) updates)) next ≡ end
-one_behind updates n update values next end within is made leads =
+-- after one update, the others lead to the same values
+after_one : (updates : List Update) (n : ℕ) (update : Update) (values next end : List ℤ) → n < length updates → update ≡ get_or updates n update → next ≡ slice_set values update.variable (value_of (value_in values) (tree_of update.value)) → updated (map update_of (drop n updates)) values ≡ end → updated (map update_of (drop (n + 1) updates)) next ≡ end
+after_one updates n update values next end within is made leads =
     let front : drop n updates ≡ get_or updates n update ∷ drop (n + 1) updates = rw add-one (drop-cons updates n update within) in
     ap (updated (map update_of (drop (n + 1) updates))) made
     ∙ ap (λ u. updated (map update_of (u ∷ drop (n + 1) updates)) values) is
@@ -26,4 +26,4 @@ loop-update-preserved c =
     let lent = c.deref-update-items.ensures.value in
     let within : n < length updates = subst (λ (us : List Update). n < length us) lent c.loop-update-test.true in
     let fits : SFits w64 c.value-value.result = search rules in
-    (c.assign.ensures.marking ∙ c.loop-update.invariant.0, one_behind updates n update values c.assign.new.self.values _ within (c.update-item.is ∙ ap (λ (us : List Update). get_or us n update) lent) (c.assign.ensures.values ∙ ap (slice_set values update.variable) (to_z-of_z w64 c.value-value.result fits ∙ c.value-value.ensures)) c.loop-update.invariant.1)
+    (c.assign.ensures.marking ∙ c.loop-update.invariant.0, after_one updates n update values c.assign.new.self.values _ within (c.update-item.is ∙ ap (λ (us : List Update). get_or us n update) lent) (c.assign.ensures.values ∙ ap (slice_set values update.variable) (to_z-of_z w64 c.value-value.result fits ∙ c.value-value.ensures)) c.loop-update.invariant.1)

@@ -19,7 +19,7 @@ use Rattle.step_executor.proofs.Standing.{states-many}
 use Rattle.step_executor.specs.Executing.{committed_in, jobs_in, plant_in, states_in, system_in}
 use Rattle.step_core.specs.System.{digest_of, plant_of}
 use Rattle.step_core.specs.declared.system.System.{System}
-use Rattle.plant_core.specs.Kept.{AreMarked, AreOnTheWay, FitsTogether, IsAtRest, IsFrontOf, IsJournalOf}
+use Rattle.plant_core.specs.Invariant.{AreMarked, AreNextSlots, AreOnTheWay, FitsTogether, IsAtRest, IsFrontOf, IsJournalOf}
 use Rattle.plant_core.specs.Marks.{marks_of}
 use Rattle.plant_core.specs.Plants.{view_of}
 use Rattle.plant_core.specs.Stops.{StandsForFront}
@@ -29,6 +29,7 @@ use Rattle.plant_core.proofs.Firing.{bodies-many}
 use Rattle.plant_core.proofs.Flushing.{all-acked, are-records, front-runs, journal-of-failed, journal-of-flushed, noted-fits, view-of-flushed}
 use Rattle.plant_core.proofs.Copies.{ways-flushed}
 use Rattle.plant_core.proofs.Marking.{all-marked}
+use Rattle.plant_core.proofs.NextSlots.{slots-appended}
 use Rattle.plant_core.proofs.AtRest.{again-reads, front-now, front-of, rest-again, rest-front, stops-stand}
 use Rattle.plant_core.proofs.plant.Plant.flush.Goals as goal
 
@@ -86,6 +87,11 @@ invariant_of-self-2 g c =
       of_journal = subst (λ p. IsJournalOf p after c.append_run.new.self c.append_run.new.cells) (sym same)
           (subst (λ (n : ℕ). IsJournalOf plant n c.append_run.new.self c.append_run.new.cells) (sym summed) (journal-of-flushed plant self.number (length v.tail) self.journal c.append_run.new.self self.cells c.append_run.new.cells journal c.append_run.ensures.counts.size self.of_journal));
       at_rest = λ keeps whole. subst (λ (s : System). IsAtRest (plant_of s) (digest_of s) c.append_run.new.self (committed_in run) self.counts after self.snapshots.saved c.append_run.new.cells) (sym system) (rests keeps);
+      slots_known = λ keeps whole.
+          let kept : self.cells.keeps ≡ true = sym c.append_run.ensures.counts.keeps ∙ keeps in
+          let all : HasAppendedAll self.journal news self.cells c.append_run.new.cells = ok-has c.append_run.result ok (c.append_run.ensures.appended kept news are) in
+          subst (λ p. AreNextSlots p self.snapshots.next_slots (seen_cells (BODY + 1) c.append_run.new.cells)) (sym same)
+          (slots-appended plant self.snapshots.next_slots self.journal news self.cells c.append_run.new.cells self.of_journal.atoms all (self.slots_known kept c.if-self.false));
       marked = λ keeps whole.
           let kept : self.cells.keeps ≡ true = sym c.append_run.ensures.counts.keeps ∙ keeps in
           let rest = self.at_rest kept c.if-self.false in

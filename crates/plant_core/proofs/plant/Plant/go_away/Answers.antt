@@ -3,12 +3,12 @@ use Rattle.std.specs.List.{list_all}
 use Rattle.std.proofs.lemmas.List.{take-append-le}
 use Rattle.petri_atom.specs.Definition.{is_well_formed}
 use Rattle.record_codec.specs.Fired.{FiredFields, IsFired, fired_in}
-use Rattle.record_replay.specs.Records.{record_by, record_told}
+use Rattle.record_replay.specs.Records.{record_by, record_delivered}
 use Rattle.step_core.specs.Chosen.{choice_of}
 use Rattle.step_core.specs.Laws.{IsInRange}
 use Rattle.step_core.specs.Plant.{PlantDefinition}
 use Rattle.step_core.specs.Step.{transfer}
-use Rattle.step_executor.specs.Outstanding.{is_out, jobs_behind}
+use Rattle.step_executor.specs.Outstanding.{is_out, jobs_after}
 use Rattle.step_core.specs.Rules.{fault_of}
 use Rattle.disk_model.specs.Cells.{seen_cells}
 use Rattle.disk_model.specs.DiskState.{size_of}
@@ -17,7 +17,7 @@ use Rattle.step_executor.specs.Executing.{committed_in, jobs_in, plant_in, state
 use Rattle.step_core.specs.System.{digest_of, plant_of}
 use Rattle.step_core.specs.declared.limits.TheConstants.{MAX_ATOMS}
 use Rattle.step_core.specs.declared.system.System.{System}
-use Rattle.plant_core.specs.Kept.{AreMarked, AreOnTheWay, FitsTogether, IsAtRest, IsFrontOf, IsJournalOf}
+use Rattle.plant_core.specs.Invariant.{AreMarked, AreNextSlots, AreOnTheWay, FitsTogether, IsAtRest, IsFrontOf, IsJournalOf}
 use Rattle.plant_core.specs.Marks.{mark_of}
 use Rattle.plant_core.specs.Plants.{view_of}
 use Rattle.plant_core.specs.View.{fired_number, view_by, with_fired}
@@ -32,13 +32,13 @@ record_of-record-requires g c =
     let plant = plant_in self.executor in
     let v = view_of self in
     let choice = choice_of c.args.choice in
-    let rows = c.begin.new.told in
+    let rows = c.begin.new.delivered in
     let valid : fault_of plant ≡ None = subst (λ p. fault_of p ≡ None) c.system.ensures.plant c.keeps_its_rules.ensures.plant in
     let formed : list_all is_well_formed plant.atoms ≡ true = subst (λ (p : PlantDefinition). list_all is_well_formed p.atoms ≡ true) c.system.ensures.plant c.keeps_its_rules.ensures.atoms in
     let range : IsInRange plant choice = c.an_allowed_choice_is_in_range.ensures plant v.present choice valid (c.sure_is_allowed.ensures plant v.present (is_out v.away) choice c.requires.sure) in
-    let told = c.a_told_record_is_the_record_of_its_choice.ensures plant v.present v.counts (fired_number v + 1) choice rows (told-many (transfer plant v.present choice) choice.moves rows c.begin.ensures.told) c.begin.ensures.told in
+    let told = c.a_record_of_what_was_delivered_is_that_of_the_choice.ensures plant v.present v.counts (fired_number v + 1) choice rows (told-many (transfer plant v.present choice) choice.moves rows c.begin.ensures.delivered) c.begin.ensures.delivered in
     record {
-      in_range = subst (λ (n : ℕ). IsFired (record_told (n + 1) choice rows self.counts)) (sym c.fired-number.ensures)
+      in_range = subst (λ (n : ℕ). IsFired (record_delivered (n + 1) choice rows self.counts)) (sym c.fired-number.ensures)
           (subst IsFired (sym told) (next-in-range plant v self.bodies.items self.fits_together choice (c.sure_is_allowed.ensures plant v.present (is_out v.away) choice c.requires.sure) valid formed c.requires.last));
     }
 
@@ -74,16 +74,16 @@ invariant_of-self g c =
     let plant = plant_in self.executor in
     let v = view_of self in
     let choice = choice_of c.args.choice in
-    let rows = c.begin.new.told in
+    let rows = c.begin.new.delivered in
     let valid : fault_of plant ≡ None = subst (λ p. fault_of p ≡ None) c.system.ensures.plant c.keeps_its_rules.ensures.plant in
-    let told = c.a_told_record_is_the_record_of_its_choice.ensures plant v.present v.counts (fired_number v + 1) choice rows (told-many (transfer plant v.present choice) choice.moves rows c.begin.ensures.told) c.begin.ensures.told in
+    let told = c.a_record_of_what_was_delivered_is_that_of_the_choice.ensures plant v.present v.counts (fired_number v + 1) choice rows (told-many (transfer plant v.present choice) choice.moves rows c.begin.ensures.delivered) c.begin.ensures.delivered in
     let made : c.record_of-record.result ≡ record_by plant v.present v.counts (fired_number v + 1) choice =
-    c.record_of-record.ensures ∙ ap (λ (n : ℕ). record_told (n + 1) choice rows self.counts) c.fired-number.ensures ∙ told in
+    c.record_of-record.ensures ∙ ap (λ (n : ℕ). record_delivered (n + 1) choice rows self.counts) c.fired-number.ensures ∙ told in
     let held : fired_in c.to_body.result ≡ Some (record_by plant v.present v.counts (fired_number v + 1) choice) = c.to_body.ensures.reads_back ∙ ap (λ (r : FiredFields). Some r) made in
     let marked : c.push_reserved-3.new.self.items ≡ self.marks.items ++ mark_of (record_by plant v.present v.counts (fired_number v + 1) choice) ∷ [] =
     c.push_reserved-3.ensures.items ∙ ap (λ m. self.marks.items ++ m ∷ []) (c.mark_of.ensures ∙ ap mark_of made) in
     let more = one-more plant v self.bodies.items self.fits_together choice (c.sure_is_allowed.ensures plant v.present (is_out v.away) choice c.requires.sure) c.to_body.result held c.requires.short c.requires.room c.requires.last in
-    let out = jobs_behind plant v.present v.counts choice choice.moves v.away in
+    let out = jobs_after plant v.present v.counts choice choice.moves v.away in
     let view = view-of-fired plant (committed_in self.executor) (committed_in c.begin.new.self) v.present (states_in c.begin.new.self) self.acked_counts self.counts c.count_participants.new.counts self.number self.tail.items c.push_reserved.new.self.items c.args.choice self.journal self.marks.items c.push_reserved-3.new.self.items self.snapshots v.away (jobs_in c.begin.new.self) out self.broken c.begin.ensures.committed c.push_reserved.ensures.items c.begin.ensures.next c.count_participants.ensures marked c.begin.ensures.kept in
     let run = c.begin.new.self in
     let seen = view_by (committed_in run) self.acked_counts self.number c.push_reserved.new.self.items (states_in run) c.count_participants.new.counts self.journal c.push_reserved-3.new.self.items self.snapshots (jobs_in run) self.broken in
@@ -97,6 +97,7 @@ invariant_of-self g c =
       of_journal = subst (λ p. IsJournalOf p self.number self.journal self.cells) (sym c.begin.ensures.plant) self.of_journal;
       at_rest = λ keeps whole. subst (λ (s : System). IsAtRest (plant_of s) (digest_of s) self.journal (committed_in run) self.acked_counts self.number self.snapshots.saved self.cells) (sym c.begin.ensures.system)
           (subst (λ states. IsAtRest plant (digest_of (system_in self.executor)) self.journal states self.acked_counts self.number self.snapshots.saved self.cells) (sym c.begin.ensures.committed) (self.at_rest keeps whole));
+      slots_known = λ keeps whole. subst (λ p. AreNextSlots p self.snapshots.next_slots (seen_cells (BODY + 1) self.cells)) (sym c.begin.ensures.plant) (self.slots_known keeps whole);
       marked = λ keeps whole. subst (λ p. AreMarked p seen (seen_cells (BODY + 1) self.cells)) (sym c.begin.ensures.plant)
           (ap (take (self.number + 1 - self.journal.base)) marked ∙
           take-append-le (self.number + 1 - self.journal.base) self.marks.items (mark_of (record_by plant v.present v.counts (fired_number v + 1) choice) ∷ []) (omega (arith, self.fits_together.marks_many)) ∙
@@ -115,12 +116,12 @@ returns-clause-view g c =
     let plant = plant_in self.executor in
     let v = view_of self in
     let choice = choice_of c.args.choice in
-    let rows = c.begin.new.told in
+    let rows = c.begin.new.delivered in
     let valid : fault_of plant ≡ None = subst (λ p. fault_of p ≡ None) c.system.ensures.plant c.keeps_its_rules.ensures.plant in
-    let told = c.a_told_record_is_the_record_of_its_choice.ensures plant v.present v.counts (fired_number v + 1) choice rows (told-many (transfer plant v.present choice) choice.moves rows c.begin.ensures.told) c.begin.ensures.told in
+    let told = c.a_record_of_what_was_delivered_is_that_of_the_choice.ensures plant v.present v.counts (fired_number v + 1) choice rows (told-many (transfer plant v.present choice) choice.moves rows c.begin.ensures.delivered) c.begin.ensures.delivered in
     let made : c.record_of-record.result ≡ record_by plant v.present v.counts (fired_number v + 1) choice =
-    c.record_of-record.ensures ∙ ap (λ (n : ℕ). record_told (n + 1) choice rows self.counts) c.fired-number.ensures ∙ told in
+    c.record_of-record.ensures ∙ ap (λ (n : ℕ). record_delivered (n + 1) choice rows self.counts) c.fired-number.ensures ∙ told in
     let marked : c.push_reserved-3.new.self.items ≡ self.marks.items ++ mark_of (record_by plant v.present v.counts (fired_number v + 1) choice) ∷ [] =
     c.push_reserved-3.ensures.items ∙ ap (λ m. self.marks.items ++ m ∷ []) (c.mark_of.ensures ∙ ap mark_of made) in
-    let out = jobs_behind plant v.present v.counts choice choice.moves v.away in
+    let out = jobs_after plant v.present v.counts choice choice.moves v.away in
     view-of-fired plant (committed_in self.executor) (committed_in c.begin.new.self) v.present (states_in c.begin.new.self) self.acked_counts self.counts c.count_participants.new.counts self.number self.tail.items c.push_reserved.new.self.items c.args.choice self.journal self.marks.items c.push_reserved-3.new.self.items self.snapshots v.away (jobs_in c.begin.new.self) out self.broken c.begin.ensures.committed c.push_reserved.ensures.items c.begin.ensures.next c.count_participants.ensures marked c.begin.ensures.kept

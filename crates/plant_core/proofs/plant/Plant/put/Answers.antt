@@ -1,5 +1,4 @@
 use Rattle.std.proofs.Common.{◌≡◌, ℕ, ◌+◌, ◌∙◌, ap, subst, sym, refl, Bool, true, false}
-use Rattle.std.specs.Result.{is_ok}
 use Rattle.std.proofs.lemmas.Bool.{false≢true}
 use Rattle.disk_model.specs.Cells.{seen_cells}
 use Rattle.disk_model.specs.DiskState.{size_of}
@@ -11,16 +10,16 @@ use Rattle.snapshot_writer.specs.Storing.{IsStored}
 use Rattle.step_executor.specs.Executing.{committed_in, jobs_in, plant_in, states_in, system_in}
 use Rattle.step_core.specs.System.{digest_of}
 use Rattle.plant_core.specs.Events.{IsTaken}
-use Rattle.plant_core.specs.Kept.{AreMarked, AreOnTheWay, FitsTogether, IsAtRest}
+use Rattle.plant_core.specs.Invariant.{AreMarked, AreNextSlots, AreOnTheWay, FitsTogether, IsAtRest}
 use Rattle.plant_core.specs.Plants.{view_of}
-use Rattle.plant_core.specs.Snapshots.{SnapshotFields, with_slot}
+use Rattle.plant_core.specs.Snapshots.{SnapshotFields, next_slot, with_slot, with_written}
 use Rattle.plant_core.specs.Stops.{StandsForAcked}
 use Rattle.plant_core.specs.View.{view_by, with_stored}
-use Rattle.plant_core.proofs.Answered.{ok-has, ok-where}
 use Rattle.plant_core.proofs.AtRest.{acked-front, acked-now, front-of, rest-front, stands-now}
 use Rattle.plant_core.proofs.EventByEvent.{not-true}
 use Rattle.plant_core.proofs.Flushing.{journal-of-failed, noted-fits}
-use Rattle.plant_core.proofs.Taken.{taken-fits, taken-marked, taken-rest, taken-stops, taken-ways}
+use Rattle.plant_core.proofs.NextSlots.{slot-known}
+use Rattle.plant_core.proofs.Taken.{atom-within, taken-fits, taken-marked, taken-rest, taken-slots, taken-stops, taken-ways}
 use Rattle.plant_core.proofs.plant.Plant.put.Goals as goal
 
 -- refused, it makes no call of the device
@@ -31,6 +30,18 @@ returns-in-Some-clause-stops g c = λ keeps whole.
     let digest = digest_of (system_in self.executor) in
     leaves_start (BODY + 1) (StandsForAcked plant digest (size_of self.cells) (view_of self)) self.cells
     (λ cells may. stands-now plant digest self.journal (committed_in self.executor) self.acked_counts self.number self.snapshots.saved self.cells (self.at_rest keeps whole) cells may)
+
+-- the slot that is known does not hold the newest state
+pub save-requires-clause-known : goal.save-requires-clause-known
+save-requires-clause-known g c = λ keeps.
+    let self = c.args.self.now in
+    let v = view_of self in
+    let saved = c.args.encoded in
+    let taken : IsTaken v saved = subst (IsTaken v) c.parcel.ensures c.in_default.ensures in
+    let whole : self.broken ≡ false = not-true self.broken taken.whole in
+    let own : c.atom.result ≡ saved.atom = c.atom.ensures.value ∙ ap (λ (s : SavedFields). s.atom) c.parcel-2.ensures in
+    let known : c.next_slot-known.result ≡ next_slot self.snapshots.next_slots saved.atom = c.next_slot-known.ensures.known ∙ ap (next_slot self.snapshots.next_slots) own in
+    slot-known (plant_in self.executor) self.snapshots.next_slots (seen_cells (BODY + 1) self.cells) (self.slots_known keeps whole) saved.atom (atom-within (plant_in self.executor) v self.bodies.items self.fits_together saved taken) c.next_slot-known.result known
 
 -- the device failed
 pub invariant_of-self : goal.invariant_of-self
@@ -48,6 +59,7 @@ invariant_of-self g c =
       room_of_marks = self.room_of_marks;
       of_journal = journal-of-failed plant self.number self.journal self.journal self.cells new refl c.save.ensures.counts.size self.of_journal;
       at_rest = λ keeps whole. absurd (false≢true (sym whole));
+      slots_known = λ keeps whole. absurd (false≢true (sym whole));
       marked = λ keeps whole. absurd (false≢true (sym whole));
       on_the_way = λ keeps whole. absurd (false≢true (sym whole));
       at_a_stop = λ keeps image may.
@@ -60,8 +72,8 @@ invariant_of-self g c =
           (leaves_now (BODY + 1) (StandsForAcked plant digest (size_of self.cells) v) self.cells new stops image may)));
     }
 
-pub returns-then-is_err-clause-stops : goal.returns-then-is_err-clause-stops
-returns-then-is_err-clause-stops g c = λ keeps whole.
+pub returns-in_default-save-clause-stops : goal.returns-in_default-save-clause-stops
+returns-in_default-save-clause-stops g c = λ keeps whole.
     let self = c.args.self.now in
     let v = view_of self in
     let taken : IsTaken v c.args.encoded = subst (IsTaken v) c.parcel.ensures c.in_default.ensures in
@@ -85,12 +97,12 @@ invariant_of-self-2 g c =
     let new = c.save.new.cells in
     let taken : IsTaken v saved = subst (IsTaken v) c.parcel.ensures c.in_default.ensures in
     let whole : self.broken ≡ false = not-true self.broken taken.whole in
-    let noted : c.stored.new.self ≡ with_slot saved self.snapshots = c.stored.ensures ∙ ap (λ (s : SavedFields). with_slot s self.snapshots) c.into_parcel-parcel.ensures in
+    let slot : ℕ = c.in-Ok.slot in
+    let noted : c.stored.new.self ≡ with_slot saved slot self.snapshots = c.stored.ensures ∙ ap (λ (s : SavedFields). with_slot s slot self.snapshots) c.into_parcel-parcel.ensures in
     let view : view_by (committed_in self.executor) self.acked_counts self.number self.tail.items (states_in self.executor) self.counts self.journal self.marks.items c.stored.new.self (jobs_in self.executor) false ≡ with_stored saved v =
     ap (λ (s : SnapshotFields). view_by (committed_in self.executor) self.acked_counts self.number self.tail.items (states_in self.executor) self.counts self.journal self.marks.items s (jobs_in self.executor) false) noted ∙
-    ap (λ (b : Bool). view_by (committed_in self.executor) self.acked_counts self.number self.tail.items (states_in self.executor) self.counts self.journal self.marks.items (with_slot saved self.snapshots) (jobs_in self.executor) b) (sym whole) in
-    let ok : is_ok c.save.result ≡ true = ok-where c.save.result (sym c.is_err.ensures.value ∙ c.if-is_err.false) in
-    let done : self.cells.keeps ≡ true → IsStored (other_slot saved.atom (seen_cells (BODY + 1) self.cells)) saved self.cells new = λ kept. ok-has c.save.result ok (c.save.ensures.stored kept) in
+    ap (λ (b : Bool). view_by (committed_in self.executor) self.acked_counts self.number self.tail.items (states_in self.executor) self.counts self.journal self.marks.items (with_slot saved slot self.snapshots) (jobs_in self.executor) b) (sym whole) in
+    let done : self.cells.keeps ≡ true → IsStored (other_slot saved.atom (seen_cells (BODY + 1) self.cells)) saved self.cells new = c.in-Ok.ensures.stored in
     let rests : new.keeps ≡ true → IsAtRest plant digest self.journal (committed_in self.executor) self.acked_counts self.number c.stored.new.self.saved new = λ keeps.
     let kept : self.cells.keeps ≡ true = sym c.save.ensures.counts.keeps ∙ keeps in
     subst (λ (s : SnapshotFields). IsAtRest plant digest self.journal (committed_in self.executor) self.acked_counts self.number s.saved new) (sym noted)
@@ -102,6 +114,11 @@ invariant_of-self-2 g c =
       room_of_marks = self.room_of_marks;
       of_journal = journal-of-failed plant self.number self.journal self.journal self.cells new refl c.save.ensures.counts.size self.of_journal;
       at_rest = λ keeps unbroken. rests keeps;
+      slots_known = λ keeps unbroken.
+          let kept : self.cells.keeps ≡ true = sym c.save.ensures.counts.keeps ∙ keeps in
+          subst (λ (s : SnapshotFields). AreNextSlots plant s.next_slots (seen_cells (BODY + 1) new)) (sym noted)
+          (subst (λ (n : ℕ). AreNextSlots plant (with_written saved.atom n self.snapshots.next_slots) (seen_cells (BODY + 1) new)) (sym (c.in-Ok.ensures.slot kept))
+          (taken-slots plant v self.bodies.items self.fits_together saved taken digest self.journal self.cells (self.at_rest kept whole) (self.on_the_way kept whole) new (done kept) self.snapshots.next_slots (self.slots_known kept whole)));
       marked = λ keeps unbroken.
           let kept : self.cells.keeps ≡ true = sym c.save.ensures.counts.keeps ∙ keeps in
           subst (λ w. AreMarked plant w (seen_cells (BODY + 1) new)) (sym view)
@@ -115,19 +132,17 @@ invariant_of-self-2 g c =
     }
 
 pub returns-clause-stored : goal.returns-clause-stored
-returns-clause-stored g c = λ keeps.
-    let ok : is_ok c.save.result ≡ true = ok-where c.save.result (sym c.is_err.ensures.value ∙ c.if-is_err.false) in
-    ok-has c.save.result ok (c.save.ensures.stored keeps)
+returns-clause-stored g c = c.in-Ok.ensures.stored
 
 pub returns-in-Some-clause-now : goal.returns-in-Some-clause-now
 returns-in-Some-clause-now g c =
     let self = c.args.self.now in
     acked-now (plant_in self.executor) (digest_of (system_in self.executor)) (view_of self) self.cells self.cells (returns-in-Some-clause-stops g c)
 
-pub returns-then-is_err-clause-now : goal.returns-then-is_err-clause-now
-returns-then-is_err-clause-now g c =
+pub returns-in_default-save-clause-now : goal.returns-in_default-save-clause-now
+returns-in_default-save-clause-now g c =
     let self = c.args.self.now in
-    acked-now (plant_in self.executor) (digest_of (system_in self.executor)) (view_of self) self.cells c.save.new.cells (returns-then-is_err-clause-stops g c)
+    acked-now (plant_in self.executor) (digest_of (system_in self.executor)) (view_of self) self.cells c.save.new.cells (returns-in_default-save-clause-stops g c)
 
 pub returns-clause-now : goal.returns-clause-now
 returns-clause-now g c =

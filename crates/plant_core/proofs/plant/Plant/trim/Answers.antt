@@ -11,13 +11,14 @@ use Rattle.gated_journal.specs.declared.ring.Ring.{Ring}
 use Rattle.step_executor.specs.Executing.{committed_in, jobs_in, plant_in, states_in, system_in}
 use Rattle.step_core.specs.System.{digest_of}
 use Rattle.trimmer.specs.Covered.{MarkFields}
-use Rattle.plant_core.specs.Kept.{AreMarked, AreOnTheWay, FitsTogether, IsAtRest, IsJournalOf}
+use Rattle.plant_core.specs.Invariant.{AreMarked, AreOnTheWay, FitsTogether, IsAtRest, IsJournalOf}
 use Rattle.plant_core.specs.Plants.{view_of}
 use Rattle.plant_core.specs.Stops.{StandsForAcked}
 use Rattle.plant_core.specs.View.{view_by, with_cut}
 use Rattle.plant_core.proofs.Answered.{err-where, ok-has, ok-where}
 use Rattle.plant_core.proofs.AtRest.{acked-front, acked-now, front-of, rest-front, stands-now}
 use Rattle.plant_core.proofs.Flushing.{journal-of-failed, noted-fits}
+use Rattle.plant_core.proofs.NextSlots.{slots-moved}
 use Rattle.plant_core.proofs.Trimmed.{cut-fits, go-within, gone-marked, gone-rest, gone-stops, gone-ways}
 use Rattle.plant_core.proofs.plant.Plant.trim.Goals as goal
 
@@ -72,6 +73,7 @@ invariant_of-self g c =
       room_of_marks = subst (λ (r : Ring). r.ring ≤ vec_capacity self.marks) (sym journal) self.room_of_marks;
       of_journal = journal-of-failed plant self.number self.journal j self.cells new journal c.move_base.ensures.counts.size self.of_journal;
       at_rest = λ keeps whole. absurd (false≢true (sym whole));
+      slots_known = λ keeps whole. absurd (false≢true (sym whole));
       marked = λ keeps whole. absurd (false≢true (sym whole));
       on_the_way = λ keeps whole. absurd (false≢true (sym whole));
       at_a_stop = λ keeps image may.
@@ -130,6 +132,9 @@ invariant_of-self-2 g c =
         inside = subst (λ (bytes : ℕ). cells_of_ring self.journal ≤ cells_in (BODY + 1) bytes) (sym c.move_base.ensures.counts.size) self.of_journal.inside;
       });
       at_rest = λ keeps whole. rests keeps;
+      slots_known = λ keeps whole.
+          let kept : self.cells.keeps ≡ true = sym c.move_base.ensures.counts.keeps ∙ keeps in
+          slots-moved plant self.snapshots.next_slots (seen_cells (BODY + 1) self.cells) (seen_cells (BODY + 1) new) (self.slots_known kept c.if-self.false) (self.journal.base + count) self.journal c.base.ensures.in_range.cell_from self.of_journal.atoms (done kept).is;
       marked = λ keeps whole.
           let kept : self.cells.keeps ≡ true = sym c.move_base.ensures.counts.keeps ∙ keeps in
           subst (λ w. AreMarked plant w (seen_cells (BODY + 1) new)) (sym view)

@@ -3,7 +3,7 @@ use Rattle.std.specs.Prelude.{Option, Some, None, MatchOption}
 use denote.Bor.{Bor}
 use Rattle.plant_words.proofs.words.Words.peek.Goals as goal
 
--- what stands behind the word that is taken stands behind the first of the words
+-- what stands after the word that is taken stands after the first of the words
 taken : (found : Option (Bor (List ℕ))) (words rest : List (List ℕ)) → MatchOption found (words ≡ []) (λ word. words ≡ word.now ∷ rest) → MatchOption found (words ≡ []) (λ word. words ≡ word.now ∷ drop 1 words)
 taken None words rest none = none
 taken (Some word) words rest first = first ∙ ap (λ more. word.now ∷ more) (sym (ap (drop 1) first))

@@ -12,7 +12,7 @@ returns-then-added-clause-more c = λ yes_.
     let theirs : set.contains c.args.other.now n ≡ true = sym (held c.other.inside.words c.args.other.now c.other.view_is n) ∙ some.2 in
     (n, some.1, mine, c.union_words.ensures.within n some.1 ∙ or_right (set.contains c.args.self.now n) (set.contains c.args.other.now n) theirs)
 
--- where nothing of the other set is missing, all of both was in
+-- if nothing of the other set is missing, all of both was in
 no-more : (mine theirs : Bool) → (theirs ≡ true → mine ≡ true) → mine ≡ (mine || theirs)
 no-more true theirs covered = refl
 no-more false true covered = covered refl

@@ -5,7 +5,7 @@ use Rattle.std.proofs.lemmas.Bool.{cases_lt, false≢true}
 use Rattle.priority_filter.specs.Active.{active, may_be_marked}
 use Rattle.priority_filter.specs.Decided.{is_below}
 use Rattle.priority_filter.proofs.Counting.{overruled-by-one}
-use Rattle.priority_filter.proofs.DecidedOrder.{told_below, told_no_fault}
+use Rattle.priority_filter.proofs.DecidedOrder.{decides_below, decides_no_fault}
 use Rattle.priority_filter.proofs.TableLaws.{contains_insert_cases}
 use Rattle.priority_filter.proofs.order.Order.below_at.Goals as goal
 
@@ -32,10 +32,10 @@ returns c =
     let there : b < length order.interactions → IsTrue (set.contains upper b) = λ within.
     ap (λ s. set.contains s b) (c.insert.ensures.within (omega (arith, within, c.is_overruled_at.ensures.limit))) ∙ (contains_insert_cases none b b).1 (inl (λ _. b)) in
     let value : c.is_overruled_at.result ≡ is_below rules order.interactions a b = c.is_overruled_at.ensures.value ∙ overruled-by-one rules order.interactions (set.contains upper) a b only there in
-    let told = told_below rules order.interactions a b in
+    let decides = decides_below rules order.interactions a b in
     record {
-      below = (λ yes_. told.0 (sym value ∙ yes_), λ below. value ∙ told.1 below);
+      below = (λ yes_. decides.0 (sym value ∙ yes_), λ below. value ∙ decides.1 below);
       value = value;
-      strict = ((told_no_fault order.rules order.interactions).0 c.is_overruled_at.ensures.sound).1;
+      strict = ((decides_no_fault order.rules order.interactions).0 c.is_overruled_at.ensures.sound).1;
       sound = c.is_overruled_at.ensures.sound;
     }

@@ -6,7 +6,7 @@ use Rattle.priority_filter.specs.Conditions.{AreWithin, IsLeastClosed}
 use Rattle.priority_filter.specs.Decided.{is_overruled}
 use Rattle.priority_filter.specs.Order.{Priorities}
 use Rattle.priority_filter.proofs.Keeping.{within-list}
-use Rattle.priority_filter.proofs.Overruling.{over-told}
+use Rattle.priority_filter.proofs.Overruling.{over-decides}
 use Rattle.priority_filter.proofs.order.Order.overruled_by_conditions.Goals as goal
 
 pub overruled_by-requires-clause-within : goal.overruled_by-requires-clause-within
@@ -24,4 +24,4 @@ returns c = λ n.
     let over = set.contains c.overruled_by.result in
     let least : IsLeastClosed inside.conditions.items holds rivals over = subst (λ (conditions : List Condition). IsLeastClosed conditions holds rivals over) c.deref.ensures.value c.overruled_by.ensures in
     subst (λ (p : Priorities). is_overruled (active holds p.rules) p.interactions rivals n ≡ (is_overruled (unconditional p.rules) p.interactions rivals n || over n)) c.self.view_is
-    (over-told inside.rules.items inside.interactions.items inside.conditions.items c.self.invariant.conditions holds rivals over least n)
+    (over-decides inside.rules.items inside.interactions.items inside.conditions.items c.self.invariant.conditions holds rivals over least n)

@@ -23,8 +23,8 @@ loop-left-preserved c =
     let small : left < 2 ^ 64 = omega arith in
     let over : ℕ → Bool = λ k. is_overruled (unconditional order.rules) order.interactions (set.contains c.args.rivals.now) (64 * place + k) in
     let lowest = trailing_zeros w64 left in
-    let told : over lowest ≡ c.is_overruled_always.result = sym c.is_overruled_always.ensures.value in
+    let answer : over lowest ≡ c.is_overruled_always.result = sym c.is_overruled_always.ensures.value in
     elim c.if-is_overruled_always.branch [
-      | then-is_overruled_always w ↦ λ k below. ap (λ x. has_bit x k) w.kept-is ∙ asked-left left some small over c.args.some kept c.loop-left.invariant (told ∙ w.if-is_overruled_always.true) k below
-      | else-is_overruled_always w ↦ λ k below. ap (λ x. has_bit x k) w.kept-is ∙ asked-kept left some small over c.args.some kept c.loop-left.invariant (told ∙ w.if-is_overruled_always.false) k below
+      | then-is_overruled_always w ↦ λ k below. ap (λ x. has_bit x k) w.kept-is ∙ asked-left left some small over c.args.some kept c.loop-left.invariant (answer ∙ w.if-is_overruled_always.true) k below
+      | else-is_overruled_always w ↦ λ k below. ap (λ x. has_bit x k) w.kept-is ∙ asked-kept left some small over c.args.some kept c.loop-left.invariant (answer ∙ w.if-is_overruled_always.false) k below
     ]

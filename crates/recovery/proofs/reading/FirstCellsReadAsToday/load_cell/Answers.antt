@@ -8,10 +8,10 @@ use Rattle.recovery.proofs.reading.FirstCellsReadAsToday.load_cell.Goals as goal
 pub returns-then-branch-clause-loaded : goal.returns-then-branch-clause-loaded
 returns-then-branch-clause-loaded g c keeps =
     ap Some c.todays_body_at.ensures
-    ∙ sym (cell-todays_cells c.args.atoms c.args.k (seen_cells (FIRST_BODY + 1) c.args.self.now)
+    ∙ sym (cell-todays_cells c.args.atoms c.args.k (seen_cells (FIRST_BODY + 1) c.args.self.now.cells)
     ∙ ap (todays_cell c.args.atoms c.args.k) (c.in_ok-read_cell.ensures.cell keeps ∙ ap (λ (full : Bool). if full then Some c.read_cell.new.body else None) c.if-branch.true))
 
 pub returns-else-branch-clause-loaded : goal.returns-else-branch-clause-loaded
 returns-else-branch-clause-loaded g c keeps =
-    sym (cell-todays_cells c.args.atoms c.args.k (seen_cells (FIRST_BODY + 1) c.args.self.now)
+    sym (cell-todays_cells c.args.atoms c.args.k (seen_cells (FIRST_BODY + 1) c.args.self.now.cells)
     ∙ ap (todays_cell c.args.atoms c.args.k) (c.in_ok-read_cell.ensures.cell keeps ∙ ap (λ (full : Bool). if full then Some c.read_cell.new.body else None) c.if-branch.false))

@@ -3,7 +3,7 @@ use Rattle.std.proofs.lemmas.Bool.{cond-false, ne_eqb}
 use Rattle.run_text.specs.Message.{count_message}
 use Rattle.run_text.proofs.fault.ChoiceCountDisplay.fmt.Goals as goal
 
--- where there are more choices than one, their number is told
+-- where there are more choices than one, their number is printed
 told-many : (n : ℕ) → 1 < n → count_message n ≡ codes "there are " ++ (decimal n ++ (codes " choices (0 to " ++ (decimal (n - 1) ++ codes ")")))
 told-many n more =
     cond-false (n == 0) _ _ (ne_eqb n 0 (λ none. omega (arith, more, none))) ∙

@@ -18,7 +18,7 @@ same-value (Some x) (Some y) = Decides-like _ (λ e. ap Some e) (λ e. same_Some
 pub returns : goal.returns
 returns c =
     let mine = c.args.self.now in
-    let theirs = c.args.done.now in
+    let theirs = c.args.other.now in
     let rows = slice_eq-Decides same-value c.row.result c.row-2.result c.eq.result c.eq.ensures in
     let delivered : Decides c.eq.result (mine.delivered ≡ theirs.delivered) = Decides-like _ (λ e. sym c.row.ensures ∙ e ∙ c.row-2.ensures) (λ e. c.row.ensures ∙ e ∙ sym c.row-2.ensures) rows in
     Decides-like _

@@ -8,9 +8,9 @@ use Rattle.step_core.specs.Step.{transfer}
 use Rattle.step_core.specs.Sure.{IsSure, went_on}
 use Rattle.step_core.specs.System.{plant_of}
 use Rattle.step_core.proofs.FiringOfParts.{fired-fit, fired-kept}
-use Rattle.step_core.proofs.Kept.{well_formed}
+use Rattle.step_core.proofs.RulesKept.{well_formed}
 use Rattle.step_core.proofs.PartsKept.{length-parts, shows}
-use Rattle.step_core.proofs.Surely.{goes-on, sure-allowed}
+use Rattle.step_core.proofs.SureAllowed.{goes-on, sure-allowed}
 use Rattle.step_core.proofs.parts.PlantParts.fire.Goals as goal
 
 pub fire-requires-clause-of_plant : goal.fire-requires-clause-of_plant
@@ -45,9 +45,9 @@ returns-clause-fits c fit =
     (well_formed c.args.system.now.atoms.items) (subst (AllPresentFit plant) (sym c.self.view_is) fit) in
     subst (AllPresentFit plant) (ap (parts_of (has c.self.inside.away)) (sym c.fire.ensures.next)) kept
 
-pub returns-clause-told : goal.returns-clause-told
-returns-clause-told c place m there =
+pub returns-clause-delivered : goal.returns-clause-delivered
+returns-clause-delivered c place m there =
     let plant = plant_of c.args.system.now in
     let choice = choice_of c.args.choice.now in
-    c.fire.ensures.told place m there ∙
+    c.fire.ensures.delivered place m there ∙
     ap (λ states. Some (transfer plant states choice m.atom)) (sym (shows c.self.inside.away c.self.inside.states c.self.invariant) ∙ ap shown_in c.self.view_is)

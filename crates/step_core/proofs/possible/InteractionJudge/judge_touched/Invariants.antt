@@ -1,21 +1,18 @@
 use Rattle.std.proofs.Common.{◌≡◌, ◌<◌, ◌*◌, ℕ, false, map, get_or}
 use Rattle.std.specs.FinSet.{contains}
-use Rattle.petri_atom.specs.Atom.{definition_of}
 use Rattle.step_core.specs.Choice.{is_possible_at}
 use Rattle.step_core.specs.Interaction.{interaction_of}
+use Rattle.step_core.specs.Judges.{judged_atoms, judged_wires}
 use Rattle.step_core.specs.Possible.{ArePossibleBut}
 use Rattle.step_core.specs.Ways.{IsWays, AreWaysBut, IsSame}
-use Rattle.step_core.specs.Wire.{wire_of}
 use Rattle.step_core.proofs.possible.InteractionJudge.judge_touched.Given as goal
 
 abbrev pub invariant-loop-place : goal.invariant-loop-place
 invariant-loop-place l =
-    let atoms = map definition_of l.self.atoms.now in
-    let wires = map wire_of l.self.wires.now in
     let states = l.self.states.now in
     let all = map interaction_of l.interactions in
-    ((n : ℕ) → n < 64 * l.place → contains l.possible n ≡ is_possible_at atoms wires states all n) ×
-    ((n : ℕ) → n < 64 * l.place → IsWays atoms wires states all n (get_or l.ways n 0)) ×
-    ArePossibleBut (contains l.touched) atoms wires states all l.possible ×
-    AreWaysBut (contains l.touched) atoms wires states all l.ways ×
+    ((n : ℕ) → n < 64 * l.place → contains l.possible n ≡ is_possible_at (judged_atoms l.self) (judged_wires l.self) states all n) ×
+    ((n : ℕ) → n < 64 * l.place → IsWays (judged_atoms l.self) (judged_wires l.self) states all n (get_or l.ways n 0)) ×
+    ArePossibleBut (contains l.touched) (judged_atoms l.self) (judged_wires l.self) states all l.possible ×
+    AreWaysBut (contains l.touched) (judged_atoms l.self) (judged_wires l.self) states all l.ways ×
     (l.changed ≡ false → IsSame l.initial.possible l.initial.ways l.possible l.ways)

@@ -27,10 +27,10 @@ loop-left-init c =
     )
 
 pub loop-left-smaller : goal.loop-left-smaller
-loop-left-smaller c = fewer-less c.args.place c.loop-left.left (omega (arith, c.loop-left-test.true)) (omega arith) c.judge_one-told.result.ruled_out (omega arith)
+loop-left-smaller c = fewer-less c.args.place c.loop-left.left (omega (arith, c.loop-left-test.true)) (omega arith) c.judge_one-verdict.result.ruled_out (omega arith)
 
-pub judge_one-told-requires-clause-out : goal.judge_one-told-requires-clause-out
-judge_one-told-requires-clause-out c =
+pub judge_one-verdict-requires-clause-out : goal.judge_one-verdict-requires-clause-out
+judge_one-verdict-requires-clause-out c =
     let judged = c.args.self.now in
     let possible = is_possible_at (map definition_of judged.atoms.now) (map wire_of judged.wires.now) judged.states.now (map interaction_of c.args.interactions.now) in
     let left = c.loop-left.left in
@@ -49,9 +49,9 @@ loop-left-preserved c =
     let place = c.args.place in
     let word = c.args.word in
     let old = c.loop-left in
-    let new = c.judge_one-told.new in
-    let told = c.judge_one-told.ensures in
-    let ruled = c.judge_one-told.result.ruled_out in
+    let new = c.judge_one-verdict.new in
+    let judged = c.judge_one-verdict.ensures in
+    let ruled = c.judge_one-verdict.result.ruled_out in
     let left = old.left in
     let some : 0 < left = omega (arith, c.loop-left-test.true) in
     let small : left < 2 ^ 64 = omega arith in
@@ -61,11 +61,11 @@ loop-left-preserved c =
     let another : (n : ℕ) → in_word place word n ≡ false → n ≢ number =
     λ n outside same. false≢true (sym outside ∙ ap (in_word place word) same ∙ before.0 number (lowest-inside place left some small)) in (
       λ n inside. before.0 n (rest-inside place left some small n (fewer-inside place left some small ruled fits n inside)),
-      judged-next place left some small ruled fits possible told.ruled_out word (contains old.possible) (contains new.possible) told.possible told.others before.1,
-      λ n outside. told.others n (another n outside) ∙ before.2 n outside,
-      right-next place left some small ruled fits possible told.ruled_out (IsWays atoms wires states all) word (λ k. get_or old.ways k 0) (λ k. get_or new.ways k 0) told.ways told.other_ways (λ n x never yes_. absurd (false≢true (sym never ∙ yes_))) before.3,
-      λ n outside. told.other_ways n (another n outside) ∙ before.4 n outside,
-      λ unchanged n. let parts = or_parts old.changed c.judge_one-told.result.is_new unchanged in told.same parts.1 n ∙ before.5 parts.0 n,
+      judged-next place left some small ruled fits possible judged.ruled_out word (contains old.possible) (contains new.possible) judged.possible judged.others before.1,
+      λ n outside. judged.others n (another n outside) ∙ before.2 n outside,
+      right-next place left some small ruled fits possible judged.ruled_out (IsWays atoms wires states all) word (λ k. get_or old.ways k 0) (λ k. get_or new.ways k 0) judged.ways judged.other_ways (λ n x never yes_. absurd (false≢true (sym never ∙ yes_))) before.3,
+      λ n outside. judged.other_ways n (another n outside) ∙ before.4 n outside,
+      λ unchanged n. let parts = or_parts old.changed c.judge_one-verdict.result.is_new unchanged in judged.same parts.1 n ∙ before.5 parts.0 n,
     )
 
 pub returns-clause-possible : goal.returns-clause-possible

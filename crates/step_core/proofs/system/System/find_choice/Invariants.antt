@@ -11,5 +11,5 @@ abbrev pub invariant-loop-at : goal.invariant-loop-at
 invariant-loop-at l =
     let atoms = map definition_of l.self.atoms.items in
     let all = map interaction_of l.self.interactions.items in
-    let kept = contains l.judgement.allowed in
+    let kept = contains l.judgement.kept in
     slice_get (choices_in_from atoms l.states all kept (64 * l.at)) l.left ≡ slice_get (choices_in atoms l.states all kept) l.place

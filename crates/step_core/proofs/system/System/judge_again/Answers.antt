@@ -6,11 +6,10 @@ use Rattle.petri_atom.specs.Local.{has}
 use Rattle.priority_filter.specs.Active.{may_be_marked}
 use Rattle.priority_filter.proofs.Counting.{alike-counted}
 use Rattle.step_core.specs.Choice.{active_in, is_marked_at, is_possible_at}
-use Rattle.step_core.specs.Interaction.{interaction_of}
-use Rattle.step_core.specs.System.{plant_of}
+use Rattle.step_core.specs.System.{interactions_in, plant_of}
 use Rattle.step_core.specs.Ways.{fits_word_at, ways_at}
 use Rattle.step_core.proofs.FittingWords.{fits-at}
-use Rattle.step_core.proofs.Kept.{few_atoms_of_plant}
+use Rattle.step_core.proofs.RulesKept.{few_atoms_of_plant}
 use Rattle.step_core.proofs.Sighted.{marked-past}
 use Rattle.step_core.proofs.Unchanged.{allowed-same, total-same}
 use Rattle.step_core.proofs.system.System.judge_again.Goals as goal
@@ -41,7 +40,6 @@ pub returns-else-is_new-is_seen_new : goal.returns-else-is_new-is_seen_new
 returns-else-is_new-is_seen_new c =
     let system = c.args.self.now in
     let plant = plant_of system in
-    let all = map interaction_of system.interactions.items in
     let behind = c.requires.behind in
     let before = behind.before in
     let after = c.args.states.now in
@@ -49,11 +47,11 @@ returns-else-is_new-is_seen_new c =
     let sights = c.see_again-is_seen_new.ensures in
     let first = or_parts (c.judge_offers_again-is_new.result || c.see_again-is_seen_new.result) (not system.fit_words) c.if-is_new-is_seen_new.false in
     let parts = or_parts c.judge_offers_again-is_new.result c.see_again-is_seen_new.result first.0 in
-    let all_fit : (n : ℕ) → fits_word_at all n ≡ true = λ n. fits-at all n (sym system.fitting ∙ not-false system.fit_words first.1) in
+    let all_fit : (n : ℕ) → fits_word_at (interactions_in system) n ≡ true = λ n. fits-at (interactions_in system) n (sym system.fitting ∙ not-false system.fit_words first.1) in
     let same = touched.same parts.0 in
-    let possible : (n : ℕ) → is_possible_at plant.atoms plant.wires after all n ≡ is_possible_at plant.atoms plant.wires before all n =
+    let possible : (n : ℕ) → is_possible_at plant.atoms plant.wires after (interactions_in system) n ≡ is_possible_at plant.atoms plant.wires before (interactions_in system) n =
     λ n. sym (touched.possible n) ∙ same.0 n ∙ behind.judged.possible n in
-    let ways : (n : ℕ) → is_possible_at plant.atoms plant.wires after all n ≡ true → ways_at plant.atoms after all n ≡ ways_at plant.atoms before all n =
+    let ways : (n : ℕ) → is_possible_at plant.atoms plant.wires after (interactions_in system) n ≡ true → ways_at plant.atoms after (interactions_in system) n ≡ ways_at plant.atoms before (interactions_in system) n =
     λ n yes_. sym (touched.ways n yes_ (all_fit n)) ∙ same.1 n ∙ behind.judged.ways n (sym (possible n) ∙ yes_) (all_fit n) in
     let counted : active_in plant after ≡ active_in plant before =
     alike-counted plant.rules (is_marked_at after) (is_marked_at before) (λ left right at there.
@@ -64,6 +62,6 @@ returns-else-is_new-is_seen_new c =
       possible = touched.possible;
       ways = touched.ways;
       seen = sights.seen;
-      allowed = λ n. ap (λ set. contains set n) touched.allowed ∙ behind.judged.allowed n ∙ sym (allowed-same plant all before after possible ways counted n);
-      total = touched.total ∙ behind.judged.total ∙ sym (total-same plant all before after possible ways counted);
+      allowed = λ n. ap (λ set. contains set n) touched.still_kept ∙ behind.judged.allowed n ∙ sym (allowed-same plant (interactions_in system) before after possible ways counted n);
+      total = touched.total ∙ behind.judged.total ∙ sym (total-same plant (interactions_in system) before after possible ways counted);
     }

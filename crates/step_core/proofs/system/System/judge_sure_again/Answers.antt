@@ -16,11 +16,11 @@ use Rattle.step_core.specs.Interaction.{interaction_of}
 use Rattle.step_core.specs.Parts.{is_present, may_be_marked_in, may_count_in, shown, shown_in}
 use Rattle.step_core.specs.Possible.{ArePossible}
 use Rattle.step_core.specs.Sure.{is_open, is_open_at, is_sure_at}
-use Rattle.step_core.specs.System.{plant_of}
+use Rattle.step_core.specs.System.{interactions_in, plant_of}
 use Rattle.step_core.specs.Ways.{AreWays, fits_word_at, ways_at}
 use Rattle.step_core.proofs.FittingWords.{fits-at}
 use Rattle.step_core.proofs.Judging.{counted-moves}
-use Rattle.step_core.proofs.Kept.{well_formed}
+use Rattle.step_core.proofs.RulesKept.{well_formed}
 use Rattle.step_core.proofs.Openness.{none-open, open-stays, present-past, sure-possible, sure-stays, unmarked-past, whole-present}
 use Rattle.step_core.proofs.Unchanged.{total-kept}
 use Rattle.step_core.proofs.system.System.judge_sure_again.Goals as goal
@@ -53,7 +53,6 @@ pub open_again-is_open_new-requires-clause-others : goal.open_again-is_open_new-
 open_again-is_open_new-requires-clause-others c n outside =
     let system = c.args.self.now in
     let plant = plant_of system in
-    let all = map interaction_of system.interactions.items in
     let behind = c.requires.behind in
     let before = behind.before in
     let parts = c.args.parts.now in
@@ -62,21 +61,21 @@ open_again-is_open_new-requires-clause-others c n outside =
     let new = c.judge_offers_again-is_new.new.judgement.offers in
     let old = c.args.judgement.now.judgement.offers in
     let judged = c.judge_offers_again-is_new.ensures in
-    let present : n < length all → (p : Port) → is_noted rows n (at_port p) ≡ true → is_present parts p.atom ≡ is_present before p.atom =
+    let present : n < length (interactions_in system) → (p : Port) → is_noted rows n (at_port p) ≡ true → is_present parts p.atom ≡ is_present before p.atom =
     λ within p noted. ⊎_elim
     (λ below. behind.present p.atom (c.touch_flipped.ensures n within (judged.kept n within (outside within)) p.atom p.port noted below))
     (λ past. present-past parts p.atom (omega (arith, past, c.requires.of_plant)) ∙ sym (present-past before p.atom (omega (arith, past, c.requires.of_plant, behind.as_many))))
     (cases_lt p.atom (length plant.atoms)) in
-    let told : n < length all → (p : Port) → is_noted rows n (at_port p) ≡ true → length (moves_of plant.atoms (shown_in parts) p) ≡ length (moves_of plant.atoms (shown_in before) p) =
+    let told : n < length (interactions_in system) → (p : Port) → is_noted rows n (at_port p) ≡ true → length (moves_of plant.atoms (shown_in parts) p) ≡ length (moves_of plant.atoms (shown_in before) p) =
     λ within p noted. ap (λ ss. length (moves_of plant.atoms ss p)) (sym states) ∙
     sym (counted-moves plant.atoms c.shown-states.result.now new.sets new.counts (ap length states ∙ length-map parts shown ∙ c.requires.of_plant) judged.offered judged.counted p) ∙
     judged.told n p.atom p.port within noted (outside within) ∙
     counted-moves plant.atoms (shown_in before) old.sets old.counts (length-map before shown ∙ behind.as_many ∙ c.requires.of_plant) behind.judged.offered behind.judged.counted p in
     behind.judged.opened n ∙
     sym (⊎_elim
-    (λ within. open-stays plant before parts all rows n system.touched (present within) (told within))
-    (λ past. ap (λ o. option_map_or (is_open plant.atoms parts) o false) (slice_get_past all n past) ∙ sym (ap (λ o. option_map_or (is_open plant.atoms before) o false) (slice_get_past all n past)))
-    (cases_lt n (length all)))
+    (λ within. open-stays plant before parts (interactions_in system) rows n system.touched (present within) (told within))
+    (λ past. ap (λ o. option_map_or (is_open plant.atoms parts) o false) (slice_get_past (interactions_in system) n past) ∙ sym (ap (λ o. option_map_or (is_open plant.atoms before) o false) (slice_get_past (interactions_in system) n past)))
+    (cases_lt n (length (interactions_in system))))
 
 pub open_again-is_open_new-requires-clause-whole : goal.open_again-is_open_new-requires-clause-whole
 open_again-is_open_new-requires-clause-whole c empty whole n =
@@ -124,7 +123,7 @@ returns-else-is_new-is_seen_new c =
       ways = now_ways;
       seen = sights.seen;
       opened = opened.opened;
-      sure = λ n. ap (λ set. contains set n) judged.allowed ∙ behind.judged.sure n ∙ sym (sure n);
+      sure = λ n. ap (λ set. contains set n) judged.still_kept ∙ behind.judged.sure n ∙ sym (sure n);
       total = judged.total ∙ behind.judged.total ∙
           sym (total-kept plant.atoms all (shown_in before) (shown_in parts) (is_sure_at plant before all) (is_sure_at plant parts all) sure (λ n yes_. ways n (sure-possible plant formed parts all n yes_)));
     }

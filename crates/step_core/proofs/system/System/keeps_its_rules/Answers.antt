@@ -1,5 +1,5 @@
 use Rattle.step_core.specs.System.{plant_of}
-use Rattle.step_core.proofs.Kept.{well_formed, few_atoms_of_plant}
+use Rattle.step_core.proofs.RulesKept.{well_formed, few_atoms_of_plant}
 use Rattle.step_core.proofs.system.System.keeps_its_rules.Goals as goal
 
 pub returns-clause-plant : goal.returns-clause-plant

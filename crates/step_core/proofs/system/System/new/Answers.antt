@@ -1,4 +1,4 @@
-use Rattle.std.proofs.Common.{◌≡◌, ◌≢◌, ◌∙◌, ap, sym, refl, subst, arith, List, map, length}
+use Rattle.std.proofs.Common.{◌≡◌, ◌≢◌, ◌∙◌, ap, sym, ℕ, refl, subst, arith, List, map, length}
 use Rattle.std.specs.Prelude.{Option, Some, None}
 use Rattle.std.proofs.lemmas.List.{length-map}
 use Rattle.petri_atom.specs.Atom.{definition_of}
@@ -17,8 +17,9 @@ use Rattle.petri_atom.specs.declared.atom.Atom.{Atom}
 use Rattle.priority_filter.specs.declared.fault.OrderFault.TheVariants as order
 use Rattle.priority_filter.specs.declared.rule.Rule.{Rule}
 use Rattle.step_core.specs.declared.fault.SystemFault.{SystemFault}
+use Rattle.step_core.specs.declared.interaction.Interaction.{Interaction}
 use Rattle.step_core.specs.declared.wire.Wire.{Wire}
-use Rattle.step_core.proofs.Kept.{few_atoms}
+use Rattle.step_core.proofs.RulesKept.{few_atoms}
 use Rattle.step_core.proofs.RuleFaults.{first-told, none-told, memory-told, order-told}
 use Rattle.step_core.proofs.TreeRules.{first_none}
 use Rattle.step_core.proofs.system.System.new.Goals as goal
@@ -28,6 +29,12 @@ no_fault : (atoms lent : List Atom) (wires lent_wires : List Wire) (rules : List
     told ≡ first_fault (plant_by lent lent_wires rules) → told ≡ None → first_fault (plant_by atoms wires rules) ≡ None
 no_fault atoms lent wires lent_wires rules told same same_wires is none =
     ap (λ xs. first_fault (plant_by xs wires rules)) (sym same) ∙ ap (λ ws. first_fault (plant_by lent ws rules)) (sym same_wires) ∙ sym is ∙ none
+
+-- the interactions of the wires, as they are lent, are those of the plant
+listed-all : (atoms : List Atom) (wires lent : List Wire) (rules : List Rule) (count : ℕ) (all : List Interaction) → count ≡ length atoms → lent ≡ wires
+    → map interaction_of all ≡ interactions_from count 0 (map wire_of lent) → map interaction_of all ≡ plant_interactions (plant_by atoms wires rules)
+listed-all atoms wires lent rules count all many same made =
+    made ∙ ap (λ k. interactions_from k 0 (map wire_of lent)) (many ∙ sym (length-map atoms definition_of)) ∙ ap (λ ws. interactions_from (length (map definition_of atoms)) 0 (map wire_of ws)) same
 
 pub returns-in-Some-clause-fault : goal.returns-in-Some-clause-fault
 returns-in-Some-clause-fault c =
@@ -58,10 +65,7 @@ returns-in_err-order-clause-fault c =
     let rules = c.args.rules.now in
     let plant = plant_by atoms wires rules in
     let all = c.in_ok-interactions.interactions in
-    let many : c.len.result ≡ length (map definition_of atoms) =
-    omega (arith, c.len.ensures, c.args.atoms.ok.0, length-map atoms definition_of) in
-    let listed : map interaction_of all.items ≡ plant_interactions plant =
-    c.in_ok-interactions.ensures ∙ ap (λ k. interactions_from k 0 (map wire_of c.deref-6.result.now)) many ∙ ap (λ ws. interactions_from (length (map definition_of atoms)) 0 (map wire_of ws)) c.deref-6.ensures.value in
+    let listed = listed-all atoms wires c.deref-6.result.now rules c.len.result all.items (omega (arith, c.len.ensures, c.args.atoms.ok.0)) c.deref-6.ensures.value c.in_ok-interactions.ensures in
     let count : length (plant_interactions plant) ≡ c.len-2.result =
     omega (arith, c.len-2.ensures, all.ok.0, length-map all.items interaction_of, ap length listed) in
     order-told plant c.in_err-order.field-0.0 c.from_residual-in_err-order.result
@@ -102,10 +106,7 @@ invariant_of-result c =
     let rows = c.in_ok-dependents.dependents.items in
     let none : first_fault plant ≡ None =
     ap (λ xs. first_fault (plant_by xs wires rules)) (sym c.deref.ensures.value) ∙ ap (λ ws. first_fault (plant_by c.deref.result.now ws rules)) (sym c.deref-2.ensures.value) ∙ sym c.first_fault.ensures ∙ c.in_default.is in
-    let many : c.len.result ≡ length (map definition_of atoms) =
-    omega (arith, c.len.ensures, c.args.atoms.ok.0, length-map atoms definition_of) in
-    let listed : map interaction_of all.items ≡ plant_interactions plant =
-    c.in_ok-interactions.ensures ∙ ap (λ k. interactions_from k 0 (map wire_of c.deref-6.result.now)) many ∙ ap (λ ws. interactions_from (length (map definition_of atoms)) 0 (map wire_of ws)) c.deref-6.ensures.value in
+    let listed = listed-all atoms wires c.deref-6.result.now rules c.len.result all.items (omega (arith, c.len.ensures, c.args.atoms.ok.0)) c.deref-6.ensures.value c.in_ok-interactions.ensures in
     let count : length (plant_interactions plant) ≡ c.len-2.result =
     omega (arith, c.len-2.ensures, all.ok.0, length-map all.items interaction_of, ap length listed) in
     record {

@@ -14,8 +14,8 @@ returns-clause-entry c =
     let plant = plant_of c.args.self.now in
     let states = c.args.states.now in
     let all = map interaction_of c.args.self.now.interactions.items in
-    let same : contains c.args.judgement.now.allowed ≡ is_allowed_at plant states all = λ i n. c.requires.judged.allowed n i in
-    let list : choices_in plant.atoms states all (contains c.args.judgement.now.allowed) ≡ choices plant states =
+    let same : contains c.args.judgement.now.kept ≡ is_allowed_at plant states all = λ i n. c.requires.judged.allowed n i in
+    let list : choices_in plant.atoms states all (contains c.args.judgement.now.kept) ≡ choices plant states =
     ap (choices_in plant.atoms states all) same ∙ ap (choices_among plant states) c.args.self.now.listed in
     sym (ap (λ cs. slice_get cs c.args.place) list) ∙ sym c.find_choice.ensures ∙ ap (option_map choice_of) c.in-Some.is
 

@@ -15,7 +15,7 @@ returns-clause-entry c =
     let plant = plant_of c.args.self.now in
     let parts = c.args.parts.now in
     let all = map interaction_of c.args.self.now.interactions.items in
-    let kept = c.args.judgement.now.judgement.allowed in
+    let kept = c.args.judgement.now.judgement.kept in
     let same : contains kept ≡ is_sure_at plant parts all = λ i n. c.requires.judged.sure n i in
     let list : choices_in plant.atoms c.shown.result.now all (contains kept) ≡ sure_choices plant parts =
     ap (λ states. choices_in plant.atoms states all (contains kept)) c.shown.ensures.states ∙

@@ -1,18 +1,8 @@
-use Rattle.std.proofs.Common.{◌≡◌, ◌<◌, ◌+◌, ℕ, refl, sym, ◌∙◌, ap, subst, List, length, get_or, set, replicate, arith, true, false}
-use Rattle.std.specs.Prelude.{Option, Some, None, slice_get}
-use Rattle.petri_atom.specs.Local.{Local}
-use Rattle.step_core.specs.Chosen.{choice_of}
-use Rattle.step_core.specs.Dispatcher.{parts_in, system_of}
-use Rattle.step_core.specs.Job.{JobDefinition}
-use Rattle.step_core.specs.Plant.{PlantDefinition}
-use Rattle.step_core.specs.Sure.{IsSure, sure_choices}
-use Rattle.step_core.specs.System.{plant_of}
-use Rattle.step_executor.specs.Outstanding.{kept_in, parts_without, whole_of}
-use Rattle.step_executor.proofs.Going.{parts-are}
+use Rattle.std.proofs.Common.{sym, ◌∙◌, ap, length}
+use Rattle.step_core.specs.Sure.{sure_choices}
+use Rattle.step_executor.specs.Executing.{plant_in}
+use Rattle.step_executor.proofs.Standing.{parts-known}
 use Rattle.step_executor.proofs.executor.Executor.count.Goals as goal
 
 pub returns : goal.returns
-returns c =
-    let run = c.args.self.now in
-    let plant : PlantDefinition = plant_of (system_of run.dispatcher) in
-    c.count_sure.ensures ∙ ap (λ ps. length (sure_choices plant ps)) (sym (parts-are plant (kept_in run.kept.items) (parts_in run.dispatcher) run.outstanding))
+returns c = c.count_sure.ensures ∙ ap (λ ps. length (sure_choices (plant_in c.args.self.now) ps)) (sym (parts-known c.args.self.now))

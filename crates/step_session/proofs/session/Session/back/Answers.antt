@@ -2,7 +2,7 @@ use Rattle.std.proofs.Common.{◌≡◌, ◌∙◌, ◌==◌, ap, sym, subst, fa
 use Rattle.std.specs.Prelude.{OnOk}
 use Rattle.std.specs.Io.KnownBytes.{Appends}
 use Rattle.step_session.specs.Answers.{back_text, standing_text, without_last}
-use Rattle.step_session.specs.Kept.{plant_stepped, session_of}
+use Rattle.step_session.specs.SessionOf.{plant_stepped, session_of}
 use Rattle.step_session.proofs.session.Session.back.Goals as goal
 
 pub returns-clause-printed : goal.returns-clause-printed

@@ -1,20 +1,26 @@
-use Rattle.std.proofs.Common.{◌≡◌, ◌∙◌, ◌+◌, ◌∷◌, ◌++◌, [], ap, sym, subst, append-nil, codes, length}
+use Rattle.std.proofs.Common.{◌≡◌, ℕ, ◌∙◌, ◌+◌, ◌∷◌, ◌++◌, [], ap, sym, subst, append-nil, codes, length}
 use Rattle.std.specs.Prelude.{Some, slice_get}
 use Rattle.std.specs.Io.KnownBytes.{Appends}
 use Rattle.std.proofs.KnownBytes.{Appends-trans}
-use Rattle.step_core.specs.Choice.{choices}
+use Rattle.step_core.specs.Choice.{ChoiceDefinition, choices}
 use Rattle.step_core.specs.Chosen.{choice_of}
-use Rattle.step_core.specs.Running.{plant_in}
+use Rattle.step_core.specs.Running.{plant_in, states_in}
 use Rattle.step_core.specs.Step.{next}
 use Rattle.step_core.specs.System.{plant_of}
 use Rattle.text_io.specs.Numbered.{numbered}
 use Rattle.run_text.specs.Choices.{choice_text}
 use Rattle.run_text.specs.Line.{fired_line}
 use Rattle.step_session.specs.Answers.{firing_lines}
-use Rattle.step_session.specs.Fired.{IsThere, states_behind}
-use Rattle.step_session.specs.Kept.{session_of}
+use Rattle.step_session.specs.Fired.{IsThere, states_after}
+use Rattle.step_session.specs.SessionOf.{session_of}
+use Rattle.step_session.specs.declared.session.Session.{Session}
 use Rattle.step_session.proofs.Firing.{behind-more, one-fired, there-more}
 use Rattle.step_session.proofs.session.Session.fire_at.Goals as goal
+
+-- the present choices are those after what was fired
+entry-behind : (session : Session) (place : ℕ) (choice : ChoiceDefinition) → slice_get (choices (plant_in session.run) (states_in session.run)) place ≡ Some choice
+    → slice_get (choices (plant_in session.run) (states_after (plant_in session.run) session.fired.items)) place ≡ Some choice
+entry-behind session place choice entry = ap (λ states. slice_get (choices (plant_in session.run) states) place) (sym session.stands) ∙ entry
 
 pub invariant_of-self-2 : goal.invariant_of-self-2
 invariant_of-self-2 g c =
@@ -22,15 +28,14 @@ invariant_of-self-2 g c =
     let plant = plant_in session.run in
     let fired = session.fired.items in
     let choice = choice_of c.nth-choice.result in
-    let entry : slice_get (choices plant (states_behind plant fired)) c.args.place ≡ Some choice =
-    ap (λ states. slice_get (choices plant states) c.args.place) (sym session.stands) ∙ c.nth-choice.ensures.entry in
+    let entry = entry-behind session c.args.place choice c.nth-choice.ensures.entry in
     let items : c.push.new.self.items ≡ fired ++ c.args.place ∷ [] = c.in_ok-push.ensures.items in
     record {
       there = subst (λ p. IsThere p c.push.new.self.items) (sym c.fire.ensures.plant)
           (subst (IsThere plant) (sym items) (there-more plant fired c.args.place choice session.there entry));
       stands = c.fire.ensures.next ∙ ap (λ states. next plant states choice) session.stands ∙
           sym (behind-more plant fired c.args.place choice session.there entry) ∙
-          ap (states_behind plant) (sym items) ∙ ap (λ p. states_behind p c.push.new.self.items) (sym c.fire.ensures.plant);
+          ap (states_after plant) (sym items) ∙ ap (λ p. states_after p c.push.new.self.items) (sym c.fire.ensures.plant);
     }
 
 pub returns-clause-printed : goal.returns-clause-printed
@@ -39,13 +44,12 @@ returns-clause-printed g c =
     let plant = plant_in session.run in
     let fired = session.fired.items in
     let choice = choice_of c.nth-choice.result in
-    let entry : slice_get (choices plant (states_behind plant fired)) c.args.place ≡ Some choice =
-    ap (λ states. slice_get (choices plant states) c.args.place) (sym session.stands) ∙ c.nth-choice.ensures.entry in
+    let entry = entry-behind session c.args.place choice c.nth-choice.ensures.entry in
     let number : c.len-number.result ≡ length fired + 1 = c.len-number.ensures ∙ c.in_ok-push.ensures.len ∙ ap (λ n. n + 1) session.fired.ok.0 in
     let line : fired_line (plant_of c.system.result.now) c.len-number.result choice ++ codes "\n" ≡ firing_lines plant (session_of session) (c.args.place ∷ []) =
     ap (λ p. fired_line p c.len-number.result choice ++ codes "\n") (c.system.ensures.plant ∙ c.fire.ensures.plant) ∙
     ap (λ n. fired_line plant n choice ++ codes "\n") number ∙
     sym (append-nil (choice_text plant (length fired + 1) choice)) ∙
-    ap (numbered (choice_text plant) (length fired + 1)) (sym (one-fired plant (states_behind plant fired) c.args.place choice entry)) in
+    ap (numbered (choice_text plant) (length fired + 1)) (sym (one-fired plant (states_after plant fired) c.args.place choice entry)) in
     subst (Appends (g.W.Write.contents c.args.output.now) (g.W.Write.contents c.end_line.new.writer)) line
     (Appends-trans _ _ _ _ _ c.in_ok-print_choice.ensures c.in_ok-end_line.ensures)

@@ -1,6 +1,6 @@
 use Rattle.std.proofs.Common.{◌≡◌, ◌∙◌, ◌+◌, ◌-◌, ◌<◌, suc, arith, subst, true, false}
 use Rattle.step_session.specs.AtRandom.{IsFiredAtRandom}
-use Rattle.step_session.specs.Kept.{plant_stepped, session_of}
+use Rattle.step_session.specs.SessionOf.{plant_stepped, session_of}
 use Rattle.step_session.proofs.AtRandom.{IsFiringAtRandom, one-at-random, stuck-at-random}
 use Rattle.step_session.proofs.session.Session.fire_at_random.Goals as goal
 

@@ -1,6 +1,6 @@
 -- The random choices that are left lead to the same session, and their lines are left.
 use Rattle.std.proofs.Common.{◌≡◌, ◌-◌, ◌≤◌}
-use Rattle.step_session.specs.Kept.{plant_stepped, session_of}
+use Rattle.step_session.specs.SessionOf.{plant_stepped, session_of}
 use Rattle.step_session.proofs.AtRandom.{IsFiringAtRandom}
 use Rattle.step_session.proofs.session.Session.fire_at_random.Given as goal
 

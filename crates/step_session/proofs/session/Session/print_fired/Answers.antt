@@ -8,8 +8,8 @@ use Rattle.step_core.specs.Chosen.{choice_of}
 use Rattle.step_core.specs.Running.{plant_in, states_in}
 use Rattle.step_core.specs.Step.{initial_states}
 use Rattle.step_session.specs.Fired.{choices_fired}
-use Rattle.step_session.specs.Kept.{plant_stepped}
-use Rattle.step_session.specs.Saved.{saved_line}
+use Rattle.step_session.specs.SessionOf.{plant_stepped}
+use Rattle.run_text.specs.Steps.{saved_line}
 use Rattle.step_session.proofs.Firing.{fired-next, place-within, stands-next}
 use Rattle.step_session.proofs.session.Session.print_fired.Goals as goal
 

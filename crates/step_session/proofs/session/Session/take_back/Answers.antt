@@ -1,6 +1,6 @@
 use Rattle.std.proofs.Common.{◌≡◌, ◌∙◌, ◌-◌, ap, sym, subst, take}
 use Rattle.step_core.specs.Running.{plant_in, states_in}
-use Rattle.step_session.specs.Fired.{IsThere, states_behind}
+use Rattle.step_session.specs.Fired.{IsThere, states_after}
 use Rattle.step_session.proofs.Firing.{take-there}
 use Rattle.step_session.proofs.session.Session.take_back.Goals as goal
 
@@ -23,6 +23,6 @@ invariant_of-self c =
     record {
       there = subst (λ p. IsThere p kept) (sym same) (subst (IsThere plant) (sym items) (take-there plant fired left session.there));
       stands = ap states_in c.replace.ensures.after ∙ c.in_ok-run.ensures.states ∙
-          ap (λ p. states_behind p (take left c.deref.result.now)) c.system.ensures.plant ∙ ap (λ places. states_behind plant (take left places)) c.deref.ensures.value ∙
-          ap (states_behind plant) (sym items) ∙ ap (λ p. states_behind p kept) (sym same);
+          ap (λ p. states_after p (take left c.deref.result.now)) c.system.ensures.plant ∙ ap (λ places. states_after plant (take left places)) c.deref.ensures.value ∙
+          ap (states_after plant) (sym items) ∙ ap (λ p. states_after p kept) (sym same);
     }

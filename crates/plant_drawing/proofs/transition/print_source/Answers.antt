@@ -1,8 +1,0 @@
-use Rattle.std.proofs.KnownBytes.{Appends-trans}
-use Rattle.text_io.proofs.Leading.{told-last}
-use Rattle.plant_drawing.proofs.transition.print_source.Goals as goal
-
-pub returns : goal.returns
-returns g c =
-    told-last c.print_text-3.result (g.W.Write.contents c.args.output.now) (g.W.Write.contents c.print_part-2.new.output) (g.W.Write.contents c.print_text-3.new.writer) _ _
-    (Appends-trans _ _ _ _ _ (Appends-trans _ _ _ _ _ (Appends-trans _ _ _ _ _ (c.in_ok-print_text.ensures) c.in_ok-print_part.ensures) c.in_ok-print_text-2.ensures) c.in_ok-print_part-2.ensures) c.print_text-3.ensures

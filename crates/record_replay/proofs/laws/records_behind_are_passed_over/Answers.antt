@@ -1,5 +1,0 @@
-use Rattle.record_replay.proofs.OverRecords.{replay-behind}
-use Rattle.record_replay.proofs.laws.records_behind_are_passed_over.Goals as goal
-
-pub returns : goal.returns
-returns c = λ a atom saved xs ys p all. replay-behind a atom saved xs ys p all

@@ -1,0 +1,18 @@
+use Rattle.step_core.specs.Step.{initial_states}
+use Rattle.run_text.proofs.Chosen.{chosen-runs, few-where-stuck, told-ended, told-refused, told-stuck}
+use Rattle.run_text.proofs.laws.a_run_is_printed_by_its_choices_and_its_end.Goals as goal
+
+pub returns-clause-run : goal.returns-clause-run
+returns-clause-run c = λ plant picks. chosen-runs plant picks (initial_states plant) 1
+
+pub returns-clause-ended : goal.returns-clause-ended
+returns-clause-ended c = λ parts plant picks all. told-ended parts plant picks (initial_states plant) 1 all
+
+pub returns-clause-refused : goal.returns-clause-refused
+returns-clause-refused c = λ parts plant picks refusal is. told-refused parts plant picks (initial_states plant) 1 refusal is
+
+pub returns-clause-stuck : goal.returns-clause-stuck
+returns-clause-stuck c = λ plant picks few none. few-where-stuck plant picks (initial_states plant) 1 few none
+
+pub returns-clause-stuck_printed : goal.returns-clause-stuck_printed
+returns-clause-stuck_printed c = λ parts plant picks few none. told-stuck parts plant picks (initial_states plant) 1 few none

@@ -1,0 +1,23 @@
+use Rattle.std.proofs.Common.{◌≡◌, ◌∙◌, ap, sym, subst}
+use Rattle.step_core.specs.Chosen.{choice_of}
+use Rattle.step_core.specs.Delivery.{IsDelivered}
+use Rattle.step_core.specs.Fitting.{IsOf}
+use Rattle.step_core.specs.Running.{plant_in, states_in}
+use Rattle.step_core.specs.Step.{next, transfer}
+use Rattle.run_text.proofs.running.fire_and_print.Goals as goal
+
+pub tell_fired-requires : goal.tell_fired-requires
+tell_fired-requires g c =
+    let run = c.args.run.now in
+    let before = states_in run in
+    let choice = c.args.choice.now in
+    let fired = c.fire_telling.ensures in
+    let same : plant_in run ≡ plant_in c.fire_telling.new.self = sym fired.plant in (
+      before,
+      c.requires.ready,
+      record {
+        of_plant = subst (λ p. IsOf p before) same run.of_plant;
+        after = fired.next ∙ ap (λ p. next p before (choice_of choice)) same;
+        rows = subst (λ p. IsDelivered choice.moves (transfer p before (choice_of choice)) c.fire_telling.new.delivered) same fired.delivered;
+      },
+    )

@@ -1,0 +1,74 @@
+-- The transcript of a session: what it prints, and what it has saved.
+use Rattle.std.specs.Prelude.{◌≡◌, ℕ, Bool, false, if◌then◌else◌, List, [], ◌∷◌, ◌++◌, length, drop, codes, Option}
+use Rattle.std.specs.Io.KnownBytes.{Appends}
+use Rattle.step_core.specs.Plant.{PlantDefinition}
+use Rattle.shown_fault.specs.Shown.{shown}
+use Rattle.step_session.specs.Answers.{answer_text, save_text, savings_of, session_after, standing_text}
+use Rattle.step_session.specs.Command.{CommandDefinition, command_in, ends}
+use Rattle.step_session.specs.Saved.{AreSaved, Saving, saved_text}
+use Rattle.step_session.specs.Session.{SessionDefinition, first_session}
+
+-- what a session prints, and what it has saved
+pub record Transcript : Type 0 where
+  pub text : List ℕ
+  pub savings : List Saving
+
+-- nothing more is printed or saved
+abbrev pub nothing_more : Transcript
+nothing_more = record { text = []; savings = [] }
+
+-- a transcript after a text and savings
+abbrev pub after_text : List ℕ → List Saving → Transcript → Transcript
+after_text text savings transcript = record { text = text ++ transcript.text; savings = savings ++ transcript.savings }
+
+-- the prompt, if one is asked for, and the end of the line in which the last one stands
+abbrev pub prompt_text : Bool → List ℕ
+prompt_text prompt = if prompt then codes "> " else []
+
+abbrev pub end_text : Bool → List ℕ
+end_text prompt = if prompt then codes "\n" else []
+
+-- what the saver says next, by the list of what it says; that it could not, if the list has ended
+abbrev pub said_next : List Bool → Bool
+said_next [] = false
+said_next (said ∷ answers) = said
+
+-- the transcript of a command, after the prompt; `more` is the one after it, of the session and of the answers of the saver that are left then
+abbrev pub transcript_by : PlantDefinition → List ℕ → Bool → SessionDefinition → CommandDefinition → (SessionDefinition → List Bool → Transcript) → List Bool → Transcript
+transcript_by plant rules prompt session command more answers =
+    after_text (prompt_text prompt ++ answer_text plant rules session (said_next answers) command) (savings_of plant session (said_next answers) command)
+    (if ends command then nothing_more else more (session_after plant session command) (drop (length (savings_of plant session (said_next answers) command)) answers))
+
+-- the transcript of lines: the answer to each, until one asks to quit or they end
+abbrev pub transcript_from : PlantDefinition → List ℕ → Bool → SessionDefinition → List (List ℕ) → List Bool → Transcript
+transcript_from plant rules prompt session [] answers = record { text = prompt_text prompt ++ end_text prompt; savings = [] }
+transcript_from plant rules prompt session (line ∷ lines) answers =
+    transcript_by plant rules prompt session (command_in line) (λ after left. transcript_from plant rules prompt after lines left) answers
+
+-- the transcript of a whole session: where the plant stands at first, and then of the lines
+abbrev pub transcript_of : PlantDefinition → List ℕ → Bool → List (List ℕ) → List Bool → Transcript
+transcript_of plant rules prompt lines answers =
+    after_text (standing_text plant first_session) [] (transcript_from plant rules prompt first_session lines answers)
+
+-- what is printed of it
+abbrev pub session_text : PlantDefinition → List ℕ → Bool → List (List ℕ) → List Bool → List ℕ
+session_text plant rules prompt lines answers = (transcript_of plant rules prompt lines answers).text
+
+-- The text of the transcript, by the answers of the saver, was printed, and the saver was asked for its savings alone, in this order, and answered so; `saves` is what one call may be.
+pub record IsTranscript {S : Type 0} (saves : S → List ℕ → List ℕ → Bool → S → Type 0) (transcript : List Bool → Transcript) (before after : S) (old new : Option (List ℕ)) : Type 0 where
+  pub answers : List Bool
+  pub printed : Appends old new (transcript answers).text
+  pub saved : AreSaved saves before (transcript answers).savings after
+
+-- A command was answered: its answer, by what the saver says, was printed, and the saver was asked if the command asks for that.
+pub record IsAnswered {S : Type 0} (saves : S → List ℕ → List ℕ → Bool → S → Type 0) (plant : PlantDefinition) (rules : List ℕ) (session : SessionDefinition) (command : CommandDefinition) (left : SessionDefinition) (before after : S) (old new : Option (List ℕ)) : Type 0 where
+  pub said : Bool
+  pub session_is : left ≡ session_after plant session command
+  pub printed : Appends old new (answer_text plant rules session said command)
+  pub saved : AreSaved saves before (savings_of plant session said command) after
+
+-- The same of what was fired, which was to be saved at a path.
+pub record IsSaved {S : Type 0} (saves : S → List ℕ → List ℕ → Bool → S → Type 0) (plant : PlantDefinition) (session : SessionDefinition) (path : List ℕ) (before after : S) (old new : Option (List ℕ)) : Type 0 where
+  pub said : Bool
+  pub printed : Appends old new (save_text (length session.fired) (shown path) said)
+  pub saved : saves before path (saved_text plant session) said after
