@@ -180,17 +180,17 @@ fn stops(rt: &impl Abort, alloc: Global, row: Row) -> Result<(u64, u64), Fail> {
     Ok((0, all))
 }
 
-/// An empty slot takes a read, and 4 calls to fill it; a full one a read, 3 calls to empty it, and the same 4. In all 4 * 39 stops.
+/// An empty slot takes a read, and 4 calls to fill it; a full one a read, 2 calls to empty it, and the same 4. In all 4 * 36 stops.
 #[test]
 fn a_stop_inside_a_store_leaves_the_old_newest_or_the_new(rt: HostRuntime) -> Result<(), Fail> {
     for (before, slot, count, newest, calls) in [
         ([0, 0], 0, 1, (2, 0), 5),
         ([4, 0], 1, 7, (0, 4), 5),
         ([0, 4], 0, 9, (1, 4), 5),
-        ([4, 7], 0, 9, (1, 7), 8),
-        ([7, 4], 1, 9, (0, 7), 8),
+        ([4, 7], 0, 9, (1, 7), 7),
+        ([7, 4], 1, 9, (0, 7), 7),
         // of equal counts the first is the newest
-        ([4, 4], 1, 9, (0, 4), 8),
+        ([4, 4], 1, 9, (0, 4), 7),
     ] {
         let row = Row {
             before,

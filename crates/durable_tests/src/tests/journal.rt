@@ -361,12 +361,12 @@ fn a_stop_inside_an_append_leaves_a_front_of_the_new_records(rt: HostRuntime) ->
 }
 
 /// The other base cell is empty the first time: a read, 4 calls to fill it, and of each dropped cell a read and a write, and a sync.
-/// Later it is full: a read, 3 calls to empty it, and the same. In all 4 * 37 stops.
+/// Later it is full: a read, 2 calls to empty it, and the same. In all 4 * 36 stops.
 #[test]
 fn a_stop_inside_a_move_leaves_the_old_base_or_the_new(rt: HostRuntime) -> Result<(), Fail> {
     for (base_cell, start, to, calls) in [
         (1, Start::OneBase, 7, 12),
-        (2, Start::TwoBases, 12, 25),
+        (2, Start::TwoBases, 12, 24),
     ] {
         let n = Ring {
             base_cell,
