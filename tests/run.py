@@ -93,8 +93,9 @@ STREAMS = {
     "standard error closed": "2>&-",
     "standard error full": "2>/dev/full",
 }
-# The stack of each run, in KiB. No plant and no script makes the program nest deeper than others do: it takes some 250 KiB at most.
-STACK = 512
+# The stack of each run, in KiB. No plant and no script makes the program nest deeper than others do. A build without a proof puts functions into their
+# callers that the proved one keeps apart, and takes more.
+STACK = 1024 if UNPROVED in sys.argv else 512
 # The settings that give the program a terminal.
 TERMINAL = "standard error on a terminal"
 TYPED = "standard input and output on a terminal"

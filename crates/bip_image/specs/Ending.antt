@@ -1,5 +1,5 @@
 -- What the program prints if it ends early, and its exit status.
-use Rattle.std.specs.Prelude.{ℕ, List, [], ◌++◌, codes, decimal, Result, Ok, Err}
+use Rattle.std.specs.Prelude.{ℕ, if◌then◌else◌, List, [], ◌++◌, codes, decimal, Result, Ok, Err}
 use Rattle.file_disk.specs.Messages.{message_of}
 use Rattle.file_disk.specs.declared.fault.FileFault.{FileFault}
 use Rattle.file_disk.specs.declared.fault.FileFault.TheVariants as file
@@ -20,7 +20,16 @@ use Rattle.plant_tasks.specs.Ending as plant
 use Rattle.plant_tasks.specs.Paths.{plant_alone}
 use Rattle.bip_image.specs.declared.ending.Paths.{Paths}
 use Rattle.bip_image.specs.declared.ending.Ending.{Ending}
-use Rattle.bip_image.specs.declared.ending.Ending.TheVariants.{OfPlant, Script, ScriptUnread, ImageUnopened, Image, NewUnopened, Migrate, NotRight}
+use Rattle.bip_image.specs.declared.ending.Ending.TheVariants.{OfPlant, Script, ScriptUnread, ImageUnopened, Image, NewUnopened, Migrate, NotRight, Stopped, LongText}
+use Rattle.image_backup.specs.declared.copying.BackupEnding.{BackupEnding}
+use Rattle.image_backup.specs.declared.copying.BackupEnding.TheVariants as copying
+use Rattle.image_backup.specs.declared.fault.BackupFault.{BackupFault}
+use Rattle.image_backup.specs.declared.fault.BackupFault.TheVariants as backup
+use Rattle.image_commands.specs.declared.refusal.ImageRefusal.TheVariants as refused
+use Rattle.restated_text.specs.declared.fault.RestateFault.{RestateFault}
+use Rattle.restated_text.specs.declared.fault.RestateFault.TheVariants as restating
+use Rattle.script_lines.specs.Strict.{is_failure, refusal_line as event_refusal_line}
+use Rattle.text_io.specs.declared.reading.TheConstants.{MAX_TEXT}
 
 -- the exit status of the program: 0 done, 1 a refused plant, script or image, or a stop that left what is not right, 2 usage, 3 a file, a device, the memory or the output
 abbrev pub status_of : {A : Type 0} → Result A Ending → ℕ
@@ -33,6 +42,8 @@ status_of (Err (Image ending)) = status_at ending
 status_of (Err (NewUnopened fault)) = 3
 status_of (Err (Migrate ending)) = migrate_status ending
 status_of (Err NotRight) = 1
+status_of (Err (Stopped line refusal)) = if is_failure refusal then 3 else 1
+status_of (Err LongText) = 1
 
 -- the ending where an exploration has no answer
 abbrev pub of_exploring : ExploreEnding → Ending
@@ -43,6 +54,22 @@ of_exploring exploring.Unwritten = Image image.Unwritten
 abbrev pub of_workers : WorkersEnding → Ending
 of_workers workers.Memory = OfPlant Memory
 of_workers (workers.Image ending) = Image ending
+
+-- the ending where an image is not copied
+abbrev pub of_backup : BackupFault → Ending
+of_backup (backup.Image fault) = Image (image.Refused (refused.Image fault))
+of_backup backup.Disk = Image (image.Refused refused.Disk)
+of_backup backup.CopyDisk = NewUnopened file.Unmade
+
+abbrev pub of_copy : BackupEnding → Ending
+of_copy (copying.Failed fault) = of_backup fault
+of_copy copying.Unwritten = Image image.Unwritten
+
+-- the ending where a text is not restated
+abbrev pub of_restating : RestateFault → Ending
+of_restating restating.TooLong = LongText
+of_restating restating.Memory = OfPlant Memory
+of_restating restating.Write = Image image.Unwritten
 
 -- what is printed of an image's file that can't be opened or made
 abbrev pub unopened_text : List ℕ → FileFault → List ℕ
@@ -71,6 +98,8 @@ told_text paths (Image ending) = image_text ending
 told_text paths (NewUnopened fault) = unopened_text paths.made.now fault
 told_text paths (Migrate ending) = migrate_text ending
 told_text paths NotRight = []
+told_text paths (Stopped line refusal) = codes "error: " ++ paths.script.now ++ codes ":" ++ decimal line ++ codes ": " ++ event_refusal_line refusal ++ codes "\n"
+told_text paths LongText = codes "error: the restated text has more than " ++ decimal MAX_TEXT ++ codes " bytes\n"
 
 -- a sentence after the line of an ending
 abbrev pub after_line : List ℕ → List ℕ

@@ -1,14 +1,19 @@
 //! Why the program ends early, what it prints then, and its exit status.
 ghost use Rattle.std.specs.Prelude.{◌≡◌};
 ghost use Rattle.bip_image.specs.Ending.{status_of};
+ghost use Rattle.bip_image.specs.Paths.{path_in};
+ghost use Rattle.command_line.specs.Said.{word_of};
 
-use command_line::{ImageTask, Request, Work};
+use command_line::{LoneTask, Work};
 use file_disk::FileFault;
-use image_commands::{ExploreEnding, ImageEnding, MigrateEnding};
+use image_backup::{BackupEnding, BackupFault};
+use image_commands::{ExploreEnding, ImageEnding, ImageRefusal, MigrateEnding};
 use plant_tasks::{PlantEnding, PlantEndingText, TaskPaths, shown_path};
-use script_lines::ScriptFault;
+use restated_text::RestateFault;
+use script_lines::{Refusal, ScriptFault};
 use std::alloc::{AllocError, Global};
 use std::fmt;
+use text_io::MAX_TEXT;
 use worker_runs::WorkersEnding;
 
 /// Why the program ends without having done what it was asked for.
@@ -30,6 +35,10 @@ pub(crate) enum Ending {
     Migrate(MigrateEnding),
     /// A stop of a run that was explored left what is not right.
     NotRight,
+    /// A strict run ended at the line with this number, since the event there was refused.
+    Stopped(u32, Refusal),
+    /// The plant's text with the image's state as its first one is longer than a text may be. Nothing was printed.
+    LongText,
 }
 
 /// What more is printed if a stop left what is not right.
@@ -51,6 +60,9 @@ pub(crate) fn exit_status(ended: &Result<(), Ending>) -> u8
         Err(Ending::NewUnopened(_)) => 3,
         Err(Ending::Migrate(ending)) => ending.exit_status(),
         Err(Ending::NotRight) => 1,
+        Err(Ending::Stopped(_, refusal)) if refusal.is_failure() => 3,
+        Err(Ending::Stopped(_, _)) => 1,
+        Err(Ending::LongText) => 1,
     }
 }
 
@@ -69,7 +81,8 @@ pub(crate) struct Paths<'a> {
 
 impl<'a> Paths<'a> {
     ghost use Rattle.std.specs.Prelude.{◌≡◌, []};
-    ghost use Rattle.bip_image.specs.Paths.{image_in, made_in, script_in};
+    ghost use Rattle.command_line.specs.Files.{copied_to, image_in, made_in, read_beside};
+    ghost use Rattle.bip_image.specs.Paths.{path_in};
 
     /// No paths.
     pub(crate) fn none() -> Self
@@ -86,27 +99,42 @@ impl<'a> Paths<'a> {
         }
     }
 
-    /// The paths of a request.
-    pub(crate) fn of(request: &Request<'a>) -> Self
-        ensures plant { result.plant.now ≡ request.now.plant.now }
-        ensures script { result.script.now ≡ script_in request.now.work }
-        ensures image { result.image.now ≡ image_in request.now.work }
-        ensures made { result.made.now ≡ made_in request.now.work }
+    /// The paths of what is to be done with a plant.
+    pub(crate) fn of(plant: &'a str, work: &Work<'a>) -> Self
+        ensures plant { result.plant.now ≡ plant.now }
+        ensures script { result.script.now ≡ path_in (read_beside work.now) }
+        ensures image { result.image.now ≡ path_in (image_in work.now) }
+        ensures made { result.made.now ≡ path_in (made_in work.now) }
     {
-        let (script, image, made) = match &request.work {
-            Work::OfPlant(_) | Work::ByHand => ("", "", ""),
-            Work::OnImage(image, ImageTask::Run(script, _)) => (*script, *image, ""),
-            Work::OnImage(image, ImageTask::Migrate(made, _)) => ("", *image, *made),
-            Work::OnImage(image, _) => ("", *image, ""),
-            Work::Explored(exploration) => (exploration.script, "", ""),
-        };
         Paths {
-            plant: request.plant,
-            script,
-            image,
-            made,
+            plant,
+            script: path_in(work.input()),
+            image: path_in(work.image()),
+            made: path_in(work.made()),
         }
     }
+
+    /// The paths of what is to be done with an image alone.
+    pub(crate) fn of_image(image: &'a str, task: &LoneTask<'a>) -> Self
+        ensures plant { result.plant.now ≡ [] }
+        ensures script { result.script.now ≡ [] }
+        ensures image { result.image.now ≡ image.now }
+        ensures made { result.made.now ≡ path_in (copied_to task.now) }
+    {
+        Paths {
+            plant: "",
+            script: "",
+            image,
+            made: path_in(task.made()),
+        }
+    }
+}
+
+/// A path, or the empty one where there is none.
+fn path_in(path: Option<&str>) -> &str
+    ensures { result.now ≡ path_in (word_of path.entry) }
+{
+    path.unwrap_or("")
 }
 
 /// The same paths, as they are shown.
@@ -195,6 +223,13 @@ impl<'a> fmt::Display for EndingText<'a> {
             }
             Ending::NewUnopened(_) => writeln!(f, "file {}", self.paths.made),
             Ending::Migrate(MigrateEnding::Refused(refusal)) => writeln!(f, "{refusal}"),
+            Ending::Stopped(line, refusal) => {
+                writeln!(f, "error: {}:{line}: {refusal}", self.paths.script)
+            }
+            Ending::LongText => writeln!(
+                f,
+                "error: the restated text has more than {MAX_TEXT} bytes"
+            ),
             Ending::Image(_) | Ending::Migrate(_) | Ending::NotRight => Ok(()),
         }
     }
@@ -293,6 +328,49 @@ impl From<WorkersEnding> for Ending {
         match ending {
             WorkersEnding::Memory => Ending::OfPlant(PlantEnding::Memory),
             WorkersEnding::Image(ending) => Ending::Image(ending),
+        }
+    }
+}
+
+impl From<BackupFault> for Ending {
+    ghost use Rattle.bip_image.specs.Ending.{of_backup};
+
+    ghost from_gives = { λ why ending. ending ≡ of_backup why };
+
+    fn from(fault: BackupFault) -> Self {
+        match fault {
+            BackupFault::Image(fault) => {
+                Ending::Image(ImageEnding::Refused(ImageRefusal::Image(fault)))
+            }
+            BackupFault::Disk => Ending::Image(ImageEnding::Refused(ImageRefusal::Disk)),
+            BackupFault::CopyDisk => Ending::NewUnopened(FileFault::Unmade),
+        }
+    }
+}
+
+impl From<BackupEnding> for Ending {
+    ghost use Rattle.bip_image.specs.Ending.{of_copy};
+
+    ghost from_gives = { λ why ending. ending ≡ of_copy why };
+
+    fn from(ending: BackupEnding) -> Self {
+        match ending {
+            BackupEnding::Failed(fault) => fault.into(),
+            BackupEnding::Unwritten => Ending::Image(ImageEnding::Unwritten),
+        }
+    }
+}
+
+impl From<RestateFault> for Ending {
+    ghost use Rattle.bip_image.specs.Ending.{of_restating};
+
+    ghost from_gives = { λ why ending. ending ≡ of_restating why };
+
+    fn from(fault: RestateFault) -> Self {
+        match fault {
+            RestateFault::TooLong => Ending::LongText,
+            RestateFault::Memory => Ending::OfPlant(PlantEnding::Memory),
+            RestateFault::Write => Ending::Image(ImageEnding::Unwritten),
         }
     }
 }

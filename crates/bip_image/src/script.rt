@@ -1,5 +1,5 @@
 //! The script of a run, from a reader.
-ghost use Rattle.std.specs.Prelude.{◌≡◌, IfErr, IfOk, IfSome, Ok, Err};
+ghost use Rattle.std.specs.Prelude.{◌≡◌, IfErr, IfOk, IfSome, OnOk, Ok, Err};
 ghost use Rattle.bip_image.specs.Script.{TellsOfScript};
 ghost use Rattle.bip_image.specs.declared.ending.Ending.TheVariants.{ScriptUnread};
 ghost use Rattle.script_lines.specs.Script.{script_meaning};
@@ -16,18 +16,22 @@ use std::io::Read;
 use step_core::System;
 use text_io::{TextFault, read_text};
 
-/// Reads a script to the reader's end, and gives the events that it asks of a plant of the system.
+/// Reads a script to the reader's end, and gives the events that it asks of a plant of the system. Its text is put into `text`, so that a mistake can
+/// be shown there.
 pub(crate) fn read_events<R: Read>(
     alloc: Global,
     system: &System,
     reader: &mut R,
+    text: &mut Vec<u8>,
 ) -> Result<Vec<Event>, Ending>
+    ensures all { OnOk result (IfSome (R.remaining reader.old) (λ bytes. text.new.items ≡ bytes)) }
     ensures events { IfOk result (λ events. IfSome (R.remaining reader.old) (λ bytes. script_meaning (plant_of system.now) bytes ≡ Ok events.items)) }
     ensures refused { IfErr result (λ ending. IfSome (R.remaining reader.old) (λ bytes. TellsOfScript (plant_of system.now) ending bytes)) }
     ensures unread { result ≡ Err ScriptUnread → GivesUp TextFault.Read (R.remaining reader.old) (R.remaining reader.new) }
 {
-    let text = script_text(alloc, reader)?;
-    Ok(read_script(alloc, system, &text)?)
+    let bytes = script_text(alloc, reader)?;
+    *text = bytes;
+    Ok(read_script(alloc, system, text)?)
 }
 
 /// The bytes of a script.

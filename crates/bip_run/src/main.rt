@@ -5,9 +5,10 @@
 //! that ends early, stands in the crate `plant_tasks`. A task on an image is done by the program `bip_image`; the launcher at the top of
 //! the repository runs whichever the words ask for.
 //!
-//! - `process`: the program in its process. `saving`: the files in which is saved what is fired. `paths`: where they are.
+//! - `asked`: what is asked for of a plant. `process`: the program in its process. `saving`: the files in which is saved what is fired. `paths`: where they are.
 #![tactic(auto)]
 
+mod asked;
 mod paths;
 mod process;
 mod saving;

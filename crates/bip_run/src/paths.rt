@@ -3,7 +3,7 @@ ghost use Rattle.std.specs.Prelude.{◌≡◌, IfOk, option_map, string_bytes};
 ghost use Rattle.plant_tasks.specs.Paths.{path_of};
 ghost use Rattle.shown_fault.specs.Shown.{shown};
 
-use command_line::Request;
+use crate::asked::PlantRequest;
 use plant_tasks::{TaskPaths, shown_path};
 use std::alloc::{AllocError, Global};
 
@@ -19,7 +19,7 @@ impl ShownPaths {
     ghost use Rattle.command_line.specs.Files.{read_beside, saved_in};
 
     /// The paths of the request, byte by byte as a line of a plant text is shown.
-    pub(crate) fn of(alloc: Global, request: &Request<'_>) -> Result<Self, AllocError>
+    pub(crate) fn of(alloc: Global, request: &PlantRequest<'_>) -> Result<Self, AllocError>
         ensures plant { IfOk result (λ all. string_bytes all.plant ≡ shown request.now.plant.now) }
         ensures input { IfOk result (λ all. option_map string_bytes all.input ≡ option_map shown (read_beside request.now.work)) }
         ensures saved { IfOk result (λ all. option_map string_bytes all.saved ≡ option_map shown (saved_in request.now.work)) }

@@ -2,9 +2,10 @@
 ghost use Rattle.std.specs.Prelude.{◌≡◌};
 ghost use Rattle.bip_run.specs.Status.{status_of};
 
+use crate::asked::PlantRequest;
 use crate::paths::ShownPaths;
 use crate::saving::{FileSaver, lead_to_one_file, perform_saving};
-use command_line::{Drawing, Request, Task, Work, is_standard_input, read_request};
+use command_line::{Drawing, Request, Subject, Task, Work, is_standard_input, read_request};
 use plant_tasks::{
     PlantEnding, PlantEndingText, ReadPlant, TaskPaths, Watched, ended, open_text, plant_at, step,
     tell_more, words_of_process,
@@ -41,16 +42,42 @@ fn answer<R: Files<File = File> + Input + Print + Eprint + AllocGlobal>(
     terminals: Terminals,
 ) -> u8 {
     match read_request(rt, words) {
-        Ok(request) => serve(rt, &request, terminals),
+        Ok(request) => answer_request(rt, request, terminals),
         Err(answered) => end(rt, TaskPaths::of_plant(""), ended(answered)),
     }
+}
+
+/// Does what was asked for of a plant. What is asked for of an image alone is done by another program.
+fn answer_request<R: Files<File = File> + Input + Print + Eprint + AllocGlobal>(
+    rt: &R,
+    request: Request<'_>,
+    terminals: Terminals,
+) -> u8 {
+    let Request { subject, explain } = request;
+    match subject {
+        Subject::Plant(plant, work) => {
+            let request = PlantRequest {
+                plant,
+                work,
+                explain,
+            };
+            serve(rt, &request, terminals)
+        }
+        Subject::Image(_, _) => end(rt, TaskPaths::of_plant(""), Err(refuse_image(rt))),
+    }
+}
+
+/// Tells that a task on an image is done by another program.
+fn refuse_image<R: Eprint>(rt: &R) -> PlantEnding {
+    let _ = eprintln!(rt; "error: a task on an image is done by the program bip_image");
+    PlantEnding::Usage
 }
 
 /// Does what was asked for, tells why not where it ends early, and gives the exit status. More is printed of an ending on a terminal, or if
 /// the words ask for it.
 fn serve<R: Files<File = File> + Input + Print + Eprint + AllocGlobal>(
     rt: &R,
-    request: &Request<'_>,
+    request: &PlantRequest<'_>,
     terminals: Terminals,
 ) -> u8 {
     let Ok(shown) = ShownPaths::of(rt.alloc(), request) else {
@@ -76,15 +103,14 @@ fn serve<R: Files<File = File> + Input + Print + Eprint + AllocGlobal>(
 /// into `failure`.
 fn work<R: Files<File = File> + Input + Print + Eprint + AllocGlobal>(
     rt: &R,
-    request: &Request<'_>,
+    request: &PlantRequest<'_>,
     shown: &str,
     terminals: Terminals,
     text: &mut Vec<u8>,
     failure: &mut Option<io::Error>,
 ) -> Result<(), PlantEnding> {
     if let Work::OnImage(_, _) | Work::Explored(_) = request.work {
-        let _ = eprintln!(rt; "error: a task on an image is done by the program bip_image");
-        return Err(PlantEnding::Usage);
+        return Err(refuse_image(rt));
     }
     if saves_over_what_is_read(rt, request) {
         let _ = eprintln!(rt;
@@ -110,7 +136,7 @@ fn work<R: Files<File = File> + Input + Print + Eprint + AllocGlobal>(
 
 /// Whether what is fired would be saved in the file of the plant or of the picks. Where their paths are written alike, the words of the command line
 /// were refused before.
-fn saves_over_what_is_read<R: Files>(rt: &R, request: &Request<'_>) -> bool {
+fn saves_over_what_is_read<R: Files>(rt: &R, request: &PlantRequest<'_>) -> bool {
     let Some(saved) = request.work.saved() else {
         return false;
     };
@@ -121,7 +147,7 @@ fn saves_over_what_is_read<R: Files>(rt: &R, request: &Request<'_>) -> bool {
 /// Does what was asked for with a plant that was read.
 fn work_on<R: Files<File = File> + Input + AllocGlobal, W: Write>(
     rt: &R,
-    request: &Request<'_>,
+    request: &PlantRequest<'_>,
     plant: &ReadPlant<'_>,
     terminals: Terminals,
     output: &mut W,
@@ -137,7 +163,7 @@ fn work_on<R: Files<File = File> + Input + AllocGlobal, W: Write>(
 /// Does a task of the plant alone, once what it reads beside the plant is open.
 fn work_by<R: Files<File = File> + Input + AllocGlobal, W: Write>(
     rt: &R,
-    request: &Request<'_>,
+    request: &PlantRequest<'_>,
     task: &Task<'_>,
     plant: &ReadPlant<'_>,
     output: &mut W,

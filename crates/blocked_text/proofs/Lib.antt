@@ -1,4 +1,4 @@
-pub mod Separating
+mod Separating
 mod Finding
 mod Entries
 mod Seeking

@@ -67,3 +67,7 @@ blocked_text plant states lines = flat_map (blocked_lines plant states lines) (r
 abbrev pub connector_text : PlantDefinition → List Local → List ℕ → ℕ → List ℕ
 connector_text plant states lines connector =
     if can_fire plant states connector then wire_name plant connector ++ codes ": can be fired\n" else lines_of plant states lines connector
+
+-- of each connector why it can't be fired, or that it can be
+abbrev pub why_text : PlantDefinition → List Local → List ℕ → List ℕ
+why_text plant states rules = flat_map (connector_text plant states rules) (range_with_len 0 (length plant.wires))

@@ -15,7 +15,7 @@ use text_io::{WriteFault, end_line, print_text};
 
 impl Reasons<'_> {
     ghost use Rattle.blocked_text.specs.Asked.{plant_asked};
-    ghost use Rattle.blocked_text.specs.Blocked.{blocked_lines, blocked_text, can_fire, connector_text, has_allowed, has_reason, is_allowed_of, is_printed_before, line_of, lines_of, reason_line};
+    ghost use Rattle.blocked_text.specs.Blocked.{blocked_lines, blocked_text, can_fire, connector_text, has_allowed, has_reason, is_allowed_of, is_printed_before, line_of, lines_of, reason_line, why_text};
     ghost use Rattle.blocked_text.specs.Reason.{reason_of};
     ghost use Rattle.blocked_text.specs.SameReason.{is_same_reason};
 
@@ -33,6 +33,22 @@ impl Reasons<'_> {
         self.system.keeps_its_rules();
         for connector in 0..self.system.wires().len() {
             self.print_blocked_lines(states, connector as u16, rule_lines, output)?;
+        }
+        Ok(())
+    }
+
+    /// Prints the same of every connector, and of one that can be fired a line that says so.
+    pub fn print_why<W: Write>(
+        &self,
+        states: &PlantState,
+        rule_lines: &[u32],
+        output: &mut W,
+    ) -> Result<(), WriteFault>
+        ensures { Prints result (W.contents output.old) (W.contents output.new) (why_text (plant_asked self.now) states.now rule_lines.now) }
+    {
+        self.system.keeps_its_rules();
+        for connector in 0..self.system.wires().len() {
+            self.print_blocked_of(states, connector as u16, rule_lines, output)?;
         }
         Ok(())
     }

@@ -1,7 +1,6 @@
 -- What the words of a command ask for.
 use Rattle.std.specs.Prelude.{◌≡◌, ℕ, List, [], Bool, true, false, ◌||◌, codes, if◌then◌else◌, is_some, map, unwrap_or, Option, None, Some, Ok}
-use Rattle.command_line.specs.Apart.{apart_in}
-use Rattle.command_line.specs.Files.{read_beside, saved_in}
+use Rattle.command_line.specs.Apart.{apart_alone, apart_in}
 use Rattle.command_line.specs.Pickings.{IsSaid}
 use Rattle.command_line.specs.Rings.{ring_in}
 use Rattle.command_line.specs.Runs.{shape_in}
@@ -16,11 +15,17 @@ use Rattle.command_line.specs.declared.request.Drawing.TheVariants.{Whole, Outli
 use Rattle.command_line.specs.declared.request.Task.{Task}
 use Rattle.command_line.specs.declared.request.Task.TheVariants as task
 use Rattle.command_line.specs.declared.request.IfThere.TheVariants.{Formatted, Refused}
+use Rattle.command_line.specs.declared.request.Asking.{Asking}
+use Rattle.command_line.specs.declared.request.Asking.TheVariants.{InTurn, Strict, Shared}
 use Rattle.command_line.specs.declared.request.ImageTask.{ImageTask}
 use Rattle.command_line.specs.declared.request.ImageTask.TheVariants as image
 use Rattle.command_line.specs.declared.request.Exploration.{Exploration}
+use Rattle.command_line.specs.declared.request.LoneTask.{LoneTask}
+use Rattle.command_line.specs.declared.request.LoneTask.TheVariants as lone
 use Rattle.command_line.specs.declared.request.Work.{Work}
 use Rattle.command_line.specs.declared.request.Work.TheVariants.{OfPlant, ByHand, OnImage, Explored}
+use Rattle.command_line.specs.declared.request.Subject.{Subject}
+use Rattle.command_line.specs.declared.request.Subject.TheVariants.{Plant, Image}
 use Rattle.command_line.specs.declared.request.Request.{Request}
 use Rattle.command_line.specs.declared.said.Said.{Said}
 
@@ -70,16 +75,29 @@ IsTask command.Draw asked said = (drawing : Drawing) × (asked ≡ task.Draw dra
 IsTask command.Format asked said = ⊥
 IsTask command.Run asked said = ⊥
 IsTask command.Recover asked said = ⊥
+IsTask command.Backup asked said = ⊥
+IsTask command.Restate asked said = ⊥
 IsTask command.Migrate asked said = ⊥
 IsTask command.Explore asked said = ⊥
+
+-- how many workers the words ask for, which are none where no word says it
+abbrev pub workers_said : Said → Option ℕ
+workers_said said = workers_in (unwrap_or (word_of said.workers) (codes "0"))
+
+-- the words ask for the events to be asked so: in turn where there are no workers, and up to the first that is refused where that is asked for; or by
+-- workers, and then not strictly
+abbrev pub IsAsking : Asking → Said → Type 0
+IsAsking InTurn said = (workers_said said ≡ Some 0) × (said.strict ≡ false)
+IsAsking Strict said = (workers_said said ≡ Some 0) × (said.strict ≡ true)
+IsAsking (Shared count) said = (workers_said said ≡ Some count.workers) × (said.strict ≡ false)
 
 -- the words of a command on an image ask for this task
 abbrev pub IsImageTask : CommandName → ImageTask → Said → Type 0
 IsImageTask command.Format (image.Format ring if_there) said =
     (ring_in (unwrap_or (word_of said.ring) (codes "64")) ≡ Some ring.records) × (if_there ≡ (if said.only_new then Refused else Formatted))
-IsImageTask command.Run (image.Run script count) said =
-    (word_of said.script ≡ Some script.now) × (workers_in (unwrap_or (word_of said.workers) (codes "0")) ≡ Some count.workers)
+IsImageTask command.Run (image.Run script asking) said = (word_of said.script ≡ Some script.now) × IsAsking asking said
 IsImageTask command.Recover image.Recover said = Unit {0}
+IsImageTask command.Restate image.Restate said = Unit {0}
 IsImageTask command.Migrate (image.Migrate made ring) said =
     (word_of said.new_image ≡ Some made.now) × (ring_in (unwrap_or (word_of said.ring) (codes "64")) ≡ Some ring.records)
 IsImageTask command asked said = ⊥
@@ -102,9 +120,18 @@ IsWork ByHand said = said.command ≡ command.Step
 IsWork (OnImage path asked) said = (image_word said.command said ≡ Some path.now) × IsImageTask said.command asked said
 IsWork (Explored asked) said = (said.command ≡ command.Explore) × IsExploration asked said
 
--- the words are this request: its plant and what is done with it, and the files of it that stand apart
+-- the words of a command on an image alone ask for this task
+abbrev pub IsLoneTask : CommandName → LoneTask → Said → Type 0
+IsLoneTask command.Backup (lone.Backup copy) said = word_of said.copy ≡ Some copy.now
+IsLoneTask command asked said = ⊥
+
+-- the words name this to be worked on, and ask for what is done with it; and the files of that stand apart
+abbrev pub IsSubject : Subject → Said → Type 0
+IsSubject (Plant path work) said = (word_of said.plant ≡ Some path.now) × IsWork work said × (apart_in path.now work ≡ Ok tt)
+IsSubject (Image path asked) said =
+    (word_of said.image ≡ Some path.now) × IsLoneTask said.command asked said × (apart_alone path.now asked ≡ Ok tt)
+
+-- the words are this request
 pub record IsAsked (request : Request) (said : Said) : Type 0 where
-  pub plant : word_of said.plant ≡ Some request.plant.now
   pub explain : request.explain ≡ said.explain
-  pub work : IsWork request.work said
-  pub apart : apart_in request.plant.now (read_beside request.work) (saved_in request.work) ≡ Ok tt
+  pub subject : IsSubject request.subject said

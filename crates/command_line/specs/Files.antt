@@ -1,4 +1,4 @@
--- What a request reads and writes beside the plant and the image, by its paths.
+-- What a request reads and writes, by its paths.
 use Rattle.std.specs.Prelude.{ℕ, List, codes, Option, None, Some}
 use Rattle.command_line.specs.Said.{word_of}
 use Rattle.command_line.specs.declared.request.Picking.{Picking}
@@ -8,6 +8,8 @@ use Rattle.command_line.specs.declared.request.Drawing.TheVariants.{Whole, Outli
 use Rattle.command_line.specs.declared.request.Task.{Task}
 use Rattle.command_line.specs.declared.request.Task.TheVariants.{Check, Warn, Trace, Choices, Why, Draw}
 use Rattle.command_line.specs.declared.request.ImageTask.TheVariants as image
+use Rattle.command_line.specs.declared.request.LoneTask.{LoneTask}
+use Rattle.command_line.specs.declared.request.LoneTask.TheVariants as lone
 use Rattle.command_line.specs.declared.request.Work.{Work}
 use Rattle.command_line.specs.declared.request.Work.TheVariants.{OfPlant, ByHand, OnImage, Explored}
 
@@ -43,13 +45,14 @@ saved_by (Choices picking) = None
 saved_by (Why picking) = None
 saved_by (Draw drawing) = None
 
--- what is read beside the plant and the image: the text of the picks, the standard input of a run by hand, or a script
+-- what is read beside the plant and the image: the text of the picks, a script, or the standard input where lines are typed
 abbrev pub read_beside : Work → Option (List ℕ)
 read_beside (OfPlant task) = recorded_by task
 read_beside ByHand = Some (codes "-")
 read_beside (OnImage path (image.Format ring if_there)) = None
-read_beside (OnImage path (image.Run script count)) = Some script.now
+read_beside (OnImage path (image.Run script asking)) = Some script.now
 read_beside (OnImage path image.Recover) = None
+read_beside (OnImage path image.Restate) = None
 read_beside (OnImage path (image.Migrate made ring)) = None
 read_beside (Explored exploration) = Some exploration.script.now
 
@@ -59,3 +62,17 @@ saved_in (OfPlant task) = saved_by task
 saved_in ByHand = None
 saved_in (OnImage path task) = None
 saved_in (Explored exploration) = None
+
+-- the image, or the old one where an image is brought over
+abbrev pub image_in : Work → Option (List ℕ)
+image_in (OnImage path task) = Some path.now
+image_in work = None
+
+-- the new image that an old one is brought over to
+abbrev pub made_in : Work → Option (List ℕ)
+made_in (OnImage path (image.Migrate made ring)) = Some made.now
+made_in work = None
+
+-- the file that is made of an image alone
+abbrev pub copied_to : LoneTask → Option (List ℕ)
+copied_to (lone.Backup copy) = Some copy.now

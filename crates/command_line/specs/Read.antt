@@ -15,6 +15,7 @@ pub record AreFound (said : Said) (found : Found) : Type 0 where
   pub image : word_of said.image ≡ first_value found (codes "IMAGE")
   pub old_image : word_of said.old_image ≡ first_value found (codes "OLD")
   pub new_image : word_of said.new_image ≡ first_value found (codes "NEW")
+  pub copy : word_of said.copy ≡ first_value found (codes "FILE")
   pub script : word_of said.script ≡ first_value found (codes "SCRIPT")
   pub picks : words_of said.picks ≡ are_found found (codes "PICK")
   pub recorded : word_of said.recorded ≡ first_value found (codes "picks")

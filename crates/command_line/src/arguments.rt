@@ -1,7 +1,7 @@
 //! The arguments and the options of the commands.
 use crate::names::{
-    AFTER, EXPLAIN, FORMATS, IMAGE, LINES, LIST, NEW, OLD, ONLY, ONLY_NEW, OUTLINE, PICK, PICKS,
-    PLANT, RANDOM, RING, RUN_FORMAT, SAVE_PICKS, SCRIPT, SEED, STATES, STRICT, USUAL_RING,
+    AFTER, COPY, EXPLAIN, FORMATS, IMAGE, LINES, LIST, NEW, OLD, ONLY, ONLY_NEW, OUTLINE, PICK,
+    PICKS, PLANT, RANDOM, RING, RUN_FORMAT, SAVE_PICKS, SCRIPT, SEED, STATES, STRICT, USUAL_RING,
     USUAL_WORKERS, WARN, WORKERS,
 };
 use clap::builder::ValueParser;
@@ -21,6 +21,8 @@ pub(crate) enum Argument {
     Old,
     /// The image that is made of it.
     New,
+    /// The copy of the image.
+    Copy,
     /// Where the script stands.
     Script,
     /// For how many records there is room.
@@ -29,6 +31,8 @@ pub(crate) enum Argument {
     OnlyNew,
     /// How many workers share the events of a run.
     Workers,
+    /// An event that is refused ends the run.
+    StrictRun,
     /// Each trial of a run is listed.
     List,
     /// More is said of a fault.
@@ -76,6 +80,7 @@ pub(crate) fn described<'a>(alloc: Global, argument: Argument) -> Arg<'a> {
             let help = "The file in which the plant is kept from then on";
             file(alloc, NEW, help)
         }
+        Argument::Copy => file(alloc, COPY, "The file that is made, where nothing is yet"),
         Argument::Script => {
             let help =
                 "The file with the events, or - for the standard input, where that is not the plant";
@@ -92,6 +97,10 @@ pub(crate) fn described<'a>(alloc: Global, argument: Argument) -> Arg<'a> {
         Argument::Workers => {
             let help = "How many threads share the events; with any no answers are printed";
             option(alloc, WORKERS, "N", help).default_value(USUAL_WORKERS)
+        }
+        Argument::StrictRun => {
+            let help = "Ends the run at the first event that the plant refuses";
+            flag(alloc, STRICT, help)
         }
         Argument::List => flag(alloc, LIST, "Prints a line for each trial, too"),
         Argument::Explain => {

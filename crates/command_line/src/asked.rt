@@ -1,17 +1,20 @@
 //! What the words of a command ask for.
-ghost use Rattle.std.specs.Prelude.{◌≡◌, IfOk, Some, codes, if◌then◌else◌, unwrap_or};
-ghost use Rattle.command_line.specs.Asked.{has_picks, IsAsked, IsDrawing, IsExploration, IsPicked, IsPickedAfter, IsTrace, IsWork};
+ghost use Rattle.std.specs.Prelude.{◌≡◌, ◌≢◌, ◌≤◌, IfOk, Some, codes, if◌then◌else◌, unwrap_or};
+ghost use Rattle.command_line.specs.Asked.{has_picks, IsAsked, IsAsking, IsDrawing, IsExploration, IsLoneTask, IsPicked, IsPickedAfter, IsSubject, IsTrace, IsWork};
 ghost use Rattle.command_line.specs.Rings.{ring_in};
 ghost use Rattle.command_line.specs.Said.{word_of};
 ghost use Rattle.command_line.specs.Workers.{workers_in};
+ghost use Rattle.command_line.specs.declared.names.CommandName.TheVariants.{Backup};
 ghost use Rattle.command_line.specs.declared.request.IfThere.TheVariants.{Formatted, Refused};
+ghost use Rattle.command_line.specs.declared.workers.TheConstants.{MOST_WORKERS};
 ghost use Rattle.command_line.specs.declared.request.Task.TheVariants.{Check, Warn};
 
-use crate::apart::{ApartFault, stand_apart};
+use crate::apart::{ApartFault, stand_apart, stands_alone};
 use crate::names::{CommandName, LINES, USUAL_RING, USUAL_WORKERS};
 use crate::picking::{PickingFault, picking_named};
 use crate::request::{
-    Drawing, Exploration, IfThere, ImageTask, Picking, Request, Task, Trace, Work,
+    Asking, Drawing, Exploration, IfThere, ImageTask, LoneTask, Picking, Request, Subject, Task,
+    Trace, Work,
 };
 use crate::ring::{RingLength, ring_named};
 use crate::runs::shape_named;
@@ -34,6 +37,8 @@ pub(crate) enum AskingFault<'a> {
     NoRing(&'a str),
     /// The word is no number of workers.
     NoWorkers(&'a str),
+    /// A run by workers is to be strict.
+    StrictShared,
     /// The files of the request do not stand apart.
     Apart(ApartFault),
     /// Memory ran out.
@@ -77,18 +82,40 @@ pub(crate) fn request_asked<'a>(
 ) -> Result<Request<'a>, AskingFault<'a>>
     ensures { IfOk result (λ request. IsAsked request said.now) }
 {
-    let plant = path_in(said.plant)?;
-    let work = work_asked(alloc, said)?;
-    stand_apart(plant, work.input(), work.saved())?;
     Ok(Request {
-        work,
-        plant,
+        subject: subject_asked(alloc, said)?,
         explain: said.explain,
     })
 }
 
-/// What is to be done.
+/// What is to be worked on, and what is to be done with it.
+fn subject_asked<'a>(alloc: Global, said: &Said<'_, 'a>) -> Result<Subject<'a>, AskingFault<'a>>
+    ensures { IfOk result (λ subject. IsSubject subject said.now) }
+{
+    match (said.command, said.plant) {
+        (CommandName::Backup, _) => alone(said, LoneTask::Backup(path_in(said.copy)?)),
+        (_, plant) => {
+            let plant = path_in(plant)?;
+            let work = work_asked(alloc, said)?;
+            stand_apart(plant, &work)?;
+            Ok(Subject::Plant(plant, work))
+        }
+    }
+}
+
+/// The image alone, and what is to be done with it.
+fn alone<'a>(said: &Said<'_, 'a>, task: LoneTask<'a>) -> Result<Subject<'a>, AskingFault<'a>>
+    requires { IsLoneTask said.now.command task said.now }
+    ensures { IfOk result (λ subject. IsSubject subject said.now) }
+{
+    let image = path_in(said.image)?;
+    stands_alone(image, task)?;
+    Ok(Subject::Image(image, task))
+}
+
+/// What is to be done with the plant.
 fn work_asked<'a>(alloc: Global, said: &Said<'_, 'a>) -> Result<Work<'a>, AskingFault<'a>>
+    requires { said.now.command ≢ Backup }
     ensures { IfOk result (λ work. IsWork work said.now) }
 {
     match said.command {
@@ -117,10 +144,12 @@ fn work_asked<'a>(alloc: Global, said: &Said<'_, 'a>) -> Result<Work<'a>, Asking
         }
         CommandName::Run => {
             let script = path_in(said.script)?;
-            let workers = workers_asked(said.workers)?;
-            Ok(Work::OnImage(path_in(said.image)?, ImageTask::Run(script, workers)))
+            let asking = asking_asked(said)?;
+            Ok(Work::OnImage(path_in(said.image)?, ImageTask::Run(script, asking)))
         }
         CommandName::Recover => Ok(Work::OnImage(path_in(said.image)?, ImageTask::Recover)),
+        CommandName::Backup => unreachable!(),
+        CommandName::Restate => Ok(Work::OnImage(path_in(said.image)?, ImageTask::Restate)),
         CommandName::Migrate => {
             let made = path_in(said.new_image)?;
             let ring = ring_asked(said.ring)?;
@@ -139,6 +168,18 @@ fn if_there(only_new: bool) -> IfThere
         IfThere::Refused
     } else {
         IfThere::Formatted
+    }
+}
+
+/// How the events of a script are to be asked.
+fn asking_asked<'a>(said: &Said<'_, 'a>) -> Result<Asking, AskingFault<'a>>
+    ensures { IfOk result (λ asking. IsAsking asking said.now) }
+{
+    match (workers_asked(said.workers)?, said.strict) {
+        (0, false) => Ok(Asking::InTurn),
+        (0, true) => Ok(Asking::Strict),
+        (workers, false) => Ok(Asking::Shared(WorkerCount { workers })),
+        (_, true) => Err(AskingFault::StrictShared),
     }
 }
 
@@ -248,9 +289,10 @@ fn ring_asked<'a>(word: Option<&'a str>) -> Result<RingLength, AskingFault<'a>>
     ring_named(word).ok_or(AskingFault::NoRing(word))
 }
 
-/// How many workers share the events of a run.
-fn workers_asked<'a>(word: Option<&'a str>) -> Result<WorkerCount, AskingFault<'a>>
-    ensures { IfOk result (λ count. workers_in (unwrap_or (word_of word.entry) (codes "0")) ≡ Some count.workers) }
+/// How many workers share the events of a run: 0, where they are asked one after another.
+fn workers_asked<'a>(word: Option<&'a str>) -> Result<u8, AskingFault<'a>>
+    ensures number { IfOk result (λ workers. workers_in (unwrap_or (word_of word.entry) (codes "0")) ≡ Some workers) }
+    ensures most { IfOk result (λ workers. workers ≤ MOST_WORKERS) }
 {
     let word = word.unwrap_or(USUAL_WORKERS);
     workers_named(word).ok_or(AskingFault::NoWorkers(word))

@@ -1,10 +1,11 @@
 //! The commands of the program, with their arguments and options.
 use crate::arguments::{Argument, described};
 use crate::help::{
-    ABOUT, AFTER, BRIEF, CHECK_ABOUT, CHECK_AFTER, CHECK_BRIEF, CHOICES_ABOUT, CHOICES_AFTER,
-    CHOICES_BRIEF, DRAW_ABOUT, DRAW_AFTER, DRAW_BRIEF, DRAW_USAGE, EXPLORE_ABOUT, EXPLORE_AFTER,
-    EXPLORE_BRIEF, FORMAT_ABOUT, FORMAT_AFTER, FORMAT_BRIEF, MIGRATE_ABOUT, MIGRATE_AFTER,
-    MIGRATE_BRIEF, RECOVER_ABOUT, RECOVER_AFTER, RECOVER_BRIEF, RUN_ABOUT, RUN_AFTER, RUN_BRIEF,
+    ABOUT, AFTER, BACKUP_ABOUT, BACKUP_AFTER, BACKUP_BRIEF, BRIEF, CHECK_ABOUT, CHECK_AFTER,
+    CHECK_BRIEF, CHOICES_ABOUT, CHOICES_AFTER, CHOICES_BRIEF, DRAW_ABOUT, DRAW_AFTER, DRAW_BRIEF,
+    DRAW_USAGE, EXPLORE_ABOUT, EXPLORE_AFTER, EXPLORE_BRIEF, FORMAT_ABOUT, FORMAT_AFTER,
+    FORMAT_BRIEF, MIGRATE_ABOUT, MIGRATE_AFTER, MIGRATE_BRIEF, RECOVER_ABOUT, RECOVER_AFTER,
+    RECOVER_BRIEF, RESTATE_ABOUT, RESTATE_AFTER, RESTATE_BRIEF, RUN_ABOUT, RUN_AFTER, RUN_BRIEF,
     STEP_ABOUT, STEP_AFTER, STEP_BRIEF, TRACE_ABOUT, TRACE_AFTER, TRACE_BRIEF, VERSION, WHY_ABOUT,
     WHY_AFTER, WHY_BRIEF,
 };
@@ -47,6 +48,8 @@ fn words_of(name: CommandName) -> &'static str {
         CommandName::Format => "bip_run format",
         CommandName::Run => "bip_run run",
         CommandName::Recover => "bip_run recover",
+        CommandName::Backup => "bip_run backup",
+        CommandName::Restate => "bip_run restate",
         CommandName::Migrate => "bip_run migrate",
         CommandName::Explore => "bip_run explore",
     }
@@ -73,6 +76,8 @@ fn help_of<'a>(name: CommandName) -> Help<'a> {
         CommandName::Format => (FORMAT_BRIEF, FORMAT_ABOUT, FORMAT_AFTER),
         CommandName::Run => (RUN_BRIEF, RUN_ABOUT, RUN_AFTER),
         CommandName::Recover => (RECOVER_BRIEF, RECOVER_ABOUT, RECOVER_AFTER),
+        CommandName::Backup => (BACKUP_BRIEF, BACKUP_ABOUT, BACKUP_AFTER),
+        CommandName::Restate => (RESTATE_BRIEF, RESTATE_ABOUT, RESTATE_AFTER),
         CommandName::Migrate => (MIGRATE_BRIEF, MIGRATE_ABOUT, MIGRATE_AFTER),
         CommandName::Explore => (EXPLORE_BRIEF, EXPLORE_ABOUT, EXPLORE_AFTER),
     };
@@ -131,12 +136,16 @@ fn arguments_of(name: CommandName) -> &'static [Argument] {
         ],
         CommandName::Run => &[
             Argument::Workers,
+            Argument::StrictRun,
             Argument::Explain,
             Argument::Plant,
             Argument::Image,
             Argument::Script,
         ],
-        CommandName::Recover => &[Argument::Explain, Argument::Plant, Argument::Image],
+        CommandName::Recover | CommandName::Restate => {
+            &[Argument::Explain, Argument::Plant, Argument::Image]
+        }
+        CommandName::Backup => &[Argument::Explain, Argument::Image, Argument::Copy],
         CommandName::Migrate => &[
             Argument::Ring,
             Argument::Explain,

@@ -10,9 +10,10 @@ pub(crate) const ABOUT: &str =
     "Reads the text of a plant, and says what stands in it, draws it or runs it.
 
 With an image, a file that holds what was fired, a plant goes on from there after any
-stop: 'format' makes an image, 'run' runs the plant on it, and 'recover' tells where the
-plant stands. 'migrate' brings an image of an earlier version over to a new one.
-'explore' tries a run with a power cut at each of its moments.
+stop: 'format' makes an image, 'run' runs the plant on it by a script, and 'recover' tells
+where the plant stands. 'backup' copies an image, and 'restate' writes the text of a plant
+that begins where the image stands. 'migrate' brings an image of an earlier version over
+to a new one. 'explore' tries a run with a power cut at each of its moments.
 
 A plant is atoms (machines with places, variables and ports), connectors (which ports
 move together, under which guards, and what data passes between them) and priorities
@@ -260,7 +261,8 @@ pub(crate) const RUN_BRIEF: &str = "Runs a plant by a script, from where its ima
 pub(crate) const RUN_ABOUT: &str = "Runs a plant by a script, from where its image stands.
 
 A script has an event on each line. 'fire P' fires the entry of the state's choices at P
-modulo their number; 'flush' has all that was fired saved in the image; 'ask ATOM' copies
+modulo their number, and 'fire send A.t/0 B.u/0' that very choice, if the plant has it
+('refused 12 NotNow' if not); 'flush' has all that was fired saved in the image; 'ask ATOM' copies
 the present state of the atom with that name, and 'put ATOM' has its last copy stored in
 the image; 'trim' drops the records that no restart needs, so that their room is used
 again. A line without words asks for nothing.
@@ -280,11 +282,16 @@ since may be lost, from the last one back.
 An image holds as many records as its ring is long. Where it is full ('refused 4 RingFull'),
 'flush', save the atoms that took part in its oldest records ('ask', 'put'), and 'trim'.
 
+With --strict the first event that is refused ends the run, with status 1, and the standard
+error names its line; the last lines come all the same. 'fire P' is then refused where P is
+past the choices.
+
 With --workers N, from 1 to 16, N threads share the events: thread number I takes those at I,
 I + N, I + 2 N and so on, all counted from 0, and asks them in this order. 'ask ATOM' saves
 the atom whole, 'begin P' fires as 'fire P' does and lets others fire while the participants
 work, and 'put' and 'back' ask for nothing. Answers are not printed, and what is refused is
-passed over. At the end come the same lines, and 'by T': how many interactions were fired.";
+passed over. At the end come the same lines, and 'by T': how many interactions were fired.
+So --strict and --workers exclude each other.";
 
 pub(crate) const RUN_AFTER: &str = "Example:
   printf 'fire 0\\nfire 1\\nflush\\n' | bip_run run examples/sample.plant sample.image -
@@ -299,7 +306,8 @@ prints, on an image that was formatted just before
 Exit status:
   0  the script was run to its end, also where the plant refused some of its events
   1  the plant, the script or the image is refused, and nothing was fired; the standard
-     error has 'plant line L: fault K NAME', 'script line L' or 'image: refusal K NAME'
+     error has 'plant line L: fault K NAME', 'script line L' or 'image: refusal K NAME';
+     or, with --strict, the plant refused an event, and no later one was asked
   2  the words of the command line were not understood
   3  a file ('file PATH'; 'file PATH in use' where another program has the image open),
      the device below the image ('image: refusal 8 Disk', or the lines 'refused 10 Disk'
@@ -399,3 +407,60 @@ Exit status:
   2  the words of the command line were not understood
   3  a file ('file PATH'), the memory ('memory', or 'plant line 0: fault 15 Memory')
      or the standard output failed";
+
+pub(crate) const BACKUP_BRIEF: &str = "Copies an image into a new file";
+
+pub(crate) const BACKUP_ABOUT: &str = "Copies an image into a new file.
+
+IMAGE is only read, and no other program may have it open to run a plant meanwhile: so the
+copy is of one moment. FILE is made, and must not be there. A file that is no image is
+refused, and no FILE is made. Prints one line: how many cells were copied, and the number
+of the last interaction that they hold.
+
+When that line is printed the copy is on the disk, with its name. A stop before leaves a
+FILE that reads as never formatted, or the whole copy: remove it, and copy again.
+
+A copy that is run stands where the image stood. The real plant does not: bring it back to
+that state first, or 'recover' tells of a state that is past.";
+
+pub(crate) const BACKUP_AFTER: &str = "Example:
+  bip_run backup sample.image sample.copy
+prints, where tick, send, tick and send were saved
+  copied 15 front 4
+
+Exit status:
+  0  the copy is made
+  1  IMAGE is refused ('image: refusal K NAME'), and no FILE was made
+  2  the words of the command line were not understood
+  3  a file ('file PATH'; 'file PATH in use' where another program has the image open;
+     'file PATH is there' where FILE is, and 'file PATH' where the disk of FILE failed), the
+     device below the image ('image: refusal 8 Disk'), the memory ('memory') or the
+     standard output failed";
+
+pub(crate) const RESTATE_BRIEF: &str =
+    "Writes the text of a plant that begins where its image stands";
+
+pub(crate) const RESTATE_ABOUT: &str =
+    "Writes the text of a plant that begins where its image stands.
+
+Prints the text of PLANT with another first state: the places that are marked and the
+values of the variables are those that the image leads to, as 'recover' tells them. All
+else stays as it is. So a run can be looked at from there by 'trace', 'step', 'why' or
+'draw', and a changed plant can begin where the old one ended: change the printed text, and
+format an image for it.
+
+The image stays as it is. It does not belong to the printed text, which is another one.";
+
+pub(crate) const RESTATE_AFTER: &str = "Example:
+  bip_run restate examples/sample.plant sample.image > later.plant
+  bip_run step later.plant
+runs the plant by hand from where the image stands.
+
+Exit status:
+  0  the text is printed
+  1  the plant or the image is refused; the standard error has 'plant line L: fault K
+     NAME' or 'image: refusal K NAME'
+  2  the words of the command line were not understood
+  3  a file ('file PATH'; 'file PATH in use' where another program has the image open),
+     the device below the image ('image: refusal 8 Disk'), the memory ('memory', 'plant
+     line 0: fault 15 Memory' or 'image: refusal 9 Memory') or the standard output failed";

@@ -34,7 +34,8 @@ mod workers;
 pub use answer::Answered;
 pub use input::is_standard_input;
 pub use request::{
-    Drawing, Exploration, IfThere, ImageTask, Numbers, Picking, Request, Shape, Task, Trace, Work,
+    Asking, Drawing, Exploration, IfThere, ImageTask, LoneTask, Numbers, Picking, Request, Shape,
+    Subject, Task, Trace, Work,
 };
 pub use ring::RingLength;
 pub use words::read_request;

@@ -24,6 +24,10 @@ const MIGRATE: &str = "migrate";
 
 const EXPLORE: &str = "explore";
 
+const BACKUP: &str = "backup";
+
+const RESTATE: &str = "restate";
+
 pub(crate) const PLANT: &str = "PLANT";
 
 pub(crate) const PICK: &str = "PICK";
@@ -33,6 +37,8 @@ pub(crate) const IMAGE: &str = "IMAGE";
 pub(crate) const OLD: &str = "OLD";
 
 pub(crate) const NEW: &str = "NEW";
+
+pub(crate) const COPY: &str = "FILE";
 
 pub(crate) const SCRIPT: &str = "SCRIPT";
 
@@ -101,6 +107,10 @@ pub(crate) enum CommandName {
     Run,
     /// Tells where a plant stands by its image.
     Recover,
+    /// Copies an image.
+    Backup,
+    /// Writes the text of a plant that begins where the image stands.
+    Restate,
     /// Brings an image of the first layout over to a new one.
     Migrate,
     /// Tells what a power cut at each moment of a run leaves.
@@ -108,7 +118,7 @@ pub(crate) enum CommandName {
 }
 
 /// All commands, in the order of the help.
-pub(crate) const COMMANDS: [CommandName; 11] = [
+pub(crate) const COMMANDS: [CommandName; 13] = [
     CommandName::Check,
     CommandName::Choices,
     CommandName::Why,
@@ -118,6 +128,8 @@ pub(crate) const COMMANDS: [CommandName; 11] = [
     CommandName::Format,
     CommandName::Run,
     CommandName::Recover,
+    CommandName::Backup,
+    CommandName::Restate,
     CommandName::Migrate,
     CommandName::Explore,
 ];
@@ -136,6 +148,8 @@ pub(crate) fn word_of(name: CommandName) -> &'static str
         CommandName::Format => FORMAT,
         CommandName::Run => RUN,
         CommandName::Recover => RECOVER,
+        CommandName::Backup => BACKUP,
+        CommandName::Restate => RESTATE,
         CommandName::Migrate => MIGRATE,
         CommandName::Explore => EXPLORE,
     }

@@ -145,16 +145,28 @@ pub enum IfThere {
     Refused,
 }
 
+/// How the events of a script are asked.
+#[derive(Clone, Copy)]
+pub enum Asking {
+    /// One after another: each is answered, and what is refused is passed over.
+    InTurn,
+    /// One after another, and each is answered, up to the first that is refused.
+    Strict,
+    /// By so many workers: none is answered, and what is refused is passed over.
+    Shared(WorkerCount),
+}
+
 /// What is to be done with a plant and its image.
 #[derive(Clone, Copy)]
 pub enum ImageTask<'a> {
     /// The image is made to stand for the plant's first state, with room for so many records.
     Format(RingLength, IfThere),
-    /// The plant goes on from what the image stands for, by the script at this path: a file, or `-` for the standard input. So many workers share
-    /// its events.
-    Run(&'a str, WorkerCount),
+    /// The plant goes on from what the image stands for, by the script at this path: a file, or `-` for the standard input.
+    Run(&'a str, Asking),
     /// Where the plant stands is printed.
     Recover,
+    /// The plant's text is printed, with the state that the image stands for as its first one.
+    Restate,
     /// The image is of the first layout, and is brought over to a new one: the file at this path, with room for so many records.
     Migrate(&'a str, RingLength),
 }
@@ -170,7 +182,29 @@ pub struct Exploration<'a> {
     pub list: bool,
 }
 
-/// What is to be done, and with what but the plant.
+/// What is to be done with an image alone, where no plant is named.
+#[derive(Clone, Copy)]
+pub enum LoneTask<'a> {
+    /// The image is copied into a new file at this path.
+    Backup(&'a str),
+}
+
+impl<'a> LoneTask<'a> {
+    ghost use Rattle.std.specs.Prelude.{◌≡◌};
+    ghost use Rattle.command_line.specs.Files.{copied_to};
+    ghost use Rattle.command_line.specs.Said.{word_of};
+
+    /// The file that is made, if one is.
+    pub fn made(&self) -> Option<&'a str>
+        ensures { word_of result ≡ copied_to self.now }
+    {
+        match self {
+            LoneTask::Backup(copy) => Some(*copy),
+        }
+    }
+}
+
+/// What is to be done with a plant, and with what beside it.
 #[derive(Drop)]
 pub enum Work<'a> {
     /// A task of the plant alone.
@@ -185,10 +219,11 @@ pub enum Work<'a> {
 
 impl<'a> Work<'a> {
     ghost use Rattle.std.specs.Prelude.{◌≡◌};
-    ghost use Rattle.command_line.specs.Files.{read_beside, saved_in};
+    ghost use Rattle.command_line.specs.Files.{image_in, made_in, read_beside, saved_in};
     ghost use Rattle.command_line.specs.Said.{word_of};
 
-    /// What is read beside the plant and the image, if anything is: the path of the text of the picks, `-` for a run by hand, or a script.
+    /// What is read beside the plant and the image, if anything is: the path of the text of the picks or of a script, or `-` where lines are
+    /// typed.
     pub fn input(&self) -> Option<&'a str>
         ensures { word_of result ≡ read_beside self.now }
     {
@@ -199,7 +234,10 @@ impl<'a> Work<'a> {
             Work::Explored(exploration) => Some(exploration.script),
             Work::OnImage(
                 _,
-                ImageTask::Format(_, _) | ImageTask::Recover | ImageTask::Migrate(_, _),
+                ImageTask::Format(_, _)
+                | ImageTask::Recover
+                | ImageTask::Restate
+                | ImageTask::Migrate(_, _),
             ) => None,
         }
     }
@@ -213,15 +251,42 @@ impl<'a> Work<'a> {
             Work::ByHand | Work::OnImage(_, _) | Work::Explored(_) => None,
         }
     }
+
+    /// The image, if there is one; where an image is brought over, this is the old one.
+    pub fn image(&self) -> Option<&'a str>
+        ensures { word_of result ≡ image_in self.now }
+    {
+        match self {
+            Work::OnImage(image, _) => Some(*image),
+            Work::OfPlant(_) | Work::ByHand | Work::Explored(_) => None,
+        }
+    }
+
+    /// The new image that an old one is brought over to, if one is.
+    pub fn made(&self) -> Option<&'a str>
+        ensures { word_of result ≡ made_in self.now }
+    {
+        match self {
+            Work::OnImage(_, ImageTask::Migrate(made, _)) => Some(*made),
+            Work::OfPlant(_) | Work::ByHand | Work::OnImage(_, _) | Work::Explored(_) => None,
+        }
+    }
 }
 
-/// What is to be done, and the plant that it is done with.
+/// What is worked on, and what is to be done with it.
+#[derive(Drop)]
+pub enum Subject<'a> {
+    /// The plant whose text is at this path: a file, or `-` for the standard input.
+    Plant(&'a str, Work<'a>),
+    /// The image at this path alone. The text of no plant is read.
+    Image(&'a str, LoneTask<'a>),
+}
+
+/// What the words of the command line ask for.
 #[derive(Drop)]
 pub struct Request<'a> {
-    /// What is to be done.
-    pub work: Work<'a>,
-    /// Where the plant text stands: the path of a file, or `-` for the standard input.
-    pub plant: &'a str,
+    /// What is worked on, and what is to be done with it.
+    pub subject: Subject<'a>,
     /// Whether more is printed of a fault than its line, also where the standard error is no terminal.
     pub explain: bool,
 }

@@ -4,7 +4,7 @@ ghost use Rattle.clap.specs.Matches.{found_of};
 ghost use Rattle.command_line.specs.Read.{AreFound};
 
 use crate::names::{
-    AFTER, CommandName, EXPLAIN, IMAGE, LIST, NEW, OLD, ONLY, ONLY_NEW, OUTLINE, PICK, PICKS,
+    AFTER, COPY, CommandName, EXPLAIN, IMAGE, LIST, NEW, OLD, ONLY, ONLY_NEW, OUTLINE, PICK, PICKS,
     PLANT, RANDOM, RING, RUN_FORMAT, SAVE_PICKS, SCRIPT, SEED, STATES, STRICT, WARN, WORKERS,
 };
 use clap::ArgMatches;
@@ -22,6 +22,8 @@ pub(crate) struct Said<'m, 'a> {
     pub(crate) old_image: Option<&'a str>,
     /// Where the image is made of it.
     pub(crate) new_image: Option<&'a str>,
+    /// Where the copy of an image is made.
+    pub(crate) copy: Option<&'a str>,
     /// Where the script is.
     pub(crate) script: Option<&'a str>,
     /// The picks of a run.
@@ -44,7 +46,7 @@ pub(crate) struct Said<'m, 'a> {
     pub(crate) after: Option<&'m [&'a str]>,
     /// The atoms that are drawn.
     pub(crate) only: Option<&'m [&'a str]>,
-    /// Whether a pick is refused whose number is past the list of choices.
+    /// Whether a pick is refused whose number is past the list of choices, or an event that is refused ends a run.
     pub(crate) strict: bool,
     /// Whether a drawing is an outline.
     pub(crate) outline: bool,
@@ -71,6 +73,7 @@ pub(crate) fn said_in<'m, 'a>(command: CommandName, found: &'m ArgMatches<'a>) -
         image: found.get_str(IMAGE),
         old_image: found.get_str(OLD),
         new_image: found.get_str(NEW),
+        copy: found.get_str(COPY),
         script: found.get_str(SCRIPT),
         picks: found.get_strs(PICK),
         recorded: found.get_str(PICKS),

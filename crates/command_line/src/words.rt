@@ -86,6 +86,10 @@ fn refusal(
         ),
         AskingFault::NoRing(word) => no_ring(alloc, command, word),
         AskingFault::NoWorkers(word) => no_workers(alloc, command, word),
+        AskingFault::StrictShared => command.error(
+            ErrorKind::ArgumentConflict,
+            "workers pass over what is refused, so '--strict' cannot be with '--workers <N>'",
+        ),
         AskingFault::Apart(fault) => not_apart(name, command, fault),
         AskingFault::Memory => Ok(Error::from(AllocError)),
     }
@@ -111,6 +115,16 @@ fn not_apart(
         (ApartFault::SavedOverRead, _) => {
             "the picks cannot be saved in the file from which the plant or the picks are read"
         }
+        (ApartFault::ImageOverRead, CommandName::Run) => {
+            "the image cannot be the file from which the plant or the script is read"
+        }
+        (ApartFault::ImageOverRead, _) => {
+            "the image cannot be the file from which the plant is read"
+        }
+        (ApartFault::OneImage, CommandName::Migrate) => {
+            "the new image cannot be the file of the old one"
+        }
+        (ApartFault::OneImage, _) => "the copy cannot be the file of the image",
     };
     command.error(ErrorKind::ArgumentConflict, message)
 }

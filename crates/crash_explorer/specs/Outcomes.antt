@@ -1,5 +1,5 @@
 -- What becomes of a device that a stop left.
-use Rattle.std.specs.Prelude.{◌≡◌, ◌↔◌, ℕ, ◌+◌, ◌<◌, Bool, IsTrue, List, [], Option, None, Some, drop, length, slice_index, take}
+use Rattle.std.specs.Prelude.{◌≡◌, ◌↔◌, ℕ, ◌+◌, ◌<◌, Bool, IsTrue, List, [], ◌∷◌, Option, None, Some, drop, length, slice_index, take}
 use Rattle.disk_model.specs.Cells.{Cell, MayBe, cells_of}
 use Rattle.disk_model.specs.DiskState.{is_pending, size_of}
 use Rattle.disk_model.specs.MemDisk.{state_of, synced_of}
@@ -8,6 +8,8 @@ use Rattle.disk_model.specs.declared.cells.TheConstants.{BODY}
 use Rattle.disk_model.specs.declared.change.Tear.{Tear}
 use Rattle.disk_model.specs.declared.memory.MemDisk.{MemDisk}
 use Rattle.plant_core.specs.View.{View}
+use Rattle.plant_core.specs.declared.events.Event.{Event}
+use Rattle.plant_core.specs.declared.events.Event.TheVariants.{Fire, Flush}
 use Rattle.recovery.specs.Booting.{IsBooted}
 use Rattle.step_core.specs.Choice.{ChoiceDefinition}
 use Rattle.step_core.specs.Plant.{PlantDefinition}
@@ -18,7 +20,10 @@ use Rattle.crash_explorer.specs.declared.booting.Found.{Found}
 use Rattle.crash_explorer.specs.declared.booting.Found.TheVariants.{Booted, Refused}
 use Rattle.crash_explorer.specs.declared.outcome.Next.{Next}
 use Rattle.crash_explorer.specs.declared.outcome.Outcome.{Outcome}
-use Rattle.crash_explorer.specs.declared.outcome.TheConstants.{NEXT}
+
+-- what a plant that was booted after a stop is asked for
+abbrev pub next_events : List Event
+next_events = Fire 0 ∷ Flush ∷ []
 
 -- These bytes are what a stop under this tear leaves of the device: the pending bytes are torn, and all others are as a read gave them.
 pub record IsTorn (tear : Tear) (device : MemDisk) (left : List ℕ) : Type 0 where
@@ -32,7 +37,7 @@ pub record IsTorn (tear : Tear) (device : MemDisk) (left : List ℕ) : Type 0 wh
 pub record IsNext (plant : PlantDefinition) (digest : List ℕ) (bytes : ℕ) (tear : Tear) (opened : View) (behind : List ChoiceDefinition) (n : Next) : Type 0 where
   pub fired : List ChoiceDefinition
   pub device : MemDisk
-  pub lived : IsLived plant digest NEXT opened behind fired (length fired) (state_of device)
+  pub lived : IsLived plant digest next_events opened behind fired (length fired) (state_of device)
   pub fired_more : length fired ≡ length behind + n.fired
   pub size : size_of (state_of device) ≡ bytes
   pub all_right : (cells : List Cell) → MayBe (BODY + 1) (state_of device) cells → IsRight plant digest bytes fired [] cells

@@ -1,5 +1,5 @@
 -- What a run comes to.
-use Rattle.std.specs.Prelude.{◌≡◌, ℕ, ◌+◌, ◌≤◌, Bool, true, false, List, [], ◌++◌, drop, length, map, take}
+use Rattle.std.specs.Prelude.{◌≡◌, ℕ, ◌+◌, ◌≤◌, Bool, true, false, List, [], ◌++◌, drop, length, map, take, Option, None, Some, Result, Ok, Err}
 use Rattle.disk_model.specs.Cells.{Cell, MayBe}
 use Rattle.disk_model.specs.DiskState.{DiskState, size_of}
 use Rattle.disk_model.specs.MemDisk.{state_of}
@@ -14,7 +14,9 @@ use Rattle.plant_core.specs.Events.{all_fired}
 use Rattle.plant_core.specs.Hands.{HandFields, empty_hands}
 use Rattle.plant_core.specs.View.{View}
 use Rattle.plant_core.specs.declared.events.Event.{Event}
+use Rattle.plant_core.specs.declared.events.FiredAs.{FiredAs}
 use Rattle.plant_core.specs.declared.events.Happened.{Happened}
+use Rattle.plant_core.specs.declared.refused.Refused.{Refused}
 use Rattle.recovery.specs.Booting.{IsBooted}
 use Rattle.crash_explorer.specs.Judging.{IsRightStop, IsRunOf, state_after}
 use Rattle.crash_explorer.specs.declared.running.Ended.{Ended}
@@ -26,6 +28,11 @@ abbrev pub is_formatting : Stage → Bool
 is_formatting Formatting = true
 is_formatting Booting = false
 is_formatting Running = false
+
+-- the choice of an answer, if one was fired
+abbrev pub choice_in : Result FiredAs Refused → Option ChoiceDefinition
+choice_in (Ok fired) = Some (choice_of fired.choice)
+choice_in (Err refused) = None
 
 -- the choices that a run fired, those of them that were acknowledged, and those that were not
 abbrev pub fired_in : Ended → List ChoiceDefinition

@@ -31,7 +31,7 @@ pub use booting::Found;
 pub use explorer::{Explorer, TEARS, Trial};
 pub use fault::ExploreFault;
 pub use judging::judge;
-pub use outcome::{NEXT, Next};
+pub use outcome::Next;
 pub use report::{Report, explore};
 pub use running::Stage;
 pub use watched::Cut;

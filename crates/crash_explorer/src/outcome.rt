@@ -19,9 +19,6 @@ use plant_image::ImageFault;
 use std::alloc::Global;
 use step_core::{Choice, System};
 
-/// What a plant that was booted after a stop is asked for.
-pub const NEXT: [Event; 2] = [Event::Fire(0), Event::Flush];
-
 /// How a plant goes on that was booted after a stop: it fires its first choice, if it has one and room for it, and flushes. Then the power is cut again,
 /// and tears as before.
 #[derive(Clone, Copy, Debug, PartialEq, Eq)]
@@ -110,7 +107,8 @@ fn go_on(
 {
     let system = plant.system();
     let before = behind.len() as u64;
-    let ended = run_booted(alloc, plant, &NEXT, behind)?;
+    let events = [Event::Fire(0), Event::Flush];
+    let ended = run_booted(alloc, plant, &events, behind)?;
     // A device that failed had no room for its record of changes.
     if ended.acked != ended.fired.len() {
         return Err(ExploreFault::Memory);

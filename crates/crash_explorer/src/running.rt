@@ -1,17 +1,18 @@
 //! One run: a device is formatted, the plant booted from it, and some events made.
-ghost use Rattle.std.specs.Prelude.{◌≡◌, ◌+◌, ◌++◌, ◌≤◌, [], List, IfOk, map, replicate};
-ghost use Rattle.plant_core.specs.Events.{all_fired};
+ghost use Rattle.std.specs.Prelude.{◌≡◌, ◌+◌, ◌++◌, ◌≤◌, [], List, IfOk, map, option_map, replicate};
+ghost use Rattle.std.specs.Option.{option_to_list};
+ghost use Rattle.plant_core.specs.Events.{all_fired, fired_by};
 ghost use Rattle.plant_image.specs.Standing.{StandsFor};
 ghost use Rattle.step_core.specs.Step.{initial_states};
 ghost use Rattle.crash_explorer.specs.Seen.{plant_of, digest_of, choice_of, definition_of, device_of, text_digest, view_of, LEAST_RING, MOST_RING, formatted_size, BODY, size_of, Cell, MayBe, cell_of, fresh, state_of};
 ghost use Rattle.crash_explorer.specs.declared.running.Stage.TheVariants.{Running};
 ghost use Rattle.crash_explorer.specs.Watching.{IsCountable, IsWhole};
-ghost use Rattle.crash_explorer.specs.Running.{IsAt, IsEnded, IsLived, IsMadeUntil, device_in, fired_in};
+ghost use Rattle.crash_explorer.specs.Running.{IsAt, IsEnded, IsLived, IsMadeUntil, choice_in, device_in, fired_in};
 
 use crate::fault::ExploreFault;
 use crate::watched::Watched;
 use disk_model::MemDisk;
-use plant_core::{Event, Hands, Happened, Plant, drive};
+use plant_core::{Event, FiredAs, Hands, Happened, Plant, Refused, drive};
 use plant_image::ImageFault;
 use recovery::{BootFault, FormatFault, boot, format};
 use std::alloc::{AllocError, Global};
@@ -144,9 +145,31 @@ fn fired_behind(behind: Vec<Choice>, answers: &[Happened]) -> Result<Vec<Choice>
 {
     let mut fired = behind;
     for happened in answers {
-        if let Happened::Fire(_, Ok(step)) | Happened::Begin(_, Ok(step)) = happened {
-            fired.push(step.choice.copy())?;
+        if let Some(choice) = fired_by(happened) {
+            fired.push(choice)?;
         }
     }
     Ok(fired)
+}
+
+/// The choice that an event fired, if it fired one.
+fn fired_by(happened: &Happened) -> Option<Choice>
+    ensures { option_to_list (option_map choice_of result) ≡ fired_by happened.now }
+{
+    match happened {
+        Happened::Fire(_, answer)
+        | Happened::FireChoice(_, Some(answer))
+        | Happened::Begin(_, answer) => { choice_in(answer) }
+        _ => None,
+    }
+}
+
+/// The choice of an answer, if one was fired.
+fn choice_in(answer: &Result<FiredAs, Refused>) -> Option<Choice>
+    ensures { option_map choice_of result ≡ choice_in answer.now }
+{
+    match answer {
+        Ok(fired) => Some(fired.choice.copy()),
+        Err(_) => None,
+    }
 }

@@ -1,18 +1,20 @@
 -- What no event lowers.
-use Rattle.std.proofs.Common.{◌≡◌, ℕ, ◌+◌, ◌≤◌, [], ◌∷◌, length, true, Result, Ok, Err, is_ok, if◌then◌else◌, refl, ap, sym, ◌∙◌, subst, arith, length-append, le_refl}
+use Rattle.std.proofs.Common.{◌≡◌, ℕ, ◌+◌, ◌≤◌, [], ◌∷◌, length, true, Option, None, Some, Result, Ok, Err, is_ok, if◌then◌else◌, refl, ap, sym, ◌∙◌, subst, arith, length-append, le_refl}
 use Rattle.front_word.specs.Fronts.{IsNotBelow}
 use Rattle.record_codec.specs.Saved.{SavedFields}
 use Rattle.step_core.specs.Choice.{ChoiceDefinition}
 use Rattle.step_core.specs.Chosen.{choice_of}
+use Rattle.step_core.specs.declared.choice.Choice.{Choice}
 use Rattle.step_core.specs.Job.{JobDefinition}
 use Rattle.step_core.specs.Plant.{PlantDefinition}
 use Rattle.plant_core.specs.Events.{IsEvent, IsFire, IsFlush, IsAsk, IsPut, IsTrim, IsBegin, IsBack, fired_by}
 use Rattle.plant_core.specs.View.{View, fired_number, may_go, with_all_acked, with_asked, with_back, with_begun, with_cut, with_fired, with_stored}
 use Rattle.plant_core.specs.declared.events.FiredAs.{FiredAs}
 use Rattle.plant_core.specs.declared.events.Happened.{Happened}
-use Rattle.plant_core.specs.declared.events.Happened.TheVariants.{Fire, Flush, Ask, Put, Empty, Trim, Begin, Back, Idle}
+use Rattle.plant_core.specs.declared.events.Happened.TheVariants.{Fire, FireChoice, Flush, Ask, Put, Empty, Trim, Begin, Back, Idle}
 use Rattle.plant_core.specs.declared.refused.Refused.{Refused}
 use Rattle.plant_core.specs.declared.refused.Refused.TheVariants.{Away, Ahead, Stranger, NothingNew, Disk, Broken}
+use Rattle.engine_host.specs.Told.{fired_in}
 use Rattle.engine_host.specs.Views.{front_in}
 
 same : (v w : View) → w ≡ v → IsNotBelow (front_in v) (front_in w)
@@ -79,6 +81,8 @@ of_back v job (Err other) w e = absurd e
 -- no event lowers a part of the front
 pub event_rises : (plant : PlantDefinition) (v : View) (h : Happened) (w : View) → IsEvent plant v h w → IsNotBelow (front_in v) (front_in w)
 event_rises plant v (Fire pick r) w e = of_fire plant v pick r w e
+event_rises plant v (FireChoice choice None) w e = same v w e.1
+event_rises plant v (FireChoice choice (Some r)) w e = of_fire plant v e.0 r w e.2
 event_rises plant v (Flush r) w e = of_flush v r w e
 event_rises plant v (Ask atom r) w e = of_ask v atom r w e
 event_rises plant v (Put saved r) w e = of_put v saved r w e
@@ -137,6 +141,9 @@ back_counts v job (Err other) w e = absurd e
 -- what an event fires is counted
 pub event_counts : (plant : PlantDefinition) (v : View) (h : Happened) (w : View) → IsEvent plant v h w → fired_number w ≡ fired_number v + length (fired_by h)
 event_counts plant v (Fire pick r) w e = fire_counts plant v pick r w e
+event_counts plant v (FireChoice choice None) w e = none v v w e.1 refl
+event_counts plant v (FireChoice choice (Some (Ok fired))) w e = fire_counts plant v e.0 (Ok fired) w e.2
+event_counts plant v (FireChoice choice (Some (Err refused))) w e = fire_counts plant v e.0 (Err refused) w e.2
 event_counts plant v (Flush r) w e = flush_counts v r w e
 event_counts plant v (Ask atom r) w e = ask_counts v atom r w e
 event_counts plant v (Put saved r) w e = put_counts v saved r w e
@@ -150,6 +157,12 @@ event_counts plant v (Idle atom) w e = none v v w e refl
 pub fires_one : (pick : ℕ) (r : Result FiredAs Refused) → (length (fired_by (Fire pick r)) ≡ (if is_ok r then 1 else 0)) × (length (fired_by (Fire pick r)) ≤ 1)
 fires_one pick (Ok fired) = (refl, omega arith)
 fires_one pick (Err refused) = (refl, omega arith)
+
+-- so does a fire of a choice
+pub fires_that_one : (choice : Choice) (r : Option (Result FiredAs Refused)) → (length (fired_by (FireChoice choice r)) ≡ fired_in r) × (length (fired_by (FireChoice choice r)) ≤ 1)
+fires_that_one choice None = (refl, omega arith)
+fires_that_one choice (Some (Ok fired)) = (refl, omega arith)
+fires_that_one choice (Some (Err refused)) = (refl, omega arith)
 
 -- and so does a begin
 pub begins_one : (pick : ℕ) (r : Result FiredAs Refused) → (length (fired_by (Begin pick r)) ≡ (if is_ok r then 1 else 0)) × (length (fired_by (Begin pick r)) ≤ 1)

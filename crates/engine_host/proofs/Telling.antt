@@ -1,5 +1,5 @@
 -- What a watch is told.
-use Rattle.std.proofs.Common.{◌≡◌, ◌⊎◌, ◌+◌, Bool, true, false, List, [], ◌∷◌, ◌++◌, inl, inr, Result, Err, ap, sym, ◌∙◌, subst, arith}
+use Rattle.std.proofs.Common.{◌≡◌, ◌⊎◌, ◌+◌, Bool, true, false, List, [], ◌∷◌, ◌++◌, inl, inr, Option, Some, Result, Err, refl, ap, sym, ◌∙◌, subst, arith}
 use Rattle.std.proofs.lemmas.Bool.Decides.{nat_tests}
 use mathlib.Core.List.{IsPrefix}
 use Rattle.front_word.specs.declared.front.TheConstants.{MOST_FIRED}
@@ -45,3 +45,17 @@ made_or_used_up plant opening before first after old new happened answer true is
     let whole : after ≡ first = again ∙ (ap (λ (h : Held). h.history) same ∙ sym told) in
     let here : IsHistory plant opening after old.view = subst (λ (h : Held). IsHistory plant opening after h.view) same legal in
     inr (used_up plant opening before after old.view answer (subst (IsPrefix before) (sym whole) begins) (spent is) is here)
+
+-- the same of a fire of a choice
+pub made_that_or_used_up : (plant : PlantDefinition) (opening : View) (before first after : List Entry) (old new : Held) (happened : Happened) (answer : Option (Result FiredAs Refused)) (b : Bool) → is_used_up opening old.view ≡ b
+    → IsPrefix before first → first ≡ old.history
+    → (is_used_up opening old.view ≡ false → IsMade plant old happened new) → (is_used_up opening old.view ≡ true → answer ≡ Some (Err Spent)) → (is_used_up opening old.view ≡ true → new ≡ old)
+    → after ≡ new.history → IsHistory plant opening after new.view
+    → HasMade plant opening before happened after ⊎ ((refusal : Result FiredAs Refused) × (answer ≡ Some refusal) × IsUsedUp plant opening before refusal after)
+made_that_or_used_up plant opening before first after old new happened answer false is begins told making spent untouched again legal =
+    inl (made plant opening before first after old new happened begins told (making is) again legal)
+made_that_or_used_up plant opening before first after old new happened answer true is begins told making spent untouched again legal =
+    let same : new ≡ old = untouched is in
+    let whole : after ≡ first = again ∙ (ap (λ (h : Held). h.history) same ∙ sym told) in
+    let here : IsHistory plant opening after old.view = subst (λ (h : Held). IsHistory plant opening after h.view) same legal in
+    inr (Err Spent, spent is, used_up plant opening before after old.view (Err Spent) (subst (IsPrefix before) (sym whole) begins) refl is here)

@@ -1,5 +1,5 @@
 -- What a watch is told.
-use Rattle.std.specs.Prelude.{◌≡◌, ◌+◌, ◌++◌, ◌∷◌, ◌⊎◌, [], ℕ, List, All, Result, Ok, Err}
+use Rattle.std.specs.Prelude.{◌≡◌, ◌+◌, ◌++◌, ◌∷◌, ◌⊎◌, [], ℕ, List, All, Option, None, Some, Result, Ok, Err, is_ok, if◌then◌else◌}
 use mathlib.Core.List.{IsPrefix}
 use Rattle.plant_core.specs.declared.front.Front.{Front}
 use Rattle.front_word.specs.declared.front.TheConstants.{MOST_FIRED}
@@ -7,6 +7,7 @@ use Rattle.front_word.specs.Fronts.{last_of}
 use Rattle.record_codec.specs.Saved.{SavedFields}
 use Rattle.step_core.specs.Plant.{PlantDefinition}
 use Rattle.step_core.specs.Chosen.{choice_of}
+use Rattle.step_core.specs.declared.choice.Choice.{Choice}
 use Rattle.step_core.specs.Job.{JobDefinition}
 use Rattle.step_core.specs.Jobs.{AreJobsOf}
 use Rattle.plant_core.specs.Events.{IsReturned}
@@ -14,7 +15,7 @@ use Rattle.plant_core.specs.View.{View, parts_in}
 use Rattle.plant_core.specs.declared.events.Returned.{Returned}
 use Rattle.plant_core.specs.declared.events.FiredAs.{FiredAs}
 use Rattle.plant_core.specs.declared.events.Happened.{Happened}
-use Rattle.plant_core.specs.declared.events.Happened.TheVariants.{Fire, Ask, Put, Begin, Back}
+use Rattle.plant_core.specs.declared.events.Happened.TheVariants.{Fire, FireChoice, Ask, Put, Begin, Back}
 use Rattle.plant_core.specs.declared.refused.Refused.{Refused}
 use Rattle.plant_core.specs.declared.refused.Refused.TheVariants.{Spent}
 use Rattle.engine_host.specs.History.{IsHistory, IsLegal, entry, fronts}
@@ -37,6 +38,17 @@ pub record IsUsedUp (plant : PlantDefinition) (opening : View) (before : List En
 abbrev pub HasFired : PlantDefinition → View → List Entry → ℕ → Result FiredAs Refused → List Entry → Type 0
 HasFired plant opening before pick answer after =
     HasMade plant opening before (Fire pick answer) after ⊎ IsUsedUp plant opening before answer after
+
+-- A fire of a choice: it was made, with an answer where the plant had the choice then; or no more can be counted.
+abbrev pub HasFiredChoice : PlantDefinition → View → List Entry → Choice → Option (Result FiredAs Refused) → List Entry → Type 0
+HasFiredChoice plant opening before choice answer after =
+    HasMade plant opening before (FireChoice choice answer) after
+    ⊎ ((refusal : Result FiredAs Refused) × (answer ≡ Some refusal) × IsUsedUp plant opening before refusal after)
+
+-- how many choices were fired by an answer to a fire of a choice
+abbrev pub fired_in : Option (Result FiredAs Refused) → ℕ
+fired_in None = 0
+fired_in (Some answer) = if is_ok answer then 1 else 0
 
 -- The state of an atom was stored, or it was not: it was asked for, and what was stored is what the plant answered then.
 abbrev pub HasSaved : PlantDefinition → View → List Entry → ℕ → Result ℕ Refused → List Entry → Type 0

@@ -6,7 +6,7 @@ ghost use Rattle.plant_core.specs.declared.events.Happened.TheVariants.{Fire, Fl
 ghost use Rattle.plant_core.specs.declared.refused.Refused.{Refused};
 ghost use Rattle.engine_host.specs.History.{IsLegal, fronts};
 ghost use Rattle.step_core.specs.Jobs.{jobs_of};
-ghost use Rattle.engine_host.specs.Told.{AreHandedBack, HasFired, HasMade, HasSaved, HasWorked};
+ghost use Rattle.engine_host.specs.Told.{AreHandedBack, HasFired, HasFiredChoice, HasMade, HasSaved, HasWorked, fired_in};
 
 use crate::entry::Entry;
 use crate::gate::Gate;
@@ -18,7 +18,7 @@ use front_word::{FrontWord, Watch};
 use plant_core::{FiredAs, Front, PutRefused, Refused};
 use snapshot_writer::encode;
 use std::sync::{Mutex, Wait};
-use step_core::{Jobs, work};
+use step_core::{Choice, Jobs, work};
 
 /// One plant under one lock, with the word that tells how far it is.
 #[derive(Drop)]
@@ -37,6 +37,20 @@ impl<'s, D: Disk, N: Naming> Host<'s, D, N> {
         ensures amount { seat.new.share.amount ≡ seat.old.share.amount + (if is_ok result then 1 else 0) }
     {
         self.lock.lock(rt).fire_for(&self.word, seat, pick)
+    }
+
+    /// Fires this very choice if the plant has it now, as `Plant::fire_choice` does, in one hold of the lock; none where it has not. The
+    /// seat's share rises as by [`Host::fire`].
+    pub fn fire_choice(
+        &self,
+        rt: &impl Wait,
+        seat: &mut Seat<N>,
+        choice: &Choice,
+    ) -> Option<Result<FiredAs, Refused>>
+        ensures watch { HasFiredChoice N.plant N.view seat.old.watch choice.now result seat.new.watch }
+        ensures amount { seat.new.share.amount ≡ seat.old.share.amount + fired_in result }
+    {
+        self.lock.lock(rt).fire_choice_for(&self.word, seat, choice)
     }
 
     /// Acknowledges all that was fired, by whomever, as `Plant::flush` does, in one hold of the lock.

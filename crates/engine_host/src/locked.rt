@@ -1,8 +1,8 @@
 //! What lies under the lock of a host.
-ghost use Rattle.std.specs.Prelude.{◌≡◌, ◌+◌, ◌<◌, ◌≤◌, List, true, false, All, length, sum_by, is_ok, Err, IfErr, IfOk, OnErr, [], if◌then◌else◌};
+ghost use Rattle.std.specs.Prelude.{◌≡◌, ◌+◌, ◌<◌, ◌≤◌, List, true, false, All, length, sum_by, is_ok, Some, Err, IfErr, IfOk, OnErr, [], if◌then◌else◌};
 ghost use mathlib.Core.List.{IsPrefix};
 ghost use Rattle.front_word.specs.Fronts.{IsRising, last_of};
-ghost use Rattle.plant_core.specs.declared.events.Happened.TheVariants.{Fire, Flush, Ask, Put, Trim, Begin, Back};
+ghost use Rattle.plant_core.specs.declared.events.Happened.TheVariants.{Fire, FireChoice, Flush, Ask, Put, Trim, Begin, Back};
 ghost use Rattle.plant_core.specs.declared.events.Returned.{Returned};
 ghost use Rattle.plant_core.specs.declared.refused.Refused.{Refused};
 ghost use Rattle.plant_core.specs.Plants.{definition_of, device_of, text_digest, view_of};
@@ -21,12 +21,14 @@ ghost use Rattle.step_core.specs.Runs.{IsRun};
 ghost use Rattle.engine_host.specs.Held.{IsMade};
 ghost use Rattle.engine_host.specs.History.{IsHistory, fronts};
 ghost use Rattle.engine_host.specs.Names.{hosted};
-ghost use Rattle.engine_host.specs.Told.{HasBegun, HasFired, HasHandedBack, HasMade};
+ghost use Rattle.engine_host.specs.Told.{HasBegun, HasFired, HasFiredChoice, HasHandedBack, HasMade, fired_in};
 ghost use Rattle.engine_host.specs.Views.{front_in, is_used_up};
 
 use crate::closing::{Closed, gather};
 use crate::entry::Entry;
-use crate::making::{back_refusal_of, copy_of_answer, count_fired, front_of, publish, refusal_of};
+use crate::making::{
+    back_refusal_of, copy_of_answer, count_fired, fired_in, front_of, publish, refusal_of,
+};
 use crate::naming::Naming;
 use crate::seat::Seat;
 use disk_model::Disk;
@@ -35,7 +37,7 @@ use plant_core::{BackRefused, FiredAs, Front, Happened, Plant, PutRefused, Refus
 use snapshot_writer::{Encoded, Parcel};
 use std::marker::Model;
 use std::sync::ledger::{Book, Share};
-use step_core::{Done, Jobs};
+use step_core::{Choice, Done, Jobs};
 
 /// The plant of a host, with the pass that publishes its history, and the book of what was fired. Each call but [`Locked::tell`] makes one
 /// event of the plant, and publishes it last.
@@ -167,6 +169,38 @@ impl<'s, D: Disk, N: Naming> Locked<'s, D, N> {
             Happened::Fire(pick, answer),
         );
         let Happened::Fire(_, answer) = happened else {
+            unreachable!()
+        };
+        answer
+    }
+
+    /// Fires this very choice if the plant has it now, and counts it.
+    pub fn fire_choice(
+        &mut self,
+        word: &FrontWord<Entry, N>,
+        share: &mut Share<N>,
+        choice: &Choice,
+    ) -> Option<Result<FiredAs, Refused>>
+        requires part { 0 < share.old.parts }
+        ensures made { is_used_up N.view self.old.view ≡ false → IsMade N.plant self.old (FireChoice choice.now result) self.new }
+        ensures spent { is_used_up N.view self.old.view ≡ true → result ≡ Some (Err Refused.Spent) }
+        ensures untouched { is_used_up N.view self.old.view ≡ true → self.new ≡ self.old }
+        ensures device { self.new.device ≡ self.old.device }
+        ensures amount { share.new.amount ≡ share.old.amount + fired_in result }
+        ensures parts { share.new.parts ≡ share.old.parts }
+    {
+        if self.is_used_up(word) {
+            return Some(Err(Refused::Spent));
+        }
+        let answer = self.plant.fire_choice(choice);
+        self.book.add(share, fired_in(&answer));
+        let happened = publish(
+            &self.plant,
+            &mut self.publisher,
+            word,
+            Happened::FireChoice(choice.copy(), answer),
+        );
+        let Happened::FireChoice(_, answer) = happened else {
             unreachable!()
         };
         answer
@@ -325,6 +359,22 @@ impl<'s, D: Disk, N: Naming> Locked<'s, D, N> {
     {
         self.tell(word, &mut seat.watch);
         let answer = self.fire(word, &mut seat.share, pick);
+        self.tell(word, &mut seat.watch);
+        answer
+    }
+
+    /// Fires a choice for a seat, whose watch is told before and after.
+    pub(crate) fn fire_choice_for(
+        &mut self,
+        word: &FrontWord<Entry, N>,
+        seat: &mut Seat<N>,
+        choice: &Choice,
+    ) -> Option<Result<FiredAs, Refused>>
+        ensures watch { HasFiredChoice N.plant N.view seat.old.watch choice.now result seat.new.watch }
+        ensures amount { seat.new.share.amount ≡ seat.old.share.amount + fired_in result }
+    {
+        self.tell(word, &mut seat.watch);
+        let answer = self.fire_choice(word, &mut seat.share, choice);
         self.tell(word, &mut seat.watch);
         answer
     }

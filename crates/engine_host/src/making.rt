@@ -7,6 +7,7 @@ ghost use Rattle.plant_core.specs.Plants.{view_of};
 ghost use Rattle.plant_core.specs.Backs.{refusal_in as back_refusal_in};
 ghost use Rattle.plant_core.specs.Puts.{refusal_in};
 ghost use Rattle.engine_host.specs.History.{entry};
+ghost use Rattle.engine_host.specs.Told.{fired_in};
 ghost use Rattle.engine_host.specs.Views.{front_in};
 
 use crate::entry::Entry;
@@ -61,6 +62,16 @@ pub(crate) fn count_fired(answer: &Result<FiredAs, Refused>) -> u64
     ensures { result ≡ (if is_ok answer.now then 1 else 0) }
 {
     if answer.is_ok() { 1 } else { 0 }
+}
+
+/// How many choices were fired by this answer to a fire of a choice.
+pub(crate) fn fired_in(answer: &Option<Result<FiredAs, Refused>>) -> u64
+    ensures { result ≡ fired_in answer.now }
+{
+    match answer {
+        Some(answer) => count_fired(answer),
+        None => 0,
+    }
 }
 
 /// The answer, without the job that comes back.

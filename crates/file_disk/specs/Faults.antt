@@ -13,6 +13,12 @@ IsOfSystem is_new NotAFile = Unit {0}
 IsOfSystem is_new Unopened = Unit {0}
 IsOfSystem is_new fault = ⊥
 
+-- a fault if what was opened is no plain file, or can't be asked
+abbrev pub IsOfKind : FileFault → Type 0
+IsOfKind NotAFile = Unit {0}
+IsOfKind Unopened = Unit {0}
+IsOfKind fault = ⊥
+
 -- a fault if a file is not locked
 abbrev pub IsOfLock : FileFault → Type 0
 IsOfLock InUse = Unit {0}
@@ -36,3 +42,8 @@ StopsOpening TooLarge = ⊥
 StopsOpening AlreadyThere = ⊥
 StopsOpening Unmade = ⊥
 StopsOpening fault = Unit {0}
+
+-- A fault that a file may have when it is opened to be read: nothing is put onto the disk then.
+abbrev pub StopsReading : FileFault → Type 0
+StopsReading Unsynced = ⊥
+StopsReading fault = StopsOpening fault

@@ -1,4 +1,5 @@
 pub mod Opened
 pub mod FileDisk
+pub mod FileView
 pub mod Messages
 pub mod Faults

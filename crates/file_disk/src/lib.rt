@@ -1,7 +1,8 @@
 //! A device over a file: the file in which a durable plant keeps its image.
 //!
 //! A `FileDisk` has the size that its file had when it was opened, and counts its failures and syncs exactly; it promises
-//! nothing of the disk model, which speaks of a disk and not of a file. While it is open no other program drives the file, which a lock keeps. No call takes memory.
+//! nothing of the disk model, which speaks of a disk and not of a file. While it is open no other program drives the file, which a lock keeps. A `FileView`
+//! is open for reading alone: several of one file may be open at once, and none while a `FileDisk` is. No call takes memory.
 //!
 //! What the file is supposed to do, and no proof shows:
 //!
@@ -14,7 +15,8 @@
 //!   bytes. But a write of what a read gives changes nothing that a read gives, even if it fails.
 //! - No one who does not ask for the lock writes to the file or changes its size.
 //!
-//! - `disk`: [`FileDisk`], a device over an open file. `opening`: how a file is created or opened as one, and locked.
+//! - `disk`: [`FileDisk`], a device over an open file. `view`: [`FileView`], one that is only read. `opening`: how a file is created or opened as
+//!   either, and locked.
 //! - `marks`: which parts of the file were written since the last successful sync. `fault`: [`FileFault`], why a file is not opened.
 #![tactic(auto)]
 
@@ -22,7 +24,9 @@ mod disk;
 mod fault;
 mod marks;
 mod opening;
+mod view;
 
 pub use disk::FileDisk;
 pub use fault::FileFault;
 pub use marks::LARGEST_IMAGE;
+pub use view::FileView;

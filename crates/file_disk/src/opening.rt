@@ -1,12 +1,13 @@
 //! How a file becomes a device.
-ghost use Rattle.std.specs.Prelude.{◌≡◌, ◌<◌, IfOk, IfErr, Err};
+ghost use Rattle.std.specs.Prelude.{◌≡◌, ◌<◌, false, IfOk, IfErr, Err};
 ghost use Rattle.file_disk.specs.FileDisk.{state_of};
+ghost use Rattle.file_disk.specs.FileView.{view_of};
 ghost use Rattle.file_disk.specs.Opened.{opened};
-ghost use Rattle.file_disk.specs.Faults.{IsOfSystem, IsOfLock, IsOfMaking, StopsCreating, StopsOpening};
+ghost use Rattle.file_disk.specs.Faults.{IsOfSystem, IsOfKind, IsOfLock, IsOfMaking, StopsCreating, StopsOpening, StopsReading};
 ghost use Rattle.disk_model.specs.DiskState.{size_of};
 ghost use Rattle.file_disk.specs.declared.fault.FileFault.TheVariants.{TooLarge};
 
-use crate::{FileDisk, FileFault, LARGEST_IMAGE};
+use crate::{FileDisk, FileFault, FileView, LARGEST_IMAGE};
 use std::fs;
 use std::fs::{File, OpenOptions, TryLockError};
 use std::io::{self, ErrorKind};
@@ -52,18 +53,28 @@ impl FileDisk {
         ensures cause { IfErr result StopsOpening }
     {
         let file = open_file(files, path, false)?;
-        lock(&file)?;
-        let Ok(metadata) = file.metadata() else {
-            return Err(FileFault::Unopened);
-        };
-        if !metadata.is_file() {
-            return Err(FileFault::NotAFile);
-        }
+        lock(file.try_lock())?;
+        let bytes = bytes_of(&file)?;
         // What programs before this one wrote, and did not sync.
         if file.sync_all().is_err() {
             return Err(FileFault::Unsynced);
         }
-        Ok(FileDisk::over(file, metadata.len()))
+        Ok(FileDisk::over(file, bytes))
+    }
+}
+
+impl FileView {
+    /// Opens the file at the path for reading alone, also where nothing can be written. A program that has it open as a `FileDisk` refuses this, and
+    /// is refused while the view is open. What earlier programs wrote and did not sync is read, but may not be on the disk yet.
+    pub fn open<R: Files<File = File>>(files: &R, path: &str) -> Result<FileView, FileFault>
+        ensures device { IfOk result (λ view. view_of view ≡ opened (size_of (view_of view))) }
+        ensures cause { IfErr result StopsReading }
+    {
+        let file = open_to_read(files, path)?;
+        // A shared lock: a file system of a network has no other one for a file that is open for reading alone.
+        lock(file.try_lock_shared())?;
+        let bytes = bytes_of(&file)?;
+        Ok(FileView::over(file, bytes))
     }
 }
 
@@ -71,13 +82,36 @@ impl FileDisk {
 fn open_file<R: Files<File = File>>(files: &R, path: &str, is_new: bool) -> Result<File, FileFault>
     ensures { IfErr result (IsOfSystem is_new) }
 {
-    let opened = OpenOptions::new()
-        .read(true)
-        .write(true)
-        .create_new(is_new)
-        .open(files, path)
-        .and_then(apart);
-    match opened {
+    let mut options = OpenOptions::new();
+    options.read(true).write(true).create_new(is_new);
+    open_by(files, path, &options, is_new)
+}
+
+/// Opens the file at the path to read it.
+fn open_to_read<R: Files<File = File>>(files: &R, path: &str) -> Result<File, FileFault>
+    ensures { IfErr result (IsOfSystem false) }
+{
+    // To open a pipe for reading alone would wait for one that writes.
+    if let Ok(metadata) = fs::metadata(files, path)
+        && !metadata.is_file()
+    {
+        return Err(FileFault::NotAFile);
+    }
+    let mut options = OpenOptions::new();
+    options.read(true);
+    open_by(files, path, &options, false)
+}
+
+/// Opens the file at the path as the options say.
+fn open_by<R: Files<File = File>>(
+    files: &R,
+    path: &str,
+    options: &OpenOptions,
+    is_new: bool,
+) -> Result<File, FileFault>
+    ensures { IfErr result (IsOfSystem is_new) }
+{
+    match options.open(files, path).and_then(apart) {
         Ok(file) => Ok(file),
         Err(error) => Err(fault_of(error.kind(), is_new)),
     }
@@ -105,11 +139,24 @@ fn apart(file: File) -> io::Result<File> {
     file.try_clone()
 }
 
-/// Locks the file until it is dropped.
-fn lock(file: &File) -> Result<(), FileFault>
+/// How many bytes the file has.
+fn bytes_of(file: &File) -> Result<u64, FileFault>
+    ensures { IfErr result IsOfKind }
+{
+    let Ok(metadata) = file.metadata() else {
+        return Err(FileFault::Unopened);
+    };
+    if !metadata.is_file() {
+        return Err(FileFault::NotAFile);
+    }
+    Ok(metadata.len())
+}
+
+/// What the system answers to one that asks to have a file locked until it is dropped.
+fn lock(answer: Result<(), TryLockError>) -> Result<(), FileFault>
     ensures { IfErr result IsOfLock }
 {
-    match file.try_lock() {
+    match answer {
         Ok(()) => Ok(()),
         Err(TryLockError::WouldBlock) => Err(FileFault::InUse),
         Err(TryLockError::Error(_)) => Err(FileFault::Unlocked),
@@ -125,7 +172,7 @@ fn make<R: Files<File = File>>(
 ) -> Result<(), FileFault>
     ensures { IfErr result IsOfMaking }
 {
-    lock(file)?;
+    lock(file.try_lock())?;
     match fill(files, path, file, bytes) {
         Ok(()) => Ok(()),
         Err(_) => Err(FileFault::Unmade),

@@ -15,7 +15,10 @@ use Rattle.plant_core.specs.View.{View}
 use Rattle.plant_core.specs.declared.events.Event.{Event}
 use Rattle.recovery.specs.Booting.{IsBooted}
 use Rattle.script_lines.specs.Runs.{IsRunOf}
+use Rattle.script_lines.specs.Strict.{IsStrictRun}
+use Rattle.script_lines.specs.declared.strict.Stop.{Stop}
 use Rattle.image_commands.specs.Runs.{HasRunOn, IsBootedFrom, IsRunOn, StandsAsRead, StandsForAllAcked}
+use Rattle.image_commands.specs.Strict.{HasRunStrictlyOn}
 use Rattle.plant_core.proofs.EventByEvent.{events-sound}
 
 -- A plant on a device, by names of its own: what it says of the device holds of the same device, plant and text by other names.
@@ -69,3 +72,23 @@ run_stands p q d e old mid new events failed after from to same_plant same_diges
           (stands (silent.ran.driven.keeps ∙ silent.kept ∙ keeps)
           (events-sound q silent.ran.happened silent.before after silent.ran.driven.run (sym silent.ran.told) ∙ (silent.booted keeps).broken));
     }
+
+-- a strict run from the empty hands of a plant's atoms, with the same plant and text by other names, leaves an image that stands for all that is acknowledged
+pub strict_run_stands : (r p q : PlantDefinition) (d t e : List ℕ) (old began mid new : DiskState) (events : List Event) (stop : Option Stop) (before after : View) (hands hands_after : HandFields)
+    (from to : Option (List ℕ)) (atoms : List Atom) → r ≡ q → d ≡ e → p ≡ q → t ≡ e → new ≡ mid → IsBootedFrom q e old before → began.keeps ≡ old.keeps → map definition_of atoms ≡ q.atoms → hands ≡ empty_hands (length atoms) →
+    IsStrictRun r d before began hands events stop after mid hands_after from to → (mid.keeps ≡ true → after.broken ≡ false → StandsForAllAcked p t mid after) →
+    HasRunStrictlyOn q e old events stop new from to
+strict_run_stands r p q d t e old began mid new events stop before after hands hands_after from to atoms run_plant run_digest same_plant same_digest same_device booted kept of_plant empty ran stands = record {
+  before = before;
+  began = began;
+  after = after;
+  hands = hands_after;
+  booted = booted;
+  kept = kept;
+  ran = subst (λ (s : DiskState). IsStrictRun q e before began (empty_hands (length q.atoms)) events stop after s hands_after from to) (sym same_device)
+      (subst (λ held. IsStrictRun q e before began held events stop after mid hands_after from to) (empty ∙ ap empty_hands (sym (length-map atoms definition_of) ∙ ap length of_plant))
+      (subst (λ (text : List ℕ). IsStrictRun q text before began hands events stop after mid hands_after from to) run_digest
+      (subst (λ plant. IsStrictRun plant d before began hands events stop after mid hands_after from to) run_plant ran)));
+  stands = λ keeps sound.
+      stands_by_name p q t e mid new after same_plant same_digest same_device (stands (ran.run.driven.keeps ∙ kept ∙ keeps) sound);
+}

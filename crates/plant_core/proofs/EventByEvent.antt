@@ -1,5 +1,5 @@
 -- What is so after some of the events that a plant is asked for, and what one more does to it.
-use Rattle.std.proofs.Common.{◌≡◌, ◌≢◌, ◌+◌, ◌-◌, ◌≤◌, ◌==◌, ℕ, refl, sym, ◌∙◌, ap, subst, List, [], ◌∷◌, ◌++◌, length, map, take, drop, arith, Bool, true, false, if◌then◌else◌, ◌||◌, Option, Some, Ok, Err, Result}
+use Rattle.std.proofs.Common.{◌≡◌, ◌≢◌, ◌+◌, ◌-◌, ◌≤◌, ◌==◌, ℕ, refl, sym, ◌∙◌, ap, subst, List, [], ◌∷◌, ◌++◌, length, map, take, drop, arith, Bool, true, false, if◌then◌else◌, ◌||◌, Option, None, Some, Ok, Err, Result}
 use Rattle.std.specs.Prelude.{IfErr}
 use Rattle.std.specs.List.{list_all, list_any}
 use Rattle.std.proofs.Math.Bool.{or-false}
@@ -27,7 +27,7 @@ use Rattle.plant_core.specs.View.{View, fired_number}
 use Rattle.plant_core.specs.declared.events.Event.{Event}
 use Rattle.plant_core.specs.declared.events.FiredAs.{FiredAs}
 use Rattle.plant_core.specs.declared.events.Happened.{Happened}
-use Rattle.plant_core.specs.declared.events.Happened.TheVariants.{Fire, Flush, Ask, Put, Empty, Trim, Begin, Back, Idle}
+use Rattle.plant_core.specs.declared.events.Happened.TheVariants.{Fire, FireChoice, Flush, Ask, Put, Empty, Trim, Begin, Back, Idle}
 use Rattle.plant_core.specs.declared.limits.TheConstants.{MOST_TAIL}
 use Rattle.plant_core.specs.declared.refused.Refused.{Refused}
 use Rattle.plant_core.specs.declared.refused.Refused.TheVariants.{Stuck, Busy, TailFull, RingFull, Spent, Away, Ahead, Stranger, NothingNew, Disk, Broken}
@@ -74,6 +74,8 @@ back-never-fails v w job (Err other) did = absurd did
 -- and if it fails in an event, the plant was not broken and is
 failing-breaks : (plant : PlantDefinition) (v w : View) (h : Happened) → IsEvent plant v h w → has_failed h ≡ true → (v.broken ≢ true) × (w.broken ≡ true)
 failing-breaks plant v w (Fire pick answer) did failed = absurd (false≢true (sym (fire-never-fails plant v w pick answer did) ∙ failed))
+failing-breaks plant v w (FireChoice choice None) did failed = absurd (false≢true failed)
+failing-breaks plant v w (FireChoice choice (Some answer)) did failed = absurd (false≢true (sym (fire-never-fails plant v w did.0 answer did.2) ∙ failed))
 failing-breaks plant v w (Flush (Ok number)) did failed = absurd (false≢true failed)
 failing-breaks plant v w (Flush (Err Broken)) did failed = absurd (false≢true failed)
 failing-breaks plant v w (Flush (Err Disk)) did failed = (did.0, ap (λ (x : View). x.broken) did.2)
@@ -104,6 +106,9 @@ failing-breaks plant v w (Idle atom) did failed = absurd (false≢true failed)
 event-sound : (plant : PlantDefinition) (v w : View) (h : Happened) → IsEvent plant v h w → has_failed h ≡ false → w.broken ≡ v.broken
 event-sound plant v w (Fire pick (Ok fired)) did sound = ap (λ (x : View). x.broken) did.3
 event-sound plant v w (Fire pick (Err refused)) did sound = ap (λ (x : View). x.broken) did.1
+event-sound plant v w (FireChoice choice None) did sound = ap (λ (x : View). x.broken) did.1
+event-sound plant v w (FireChoice choice (Some (Ok fired))) did sound = ap (λ (x : View). x.broken) did.2.3
+event-sound plant v w (FireChoice choice (Some (Err refused))) did sound = ap (λ (x : View). x.broken) did.2.1
 event-sound plant v w (Flush (Ok number)) did sound = ap (λ (x : View). x.broken) did.2
 event-sound plant v w (Flush (Err Broken)) did sound = ap (λ (x : View). x.broken) did.1
 event-sound plant v w (Flush (Err Disk)) did sound = absurd (false≢true (sym sound))

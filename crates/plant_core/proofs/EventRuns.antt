@@ -20,7 +20,7 @@ use Rattle.trimmer.specs.declared.saved.SavedAt.{SavedAt}
 use Rattle.plant_core.specs.Snapshots.{with_held, with_known, without}
 use Rattle.plant_core.specs.View.{View, may_go, sure_in, with_all_acked, with_away, with_fired}
 use Rattle.plant_core.specs.declared.events.Happened.{Happened}
-use Rattle.plant_core.specs.declared.events.Happened.TheVariants.{Fire, Flush, Ask, Put, Empty, Trim, Begin, Back, Idle}
+use Rattle.plant_core.specs.declared.events.Happened.TheVariants.{Fire, FireChoice, Flush, Ask, Put, Empty, Trim, Begin, Back, Idle}
 use Rattle.plant_core.specs.declared.refused.Refused.TheVariants.{Away, Ahead, Stranger, NothingNew, Broken, Disk}
 use Rattle.plant_core.proofs.Chosen.{fold-more}
 
@@ -36,6 +36,10 @@ module _ (plant : PlantDefinition) where
   event-cases v w (Fire pick (Err refused)) P stays fires acks notes breaks did = subst (P []) (sym did.1) stays
   event-cases v w (Fire pick (Ok fired)) P stays fires acks notes breaks did =
       subst (P (choice_of fired.choice ∷ [])) (sym did.3) (fires (choice_of fired.choice) v.away (entry-allowed v (pick % length (sure_in plant v)) (choice_of fired.choice) did.2))
+  event-cases v w (FireChoice choice None) P stays fires acks notes breaks did = subst (P []) (sym did.1) stays
+  event-cases v w (FireChoice choice (Some (Err refused))) P stays fires acks notes breaks did = subst (P []) (sym did.2.1) stays
+  event-cases v w (FireChoice choice (Some (Ok fired))) P stays fires acks notes breaks did =
+      subst (P (choice_of fired.choice ∷ [])) (sym did.2.3) (fires (choice_of fired.choice) v.away (entry-allowed v (did.0 % length (sure_in plant v)) (choice_of fired.choice) did.2.2))
   event-cases v w (Flush (Ok number)) P stays fires acks notes breaks did = subst (P []) (sym did.2) acks
   event-cases v w (Flush (Err Broken)) P stays fires acks notes breaks did = subst (P []) (sym did.1) stays
   event-cases v w (Flush (Err Disk)) P stays fires acks notes breaks did = subst (P []) (sym did.2) breaks

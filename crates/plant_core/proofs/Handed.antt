@@ -6,7 +6,7 @@ use Rattle.plant_core.specs.Events.{AreHandsAfter}
 use Rattle.plant_core.specs.Hands.{AreHandsFor, HandFields, with_jobs}
 use Rattle.plant_core.specs.View.{View}
 use Rattle.plant_core.specs.declared.events.Happened.{Happened}
-use Rattle.plant_core.specs.declared.events.Happened.TheVariants.{Fire, Flush, Ask, Put, Empty, Trim, Begin, Back, Idle}
+use Rattle.plant_core.specs.declared.events.Happened.TheVariants.{Fire, FireChoice, Flush, Ask, Put, Empty, Trim, Begin, Back, Idle}
 
 pub jobs-long : (jobs : List JobDefinition) (held : List (Option JobDefinition)) → length (with_jobs jobs held) ≡ length held
 jobs-long [] held = refl
@@ -14,6 +14,7 @@ jobs-long (job ∷ jobs) held = jobs-long jobs (set held job.atom (Some job)) �
 
 pub as-many : (plant : PlantDefinition) (v : View) (n : ℕ) (hands after : HandFields) (h : Happened) → AreHandsFor n hands → AreHandsAfter plant v hands h after → AreHandsFor n after
 as-many plant v n hands after (Fire pick answer) there is = subst (AreHandsFor n) (sym is) there
+as-many plant v n hands after (FireChoice choice answer) there is = subst (AreHandsFor n) (sym is) there
 as-many plant v n hands after (Flush answer) there is = subst (AreHandsFor n) (sym is) there
 as-many plant v n hands after (Ask atom (Ok saved)) there is = subst (AreHandsFor n) (sym is) (record { saved = length-set hands.saved saved.atom (Some saved) ∙ there.saved; jobs = there.jobs })
 as-many plant v n hands after (Ask atom (Err refused)) there is = subst (AreHandsFor n) (sym is) there

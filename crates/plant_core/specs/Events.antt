@@ -1,5 +1,5 @@
 -- What a durable plant does at each event: which answer it gives, and what it shows then.
-use Rattle.std.specs.Prelude.{◌≡◌, ◌≢◌, ℕ, ◌+◌, ◌-◌, ◌%◌, ◌≤◌, ◌<◌, ◌==◌, Bool, true, false, if◌then◌else◌, List, [], ◌∷◌, ◌++◌, Option, None, Some, Result, Ok, Err, ◌↔◌, is_some, length, take, drop, flat_map, slice_get, slice_index_or, slice_set}
+use Rattle.std.specs.Prelude.{◌≡◌, ◌≢◌, ℕ, ◌+◌, ◌-◌, ◌%◌, ◌≤◌, ◌<◌, ◌==◌, Bool, true, false, if◌then◌else◌, List, [], ◌∷◌, ◌++◌, Option, None, Some, Result, Ok, Err, ◌↔◌, Contains, is_some, length, take, drop, flat_map, slice_get, slice_index_or, slice_set}
 use Rattle.std.specs.List.{list_any}
 use Rattle.std.specs.Option.{option_map}
 use Rattle.record_codec.specs.Saved.{SavedFields}
@@ -20,7 +20,7 @@ use Rattle.plant_core.specs.declared.events.Event.{Event}
 use Rattle.plant_core.specs.declared.events.Event.TheVariants as asked
 use Rattle.plant_core.specs.declared.events.FiredAs.{FiredAs}
 use Rattle.plant_core.specs.declared.events.Happened.{Happened}
-use Rattle.plant_core.specs.declared.events.Happened.TheVariants.{Fire, Flush, Ask, Put, Empty, Trim, Begin, Back, Idle}
+use Rattle.plant_core.specs.declared.events.Happened.TheVariants.{Fire, FireChoice, Flush, Ask, Put, Empty, Trim, Begin, Back, Idle}
 use Rattle.plant_core.specs.declared.events.Returned.{Returned}
 use Rattle.plant_core.specs.declared.limits.TheConstants.{MOST_TAIL}
 use Rattle.plant_core.specs.declared.refused.Refused.{Refused}
@@ -63,7 +63,12 @@ IsFire plant v pick (Ok fired) w =
     × (slice_get (sure_in plant v) (pick % length (sure_in plant v)) ≡ Some (choice_of fired.choice))
     × (w ≡ with_fired plant (choice_of fired.choice) v)
 
--- The same if the participants go away, each with its job.
+-- A fire of a choice: it is among the choices, and this is a fire by its place. Where it is not there, there is no answer, and nothing changes.
+abbrev pub IsFireOf : PlantDefinition → View → ChoiceDefinition → Option (Result FiredAs Refused) → View → Type 0
+IsFireOf plant v c None w = (Contains (sure_in plant v) c → ⊥) × (w ≡ v)
+IsFireOf plant v c (Some answer) w = (place : ℕ) × (slice_get (sure_in plant v) place ≡ Some c) × IsFire plant v place answer w
+
+-- The same as of a pick, if the participants go away, each with its job.
 abbrev pub IsBegin : PlantDefinition → View → ℕ → Result FiredAs Refused → View → Type 0
 IsBegin plant v pick (Err refused) w = (fire_refusal plant v ≡ Some refused) × (w ≡ v)
 IsBegin plant v pick (Ok fired) w =
@@ -150,9 +155,10 @@ is_call (Ok x) = true
 is_call (Err Disk) = true
 is_call (Err other) = false
 
--- what happened, and how it changes the view: each kind of event has its own rule, and if no state is at hand to be stored nothing changes
+-- what happened, and how it changes the view: each kind of event has its own rule, and where the choice is not there, or nothing is at hand, nothing changes
 abbrev pub IsEvent : PlantDefinition → View → Happened → View → Type 0
 IsEvent plant v (Fire pick answer) w = IsFire plant v pick answer w
+IsEvent plant v (FireChoice choice answer) w = IsFireOf plant v (choice_of choice) answer w
 IsEvent plant v (Flush answer) w = IsFlush v answer w
 IsEvent plant v (Ask atom answer) w = IsAsk v atom answer w
 IsEvent plant v (Put saved answer) w = IsPut v saved answer w
@@ -165,6 +171,7 @@ IsEvent plant v (Idle atom) w = w ≡ v
 -- the choices that it fired: the one that a fire answers
 abbrev pub fired_by : Happened → List ChoiceDefinition
 fired_by (Fire pick (Ok fired)) = choice_of fired.choice ∷ []
+fired_by (FireChoice choice (Some (Ok fired))) = choice_of fired.choice ∷ []
 fired_by (Begin pick (Ok fired)) = choice_of fired.choice ∷ []
 fired_by other = []
 
@@ -175,6 +182,7 @@ all_fired hs = flat_map fired_by hs
 -- what was asked of the plant
 abbrev pub asked_in : Happened → Event
 asked_in (Fire pick answer) = asked.Fire pick
+asked_in (FireChoice choice answer) = asked.FireChoice choice
 asked_in (Flush answer) = asked.Flush
 asked_in (Ask atom answer) = asked.Ask atom
 asked_in (Put saved answer) = asked.Put saved.atom
@@ -187,6 +195,7 @@ asked_in (Idle atom) = asked.Back atom
 -- it makes no call of the device
 abbrev pub is_in_memory : Event → Bool
 is_in_memory (asked.Fire pick) = true
+is_in_memory (asked.FireChoice choice) = true
 is_in_memory asked.Flush = false
 is_in_memory (asked.Ask atom) = true
 is_in_memory (asked.Put atom) = false
@@ -197,6 +206,8 @@ is_in_memory (asked.Back atom) = true
 -- the device failed in it
 abbrev pub has_failed : Happened → Bool
 has_failed (Fire pick answer) = is_disk answer
+has_failed (FireChoice choice None) = false
+has_failed (FireChoice choice (Some answer)) = is_disk answer
 has_failed (Flush answer) = is_disk answer
 has_failed (Ask atom answer) = is_disk answer
 has_failed (Put saved answer) = is_disk answer

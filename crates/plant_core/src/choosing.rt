@@ -6,7 +6,7 @@ ghost use Rattle.plant_core.specs.View.{sure_in};
 
 use crate::plant::Plant;
 use disk_model::Disk;
-use step_core::Choice;
+use step_core::{Choice, Listed};
 
 impl<'s, D: Disk> Plant<'s, D> {
     /// How many choices the plant has now: those of its present state, and the sure ones of these while atoms are away.
@@ -30,5 +30,17 @@ impl<'s, D: Disk> Plant<'s, D> {
         ensures none { result ≡ None → Contains (sure_in (definition_of self.now) (view_of self.now)) (choice_of choice.now) → ⊥ }
     {
         self.executor.find(choice)
+    }
+}
+
+impl<'s, D: Disk> Listed for Plant<'s, D> {
+    ghost listed = { λ plant. sure_in (definition_of plant) (view_of plant) };
+
+    fn how_many(&self) -> u128 {
+        self.count()
+    }
+
+    fn entry(&self, place: u128) -> Choice {
+        self.nth(place)
     }
 }

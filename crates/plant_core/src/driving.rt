@@ -42,15 +42,15 @@ pub fn drive<'s, D: Disk>(
 {
     let mut answers = Vec::with_capacity(alloc, events.len())?;
     for event in events {
-        answers.push_reserved(meet(plant, hands, *event));
+        answers.push_reserved(meet(plant, hands, event));
     }
     Ok(answers)
 }
 
 /// Asks a plant for one event, and answers what happened.
-pub fn meet<'s, D: Disk>(plant: &mut Plant<'s, D>, hands: &mut Hands<'s>, event: Event) -> Happened
+pub fn meet<'s, D: Disk>(plant: &mut Plant<'s, D>, hands: &mut Hands<'s>, event: &Event) -> Happened
     requires { AreHandsFor (length (definition_of plant.old).atoms) (hands_of hands.old) }
-    ensures asked { asked_in result ≡ event }
+    ensures asked { asked_in result ≡ event.now }
     ensures event { IsEvent (definition_of plant.old) (view_of plant.old) result (view_of plant.new) }
     ensures handed_in { IsHandedIn (definition_of plant.old) (hands_of hands.old) result }
     ensures hands { AreHandsAfter (definition_of plant.old) (view_of plant.old) (hands_of hands.old) result (hands_of hands.new) }
@@ -58,7 +58,7 @@ pub fn meet<'s, D: Disk>(plant: &mut Plant<'s, D>, hands: &mut Hands<'s>, event:
     ensures stops { (device_of plant.old).keeps ≡ true
         → Leaves (BODY + 1) (StandsForFront (definition_of plant.old) (text_digest plant.old) (size_of (device_of plant.old)) (view_of plant.old)) (device_of plant.old) (device_of plant.new) }
     ensures cause { (device_of plant.new).failures ≡ counted (has_failed result) (device_of plant.old).failures }
-    ensures idle { is_in_memory event ≡ true → device_of plant.new ≡ device_of plant.old }
+    ensures idle { is_in_memory event.now ≡ true → device_of plant.new ≡ device_of plant.old }
     ensures untouched { may_call result ≡ false → device_of plant.new ≡ device_of plant.old }
     ensures plant { definition_of plant.new ≡ definition_of plant.old }
     ensures digest { text_digest plant.new ≡ text_digest plant.old }
@@ -66,13 +66,16 @@ pub fn meet<'s, D: Disk>(plant: &mut Plant<'s, D>, hands: &mut Hands<'s>, event:
     ensures keeps { (device_of plant.new).keeps ≡ (device_of plant.old).keeps }
 {
     match event {
-        Event::Fire(pick) => Happened::Fire(pick, plant.fire(pick)),
+        Event::Fire(pick) => Happened::Fire(*pick, plant.fire(*pick)),
+        Event::FireChoice(choice) => {
+            Happened::FireChoice(choice.copy(), plant.fire_choice(choice))
+        }
         Event::Flush => Happened::Flush(plant.flush()),
-        Event::Ask(atom) => ask(plant, hands, atom),
-        Event::Put(atom) => put(plant, hands, atom),
+        Event::Ask(atom) => ask(plant, hands, *atom),
+        Event::Put(atom) => put(plant, hands, *atom),
         Event::Trim => Happened::Trim(plant.trim()),
-        Event::Begin(pick) => begin(plant, hands, pick),
-        Event::Back(atom) => back(plant, hands, atom),
+        Event::Begin(pick) => begin(plant, hands, *pick),
+        Event::Back(atom) => back(plant, hands, *atom),
     }
 }
 

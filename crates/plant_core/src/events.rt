@@ -5,10 +5,12 @@ use record_codec::Saved;
 use step_core::Choice;
 
 /// What is asked of a durable plant.
-#[derive(Clone, Copy, Debug, PartialEq, Eq)]
+#[derive(Drop)]
 pub enum Event {
     /// To fire the choice at the place of the pick, modulo the number of choices.
     Fire(u128),
+    /// To fire this very choice, if the plant has it now.
+    FireChoice(Choice),
     /// To acknowledge all that was fired.
     Flush,
     /// To copy the present state of the atom with the number, into its hand.
@@ -37,6 +39,8 @@ pub struct FiredAs {
 pub enum Happened {
     /// A choice was to be fired by this pick: it was, or the plant refused it.
     Fire(u128, Result<FiredAs, Refused>),
+    /// This choice was to be fired: it was, or the plant refused it; none where the plant did not have it then.
+    FireChoice(Choice, Option<Result<FiredAs, Refused>>),
     /// What was fired was to be acknowledged: up to this number it is, or the plant refused it.
     Flush(Result<u64, Refused>),
     /// The present state of the atom with the number was to be copied: this is it, or the plant refused it.

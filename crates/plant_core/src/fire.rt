@@ -6,7 +6,7 @@ ghost use Rattle.record_replay.specs.Records.{record_delivered};
 ghost use Rattle.step_core.specs.Sure.{IsSure};
 ghost use Rattle.step_core.specs.Chosen.{choice_of};
 ghost use Rattle.plant_core.specs.Events.{IsEvent, fire_refusal};
-ghost use Rattle.plant_core.specs.declared.events.Happened.TheVariants.{Fire};
+ghost use Rattle.plant_core.specs.declared.events.Happened.TheVariants.{Fire, FireChoice};
 ghost use Rattle.plant_core.specs.Plants.{definition_of, device_of, text_digest, view_of};
 ghost use Rattle.plant_core.specs.View.{fired_number, parts_in, with_fired};
 
@@ -41,6 +41,17 @@ impl<'s, D: Disk> Plant<'s, D> {
         let number = self.fired() + 1;
         self.go_on(choice.copy());
         Ok(FiredAs { number, choice })
+    }
+
+    /// Fires this very choice, as [`Plant::fire`] does, if the plant has it now. If not, there is no answer, and nothing changes.
+    pub fn fire_choice(&mut self, choice: &Choice) -> Option<Result<FiredAs, Refused>>
+        ensures event { IsEvent (definition_of self.old) (view_of self.old) (FireChoice choice.now result) (view_of self.new) }
+        ensures device { device_of self.new ≡ device_of self.old }
+        ensures plant { definition_of self.new ≡ definition_of self.old }
+        ensures digest { text_digest self.new ≡ text_digest self.old }
+    {
+        let place = self.find(choice)?;
+        Some(self.fire(place))
     }
 
     /// Why a fire would be refused now.

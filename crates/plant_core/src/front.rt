@@ -1,6 +1,7 @@
 //! How far a durable plant is, and what it shows.
 ghost use Rattle.std.specs.Prelude.{◌≡◌, ◌+◌, ◌≤◌, slice_get};
 ghost use Rattle.record_codec.specs.declared.layout.TheConstants.{LAST_NUMBER, MOST_RING};
+ghost use Rattle.step_core.specs.Fitting.{IsOf};
 ghost use Rattle.step_core.specs.System.{digest_of, plant_of};
 ghost use Rattle.plant_core.specs.Plants.{definition_of, device_of, text_digest, view_of};
 ghost use Rattle.plant_core.specs.View.{fired_number};
@@ -9,7 +10,7 @@ use crate::limits::MOST_TAIL;
 use crate::plant::Plant;
 use disk_model::Disk;
 use petri_atom::AtomState;
-use step_core::System;
+use step_core::{PlantState, System};
 
 /// How far a plant is.
 #[derive(Clone, Copy, Debug, PartialEq, Eq)]
@@ -63,6 +64,20 @@ impl<'s, D: Disk> Plant<'s, D> {
         ensures { result ≡ slice_get (view_of self.now).present atom }
     {
         self.executor.look(atom)
+    }
+
+    /// Makes these states, which are some of the plant, its present ones. An atom that is away is where its job will leave it. No memory is
+    /// taken.
+    pub fn show(&self, states: &mut PlantState)
+        requires { IsOf (definition_of self.now) states.old }
+        ensures { states.new ≡ (view_of self.now).present }
+    {
+        self.system().keeps_its_rules();
+        for atom in 0..states.len() {
+            if let Some(state) = self.look(atom as u16) {
+                states.set(atom as u16, state);
+            }
+        }
     }
 
     /// Whether the device failed in a call. Such a plant refuses each event, and its device has to be booted again.

@@ -1,6 +1,6 @@
-mod Words
-mod Bytes
-mod Decimals
+pub mod Words
+pub mod Bytes
+pub mod Decimals
 mod ExpressionWords
 mod Expressions
 mod Found

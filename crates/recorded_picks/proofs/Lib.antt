@@ -11,3 +11,4 @@ mod SameMask
 mod ReadBack
 mod RunAgain
 mod Rows
+pub mod KeptLine

@@ -16,7 +16,7 @@ use run_text::Misread;
 use step_core::{Choice, Interaction, Move, Moves, System};
 
 /// The choice that the name of a connector and the words after it name, or what is wrong with them.
-pub(crate) fn read_choice(
+pub fn read_choice(
     names: &PlantNames<'_>,
     connector: &[u8],
     words: &mut Words<'_>,

@@ -18,5 +18,7 @@ mod line;
 mod names;
 mod picks;
 
+pub use choice::read_choice;
 pub use kept_line::MAX_PICK_LINE;
+pub use names::PlantNames;
 pub use picks::RecordedPicks;

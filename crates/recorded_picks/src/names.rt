@@ -1,6 +1,7 @@
 //! The connectors, the atoms and the moves of a plant, by their names.
-ghost use Rattle.std.specs.Prelude.{◌≡◌, ◌≤◌, length, map, None, IfOk};
+ghost use Rattle.std.specs.Prelude.{◌≡◌, ◌≤◌, length, map, None, IfOk, IfSome};
 ghost use Rattle.std.specs.List.{after_first, before_first, position_or_len};
+ghost use Rattle.std.proofs.Props.{props};
 ghost use Rattle.run_text.specs.Seen.{definition_of, plant_of};
 ghost use Rattle.step_core.specs.Rules.{fault_of};
 ghost use Rattle.step_core.specs.declared.limits.TheConstants.{MAX_ATOMS, MAX_WIRES};
@@ -12,50 +13,70 @@ use plant_words::{NameIndex, read_decimal, split_export};
 use std::alloc::{AllocError, Global};
 use step_core::{Move, System, Wire};
 
-/// A plant whose connectors and atoms are found by their names, each by one look-up.
+/// The names of the connectors and of the atoms, each found by one look-up.
 #[derive(Drop)]
-pub(crate) struct PlantNames<'a> {
-    pub(crate) system: &'a System,
+struct Index {
     connectors: NameIndex,
     atoms: NameIndex,
-    ghost valid: { fault_of (plant_of system.now) ≡ None },
-    ghost connectors_named: { connectors ≡ connector_names (plant_of system.now) },
-    ghost atoms_named: { atoms ≡ atom_names (plant_of system.now) },
     ghost few_connectors: { length connectors ≤ MAX_WIRES },
     ghost few_atoms: { length atoms ≤ MAX_ATOMS },
 }
 
+/// A plant whose connectors and atoms are found by their names.
+#[derive(Drop)]
+pub struct PlantNames<'a> {
+    pub(crate) system: &'a System,
+    index: Option<Index>,
+    ghost valid: { fault_of (plant_of system.now) ≡ None },
+    ghost connectors_named: { IfSome index (λ i. i.connectors ≡ connector_names (plant_of system.now)) } by { Prim.hlevel props },
+    ghost atoms_named: { IfSome index (λ i. i.atoms ≡ atom_names (plant_of system.now)) } by { Prim.hlevel props },
+}
+
 impl<'a> PlantNames<'a> {
-    /// The plant of the system.
+    /// The plant of the system, with an index, so that many names are found, each by one look-up.
     pub(crate) fn new(alloc: Global, system: &'a System) -> Result<Self, AllocError>
         ensures { IfOk result (λ names. names.system.now ≡ system.now) }
     {
         system.keeps_its_rules();
         let connectors = index_of_wires(alloc, system.wires())?;
         let atoms = index_of_atoms(alloc, system.atoms())?;
-        Ok(PlantNames {
+        let index = Some(Index { connectors, atoms });
+        Ok(PlantNames { system, index })
+    }
+
+    /// The plant of the system, without an index: each name is looked for among all. It takes no memory.
+    pub fn plain(system: &'a System) -> Self
+        ensures { result.system.now ≡ system.now }
+    {
+        system.keeps_its_rules();
+        PlantNames {
             system,
-            connectors,
-            atoms,
-        })
+            index: None,
+        }
     }
 
     /// The number of the connector with the name.
-    pub(crate) fn find_connector(&self, name: &[u8]) -> Option<u16>
+    pub fn find_connector(&self, name: &[u8]) -> Option<u16>
         ensures { result ≡ connector_named (plant_of self.now.system.now) name.now }
     {
-        Some(self.connectors.find(name)? as u16)
+        match &self.index {
+            Some(index) => Some(index.connectors.find(name)? as u16),
+            None => self.system.connector_named(name),
+        }
     }
 
     /// The number of the atom with the name.
     fn find_atom(&self, name: &[u8]) -> Option<u16>
         ensures { result ≡ atom_named (plant_of self.now.system.now) name.now }
     {
-        Some(self.atoms.find(name)? as u16)
+        match &self.index {
+            Some(index) => Some(index.atoms.find(name)? as u16),
+            None => self.system.atom_named(name),
+        }
     }
 
     /// The move that a word `ATOM.PORT/NUMBER` names.
-    pub(crate) fn find_move(&self, word: &[u8]) -> Option<Move>
+    pub fn find_move(&self, word: &[u8]) -> Option<Move>
         ensures { result ≡ move_in (plant_of self.now.system.now) word.now }
     {
         let (port, number) = around_slash(word);

@@ -17,7 +17,7 @@ use crate::telling::Silence;
 use std::alloc::Global;
 use std::io;
 use std::io::Write;
-use step_core::{Stepper, System};
+use step_core::{Listed, Stepper, System};
 use text_io::{WriteFault, end_line, print_text};
 
 /// How many choices of a state are listed at most.
@@ -36,7 +36,8 @@ pub fn print_choices_after<P: Picks, W: Write>(
         (choices_after (plant_of system.now) left))) }
     ensures nothing_written { (fault : TraceFault) → result ≡ Err fault → fault ≢ WriteFailed → output.new ≡ output.old }
 {
-    print_choices(&run_after(alloc, system, picks)?, output)?;
+    let run = run_after(alloc, system, picks)?;
+    print_choices(system, &run, output)?;
     Ok(())
 }
 
@@ -63,28 +64,37 @@ pub fn run_after<'s, P: Picks>(
     Ok(run)
 }
 
-/// Prints the choices of the present state, each on a line: the number by which a pick takes it, from 0, its connector, and
+/// Prints the choices that a plant of the system has now, each on a line: the number by which a pick takes it, from 0, its connector, and
 /// its participants. After [`MOST_LISTED`] of them one line says how many more there are. If there is no choice, the line is `stuck`.
-pub fn print_choices<W: Write>(run: &Stepper<'_>, output: &mut W) -> Result<(), WriteFault>
-    ensures { Prints result (W.contents output.old) (W.contents output.new) (choices_text (plant_in run.now) (choices (plant_in run.now) (states_in run.now))) }
+pub fn print_choices<L: Listed, W: Write>(
+    system: &System,
+    run: &L,
+    output: &mut W,
+) -> Result<(), WriteFault>
+    ensures { Prints result (W.contents output.old) (W.contents output.new) (choices_text (plant_of system.now) (L.listed run.now)) }
 {
-    let count = run.count();
+    let count = run.how_many();
     if count == 0 {
         return print_text(output, b"stuck\n");
     }
     let listed = count.min(u128::from(MOST_LISTED)) as u64;
-    print_listed(run, listed, output)?;
+    print_listed(system, run, listed, output)?;
     print_more(count - u128::from(listed), output)
 }
 
-/// Prints the first choices of the present state.
-fn print_listed<W: Write>(run: &Stepper<'_>, listed: u64, output: &mut W) -> Result<(), WriteFault>
-    requires { listed ≤ length (choices (plant_in run.now) (states_in run.now)) }
-    ensures { Prints result (W.contents output.old) (W.contents output.new) (numbered (choice_text (plant_in run.now)) 0 (take listed (choices (plant_in run.now) (states_in run.now)))) }
+/// Prints the first choices.
+fn print_listed<L: Listed, W: Write>(
+    system: &System,
+    run: &L,
+    listed: u64,
+    output: &mut W,
+) -> Result<(), WriteFault>
+    requires { listed ≤ length (L.listed run.now) }
+    ensures { Prints result (W.contents output.old) (W.contents output.new) (numbered (choice_text (plant_of system.now)) 0 (take listed (L.listed run.now))) }
 {
     let mut place = 0;
     while place < listed {
-        print_choice(place, run.system(), &run.nth(u128::from(place)), output)?;
+        print_choice(place, system, &run.entry(u128::from(place)), output)?;
         end_line(output)?;
         place += 1;
     }

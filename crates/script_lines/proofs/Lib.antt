@@ -1,3 +1,4 @@
 mod Lines
 mod Running
+mod Stopping
 mod Rows

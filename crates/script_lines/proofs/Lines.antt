@@ -8,9 +8,9 @@ use Rattle.plant_words.specs.Lines.{lines_of}
 use Rattle.step_core.specs.Plant.{PlantDefinition}
 use Rattle.text_io.specs.declared.reading.TheConstants.{MAX_TEXT}
 use Rattle.plant_core.specs.declared.events.Event.{Event}
-use Rattle.script_lines.specs.Script.{asked_by_line, events_of, is_refused, is_unreadable, line_in, script_meaning}
+use Rattle.script_lines.specs.Script.{asked_by_line, events_of, is_refused, is_mistaken, line_in, script_meaning}
 use Rattle.script_lines.specs.declared.line.ScriptLine.{ScriptLine}
-use Rattle.script_lines.specs.declared.line.ScriptLine.TheVariants.{Nothing, Asks, Unreadable}
+use Rattle.script_lines.specs.declared.line.ScriptLine.TheVariants.{Nothing, Asks, Mistaken}
 
 -- what lines mean after events that were read, where the first of the lines has this number
 abbrev pub meant_behind : PlantDefinition → ℕ → List Event → List (List ℕ) → Result (List Event) ℕ
@@ -23,19 +23,19 @@ all_left plant text short =
 
 -- the first line that is left says something, and the others are left
 first_said : (number : ℕ) (before more : List Event) (refused : Option ℕ) (said : ScriptLine)
-    → option_map_or Err (cond (is_unreadable said) (Option.Some number) refused) (Ok (before ++ (asked_by_line said ++ more)))
-    ≡ cond (is_unreadable said) (Err number) (option_map_or Err refused (Ok ((before ++ asked_by_line said) ++ more)))
+    → option_map_or Err (cond (is_mistaken said) (Option.Some number) refused) (Ok (before ++ (asked_by_line said ++ more)))
+    ≡ cond (is_mistaken said) (Err number) (option_map_or Err refused (Ok ((before ++ asked_by_line said) ++ more)))
 first_said number before more refused Nothing = ap (λ events. option_map_or Err refused (Ok events)) (sym (append_assoc before [] more))
 first_said number before more refused (Asks event) = ap (λ events. option_map_or Err refused (Ok events)) (sym (append_assoc before (event ∷ []) more))
-first_said number before more refused Unreadable = refl
+first_said number before more refused (Mistaken mistake) = refl
 
 pub line_left : (plant : PlantDefinition) (number : ℕ) (before : List Event) (lines rest : List (List ℕ)) (line : List ℕ) (said : ScriptLine)
     → lines ≡ line ∷ rest → said ≡ line_in plant line
-    → meant_behind plant number before lines ≡ cond (is_unreadable said) (Err number) (meant_behind plant (number + 1) (before ++ asked_by_line said) rest)
+    → meant_behind plant number before lines ≡ cond (is_mistaken said) (Err number) (meant_behind plant (number + 1) (before ++ asked_by_line said) rest)
 line_left plant number before lines rest line said taken is =
     ap (meant_behind plant number before) taken ∙
     first_said number before (flat_map (events_of plant) rest) (position_from (is_refused plant) (number + 1) rest) (line_in plant line) ∙
-    ap (λ s. cond (is_unreadable s) (Err number) (meant_behind plant (number + 1) (before ++ asked_by_line s) rest)) (sym is)
+    ap (λ s. cond (is_mistaken s) (Err number) (meant_behind plant (number + 1) (before ++ asked_by_line s) rest)) (sym is)
 
 -- the events with one more, where there was memory for them
 pub kept_more : {X E : Type 0} (items : X → List Event) (events more : Result X E) (before : List Event) (event : Event)

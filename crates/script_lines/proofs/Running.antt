@@ -38,23 +38,23 @@ module _ (plant : PlantDefinition) (digest : List ℕ) where
   cut-of-driven v w s m a b events left hs driven = record { happened = hs; asked = events; left = left; in_order = refl; driven = driven }
 
   -- the same of one that was answered
-  pub cut-of-answered : (v w : View) (s m : DiskState) (a b : HandFields) (event : Event) (failed : Bool) (old new : Option (List ℕ)) → IsAnswered plant digest v s a event failed w m b old new
+  pub cut-of-answered : (v w : View) (s m : DiskState) (a b : HandFields) (event : Event) (happened : Happened) (old new : Option (List ℕ)) → IsAnswered plant digest v s a event happened w m b old new
       → IsCutRun plant digest v s a (event ∷ []) w m b
-  cut-of-answered v w s m a b event failed old new answered = cut-of-driven v w s m a b (event ∷ []) [] (answered.happened ∷ []) answered.driven
+  cut-of-answered v w s m a b event happened old new answered = cut-of-driven v w s m a b (event ∷ []) [] (happened ∷ []) answered.driven
 
   module _ (v : View) (s : DiskState) (a : HandFields) (leads : v.present ≡ fold plant v.acked v.tail) where
     -- one more event is answered
-    pub so-far-more : (u w : View) (m t : DiskState) (b c : HandFields) (events : List Event) (event : Event) (failed more : Bool) (start old new : Option (List ℕ))
-        → IsSoFar plant digest v s a events failed u m b start old → IsAnswered plant digest u m b event more w t c old new → IsSoFar plant digest v s a (events ++ event ∷ []) (failed || more) w t c start new
-    so-far-more u w m t b c events event failed more start old new so_far answered =
-        let one : List Happened = answered.happened ∷ [] in
+    pub so-far-more : (u w : View) (m t : DiskState) (b c : HandFields) (events : List Event) (event : Event) (failed more : Bool) (now : Happened) (start old new : Option (List ℕ))
+        → IsSoFar plant digest v s a events failed u m b start old → IsAnswered plant digest u m b event now w t c old new → more ≡ has_failed now → IsSoFar plant digest v s a (events ++ event ∷ []) (failed || more) w t c start new
+    so-far-more u w m t b c events event failed more now start old new so_far answered is =
+        let one : List Happened = now ∷ [] in
         record {
           happened = so_far.happened ++ one;
           driven = driven-join plant digest v u w s m t a b c events (event ∷ []) so_far.happened one leads so_far.driven answered.driven;
           printed = subst (Appends start new) (sym (flat_map-append (λ h. happened_line plant h ++ codes "\n") so_far.happened one))
               (Appends-trans start old new (happened_text plant so_far.happened) (happened_text plant one) so_far.printed
-              (subst (Appends old new) (sym (append-nil (happened_line plant answered.happened ++ codes "\n"))) answered.printed));
-          told = ap (λ x. x || more) so_far.told ∙ ap (λ x. list_any has_failed so_far.happened || x) (answered.told ∙ sym (or-false (has_failed answered.happened))) ∙ sym (list_any-append has_failed so_far.happened one);
+              (subst (Appends old new) (sym (append-nil (happened_line plant now ++ codes "\n"))) answered.printed));
+          told = ap (λ x. x || more) so_far.told ∙ ap (λ x. list_any has_failed so_far.happened || x) (is ∙ sym (or-false (has_failed now))) ∙ sym (list_any-append has_failed so_far.happened one);
         }
 
     -- the run ends in the event at this place

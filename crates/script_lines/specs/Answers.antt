@@ -1,13 +1,14 @@
 -- The lines of what happened to a durable plant, and of where it stands.
-use Rattle.std.specs.Prelude.{ℕ, List, [], ◌++◌, Option, None, Some, Ok, Err, codes, decimal}
+use Rattle.std.specs.Prelude.{ℕ, List, [], ◌++◌, Option, None, Some, Result, Ok, Err, codes, decimal}
 use Rattle.step_core.specs.Choice.{ChoiceDefinition}
 use Rattle.step_core.specs.Chosen.{choice_of}
 use Rattle.step_core.specs.Plant.{PlantDefinition}
 use Rattle.run_text.specs.Line.{fired_line, states_text}
 use Rattle.plant_core.specs.Refusals.{number_of}
 use Rattle.plant_core.specs.View.{View, fired_number}
+use Rattle.plant_core.specs.declared.events.FiredAs.{FiredAs}
 use Rattle.plant_core.specs.declared.events.Happened.{Happened}
-use Rattle.plant_core.specs.declared.events.Happened.TheVariants.{Fire, Flush, Ask, Put, Empty, Trim, Begin, Back, Idle}
+use Rattle.plant_core.specs.declared.events.Happened.TheVariants.{Fire, FireChoice, Flush, Ask, Put, Empty, Trim, Begin, Back, Idle}
 use Rattle.plant_core.specs.declared.front.Front.{Front}
 use Rattle.plant_core.specs.declared.refused.Refused.{Refused}
 use Rattle.plant_core.specs.declared.refused.Refused.TheVariants.{Stuck, Busy, TailFull, RingFull, Spent, Away, Ahead, Stranger, NothingNew, Disk, Broken}
@@ -42,6 +43,15 @@ atom_said (Some atom) = codes "(" ++ decimal atom ++ codes ")"
 abbrev pub refused_line : Refused → List ℕ
 refused_line refused = codes "refused " ++ decimal (number_of refused) ++ codes " " ++ name_of refused ++ atom_said (atom_in refused)
 
+-- a choice that was fired, as a trace prints it, or why none was
+abbrev pub fire_line : PlantDefinition → Result FiredAs Refused → List ℕ
+fire_line plant (Ok fired) = fired_line plant fired.number (choice_of fired.choice)
+fire_line plant (Err refused) = refused_line refused
+
+-- the plant did not have the choice that was to be fired
+abbrev pub not_now_line : List ℕ
+not_now_line = codes "refused 12 NotNow"
+
 -- a flush: up to which number all is acknowledged
 abbrev pub flushed_line : ℕ → List ℕ
 flushed_line number = codes "flushed " ++ decimal number
@@ -73,8 +83,9 @@ base_line number = codes "base " ++ decimal number
 -- What happened: a choice that was fired as a trace prints it, and told where its participants went away, up to where all was acknowledged, which state
 -- was copied or stored, which atom is present again, from where on records are kept, or why the plant refused.
 abbrev pub happened_line : PlantDefinition → Happened → List ℕ
-happened_line plant (Fire pick (Ok fired)) = fired_line plant fired.number (choice_of fired.choice)
-happened_line plant (Fire pick (Err refused)) = refused_line refused
+happened_line plant (Fire pick answer) = fire_line plant answer
+happened_line plant (FireChoice choice (Some answer)) = fire_line plant answer
+happened_line plant (FireChoice choice None) = not_now_line
 happened_line plant (Flush (Ok number)) = flushed_line number
 happened_line plant (Flush (Err refused)) = refused_line refused
 happened_line plant (Ask atom (Ok copy)) = asked_line (atom_name plant atom) copy.count

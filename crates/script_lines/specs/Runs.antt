@@ -16,13 +16,10 @@ use Rattle.script_lines.specs.Answers.{happened_line, standing_text}
 abbrev pub happened_text : PlantDefinition → List Happened → List ℕ
 happened_text plant happened = flat_map (λ h. happened_line plant h ++ codes "\n") happened
 
--- An event that was asked of the plant: a call answered it by what was in the hands before, the line of the answer was printed, and this
--- tells whether the device failed.
-pub record IsAnswered (plant : PlantDefinition) (digest : List ℕ) (before : View) (s : DiskState) (hands : HandFields) (event : Event) (failed : Bool) (after : View) (m : DiskState) (hands_after : HandFields) (old new : Option (List ℕ)) : Type 0 where
-  pub happened : Happened
+-- An event that was asked of the plant: a call answered it with this by what was in the hands before, and the line of the answer was printed.
+pub record IsAnswered (plant : PlantDefinition) (digest : List ℕ) (before : View) (s : DiskState) (hands : HandFields) (event : Event) (happened : Happened) (after : View) (m : DiskState) (hands_after : HandFields) (old new : Option (List ℕ)) : Type 0 where
   pub driven : IsDriven plant digest before s hands (event ∷ []) (happened ∷ []) after m hands_after
   pub printed : Appends old new (happened_line plant happened ++ codes "\n")
-  pub told : failed ≡ has_failed happened
 
 -- Events that were asked of a plant, one after another: each was answered by a call of the plant, and what was handed in is what was in the
 -- hands then; a line for each answer was printed, and then where the plant stands; and this tells whether the device failed in a call.

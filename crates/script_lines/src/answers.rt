@@ -3,7 +3,7 @@ ghost use Rattle.std.specs.Prelude.{◌≡◌, OnOk};
 ghost use Rattle.std.specs.Io.KnownBytes.{Appends};
 ghost use Rattle.step_core.specs.Chosen.{choice_of};
 ghost use Rattle.step_core.specs.System.{plant_of};
-ghost use Rattle.script_lines.specs.Answers.{asked_line, atom_in, atom_said, back_line, base_line, begun_line, flushed_line, front_line, happened_line, name_of, nothing_line, refused_line, stored_line};
+ghost use Rattle.script_lines.specs.Answers.{asked_line, atom_in, atom_said, back_line, base_line, begun_line, fire_line, flushed_line, front_line, happened_line, name_of, not_now_line, nothing_line, refused_line, stored_line};
 
 use crate::atoms::atom_name;
 use plant_core::{FiredAs, Front, Happened, Refused};
@@ -15,7 +15,8 @@ use text_io::{WriteFault, print_number, print_text};
 /// Prints what happened to a durable plant of the system: a choice that was fired as a trace prints it, with ` begun` after it where its
 /// participants went away, `flushed N` where all up to number N is acknowledged, `asked NAME COUNT` where the state of the atom was copied,
 /// `stored NAME COUNT` where it was stored, `back NAME` where the atom is present again, `nothing NAME` where no state or no job of it was at hand,
-/// `base N` where records were dropped and N is the first that is kept, and `refused NUMBER NAME` where the plant refused. The line is not ended.
+/// `base N` where records were dropped and N is the first that is kept, and `refused NUMBER NAME` where the plant refused, or did not have the choice
+/// that was to be fired. The line is not ended.
 pub fn print_happened<W: Write>(
     system: &System,
     happened: &Happened,
@@ -25,8 +26,9 @@ pub fn print_happened<W: Write>(
         (happened_line (plant_of system.now) happened.now)) }
 {
     match happened {
-        Happened::Fire(_, Ok(fired)) => print_choice(fired.number, system, &fired.choice, output),
-        Happened::Fire(_, Err(refused)) => print_refused(*refused, output),
+        Happened::Fire(_, answer) => print_fired(system, answer, output),
+        Happened::FireChoice(_, Some(answer)) => print_fired(system, answer, output),
+        Happened::FireChoice(_, None) => print_not_now(output),
         Happened::Flush(Ok(number)) => print_flushed(*number, output),
         Happened::Flush(Err(refused)) => print_refused(*refused, output),
         Happened::Ask(atom, Ok(copy)) => {
@@ -46,6 +48,27 @@ pub fn print_happened<W: Write>(
         Happened::Back(_, Err(refused)) => print_refused(*refused, output),
         Happened::Idle(atom) => print_nothing(atom_name(system, *atom), output),
     }
+}
+
+/// Prints a choice that was fired, or why none was.
+fn print_fired<W: Write>(
+    system: &System,
+    answer: &Result<FiredAs, Refused>,
+    output: &mut W,
+) -> Result<(), WriteFault>
+    ensures { OnOk result (Appends (W.contents output.old) (W.contents output.new) (fire_line (plant_of system.now) answer.now)) }
+{
+    match answer {
+        Ok(fired) => print_choice(fired.number, system, &fired.choice, output),
+        Err(refused) => print_refused(*refused, output),
+    }
+}
+
+/// Prints that the plant does not have the choice that was to be fired.
+pub(crate) fn print_not_now<W: Write>(output: &mut W) -> Result<(), WriteFault>
+    ensures { OnOk result (Appends (W.contents output.old) (W.contents output.new) not_now_line) }
+{
+    print_text(output, b"refused 12 NotNow")
 }
 
 /// Prints up to which number all is acknowledged.
@@ -116,7 +139,7 @@ fn print_refused<W: Write>(refused: Refused, output: &mut W) -> Result<(), Write
     print_text(output, b"refused ")?;
     print_number(output, u64::from(refused.number()))?;
     print_text(output, b" ")?;
-    print_text(output, refused_name(refused))?;
+    print_text(output, refused_name(refused).as_bytes())?;
     print_atom(atom_in(refused), output)
 }
 
@@ -135,26 +158,26 @@ fn print_atom<W: Write>(atom: Option<u16>, output: &mut W) -> Result<(), WriteFa
 }
 
 /// The name of a refusal.
-pub fn refused_name(refused: Refused) -> &'static [u8]
+pub fn refused_name(refused: Refused) -> &'static str
     ensures { result.now ≡ name_of refused }
 {
     match refused {
-        Refused::Stuck => b"Stuck",
-        Refused::Busy => b"Busy",
-        Refused::TailFull => b"TailFull",
-        Refused::RingFull => b"RingFull",
-        Refused::Spent => b"Spent",
-        Refused::Away(_) => b"Away",
-        Refused::Ahead(_) => b"Ahead",
-        Refused::Stranger => b"Stranger",
-        Refused::NothingNew => b"NothingNew",
-        Refused::Disk => b"Disk",
-        Refused::Broken => b"Broken",
+        Refused::Stuck => "Stuck",
+        Refused::Busy => "Busy",
+        Refused::TailFull => "TailFull",
+        Refused::RingFull => "RingFull",
+        Refused::Spent => "Spent",
+        Refused::Away(_) => "Away",
+        Refused::Ahead(_) => "Ahead",
+        Refused::Stranger => "Stranger",
+        Refused::NothingNew => "NothingNew",
+        Refused::Disk => "Disk",
+        Refused::Broken => "Broken",
     }
 }
 
 /// The number of the atom that a refusal speaks of.
-fn atom_in(refused: Refused) -> Option<u16>
+pub(crate) fn atom_in(refused: Refused) -> Option<u16>
     ensures { result ≡ atom_in refused }
 {
     match refused {

@@ -6,7 +6,7 @@ ghost use Rattle.script_lines.specs.Atoms.{atom_name};
 use step_core::System;
 
 /// The name of the atom with the number; empty if there is no such atom.
-pub(crate) fn atom_name(system: &System, atom: u16) -> &[u8]
+pub fn atom_name(system: &System, atom: u16) -> &[u8]
     ensures { result.now ≡ atom_name (plant_of system.now) atom }
 {
     match system.atoms().get(usize::from(atom)) {

@@ -1,29 +1,32 @@
 //! What one line of a script says.
 ghost use Rattle.std.specs.Prelude.{◌≡◌};
 ghost use Rattle.step_core.specs.System.{plant_of};
-ghost use Rattle.script_lines.specs.Script.{ask_in, asked_for, back_in, begin_in, event_in, fire_in, flush_in, line_in, only_atom, only_pick, put_in, trim_in};
+ghost use Rattle.script_lines.specs.Script.{alone, asked_for, event_in, fire_in, line_in, misread_at, only_atom, only_pick, pick_in_line};
 
+use crate::mistake::{Mistake, Wrong};
 use plant_core::Event;
-use plant_words::{Words, is_legal, read_decimal};
+use plant_words::{Words, is_legal, is_numeric, read_decimal};
+use recorded_picks::{PlantNames, read_choice};
+use run_text::Misread;
 use step_core::System;
 
 /// What a line of a script says.
-#[derive(Clone, Copy, Debug, PartialEq, Eq)]
-pub(crate) enum ScriptLine {
+#[derive(Drop)]
+pub enum ScriptLine {
     /// It has no words.
     Nothing,
     /// It asks for this event.
     Asks(Event),
-    /// Its words ask for no event, or it has a byte that no plant text may hold.
-    Unreadable,
+    /// It asks for none: this is wrong with it.
+    Mistaken(Mistake),
 }
 
 /// What the line says, in a script for a plant of the system.
-pub(crate) fn read_line(system: &System, line: &[u8]) -> ScriptLine
+pub fn read_line(system: &System, line: &[u8]) -> ScriptLine
     ensures { result ≡ line_in (plant_of system.now) line.now }
 {
     if !is_legal(line) {
-        return ScriptLine::Unreadable;
+        return ScriptLine::Mistaken(Mistake::at(0, Wrong::Byte));
     }
     let mut words = Words::new(line);
     match words.next_word() {
@@ -32,112 +35,113 @@ pub(crate) fn read_line(system: &System, line: &[u8]) -> ScriptLine
     }
 }
 
-/// A line whose words ask for this event, if for any.
-fn asked_for(event: Option<Event>) -> ScriptLine
+/// A line whose words ask for this event, or have this mistake.
+fn asked_for(event: Result<Event, Mistake>) -> ScriptLine
     ensures { result ≡ asked_for event }
 {
     match event {
-        Some(event) => ScriptLine::Asks(event),
-        None => ScriptLine::Unreadable,
+        Ok(event) => ScriptLine::Asks(event),
+        Err(mistake) => ScriptLine::Mistaken(mistake),
     }
 }
 
 /// The event that a first word and the words after it ask for.
-fn event_in(system: &System, first: &[u8], words: &mut Words<'_>) -> Option<Event>
+fn event_in(system: &System, first: &[u8], words: &mut Words<'_>) -> Result<Event, Mistake>
     ensures { result ≡ event_in (plant_of system.now) first.now words.old }
 {
     if first == b"fire".as_slice() {
-        fire_in(words)
+        fire_in(system, words)
     } else if first == b"flush".as_slice() {
-        flush_in(words)
+        alone(1, Event::Flush, words)
     } else if first == b"ask".as_slice() {
-        ask_in(system, words)
+        Ok(Event::Ask(only_atom(system, words)?))
     } else if first == b"put".as_slice() {
-        put_in(system, words)
+        Ok(Event::Put(only_atom(system, words)?))
     } else if first == b"trim".as_slice() {
-        trim_in(words)
+        alone(1, Event::Trim, words)
     } else if first == b"begin".as_slice() {
-        begin_in(words)
+        Ok(Event::Begin(u128::from(only_pick(words)?)))
     } else if first == b"back".as_slice() {
-        back_in(system, words)
+        Ok(Event::Back(only_atom(system, words)?))
+    } else if first.first() == Some(&b'#') {
+        Err(Mistake::at(0, Wrong::Comment))
     } else {
-        None
+        Err(Mistake::at(0, Wrong::NoEvent))
     }
 }
 
-/// The event that the words after `fire` ask for.
-fn fire_in(words: &mut Words<'_>) -> Option<Event>
-    ensures { result ≡ fire_in words.old }
-{
-    Some(Event::Fire(u128::from(only_pick(words)?)))
-}
-
-/// The event that the words after `begin` ask for.
-fn begin_in(words: &mut Words<'_>) -> Option<Event>
-    ensures { result ≡ begin_in words.old }
-{
-    Some(Event::Begin(u128::from(only_pick(words)?)))
-}
-
-/// The event that the words after `flush` ask for.
-fn flush_in(words: &mut Words<'_>) -> Option<Event>
-    ensures { result ≡ flush_in words.old }
+/// The event, which so many words asked for, if none stands after them.
+fn alone(count: usize, event: Event, words: &mut Words<'_>) -> Result<Event, Mistake>
+    ensures { result ≡ alone count event words.old }
 {
     match words.next_word() {
-        Some(_) => None,
-        None => Some(Event::Flush),
+        Some(_) => Err(Mistake::at(count, Wrong::LeftOver)),
+        None => Ok(event),
     }
 }
 
-/// The event that the words after `ask` ask for.
-fn ask_in(system: &System, words: &mut Words<'_>) -> Option<Event>
-    ensures { result ≡ ask_in (plant_of system.now) words.old }
+/// The event that the words after `fire` ask for: a pick alone, or a choice as a fired line names it.
+fn fire_in(system: &System, words: &mut Words<'_>) -> Result<Event, Mistake>
+    ensures { result ≡ fire_in (plant_of system.now) words.old }
 {
-    Some(Event::Ask(only_atom(system, words)?))
-}
-
-/// The event that the words after `put` ask for.
-fn put_in(system: &System, words: &mut Words<'_>) -> Option<Event>
-    ensures { result ≡ put_in (plant_of system.now) words.old }
-{
-    Some(Event::Put(only_atom(system, words)?))
-}
-
-/// The event that the words after `trim` ask for.
-fn trim_in(words: &mut Words<'_>) -> Option<Event>
-    ensures { result ≡ trim_in words.old }
-{
-    match words.next_word() {
-        Some(_) => None,
-        None => Some(Event::Trim),
+    let Some(first) = words.next_word() else {
+        return Err(Mistake::at(1, Wrong::NoChoice));
+    };
+    if is_numeric(first) {
+        return Ok(Event::Fire(u128::from(pick_in_line(first, words)?)));
+    }
+    match read_choice(&PlantNames::plain(system), first, words) {
+        Ok(choice) => Ok(Event::FireChoice(choice)),
+        Err(misread) => Err(misread_at(misread)),
     }
 }
 
-/// The event that the words after `back` ask for.
-fn back_in(system: &System, words: &mut Words<'_>) -> Option<Event>
-    ensures { result ≡ back_in (plant_of system.now) words.old }
+/// What is wrong where words name no choice.
+fn misread_at(misread: Misread) -> Mistake
+    ensures { result ≡ misread_at misread }
 {
-    Some(Event::Back(only_atom(system, words)?))
+    match misread {
+        Misread::UnknownConnector => Mistake::at(1, Wrong::UnknownConnector),
+        Misread::UnknownMove => Mistake::at(2, Wrong::UnknownMove),
+        Misread::NoInteraction | Misread::TooLong => Mistake::at(1, Wrong::NoInteraction),
+    }
 }
 
 /// The pick that is the only one of the words.
-fn only_pick(words: &mut Words<'_>) -> Option<u64>
+fn only_pick(words: &mut Words<'_>) -> Result<u64, Mistake>
     ensures { result ≡ only_pick words.old }
 {
-    let word = words.next_word()?;
     match words.next_word() {
-        Some(_) => None,
-        None => read_decimal(word),
+        Some(word) => pick_in_line(word, words),
+        None => Err(Mistake::at(1, Wrong::NoNumber)),
+    }
+}
+
+/// The pick that the second word of a line is, if no word stands after it.
+fn pick_in_line(word: &[u8], words: &mut Words<'_>) -> Result<u64, Mistake>
+    ensures { result ≡ pick_in_line word.now words.old }
+{
+    let Some(pick) = read_decimal(word) else {
+        return Err(Mistake::at(1, Wrong::BadNumber));
+    };
+    match words.next_word() {
+        Some(_) => Err(Mistake::at(2, Wrong::LeftOver)),
+        None => Ok(pick),
     }
 }
 
 /// The number of the atom whose name is the only one of the words.
-fn only_atom(system: &System, words: &mut Words<'_>) -> Option<u16>
+fn only_atom(system: &System, words: &mut Words<'_>) -> Result<u16, Mistake>
     ensures { result ≡ only_atom (plant_of system.now) words.old }
 {
-    let word = words.next_word()?;
+    let Some(name) = words.next_word() else {
+        return Err(Mistake::at(1, Wrong::NoName));
+    };
+    let Some(atom) = system.atom_named(name) else {
+        return Err(Mistake::at(1, Wrong::UnknownAtom));
+    };
     match words.next_word() {
-        Some(_) => None,
-        None => system.atom_named(word),
+        Some(_) => Err(Mistake::at(2, Wrong::LeftOver)),
+        None => Ok(atom),
     }
 }

@@ -1,6 +1,6 @@
 //! The events of a script, asked and answered.
 ghost use Rattle.std.specs.Prelude.{◌≡◌, ◌∷◌, [], length, IfOk, OnErr};
-ghost use Rattle.plant_core.specs.Events.{has_failed};
+ghost use Rattle.plant_core.specs.Events.{has_failed, is_disk};
 ghost use Rattle.plant_core.specs.Handed.{hands_of};
 ghost use Rattle.plant_core.specs.Hands.{AreHandsFor};
 ghost use Rattle.plant_core.specs.Plants.{definition_of, device_of, text_digest, view_of};
@@ -37,7 +37,8 @@ pub fn run_script<'s, D: Disk, W: Write>(
     plant.tail_is_a_run();
     let mut failed = false;
     for event in events {
-        failed |= answer(plant, hands, *event, output)?;
+        let happened = answer(plant, hands, event, output)?;
+        failed |= has_failed(&happened);
     }
     print_standing(plant, output)?;
     hand_on(output)?;
@@ -45,44 +46,43 @@ pub fn run_script<'s, D: Disk, W: Write>(
 }
 
 /// Asks an event of the plant, and prints the line of its answer; the output is flushed before and after an event that makes calls of the
-/// device. It tells whether the device failed in the call.
-fn answer<'s, D: Disk, W: Write>(
+/// device. It gives what happened.
+pub fn answer<'s, D: Disk, W: Write>(
     plant: &mut Plant<'s, D>,
     hands: &mut Hands<'s>,
-    event: Event,
+    event: &Event,
     output: &mut W,
-) -> Result<bool, WriteFault>
+) -> Result<Happened, WriteFault>
     requires { AreHandsFor (length (definition_of plant.old).atoms) (hands_of hands.old) }
-    ensures answered { IfOk result (λ failed. IsAnswered (definition_of plant.old) (text_digest plant.old) (view_of plant.old) (device_of plant.old) (hands_of hands.old) event failed (view_of plant.new) (device_of plant.new) (hands_of hands.new) (W.contents output.old) (W.contents output.new)) }
-    ensures cut { OnErr result (IsCutRun (definition_of plant.old) (text_digest plant.old) (view_of plant.old) (device_of plant.old) (hands_of hands.old) (event ∷ []) (view_of plant.new) (device_of plant.new) (hands_of hands.new)) }
+    ensures answered { IfOk result (λ happened. IsAnswered (definition_of plant.old) (text_digest plant.old) (view_of plant.old) (device_of plant.old) (hands_of hands.old) event.now happened (view_of plant.new) (device_of plant.new) (hands_of hands.new) (W.contents output.old) (W.contents output.new)) }
+    ensures cut { OnErr result (IsCutRun (definition_of plant.old) (text_digest plant.old) (view_of plant.old) (device_of plant.old) (hands_of hands.old) (event.now ∷ []) (view_of plant.new) (device_of plant.new) (hands_of hands.new)) }
     ensures as_many { AreHandsFor (length (definition_of plant.old).atoms) (hands_of hands.new) }
     ensures plant { definition_of plant.new ≡ definition_of plant.old }
     ensures digest { text_digest plant.new ≡ text_digest plant.old }
 {
     plant.stands_for_a_front();
     match event {
-        Event::Fire(_) | Event::Ask(_) | Event::Begin(_) | Event::Back(_) => {
-            tell(plant, hands, event, output)
-        }
+        Event::Fire(_) | Event::FireChoice(_) | Event::Ask(_) | Event::Begin(_) | Event::Back(_) =>
+            tell(plant, hands, event, output),
         Event::Flush | Event::Put(_) | Event::Trim => {
             hand_on(output)?;
-            let failed = tell(plant, hands, event, output)?;
+            let happened = tell(plant, hands, event, output)?;
             hand_on(output)?;
-            Ok(failed)
+            Ok(happened)
         }
     }
 }
 
-/// Asks an event of the plant, and prints the line of its answer. It tells whether the device failed in the call.
+/// Asks an event of the plant, and prints the line of its answer.
 fn tell<'s, D: Disk, W: Write>(
     plant: &mut Plant<'s, D>,
     hands: &mut Hands<'s>,
-    event: Event,
+    event: &Event,
     output: &mut W,
-) -> Result<bool, WriteFault>
+) -> Result<Happened, WriteFault>
     requires { AreHandsFor (length (definition_of plant.old).atoms) (hands_of hands.old) }
-    ensures answered { IfOk result (λ failed. IsAnswered (definition_of plant.old) (text_digest plant.old) (view_of plant.old) (device_of plant.old) (hands_of hands.old) event failed (view_of plant.new) (device_of plant.new) (hands_of hands.new) (W.contents output.old) (W.contents output.new)) }
-    ensures cut { OnErr result (IsCutRun (definition_of plant.old) (text_digest plant.old) (view_of plant.old) (device_of plant.old) (hands_of hands.old) (event ∷ []) (view_of plant.new) (device_of plant.new) (hands_of hands.new)) }
+    ensures answered { IfOk result (λ happened. IsAnswered (definition_of plant.old) (text_digest plant.old) (view_of plant.old) (device_of plant.old) (hands_of hands.old) event.now happened (view_of plant.new) (device_of plant.new) (hands_of hands.new) (W.contents output.old) (W.contents output.new)) }
+    ensures cut { OnErr result (IsCutRun (definition_of plant.old) (text_digest plant.old) (view_of plant.old) (device_of plant.old) (hands_of hands.old) (event.now ∷ []) (view_of plant.new) (device_of plant.new) (hands_of hands.new)) }
     ensures as_many { AreHandsFor (length (definition_of plant.old).atoms) (hands_of hands.new) }
     ensures plant { definition_of plant.new ≡ definition_of plant.old }
     ensures digest { text_digest plant.new ≡ text_digest plant.old }
@@ -90,21 +90,29 @@ fn tell<'s, D: Disk, W: Write>(
     let happened = meet(plant, hands, event);
     print_happened(plant.system(), &happened, output)?;
     end_line(output)?;
-    Ok(has_failed(&happened))
+    Ok(happened)
 }
 
 /// Whether the device failed in this call.
-fn has_failed(happened: &Happened) -> bool
+pub fn has_failed(happened: &Happened) -> bool
     ensures { result ≡ has_failed happened.now }
 {
-    matches!(
-        happened,
-        Happened::Fire(_, Err(Refused::Disk))
-            | Happened::Flush(Err(Refused::Disk))
-            | Happened::Ask(_, Err(Refused::Disk))
-            | Happened::Put(_, Err(Refused::Disk))
-            | Happened::Trim(Err(Refused::Disk))
-            | Happened::Begin(_, Err(Refused::Disk))
-            | Happened::Back(_, Err(Refused::Disk))
-    )
+    match happened {
+        Happened::Fire(_, answer) | Happened::Begin(_, answer) => is_disk(answer),
+        Happened::FireChoice(_, Some(answer)) => is_disk(answer),
+        Happened::FireChoice(_, None) => false,
+        Happened::Flush(answer) | Happened::Put(_, answer) | Happened::Trim(answer) => is_disk(
+            answer,
+        ),
+        Happened::Ask(_, answer) => is_disk(answer),
+        Happened::Back(_, answer) => is_disk(answer),
+        Happened::Empty(_) | Happened::Idle(_) => false,
+    }
+}
+
+/// Whether the answer is that the device failed.
+fn is_disk<T>(answer: &Result<T, Refused>) -> bool
+    ensures { result ≡ is_disk answer.now }
+{
+    matches!(answer, Err(Refused::Disk))
 }

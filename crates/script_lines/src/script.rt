@@ -1,13 +1,13 @@
 //! A script, line by line.
-ghost use Rattle.std.specs.Prelude.{◌≡◌, ◌≤◌, [], ◌∷◌, ◌++◌, length, Ok, IfErr, IfOk, IsOkAnd};
+ghost use Rattle.std.specs.Prelude.{◌≡◌, ◌≤◌, [], ◌∷◌, ◌++◌, length, slice_get, Ok, IfErr, IfOk, IsOkAnd};
 ghost use Rattle.step_core.specs.System.{plant_of};
 ghost use Rattle.text_io.specs.declared.reading.TheConstants.{MAX_TEXT};
-ghost use Rattle.script_lines.specs.Script.{IsFaultOf, script_meaning};
+ghost use Rattle.script_lines.specs.Script.{IsFaultOf, event_lines, has_words, script_meaning};
 
 use crate::fault::ScriptFault;
 use crate::line::{ScriptLine, read_line};
 use plant_core::Event;
-use plant_words::Lines;
+use plant_words::{Lines, Words};
 use std::alloc::{AllocError, Global};
 use step_core::System;
 use text_io::MAX_TEXT;
@@ -15,8 +15,8 @@ use text_io::MAX_TEXT;
 /// The events that a script asks of a plant of the system, or the first line that it is refused for: its number from 1, and 0 if the
 /// script has more than 1,048,576 bytes.
 ///
-/// Each line has no words or asks for one event: `fire P`, `flush`, `ask NAME`, `put NAME`, `trim`, `begin P` or `back NAME`, where NAME is that of
-/// an atom. Lines are read on if memory is wanting, so that it hides no line that is refused.
+/// Each line has no words or asks for one event: `fire P`, `fire` with a choice as a fired line names it, `flush`, `ask NAME`, `put NAME`, `trim`,
+/// `begin P` or `back NAME`, where NAME is that of an atom. Lines are read on if memory is wanting, so that it hides no line that is refused.
 pub fn read_script(alloc: Global, system: &System, text: &[u8]) -> Result<Vec<Event>, ScriptFault>
     ensures events { IfOk result (λ events. script_meaning (plant_of system.now) text.now ≡ Ok events.items) }
     ensures fault { IfErr result (IsFaultOf (plant_of system.now) text.now) }
@@ -40,7 +40,7 @@ fn read_lines(alloc: Global, system: &System, text: &[u8]) -> Result<Vec<Event>,
         match read_line(system, line) {
             ScriptLine::Nothing => {}
             ScriptLine::Asks(event) => events = with_event(events, event),
-            ScriptLine::Unreadable => return Err(ScriptFault::Line(number)),
+            ScriptLine::Mistaken(_) => return Err(ScriptFault::Line(number)),
         }
         number += 1;
     }
@@ -57,4 +57,31 @@ fn with_event(
     let mut events = events?;
     events.push(event)?;
     Ok(events)
+}
+
+/// The number of the line of a script, counted from 1, that asks for the event with this place among all, counted from 0.
+pub fn line_of_event(text: &[u8], place: usize) -> Option<u32>
+    requires { length text.now ≤ MAX_TEXT }
+    ensures { result ≡ slice_get (event_lines text.now) place }
+{
+    let mut lines = Lines::new(text);
+    let mut number = 1;
+    let mut left = place;
+    while let Some(line) = lines.next_line() {
+        if has_words(line) {
+            if left == 0 {
+                return Some(number);
+            }
+            left -= 1;
+        }
+        number += 1;
+    }
+    None
+}
+
+/// Whether the line has words.
+fn has_words(line: &[u8]) -> bool
+    ensures { result ≡ has_words line.now }
+{
+    Words::new(line).next_word().is_some()
 }

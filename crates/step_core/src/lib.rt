@@ -109,6 +109,7 @@ pub use job::{Done, Job};
 pub use jobs::{Jobs, work};
 pub use limits::{MAX_ATOMS, MAX_GUARDS, MAX_INTERACTIONS, MAX_RULES, MAX_TRANSFERS, MAX_WIRES};
 pub use parts::PlantParts;
+pub use places::Listed;
 pub use state::PlantState;
 pub use stepper::Stepper;
 pub use system::{System, names_of};

@@ -8,11 +8,12 @@ use crate::choice::{Choice, Move};
 use crate::dispatcher::Dispatcher;
 use crate::stepper::Stepper;
 
-/// Choices that are counted, and found by their places.
-pub(crate) trait Listed {
+/// Choices that are counted, and found by their places: those of a plant that runs, as it stands.
+pub trait Listed {
+    /// The choices, in their order.
     ghost listed: { Self → List ChoiceDefinition };
 
-    /// How many they are.
+    /// How many choices there are.
     fn how_many(&self) -> u128
         ensures { result ≡ length (listed self.now) };
 

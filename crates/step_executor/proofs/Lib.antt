@@ -1,4 +1,4 @@
-mod Copied
+pub mod Copied
 mod Wholes
 mod Behind
 mod OneByOne

@@ -10,7 +10,9 @@ use Rattle.step_session.specs.Answers.{answer_text, savings_of}
 use Rattle.step_session.specs.Command.{CommandDefinition, command_in, ends}
 use Rattle.step_session.specs.Session.{SessionDefinition}
 use Rattle.step_session.specs.Transcript.{IsAnswered, IsTranscript, Transcript, end_text, nothing_more, prompt_text, after_text, transcript_by, transcript_from}
-use Rattle.step_session.proofs.FirstLine.{BeginsLike, IsKept, begins-like, kept, no-line-kept}
+use Rattle.recorded_picks.proofs.KeptLine.{BeginsLike, kept, no-line-kept}
+use Rattle.step_session.specs.declared.lines.TheConstants.{MAX_LINE}
+use Rattle.step_session.proofs.FirstLine.{IsKept, begins-as-kept}
 use Rattle.step_session.proofs.SoFar.{IsSoFar, all-left, all-told, piece-told, said_of, printed-last, told-on}
 
 -- of the lines of the bytes that a reader gave, the answers so far are told, and the lines of the bytes that it has left are left
@@ -20,7 +22,7 @@ pub record IsToldSoFar {S : Type 0} (saves : S → List ℕ → List ℕ → Boo
   pub so_far : IsSoFar saves (transcript_from plant rules prompt first (lines_of bytes)) (transcript_from plant rules prompt now (lines_of rest)) before saver start out
 
 -- what is kept of a reader's bytes, where they are known
-kept-of : (left : Option (List ℕ)) (rest held : List ℕ) → left ≡ Some rest → IsKept left held → held ≡ kept rest
+kept-of : (left : Option (List ℕ)) (rest held : List ℕ) → left ≡ Some rest → IsKept left held → held ≡ kept MAX_LINE rest
 kept-of left rest held known keeps = subst (λ o. IsKept o held) known keeps
 
 left-of : (left new : Option (List ℕ)) (rest : List ℕ) → left ≡ Some rest → DropsThrough left new 10 → new ≡ Some (drop_through 10 rest)
@@ -41,8 +43,8 @@ module _ {S : Type 0} (saves : S → List ℕ → List ℕ → Bool → S → Ty
       module _ (typed : List ℕ) (others : List (List ℕ)) (cuts : lines_of held ≡ typed ∷ others) (rest : Option (List ℕ)) (drops : DropsThrough left rest 10)
           (after : SessionDefinition) (command : CommandDefinition) (c : S) (new : Option (List ℕ)) (asked : command ≡ command_in typed) (answered : IsAnswered saves plant rules now command after b c flushed new) where
         -- the first line of what is left is the one that was typed, as far as it is kept
-        begun : (bytes : List ℕ) → left ≡ Some bytes → BeginsLike bytes typed
-        begun bytes known = begins-like typed others bytes (ap lines_of (sym (kept-of left bytes held known keeps)) ∙ cuts)
+        begun : (bytes : List ℕ) → left ≡ Some bytes → BeginsLike command_in bytes typed
+        begun bytes known = begins-as-kept typed others bytes (ap lines_of (sym (kept-of left bytes held known keeps)) ∙ cuts)
 
         -- so the command is told first, and then the lines after it
         told-first : (bytes : List ℕ) (known : left ≡ Some bytes) (answers : List Bool)
@@ -51,7 +53,7 @@ module _ {S : Type 0} (saves : S → List ℕ → List ℕ → Bool → S → Ty
         told-first bytes known answers =
             let line = begun bytes known in
             ap (λ ls. transcript_from plant rules prompt now ls answers) line.begins ∙
-            ap (λ k. transcript_by plant rules prompt now k (λ later more. transcript_from plant rules prompt later (lines_of (drop_through 10 bytes)) more) answers) (line.asks ∙ sym asked)
+            ap (λ k. transcript_by plant rules prompt now k (λ later more. transcript_from plant rules prompt later (lines_of (drop_through 10 bytes)) more) answers) (line.same ∙ sym asked)
 
         -- the command is answered, and the session goes on
         pub line-told : (given : Option (List ℕ)) → ends command ≡ false
@@ -97,7 +99,7 @@ module _ {S : Type 0} (saves : S → List ℕ → List ℕ → Bool → S → Ty
           → IfSome given (λ bytes. IsTranscript saves (transcript_from plant rules prompt first (lines_of bytes)) a b start end)
       end-told None new end cuts printed flushed_last transcript = tt
       end-told (Some bytes) new end cuts printed flushed_last transcript =
-          let none : lines_of transcript.rest ≡ [] = no-line-kept transcript.rest (ap lines_of (sym (kept-of left transcript.rest held transcript.known keeps)) ∙ cuts) in
+          let none : lines_of transcript.rest ≡ [] = no-line-kept MAX_LINE transcript.rest (ap lines_of (sym (kept-of left transcript.rest held transcript.known keeps)) ∙ cuts) in
           all-told saves (transcript_from plant rules prompt first (lines_of bytes)) (transcript_from plant rules prompt now (lines_of transcript.rest)) a b start out end (prompt_text prompt ++ end_text prompt) transcript.so_far
           (Appends-kept out new end (prompt_text prompt ++ end_text prompt) (behind-prompt new (end_text prompt) printed) flushed_last)
           (ap (λ ls. transcript_from plant rules prompt now ls []) none)

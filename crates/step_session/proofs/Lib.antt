@@ -1,7 +1,6 @@
 mod Firing
 mod Keeping
 mod AtRandom
-mod Unended
 mod FirstLine
 mod SoFar
 mod Answering

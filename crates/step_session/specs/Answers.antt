@@ -1,6 +1,5 @@
 -- The answers to commands.
-use Rattle.std.specs.Prelude.{ℕ, ◌+◌, ◌-◌, Bool, ◌==◌, nat_lt, if◌then◌else◌, List, [], ◌∷◌, ◌++◌, length, take, flat_map, codes, decimal}
-use Rattle.std.specs.List.{range_with_len}
+use Rattle.std.specs.Prelude.{ℕ, ◌+◌, ◌-◌, Bool, ◌==◌, nat_lt, if◌then◌else◌, List, [], ◌∷◌, ◌++◌, length, take, codes, decimal}
 use Rattle.std.specs.Option.{option_map_or}
 use Rattle.petri_atom.specs.Local.{Local}
 use Rattle.step_core.specs.Plant.{PlantDefinition}
@@ -8,7 +7,7 @@ use Rattle.step_core.specs.Choice.{choices}
 use Rattle.text_io.specs.Numbered.{numbered}
 use Rattle.run_text.specs.Choices.{choice_text, choices_text}
 use Rattle.run_text.specs.Line.{states_text}
-use Rattle.blocked_text.specs.Blocked.{connector_text}
+use Rattle.blocked_text.specs.Blocked.{connector_text, why_text}
 use Rattle.shown_fault.specs.Shown.{shown}
 use Rattle.step_session.specs.Command.{CommandDefinition, shows, fires, takes_back, fires_random, tells, tells_of, saves_to, helps, quits, mistaken, command_in}
 use Rattle.step_core.specs.Lookup.{connector_named}
@@ -84,10 +83,6 @@ back_text plant session =
 
 -- ---- reasons
 
--- of each connector why it can't be fired, or that it can be
-abbrev pub why_text : PlantDefinition → List ℕ → List Local → List ℕ
-why_text plant rules states = flat_map (connector_text plant states rules) (range_with_len 0 (length plant.wires))
-
 -- the same of the connector with a name, if there is one
 abbrev pub why_of_text : PlantDefinition → List ℕ → List Local → List ℕ → List ℕ
 why_of_text plant rules states name =
@@ -115,7 +110,7 @@ answer_text plant rules session said shows = standing_text plant session
 answer_text plant rules session said (fires number) = fire_text plant session number
 answer_text plant rules session said takes_back = back_text plant session
 answer_text plant rules session said (fires_random count) = random_text plant session count
-answer_text plant rules session said tells = why_text plant rules (states_at plant session)
+answer_text plant rules session said tells = why_text plant (states_at plant session) rules
 answer_text plant rules session said (tells_of name) = why_of_text plant rules (states_at plant session) name
 answer_text plant rules session said (saves_to path) = save_text (length session.fired) (shown path) said
 answer_text plant rules session said helps = help_text

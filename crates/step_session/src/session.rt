@@ -56,7 +56,7 @@ impl<'s> Session<'s> {
         ensures { Prints result (W.contents output.old) (W.contents output.new) (standing_text (plant_stepped self.now) (session_of self.now)) }
     {
         print_states(self.run.system(), self.run.states(), output)?;
-        print_choices(&self.run, output)?;
+        print_choices(self.run.system(), &self.run, output)?;
         Ok(())
     }
 

@@ -2,7 +2,8 @@
 ghost use Rattle.std.specs.Prelude.{◌≡◌};
 ghost use Rattle.run_text.specs.Seen.{Prints, plant_in, states_in};
 ghost use Rattle.blocked_text.specs.Asked.{plant_asked};
-ghost use Rattle.step_session.specs.Answers.{why_of_text, why_text};
+ghost use Rattle.blocked_text.specs.Blocked.{why_text};
+ghost use Rattle.step_session.specs.Answers.{why_of_text};
 
 use crate::fault::StepFault;
 use crate::mistakes::print_quoted;
@@ -19,13 +20,9 @@ pub(crate) fn print_why<W: Write>(
     output: &mut W,
 ) -> Result<(), StepFault>
     requires { plant_asked reasons.now ≡ plant_in run.now }
-    ensures { Prints result (W.contents output.old) (W.contents output.new) (why_text (plant_in run.now) rule_lines.now (states_in run.now)) }
+    ensures { Prints result (W.contents output.old) (W.contents output.new) (why_text (plant_in run.now) (states_in run.now) rule_lines.now) }
 {
-    let system = run.system();
-    system.keeps_its_rules();
-    for connector in 0..system.wires().len() {
-        reasons.print_blocked_of(run.states(), connector as u16, rule_lines, output)?;
-    }
+    reasons.print_why(run.states(), rule_lines, output)?;
     Ok(())
 }
 

@@ -1,5 +1,5 @@
 -- Which events workers ask, and where these stand in the history of the host.
-use Rattle.std.specs.Prelude.{◌≡◌, ℕ, ◌+◌, ◌<◌, ◌%◌, ◌==◌, Bool, true, false, List, [], ◌∷◌, Result}
+use Rattle.std.specs.Prelude.{◌≡◌, ℕ, ◌+◌, ◌<◌, ◌%◌, ◌==◌, Bool, true, false, List, [], ◌∷◌, Option, Result}
 use mathlib.Core.List.{IsPrefix}
 use Rattle.step_core.specs.Plant.{PlantDefinition}
 use Rattle.plant_core.specs.View.{View}
@@ -9,7 +9,7 @@ use Rattle.plant_core.specs.declared.events.FiredAs.{FiredAs}
 use Rattle.plant_core.specs.declared.events.Happened.TheVariants.{Flush, Trim}
 use Rattle.plant_core.specs.declared.refused.Refused.{Refused}
 use Rattle.engine_host.specs.History.{IsHistory}
-use Rattle.engine_host.specs.Told.{HasFired, HasMade, HasSaved, HasWorked}
+use Rattle.engine_host.specs.Told.{HasFired, HasFiredChoice, HasMade, HasSaved, HasWorked}
 use Rattle.engine_host.specs.declared.entry.Entry.{Entry}
 
 -- An event that a worker asked of the host stands, with some answer, past all that its watch held: a choice was fired, all was acknowledged, the state
@@ -17,6 +17,7 @@ use Rattle.engine_host.specs.declared.entry.Entry.{Entry}
 -- events of a worker.
 abbrev pub IsAsked : PlantDefinition → View → Event → List Entry → List Entry → Type 0
 IsAsked plant opening (asked.Fire pick) before after = (answer : Result FiredAs Refused) × HasFired plant opening before pick answer after
+IsAsked plant opening (asked.FireChoice choice) before after = (answer : Option (Result FiredAs Refused)) × HasFiredChoice plant opening before choice answer after
 IsAsked plant opening asked.Flush before after = (answer : Result ℕ Refused) × HasMade plant opening before (Flush answer) after
 IsAsked plant opening (asked.Ask atom) before after = (answer : Result ℕ Refused) × HasSaved plant opening before atom answer after
 IsAsked plant opening (asked.Put atom) before after = after ≡ before

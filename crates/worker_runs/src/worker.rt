@@ -29,7 +29,7 @@ pub(crate) fn ask_own<D: Disk, N: Naming, P: RunProgress>(
     ensures { AreAsked N.plant N.view workers worker 0 events.now seat.old.watch seat.new.watch }
 {
     for (place, event) in events.iter().enumerate() {
-        take_turn(rt, host, seat, place % workers == worker, *event, progress);
+        take_turn(rt, host, seat, place % workers == worker, event, progress);
     }
 }
 
@@ -39,10 +39,10 @@ fn take_turn<D: Disk, N: Naming, P: RunProgress>(
     host: &Host<'_, D, N>,
     seat: &mut Seat<N>,
     is_own: bool,
-    event: Event,
+    event: &Event,
     progress: &P,
 )
-    ensures { IsTurn N.plant N.view is_own event seat.old.watch seat.new.watch }
+    ensures { IsTurn N.plant N.view is_own event.now seat.old.watch seat.new.watch }
 {
     if is_own {
         ask(rt, host, seat, event);
@@ -52,24 +52,27 @@ fn take_turn<D: Disk, N: Naming, P: RunProgress>(
 
 /// Asks one event of the host, in the worker's seat. Its answer stands in the history, and is not looked at. A state that is asked for is
 /// stored at once, and a choice that begins is worked to its end, so that nothing is left to be put or to be taken back.
-fn ask<D: Disk, N: Naming>(rt: &impl Wait, host: &Host<'_, D, N>, seat: &mut Seat<N>, event: Event)
-    ensures { IsAsked N.plant N.view event seat.old.watch seat.new.watch }
+fn ask<D: Disk, N: Naming>(rt: &impl Wait, host: &Host<'_, D, N>, seat: &mut Seat<N>, event: &Event)
+    ensures { IsAsked N.plant N.view event.now seat.old.watch seat.new.watch }
 {
     match event {
         Event::Fire(pick) => {
-            let _ = host.fire(rt, seat, pick);
+            let _ = host.fire(rt, seat, *pick);
+        }
+        Event::FireChoice(choice) => {
+            let _ = host.fire_choice(rt, seat, choice);
         }
         Event::Flush => {
             let _ = host.flush(rt, seat);
         }
         Event::Ask(atom) => {
-            let _ = host.save_one(rt, seat, atom, &NoGate);
+            let _ = host.save_one(rt, seat, *atom, &NoGate);
         }
         Event::Trim => {
             let _ = host.trim(rt, seat);
         }
         Event::Begin(pick) => {
-            let _ = host.work(rt, seat, pick, &NoGate);
+            let _ = host.work(rt, seat, *pick, &NoGate);
         }
         Event::Put(_) | Event::Back(_) => {}
     }

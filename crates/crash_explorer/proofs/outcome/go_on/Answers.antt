@@ -20,7 +20,7 @@ use Rattle.crash_explorer.specs.Running.{IsLived, acked_in, device_in, fired_in,
 use Rattle.crash_explorer.specs.Verdicts.{IsFound, IsVerdict}
 use Rattle.crash_explorer.specs.declared.booting.Found.{Found}
 use Rattle.crash_explorer.specs.declared.judging.Verdict.{Verdict}
-use Rattle.crash_explorer.specs.declared.outcome.TheConstants.{NEXT}
+use Rattle.crash_explorer.specs.Outcomes.{next_events}
 use Rattle.crash_explorer.specs.declared.running.Ended.{Ended}
 use Rattle.crash_explorer.specs.declared.running.Stage.{Stage}
 use Rattle.crash_explorer.proofs.GoneOn.{right-all, right-running}
@@ -70,7 +70,7 @@ returns c =
     let right = all_right (cells_of (BODY + 1) left) (left_may (BODY + 1) (device_in ended) left may) in
     record {
       fired = fired;
-      lived = subst (λ (n : ℕ). IsLived plant digest NEXT v behind fired n (device_in ended)) many lived;
+      lived = subst (λ (n : ℕ). IsLived plant digest next_events v behind fired n (device_in ended)) many lived;
       fired_more = omega (arith, c.len-2.ensures, c.len-before.ensures, ended.fired.ok.0, c.args.behind.ok.0, long, length-map c.args.behind.items choice_of, ap (λ (cs : List ChoiceDefinition). length cs) lived.fired_are, length-append behind (all_fired lived.happened));
       device = device;
       size = is.size;

@@ -1,4 +1,4 @@
-use Rattle.std.proofs.Common.{◌+◌, ℕ, List, [], ◌∷◌, ◌++◌, get_or, length, take, refl, sym, ◌∙◌, ap, subst}
+use Rattle.std.proofs.Common.{◌+◌, ℕ, List, [], ◌∷◌, ◌++◌, length, take, refl, sym, ◌∙◌, ap, subst}
 use Rattle.std.proofs.lemmas.List.{take_all, take_more}
 use Rattle.disk_model.specs.Cells.{Leaves}
 use Rattle.disk_model.specs.DiskState.{size_of}
@@ -11,7 +11,6 @@ use Rattle.step_core.specs.Plant.{PlantDefinition}
 use Rattle.plant_core.specs.Plants.{definition_of, device_of, text_digest, view_of}
 use Rattle.plant_core.specs.Stops.{StandsForFront}
 use Rattle.plant_core.specs.declared.events.Event.{Event}
-use Rattle.plant_core.specs.declared.events.Event.TheVariants as asked
 use Rattle.plant_core.specs.declared.events.Happened.{Happened}
 use Rattle.plant_core.proofs.AtRest.{of-front}
 use Rattle.plant_core.proofs.EventByEvent.{driven-join, driven-none, driven-one}
@@ -42,16 +41,17 @@ loop-event-preserved g c =
     let after = hands_of c.meet.new.hands in
     let i : ℕ = c.loop-event.event-index in
     let events : List Event = c.args.events.now in
+    let event-now : Event = c.event-item.result in
     let before : List Happened = c.loop-event.answers.items in
     let same = c.loop-event.invariant.plant in
     let told = c.loop-event.invariant.digest in
     let event : IsEvent (definition_of p) (view_of q) c.meet.result (view_of r) = subst (λ d. IsEvent d (view_of q) c.meet.result (view_of r)) same c.meet.ensures.event in
-    let one : IsDriven (definition_of p) (text_digest p) (view_of q) (device_of q) held (get_or events i (asked.Fire 0) ∷ []) (c.meet.result ∷ []) (view_of r) (device_of r) after =
-    driven-one (definition_of p) (text_digest p) (view_of q) (device_of q) held c.meet.result (view_of r) (device_of r) after event (get_or events i (asked.Fire 0)) c.meet.ensures.asked
+    let one : IsDriven (definition_of p) (text_digest p) (view_of q) (device_of q) held (event-now ∷ []) (c.meet.result ∷ []) (view_of r) (device_of r) after =
+    driven-one (definition_of p) (text_digest p) (view_of q) (device_of q) held c.meet.result (view_of r) (device_of r) after event event-now c.meet.ensures.asked
     (λ keeps. subst (λ (digest : List ℕ). Leaves (BODY + 1) (StandsForFront (definition_of p) digest (size_of (device_of q)) (view_of q)) (device_of q) (device_of r)) told
     (subst (λ d. Leaves (BODY + 1) (StandsForFront d (text_digest q) (size_of (device_of q)) (view_of q)) (device_of q) (device_of r)) same (c.meet.ensures.stops keeps)))
     c.meet.ensures.cause c.meet.ensures.idle c.meet.ensures.untouched c.meet.ensures.size c.meet.ensures.keeps (subst (λ d. IsHandedIn d held c.meet.result) same c.meet.ensures.handed_in) (subst (λ d. AreHandsAfter d (view_of q) held c.meet.result after) same c.meet.ensures.hands) in
-    let more = driven-join (definition_of p) (text_digest p) (view_of p) (view_of q) (view_of r) (device_of p) (device_of q) (device_of r) hands held after (take i events) (get_or events i (asked.Fire 0) ∷ []) before (c.meet.result ∷ []) p.fits_together.leads
+    let more = driven-join (definition_of p) (text_digest p) (view_of p) (view_of q) (view_of r) (device_of p) (device_of q) (device_of r) hands held after (take i events) (event-now ∷ []) before (c.meet.result ∷ []) p.fits_together.leads
     c.loop-event.invariant.so_far one in
     record {
       room = c.push_reserved.ensures.capacity ∙ c.loop-event.invariant.room;
@@ -60,7 +60,7 @@ loop-event-preserved g c =
       digest = c.meet.ensures.digest ∙ told;
       hands = subst (λ (d : PlantDefinition). AreHandsFor (length d.atoms) after) same c.meet.ensures.as_many;
       so_far = subst (λ (hs : List Happened). IsDriven (definition_of p) (text_digest p) (view_of p) (device_of p) hands (take (i + 1) events) hs (view_of r) (device_of r) after) (sym c.push_reserved.ensures.items)
-          (subst (λ (es : List Event). IsDriven (definition_of p) (text_digest p) (view_of p) (device_of p) hands es (before ++ c.meet.result ∷ []) (view_of r) (device_of r) after) (sym (take_more events i (asked.Fire 0) c.loop-event-test.true)) more);
+          (subst (λ (es : List Event). IsDriven (definition_of p) (text_digest p) (view_of p) (device_of p) hands es (before ++ c.meet.result ∷ []) (view_of r) (device_of r) after) (ap (λ e. take i events ++ e ∷ []) c.event-item.is ∙ sym (take_more events i event-now c.loop-event-test.true)) more);
     }
 
 pub returns-clause-driven : goal.returns-clause-driven

@@ -17,6 +17,12 @@ returns-in-Fire-clause-stops g c = λ keeps.
     subst (λ t. Leaves (BODY + 1) (StandsForFront (definition_of p) (text_digest p) (size_of (device_of p)) (view_of p)) (device_of p) t) (sym c.fire.ensures.device)
     (front-now (definition_of p) (text_digest p) (view_of p) (device_of p) (p.at_a_stop keeps))
 
+pub returns-in-FireChoice-clause-stops : goal.returns-in-FireChoice-clause-stops
+returns-in-FireChoice-clause-stops g c = λ keeps.
+    let p = c.args.plant.now in
+    subst (λ t. Leaves (BODY + 1) (StandsForFront (definition_of p) (text_digest p) (size_of (device_of p)) (view_of p)) (device_of p) t) (sym c.fire_choice.ensures.device)
+    (front-now (definition_of p) (text_digest p) (view_of p) (device_of p) (p.at_a_stop keeps))
+
 pub returns-in-Ask-clause-stops : goal.returns-in-Ask-clause-stops
 returns-in-Ask-clause-stops g c = λ keeps.
     let p = c.args.plant.now in

@@ -1,8 +1,7 @@
 -- The choices from this place on are left.
 use Rattle.std.proofs.Common.{◌-◌, ◌≤◌, drop}
 use Rattle.std.specs.Prelude.{take}
-use Rattle.step_core.specs.Choice.{choices}
-use Rattle.step_core.specs.Running.{plant_in, states_in}
+use Rattle.step_core.specs.System.{plant_of}
 use Rattle.run_text.specs.Choices.{choice_text}
 use Rattle.text_io.specs.Numbered.{numbered}
 use Rattle.text_io.proofs.Leading.{Leads}
@@ -12,8 +11,8 @@ abbrev pub invariant-loop-place : goal.invariant-loop-place
 invariant-loop-place g l = record {
   within : l.place ≤ l.listed;
   left : Leads (g.W.Write.contents l.initial.output) (g.W.Write.contents l.output)
-      (numbered (choice_text (plant_in l.run)) l.place (drop l.place (take l.listed (choices (plant_in l.run) (states_in l.run)))))
-      (numbered (choice_text (plant_in l.run)) 0 (take l.listed (choices (plant_in l.run) (states_in l.run))));
+      (numbered (choice_text (plant_of l.system)) l.place (drop l.place (take l.listed (g.L.Listed.listed l.run))))
+      (numbered (choice_text (plant_of l.system)) 0 (take l.listed (g.L.Listed.listed l.run)));
 }
 
 abbrev pub decreases-loop-place : goal.decreases-loop-place

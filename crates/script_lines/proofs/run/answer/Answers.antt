@@ -11,12 +11,12 @@ returns-in_err-hand_on-in-Flush-clause-cut g c =
     let p = c.args.plant.now in
     let held = hands_of c.args.hands.now in
     on-err c.from_residual.result
-    (cut-of-driven (definition_of p) (text_digest p) (view_of p) (view_of p) (device_of p) (device_of p) held held [] (c.args.event ∷ []) []
+    (cut-of-driven (definition_of p) (text_digest p) (view_of p) (view_of p) (device_of p) (device_of p) held held [] (c.args.event.now ∷ []) []
     (driven-none (definition_of p) (text_digest p) (view_of p) (device_of p) held c.stands_for_a_front.ensures))
 
 pub returns-in_err-hand_on-in-Flush-2-clause-cut : goal.returns-in_err-hand_on-in-Flush-2-clause-cut
 returns-in_err-hand_on-in-Flush-2-clause-cut g c =
     let p = c.args.plant.now in
-    let q = c.tell-in-Flush.new.plant in
+    let q = c.tell.new.plant in
     on-err c.from_residual-in_err-hand_on-in-Flush-2.result
-    (cut-of-answered (definition_of p) (text_digest p) (view_of p) (view_of q) (device_of p) (device_of q) (hands_of c.args.hands.now) (hands_of c.tell-in-Flush.new.hands) c.args.event _ _ _ c.in_ok-failed-in-Flush.ensures.answered)
+    (cut-of-answered (definition_of p) (text_digest p) (view_of p) (view_of q) (device_of p) (device_of q) (hands_of c.args.hands.now) (hands_of c.tell.new.hands) c.args.event.now _ _ _ c.in_ok-happened-in-Flush.ensures.answered)

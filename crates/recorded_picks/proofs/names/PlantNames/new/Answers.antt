@@ -1,12 +1,11 @@
-use Rattle.std.proofs.Common.{◌≡◌, ◌≤◌, length, sym, ◌∙◌, subst}
+use Rattle.std.proofs.Common.{◌≡◌, sym, ◌∙◌, subst}
 use Rattle.petri_atom.specs.Atom.{definition_of}
 use Rattle.petri_atom.specs.Definition.{AtomDefinition}
 use Rattle.step_core.specs.Plant.{WireDefinition}
 use Rattle.step_core.specs.System.{plant_of}
 use Rattle.step_core.specs.Wire.{wire_of}
-use Rattle.step_core.specs.declared.limits.TheConstants.{MAX_ATOMS, MAX_WIRES}
 use Rattle.recorded_picks.specs.Names.{AreApart, atom_names, connector_names}
-use Rattle.recorded_picks.proofs.Apart.{atoms-apart, connectors-apart, few-atoms, few-connectors, names-kept}
+use Rattle.recorded_picks.proofs.Apart.{atoms-apart, connectors-apart, names-kept}
 use Rattle.recorded_picks.proofs.names.PlantNames.new.Goals as goal
 
 pub index_of_wires-requires : goal.index_of_wires-requires
@@ -29,6 +28,4 @@ invariant_of-result c =
       valid = valid;
       connectors_named = connectors;
       atoms_named = atoms;
-      few_connectors = subst (λ names. length names ≤ MAX_WIRES) (sym connectors) (few-connectors plant valid);
-      few_atoms = subst (λ names. length names ≤ MAX_ATOMS) (sym atoms) (few-atoms plant valid);
     }

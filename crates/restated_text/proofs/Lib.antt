@@ -1,0 +1,15 @@
+mod Words
+mod LineWords
+mod LegalLines
+mod TextLines
+mod Numbered
+mod Lookups
+mod Readings
+mod PartSteps
+mod PlantSteps
+mod LineSteps
+mod Law
+mod First
+mod Restating
+mod Rows
+mod Pieces
