@@ -6,6 +6,7 @@ acknowledged; `recover` has to say so, and the run has to go on from there.
 
 import errno
 import itertools
+import os
 import signal
 import unittest
 
@@ -25,6 +26,11 @@ OF_DEVICE = {"pread64", "pwrite64"}
 # A line for each stop of the run under each tear.
 EXPLORE = "explore plant script --ring 8 --list"
 OF_A_DISK, OF_AN_OUTPUT = (errno.EIO, errno.ENOSPC), (errno.EIO, errno.ENOSPC, errno.EPIPE, errno.EAGAIN)
+
+
+def reason(error):
+    """What is told of a device that failed, if more is to be told: what the system calls it."""
+    return f"  the device failed: {os.strerror(error)} (os error {error})\n"
 
 
 def in_hand(lines):
@@ -132,6 +138,31 @@ class Failures(OnImage):
         for place, decide in zip(places, sweep(len(places), by_turns(Fails), {"fdatasync"})):
             self.assertEqual(self.run_with(decide).answer, answer_at(place))
             self.expect_failed(place)
+
+    def check_the_reason_of_a_sync_that_failed(self):
+        """It is told with `--explain`: below the advice if the image is not booted, by itself behind a run, and below the line of a strict one."""
+        advice = "  the disk failed: see to it, and give the command again\n"
+        places = BOOT_SYNCS * [BOOT] + [place for place, (_, _, syncs) in enumerate(EVENTS) for _ in range(syncs)]
+        for number, place in enumerate(places):
+            error = OF_A_DISK[number % len(OF_A_DISK)]
+            status, printed, told = answer_at(place)
+            ran = self.run_with(among([number], Fails(error), {"fdatasync"}), "run plant image script --explain")
+            self.assertEqual(ran.answer, (status, printed, told + (advice if place == BOOT else "") + reason(error)))
+        (self.folder / "script").write_bytes(b"fire 0\nflush\nfire 0\n")
+        for error in OF_A_DISK:
+            fails = among([BOOT_SYNCS], Fails(error), {"fdatasync"})
+            ran = self.run_with(fails, "run plant image script --strict --explain")
+            lines = ["1 tick A.t/0", "refused 10 Disk", "state A [s] n=1", "state B [s] m=0", "front 1 0 1"]
+            self.assertEqual(ran.answer, (3, text(lines), "error: script:2: refused 10 Disk\n" + reason(error)))
+            self.assertEqual(self.run_with(among([0], Fails(error), {"fdatasync"}), "recover plant image --explain").answer, (3, "", "image: refusal 8 Disk\n" + advice + reason(error)))
+
+    def check_a_served_plant_whose_device_fails(self):
+        """The answer to the event is the last one, and no line is read behind it."""
+        for error, more in itertools.product(OF_A_DISK, ("", " --explain")):
+            self.image.write_bytes(FORMATTED)
+            ran = self.watched(f"serve plant image{more}", among([BOOT_SYNCS], Fails(error), {"fdatasync"}), b"fire 0\nflush\nfire 0\nfront\n")
+            lines = ["state A [s] n=0", "state B [s] m=0", "front 0 0 1", "end", "1 tick A.t/0", "end", "refused 10 Disk", "end"]
+            self.assertEqual(ran.answer, (3, text(lines), reason(error) if more else ""))
 
     def check_each_thread_of_a_worker(self):
         """A thread that can't be made ends the run by workers before any event; while the image boots the program does without it."""

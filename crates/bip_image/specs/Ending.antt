@@ -20,12 +20,17 @@ use Rattle.plant_tasks.specs.Ending as plant
 use Rattle.plant_tasks.specs.Paths.{plant_alone}
 use Rattle.bip_image.specs.declared.ending.Paths.{Paths}
 use Rattle.bip_image.specs.declared.ending.Ending.{Ending}
-use Rattle.bip_image.specs.declared.ending.Ending.TheVariants.{OfPlant, Script, ScriptUnread, ImageUnopened, Image, NewUnopened, Migrate, NotRight, Stopped, LongText}
+use Rattle.bip_image.specs.declared.ending.Ending.TheVariants.{OfPlant, Script, ScriptUnread, ImageUnopened, Image, NewUnopened, Migrate, NotRight, Stopped, LongText, Doubted}
 use Rattle.image_backup.specs.declared.copying.BackupEnding.{BackupEnding}
 use Rattle.image_backup.specs.declared.copying.BackupEnding.TheVariants as copying
 use Rattle.image_backup.specs.declared.fault.BackupFault.{BackupFault}
 use Rattle.image_backup.specs.declared.fault.BackupFault.TheVariants as backup
 use Rattle.image_commands.specs.declared.refusal.ImageRefusal.TheVariants as refused
+use Rattle.image_inspection.specs.declared.ending.InspectionEnding.{InspectionEnding}
+use Rattle.image_inspection.specs.declared.ending.InspectionEnding.TheVariants as inspecting
+use Rattle.plant_image.specs.declared.fault.ImageFault.TheVariants as fault
+use Rattle.plant_service.specs.declared.ending.ServiceEnding.{ServiceEnding}
+use Rattle.plant_service.specs.declared.ending.ServiceEnding.TheVariants as service
 use Rattle.restated_text.specs.declared.fault.RestateFault.{RestateFault}
 use Rattle.restated_text.specs.declared.fault.RestateFault.TheVariants as restating
 use Rattle.script_lines.specs.Strict.{is_failure, refusal_line as event_refusal_line}
@@ -44,6 +49,7 @@ status_of (Err (Migrate ending)) = migrate_status ending
 status_of (Err NotRight) = 1
 status_of (Err (Stopped line refusal)) = if is_failure refusal then 3 else 1
 status_of (Err LongText) = 1
+status_of (Err Doubted) = 1
 
 -- the ending where an exploration has no answer
 abbrev pub of_exploring : ExploreEnding → Ending
@@ -54,6 +60,18 @@ of_exploring exploring.Unwritten = Image image.Unwritten
 abbrev pub of_workers : WorkersEnding → Ending
 of_workers workers.Memory = OfPlant Memory
 of_workers (workers.Image ending) = Image ending
+
+-- the ending where serving a plant ends early
+abbrev pub of_service : ServiceEnding → Ending
+of_service (service.Image ending) = Image ending
+of_service service.Memory = OfPlant Memory
+of_service service.Unread = ScriptUnread
+
+-- the ending where looking into an image ends early
+abbrev pub of_inspection : InspectionEnding → Ending
+of_inspection inspecting.Disk = Image (image.Refused refused.Disk)
+of_inspection inspecting.Memory = Image (image.Refused (refused.Image fault.Memory))
+of_inspection inspecting.Unwritten = Image image.Unwritten
 
 -- the ending where an image is not copied
 abbrev pub of_backup : BackupFault → Ending
@@ -98,6 +116,7 @@ told_text paths (Image ending) = image_text ending
 told_text paths (NewUnopened fault) = unopened_text paths.made.now fault
 told_text paths (Migrate ending) = migrate_text ending
 told_text paths NotRight = []
+told_text paths Doubted = []
 told_text paths (Stopped line refusal) = codes "error: " ++ paths.script.now ++ codes ":" ++ decimal line ++ codes ": " ++ event_refusal_line refusal ++ codes "\n"
 told_text paths LongText = codes "error: the restated text has more than " ++ decimal MAX_TEXT ++ codes " bytes\n"
 

@@ -1,6 +1,7 @@
 //! A task of an image alone, where no plant is named.
 use crate::ending::Ending;
 use crate::files::view_at;
+use crate::looking::inspect;
 use command_line::LoneTask;
 use disk_model::CELL;
 use file_disk::FileDisk;
@@ -10,13 +11,25 @@ use std::io::Write;
 use std::rt::Files;
 
 /// Does a task of the image at the path. It is only read.
-pub(crate) fn work_alone<R: Files<File = File>, W: Write>(
+pub(crate) fn work_alone<R: Files<File = File> + AllocGlobal, W: Write>(
     rt: &R,
     image: &str,
     task: LoneTask<'_>,
     output: &mut W,
 ) -> Result<(), Ending> {
-    let LoneTask::Backup(copy) = task;
+    match task {
+        LoneTask::Inspect(inspection) => inspect(rt, image, None, inspection, output),
+        LoneTask::Backup(copy) => back_up(rt, image, copy, output),
+    }
+}
+
+/// Copies the image at the path into a new file.
+fn back_up<R: Files<File = File>, W: Write>(
+    rt: &R,
+    image: &str,
+    copy: &str,
+    output: &mut W,
+) -> Result<(), Ending> {
     // The file of the copy is made where an image stands on the other, and only there.
     let (view, front) = check_image(view_at(rt, image)?)?;
     let made = FileDisk::create(rt, copy, CELL * front.cells).map_err(Ending::NewUnopened)?;

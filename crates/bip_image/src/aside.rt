@@ -1,5 +1,6 @@
 //! What is kept beside a task, for what is told if it ends early.
 use std::alloc::Global;
+use std::cell::Cell;
 use std::io;
 
 /// The texts that a task read, and why a file or the output failed.
@@ -13,8 +14,14 @@ pub(crate) struct Aside {
     pub(crate) script: Vec<u8>,
     /// What is said of the script's mistake, if it has one.
     pub(crate) mistake: Vec<u8>,
+    /// What more is told of an image that is refused.
+    pub(crate) reason: Vec<u8>,
     /// Why a file or the output failed last, if one did.
     pub(crate) failure: Option<io::Error>,
+    /// Why the file of an image failed last, if it did.
+    pub(crate) device: Cell<Option<io::Error>>,
+    /// The same of a new image.
+    pub(crate) made: Cell<Option<io::Error>>,
 }
 
 impl Aside {
@@ -25,7 +32,10 @@ impl Aside {
             text: Vec::new(alloc),
             script: Vec::new(alloc),
             mistake: Vec::new(alloc),
+            reason: Vec::new(alloc),
             failure: None,
+            device: Cell::new(None),
+            made: Cell::new(None),
         }
     }
 }

@@ -8,6 +8,9 @@ use command_line::{LoneTask, Work};
 use file_disk::FileFault;
 use image_backup::{BackupEnding, BackupFault};
 use image_commands::{ExploreEnding, ImageEnding, ImageRefusal, MigrateEnding};
+use image_inspection::InspectionEnding;
+use plant_image::ImageFault;
+use plant_service::ServiceEnding;
 use plant_tasks::{PlantEnding, PlantEndingText, TaskPaths, shown_path};
 use restated_text::RestateFault;
 use script_lines::{Refusal, ScriptFault};
@@ -37,6 +40,8 @@ pub(crate) enum Ending {
     NotRight,
     /// A strict run ended at the line with this number, since the event there was refused.
     Stopped(u32, Refusal),
+    /// A boot would refuse the image that was looked into, or there is a doubt. What was printed says so.
+    Doubted,
     /// The plant's text with the image's state as its first one is longer than a text may be. Nothing was printed.
     LongText,
 }
@@ -60,6 +65,7 @@ pub(crate) fn exit_status(ended: &Result<(), Ending>) -> u8
         Err(Ending::NewUnopened(_)) => 3,
         Err(Ending::Migrate(ending)) => ending.exit_status(),
         Err(Ending::NotRight) => 1,
+        Err(Ending::Doubted) => 1,
         Err(Ending::Stopped(_, refusal)) if refusal.is_failure() => 3,
         Err(Ending::Stopped(_, _)) => 1,
         Err(Ending::LongText) => 1,
@@ -230,7 +236,7 @@ impl<'a> fmt::Display for EndingText<'a> {
                 f,
                 "error: the restated text has more than {MAX_TEXT} bytes"
             ),
-            Ending::Image(_) | Ending::Migrate(_) | Ending::NotRight => Ok(()),
+            Ending::Image(_) | Ending::Migrate(_) | Ending::NotRight | Ending::Doubted => Ok(()),
         }
     }
 }
@@ -371,6 +377,37 @@ impl From<RestateFault> for Ending {
             RestateFault::TooLong => Ending::LongText,
             RestateFault::Memory => Ending::OfPlant(PlantEnding::Memory),
             RestateFault::Write => Ending::Image(ImageEnding::Unwritten),
+        }
+    }
+}
+
+impl From<InspectionEnding> for Ending {
+    ghost use Rattle.bip_image.specs.Ending.{of_inspection};
+
+    ghost from_gives = { λ why ending. ending ≡ of_inspection why };
+
+    fn from(ending: InspectionEnding) -> Self {
+        let ending = match ending {
+            InspectionEnding::Disk => ImageEnding::Refused(ImageRefusal::Disk),
+            InspectionEnding::Memory => {
+                ImageEnding::Refused(ImageRefusal::Image(ImageFault::Memory))
+            }
+            InspectionEnding::Unwritten => ImageEnding::Unwritten,
+        };
+        Ending::Image(ending)
+    }
+}
+
+impl From<ServiceEnding> for Ending {
+    ghost use Rattle.bip_image.specs.Ending.{of_service};
+
+    ghost from_gives = { λ why ending. ending ≡ of_service why };
+
+    fn from(ending: ServiceEnding) -> Self {
+        match ending {
+            ServiceEnding::Image(ending) => Ending::Image(ending),
+            ServiceEnding::Memory => Ending::OfPlant(PlantEnding::Memory),
+            ServiceEnding::Unread => Ending::ScriptUnread,
         }
     }
 }

@@ -1,12 +1,20 @@
 //! The files of images.
 use crate::ending::Ending;
+use crate::watched_disk::WatchedDisk;
 use file_disk::{FileDisk, FileFault, FileView};
+use std::cell::Cell;
 use std::fs::File;
+use std::io;
 use std::rt::Files;
 
-/// The image that is at the path.
-pub(crate) fn device_at<R: Files<File = File>>(rt: &R, path: &str) -> Result<FileDisk, Ending> {
-    FileDisk::open(rt, path).map_err(Ending::ImageUnopened)
+/// The image that is at the path. Why its file fails is put aside.
+pub(crate) fn device_at<'a, R: Files<File = File>>(
+    rt: &R,
+    path: &str,
+    failure: &'a Cell<Option<io::Error>>,
+) -> Result<WatchedDisk<'a>, Ending> {
+    let disk = FileDisk::open(rt, path).map_err(Ending::ImageUnopened)?;
+    Ok(WatchedDisk::new(disk, failure))
 }
 
 /// The image that is at the path, to be read alone.

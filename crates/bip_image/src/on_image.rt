@@ -1,28 +1,36 @@
 //! A task of a plant on its image.
+ghost use Rattle.std.specs.Prelude.{◌≤◌, length, OnOk};
+ghost use Rattle.text_io.specs.declared.reading.TheConstants.{MAX_TEXT};
+
 use crate::aside::Aside;
 use crate::ending::{Ending, Paths};
 use crate::files::{device_at, device_to_format};
+use crate::looking::{inspect, note_sizes};
 use crate::script::read_events;
+use crate::watched_disk::WatchedDisk;
 use crate::workers_line::WorkersLine;
 use command_line::{Asking, IfThere, ImageTask, WorkerCount};
+use disk_model::Disk;
 use file_disk::FileDisk;
 use image_commands::{
     ImageEnding, booted, format_image, image_bytes, migrate_image, recover_image, run_image,
     run_image_strictly,
 };
+use part_lines::rule_lines;
 use plant_core::Event;
-use plant_tasks::{PlantEnding, open_text};
+use plant_service::{ServiceEnding, serve_image};
+use plant_tasks::{PlantEnding, Watched, open_text};
 use restated_text::print_restated;
 use script_lines::{
     ScriptLine, Stop, column_of_mistake, line_of_event, line_with, print_placed_mistake, read_line,
 };
 use std::fs::File;
-use std::io::Write;
+use std::io::{BufReader, Write};
 use std::rt::{Clock, Files};
 use std::sync::Wait;
 use std::thread::Threads;
-use step_core::{MAX_ATOMS, PlantState, System};
-use text_io::{MAX_TEXT, hand_on};
+use step_core::{PlantState, System};
+use text_io::hand_on;
 use worker_runs::run_by_workers;
 
 /// Does a task of the plant on its image, the file at the path.
@@ -43,38 +51,44 @@ pub(crate) fn work_on_image<
     match task {
         ImageTask::Format(ring, if_there) => {
             let bytes = image_bytes(system, ring.records);
-            let disk = match if_there {
+            let mut disk = match if_there {
                 IfThere::Formatted => device_to_format(rt, image, bytes),
                 IfThere::Refused => FileDisk::create(rt, image, bytes),
             }
             .map_err(Ending::ImageUnopened)?;
+            note_sizes(alloc, disk.size(), bytes, &mut aside.reason);
+            let disk = WatchedDisk::new(disk, &aside.device);
             format_image(alloc, system, ring.records, disk, output)?;
         }
         ImageTask::Run(script, asking) => {
             let events = script_at(rt, system, script, paths, aside)?;
-            let disk = device_at(rt, image)?;
             run_events(
                 rt,
                 is_terminal,
                 system,
                 &events,
                 asking,
-                disk,
+                image,
                 output,
                 aside,
             )?;
         }
+        ImageTask::Serve => serve(rt, system, image, output, aside)?,
         ImageTask::Recover => {
-            let disk = device_at(rt, image)?;
+            let disk = device_at(rt, image, &aside.device)?;
             recover_image(rt, alloc, system, disk, output)?;
+        }
+        ImageTask::Inspect(inspection) => {
+            inspect(rt, image, Some(system), inspection, output)?;
         }
         ImageTask::Restate => restate(rt, system, image, output, aside)?,
         ImageTask::Migrate(made, ring) => {
             // The old image is open, and locked, before anything is done to the new one.
-            let old = device_at(rt, image)?;
-            let new = device_to_format(rt, made, image_bytes(system, ring.records)).map_err(
-                Ending::NewUnopened,
-            )?;
+            let old = device_at(rt, image, &aside.device)?;
+            let bytes = image_bytes(system, ring.records);
+            let mut new = device_to_format(rt, made, bytes).map_err(Ending::NewUnopened)?;
+            note_sizes(alloc, new.size(), bytes, &mut aside.reason);
+            let new = WatchedDisk::new(new, &aside.made);
             migrate_image(rt, alloc, system, ring.records, old, new, output)?;
         }
     }
@@ -82,29 +96,38 @@ pub(crate) fn work_on_image<
 }
 
 /// Runs the plant on its image by the events: they are asked one after another and answered, to the last or to the first that is refused, or are
-/// shared by so many workers.
-fn run_events<R: Eprint + Clock + AllocGlobal + Threads + Wait + Sync, W: Write>(
+/// shared by so many workers. The script is the one that asks for them.
+fn run_events<
+    R: Files<File = File> + Eprint + Clock + AllocGlobal + Threads + Wait + Sync,
+    W: Write,
+>(
     rt: &R,
     is_terminal: bool,
     system: &System,
     events: &[Event],
     asking: Asking,
-    disk: FileDisk,
+    image: &str,
     output: &mut W,
     aside: &Aside,
-) -> Result<(), Ending> {
+) -> Result<(), Ending>
+    requires { length aside.now.script.items ≤ MAX_TEXT }
+{
     let alloc = rt.alloc();
     match asking {
         Asking::InTurn => {
+            let disk = device_at(rt, image, &aside.device)?;
             run_image(rt, alloc, system, events, disk, output)?;
         }
         Asking::Strict => {
+            let disk = device_at(rt, image, &aside.device)?;
             let run = run_image_strictly(rt, alloc, system, events, disk, output)?;
             if let Some(Stop { place, refusal }) = run.stop {
                 return Err(Ending::Stopped(line_in(&aside.script, place), refusal));
             }
         }
         Asking::Shared(WorkerCount { workers }) => {
+            // A device that threads share notes nothing.
+            let disk = FileDisk::open(rt, image).map_err(Ending::ImageUnopened)?;
             let progress = WorkersLine::new(rt, events.len(), is_terminal);
             run_by_workers(
                 rt,
@@ -121,11 +144,33 @@ fn run_events<R: Eprint + Clock + AllocGlobal + Threads + Wait + Sync, W: Write>
     Ok(())
 }
 
-/// The number of the line of the script that asks for the event with this place; 0 where there is none.
-fn line_in(script: &[u8], place: usize) -> u32 {
-    if script.len() > MAX_TEXT {
-        return 0;
+/// Serves the plant on its image by the lines of the standard input. A failure of that is put aside.
+fn serve<R: Files<File = File> + Input + AllocGlobal + Threads + Sync, W: Write>(
+    rt: &R,
+    system: &System,
+    image: &str,
+    output: &mut W,
+    aside: &mut Aside,
+) -> Result<(), Ending> {
+    let alloc = rt.alloc();
+    let lines = rule_lines(alloc, &aside.text).map_err(|_| PlantEnding::Memory)?;
+    let mut input = BufReader::new(alloc, Watched::new(rt.reader())).map_err(
+        |_| PlantEnding::Memory,
+    )?;
+    let disk = device_at(rt, image, &aside.device)?;
+    let Err(ending) = serve_image(rt, alloc, system, &lines, disk, &mut input, output) else {
+        return Ok(());
+    };
+    if ending == ServiceEnding::Unread {
+        aside.failure = input.get_ref().failure();
     }
+    Err(ending.into())
+}
+
+/// The number of the line of the script that asks for the event with this place; 0 where there is none.
+fn line_in(script: &[u8], place: usize) -> u32
+    requires { length script.now ≤ MAX_TEXT }
+{
     line_of_event(script, place).unwrap_or(0)
 }
 
@@ -141,15 +186,13 @@ fn restate<R: Files<File = File> + AllocGlobal + Threads + Sync, W: Write>(
 ) -> Result<(), Ending> {
     let alloc = rt.alloc();
     let mut states = PlantState::init(alloc, system).map_err(|_| PlantEnding::Memory)?;
-    let disk = device_at(rt, image)?;
+    let disk = device_at(rt, image, &aside.device)?;
     let plant = match booted(rt, alloc, system, disk) {
         Ok(plant) => plant,
         Err(refusal) => return Err(Ending::Image(ImageEnding::Refused(refusal))),
     };
+    system.keeps_its_rules();
     plant.show(&mut states);
-    if states.len() > MAX_ATOMS {
-        return Err(Ending::LongText);
-    }
     print_restated(alloc, &aside.text, &states, output)?;
     hand_on(output).map_err(|_| ImageEnding::Unwritten)?;
     Ok(())
@@ -163,7 +206,9 @@ pub(crate) fn script_at<R: Files<File = File> + Input + AllocGlobal>(
     path: &str,
     paths: Paths<'_>,
     aside: &mut Aside,
-) -> Result<Vec<Event>, Ending> {
+) -> Result<Vec<Event>, Ending>
+    ensures short { OnOk result (length aside.new.script.items ≤ MAX_TEXT) }
+{
     let Some(mut reader) = open_text(rt, path, &mut aside.failure) else {
         return Err(Ending::ScriptUnread);
     };

@@ -5,10 +5,13 @@ ghost use Rattle.bip_image.specs.Ending.{status_of};
 use crate::alone::work_alone;
 use crate::aside::Aside;
 use crate::ending::{Ending, EndingText, More, Paths, ShownPaths, exit_status};
+use crate::looking::note_reason;
 use crate::on_image::{script_at, work_on_image};
 use crate::progress::ProgressLine;
-use command_line::{Exploration, LoneTask, Request, Subject, Work, read_request};
-use image_commands::{ImageEnding, MigrateEnding, Progress, explore_plant};
+use command_line::{Exploration, ImageTask, LoneTask, Request, Subject, Work, read_request};
+use image_commands::{
+    ImageEnding, ImageRefusal, MigrateEnding, MigrateRefusal, Progress, explore_plant,
+};
 use plant_core::Event;
 use plant_tasks::{
     PlantEnding, Watched, ended, plant_at, tell_file_failure, tell_more, tell_output_failure,
@@ -96,7 +99,13 @@ fn work<
         Subject::Plant(plant, work) => {
             work_with(rt, plant, work, paths, is_terminal, &mut output, aside)
         }
-        Subject::Image(image, task) => work_alone(rt, image, *task, &mut output),
+        Subject::Image(image, task) => {
+            let ended = work_alone(rt, image, *task, &mut output);
+            if is_refused(&ended) {
+                note_reason(rt, image, None, aside);
+            }
+            ended
+        }
     };
     if let Some(error) = output.get_ref().failure() {
         aside.failure = Some(error);
@@ -121,7 +130,11 @@ fn work_with<
     match work {
         Work::OfPlant(_) | Work::ByHand => Err(Ending::OfPlant(PlantEnding::Usage)),
         Work::OnImage(image, task) => {
-            work_on_image(rt, *task, paths, is_terminal, &system, image, output, aside)
+            let ended = work_on_image(rt, *task, paths, is_terminal, &system, image, output, aside);
+            if is_refused(&ended) && !matches!(task, ImageTask::Format(_, _)) {
+                note_reason(rt, image, Some(&system), aside);
+            }
+            ended
         }
         Work::Explored(exploration) => {
             let events = script_at(rt, &system, exploration.script, paths, aside)?;
@@ -136,6 +149,14 @@ fn work_with<
             )
         }
     }
+}
+
+/// Whether an image is refused.
+fn is_refused(ended: &Result<(), Ending>) -> bool {
+    matches!(
+        ended,
+        Err(Ending::Image(ImageEnding::Refused(ImageRefusal::Image(_))))
+    )
 }
 
 /// Tells what a stop at each moment of a run leaves.
@@ -166,7 +187,7 @@ fn explore<W: Write, P: Progress>(
 }
 
 /// Prints more of an ending than its line: of a plant what [`tell_more`] prints, of a script its mistake or why it could not be read, why the output
-/// takes nothing, and of any other ending what it means.
+/// takes nothing, of an image what is wrong with it, and of any other ending what it means.
 fn tell_all<R: Eprint + AllocGlobal>(rt: &R, ending: Ending, plant: &str, aside: Aside) {
     match ending {
         Ending::OfPlant(ending) => tell_more(rt, ending, plant, &aside.text, aside.failure),
@@ -174,19 +195,44 @@ fn tell_all<R: Eprint + AllocGlobal>(rt: &R, ending: Ending, plant: &str, aside:
         Ending::Image(ImageEnding::Unwritten) | Ending::Migrate(MigrateEnding::Unwritten) => {
             tell_output_failure(rt, aside.failure);
         }
+        Ending::Image(ImageEnding::Failed) => tell_device_failure(rt, aside.device.get()),
+        Ending::Image(ImageEnding::Refused(ImageRefusal::Disk))
+        | Ending::Migrate(MigrateEnding::Refused(MigrateRefusal::Image(ImageRefusal::Disk))) => {
+            let _ = rt.eprint(More { ending });
+            tell_device_failure(rt, aside.device.get());
+        }
+        Ending::Migrate(MigrateEnding::Refused(MigrateRefusal::NewDisk)) => {
+            let _ = rt.eprint(More { ending });
+            tell_device_failure(rt, aside.made.get());
+        }
+        Ending::Stopped(_, refusal) if refusal.is_failure() => {
+            tell_device_failure(rt, aside.device.get());
+        }
         Ending::Script(_) if !aside.mistake.is_empty() => {
             let _ = rt.eprint(str::from_utf8(&aside.mistake).unwrap_or(""));
         }
+        Ending::Image(ImageEnding::Refused(ImageRefusal::Image(_)))
+        | Ending::Migrate(MigrateEnding::Refused(MigrateRefusal::NewSize)) => {
+            let _ = rt.eprint(More { ending });
+            let _ = rt.eprint(str::from_utf8(&aside.reason).unwrap_or(""));
+        }
         Ending::Script(_)
         | Ending::ImageUnopened(_)
-        | Ending::Image(_)
         | Ending::NewUnopened(_)
         | Ending::Migrate(_)
         | Ending::NotRight
+        | Ending::Doubted
         | Ending::Stopped(_, _)
         | Ending::LongText => {
             let _ = rt.eprint(More { ending });
         }
+    }
+}
+
+/// Tells why the device of an image failed.
+fn tell_device_failure<R: Eprint>(rt: &R, failure: Option<io::Error>) {
+    if let Some(failure) = failure {
+        let _ = eprintln!(rt; "  the device failed: {failure}");
     }
 }
 

@@ -1,11 +1,12 @@
 //! The script of a run, from a reader.
-ghost use Rattle.std.specs.Prelude.{◌≡◌, IfErr, IfOk, IfSome, OnOk, Ok, Err};
+ghost use Rattle.std.specs.Prelude.{◌≡◌, ◌≤◌, length, IfErr, IfOk, IfSome, OnOk, Ok, Err};
 ghost use Rattle.bip_image.specs.Script.{TellsOfScript};
 ghost use Rattle.bip_image.specs.declared.ending.Ending.TheVariants.{ScriptUnread};
 ghost use Rattle.script_lines.specs.Script.{script_meaning};
 ghost use Rattle.step_core.specs.Plant.{PlantDefinition};
 ghost use Rattle.step_core.specs.System.{plant_of};
 ghost use Rattle.text_io.specs.Reading.{GivesUp};
+ghost use Rattle.text_io.specs.declared.reading.TheConstants.{MAX_TEXT};
 
 use crate::ending::Ending;
 use plant_core::Event;
@@ -25,6 +26,7 @@ pub(crate) fn read_events<R: Read>(
     text: &mut Vec<u8>,
 ) -> Result<Vec<Event>, Ending>
     ensures all { OnOk result (IfSome (R.remaining reader.old) (λ bytes. text.new.items ≡ bytes)) }
+    ensures short { OnOk result (length text.new.items ≤ MAX_TEXT) }
     ensures events { IfOk result (λ events. IfSome (R.remaining reader.old) (λ bytes. script_meaning (plant_of system.now) bytes ≡ Ok events.items)) }
     ensures refused { IfErr result (λ ending. IfSome (R.remaining reader.old) (λ bytes. TellsOfScript (plant_of system.now) ending bytes)) }
     ensures unread { result ≡ Err ScriptUnread → GivesUp TextFault.Read (R.remaining reader.old) (R.remaining reader.new) }
@@ -38,6 +40,7 @@ pub(crate) fn read_events<R: Read>(
 #[tactic(auto, using(crate::proofs::Scripts::long_text_refused))]
 fn script_text<R: Read>(alloc: Global, reader: &mut R) -> Result<Vec<u8>, Ending>
     ensures all { IfOk result (λ text. IfSome (R.remaining reader.old) (λ bytes. text.items ≡ bytes)) }
+    ensures short { IfOk result (λ text. length text.items ≤ MAX_TEXT) }
     ensures refused { (plant : PlantDefinition) → IfErr result (λ ending. IfSome (R.remaining reader.old) (λ bytes. TellsOfScript plant ending bytes)) }
     ensures unread { result ≡ Err ScriptUnread → GivesUp TextFault.Read (R.remaining reader.old) (R.remaining reader.new) }
 {

@@ -1,4 +1,4 @@
-mod Separating
+pub mod Separating
 mod Finding
 mod Entries
 mod Seeking

@@ -17,6 +17,7 @@ use Rattle.command_line.specs.declared.request.Task.TheVariants as task
 use Rattle.command_line.specs.declared.request.IfThere.TheVariants.{Formatted, Refused}
 use Rattle.command_line.specs.declared.request.Asking.{Asking}
 use Rattle.command_line.specs.declared.request.Asking.TheVariants.{InTurn, Strict, Shared}
+use Rattle.command_line.specs.declared.request.Inspection.{Inspection}
 use Rattle.command_line.specs.declared.request.ImageTask.{ImageTask}
 use Rattle.command_line.specs.declared.request.ImageTask.TheVariants as image
 use Rattle.command_line.specs.declared.request.Exploration.{Exploration}
@@ -74,7 +75,9 @@ IsTask command.Step asked said = ⊥
 IsTask command.Draw asked said = (drawing : Drawing) × (asked ≡ task.Draw drawing) × IsDrawing drawing said
 IsTask command.Format asked said = ⊥
 IsTask command.Run asked said = ⊥
+IsTask command.Serve asked said = ⊥
 IsTask command.Recover asked said = ⊥
+IsTask command.Inspect asked said = ⊥
 IsTask command.Backup asked said = ⊥
 IsTask command.Restate asked said = ⊥
 IsTask command.Migrate asked said = ⊥
@@ -91,12 +94,18 @@ IsAsking InTurn said = (workers_said said ≡ Some 0) × (said.strict ≡ false)
 IsAsking Strict said = (workers_said said ≡ Some 0) × (said.strict ≡ true)
 IsAsking (Shared count) said = (workers_said said ≡ Some count.workers) × (said.strict ≡ false)
 
+-- the words ask for this to be printed of an image
+abbrev pub IsInspection : Inspection → Said → Type 0
+IsInspection inspection said = (inspection.records ≡ said.records) × (inspection.states ≡ said.states)
+
 -- the words of a command on an image ask for this task
 abbrev pub IsImageTask : CommandName → ImageTask → Said → Type 0
 IsImageTask command.Format (image.Format ring if_there) said =
     (ring_in (unwrap_or (word_of said.ring) (codes "64")) ≡ Some ring.records) × (if_there ≡ (if said.only_new then Refused else Formatted))
 IsImageTask command.Run (image.Run script asking) said = (word_of said.script ≡ Some script.now) × IsAsking asking said
+IsImageTask command.Serve image.Serve said = Unit {0}
 IsImageTask command.Recover image.Recover said = Unit {0}
+IsImageTask command.Inspect (image.Inspect inspection) said = IsInspection inspection said
 IsImageTask command.Restate image.Restate said = Unit {0}
 IsImageTask command.Migrate (image.Migrate made ring) said =
     (word_of said.new_image ≡ Some made.now) × (ring_in (unwrap_or (word_of said.ring) (codes "64")) ≡ Some ring.records)
@@ -120,8 +129,9 @@ IsWork ByHand said = said.command ≡ command.Step
 IsWork (OnImage path asked) said = (image_word said.command said ≡ Some path.now) × IsImageTask said.command asked said
 IsWork (Explored asked) said = (said.command ≡ command.Explore) × IsExploration asked said
 
--- the words of a command on an image alone ask for this task
+-- the words of a command on an image alone ask for this task: an image is looked into without a plant where none is named
 abbrev pub IsLoneTask : CommandName → LoneTask → Said → Type 0
+IsLoneTask command.Inspect (lone.Inspect inspection) said = (word_of said.plant ≡ None) × IsInspection inspection said
 IsLoneTask command.Backup (lone.Backup copy) said = word_of said.copy ≡ Some copy.now
 IsLoneTask command asked said = ⊥
 

@@ -45,13 +45,15 @@ saved_by (Choices picking) = None
 saved_by (Why picking) = None
 saved_by (Draw drawing) = None
 
--- what is read beside the plant and the image: the text of the picks, a script, or the standard input where lines are typed
+-- what is read beside the plant and the image: the text of the picks, a script, or the standard input where lines are typed or sent
 abbrev pub read_beside : Work → Option (List ℕ)
 read_beside (OfPlant task) = recorded_by task
 read_beside ByHand = Some (codes "-")
 read_beside (OnImage path (image.Format ring if_there)) = None
 read_beside (OnImage path (image.Run script asking)) = Some script.now
+read_beside (OnImage path image.Serve) = Some (codes "-")
 read_beside (OnImage path image.Recover) = None
+read_beside (OnImage path (image.Inspect inspection)) = None
 read_beside (OnImage path image.Restate) = None
 read_beside (OnImage path (image.Migrate made ring)) = None
 read_beside (Explored exploration) = Some exploration.script.now
@@ -75,4 +77,5 @@ made_in work = None
 
 -- the file that is made of an image alone
 abbrev pub copied_to : LoneTask → Option (List ℕ)
+copied_to (lone.Inspect inspection) = None
 copied_to (lone.Backup copy) = Some copy.now

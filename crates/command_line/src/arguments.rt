@@ -1,8 +1,8 @@
 //! The arguments and the options of the commands.
 use crate::names::{
     AFTER, COPY, EXPLAIN, FORMATS, IMAGE, LINES, LIST, NEW, OLD, ONLY, ONLY_NEW, OUTLINE, PICK,
-    PICKS, PLANT, RANDOM, RING, RUN_FORMAT, SAVE_PICKS, SCRIPT, SEED, STATES, STRICT, USUAL_RING,
-    USUAL_WORKERS, WARN, WORKERS,
+    PICKS, PLANT, RANDOM, RECORDS, RING, RUN_FORMAT, SAVE_PICKS, SCRIPT, SEED, STATES, STRICT,
+    USUAL_RING, USUAL_WORKERS, WARN, WORKERS,
 };
 use clap::builder::ValueParser;
 use clap::{Arg, ArgAction};
@@ -15,6 +15,8 @@ pub(crate) enum Argument {
     Plant,
     /// The same where commands are read from the standard input.
     PlantFile,
+    /// The same where an image is looked into, and may be without it.
+    PlantOfImage,
     /// The image.
     Image,
     /// The image of the first layout.
@@ -33,6 +35,10 @@ pub(crate) enum Argument {
     Workers,
     /// An event that is refused ends the run.
     StrictRun,
+    /// The records of an image are printed.
+    Records,
+    /// The states that an image holds are printed.
+    ImageStates,
     /// Each trial of a run is listed.
     List,
     /// More is said of a fault.
@@ -71,6 +77,11 @@ pub(crate) fn described<'a>(alloc: Global, argument: Argument) -> Arg<'a> {
             file(alloc, PLANT, help)
         }
         Argument::PlantFile => file(alloc, PLANT, "The file with the text of the plant"),
+        Argument::PlantOfImage => {
+            let help =
+                "The file with the text of the plant, or - for the standard input: its names are printed then";
+            Arg::new(alloc, PLANT).help(help)
+        }
         Argument::Image => file(alloc, IMAGE, "The file in which the plant is kept"),
         Argument::Old => {
             let help = "The image of an earlier version, which stays as it is";
@@ -102,6 +113,8 @@ pub(crate) fn described<'a>(alloc: Global, argument: Argument) -> Arg<'a> {
             let help = "Ends the run at the first event that the plant refuses";
             flag(alloc, STRICT, help)
         }
+        Argument::Records => flag(alloc, RECORDS, "Prints each record that a start reads, too"),
+        Argument::ImageStates => flag(alloc, STATES, "Prints the stored states of each atom, too"),
         Argument::List => flag(alloc, LIST, "Prints a line for each trial, too"),
         Argument::Explain => {
             let help = "Tells more of a fault below its line, as it is done on a terminal";

@@ -1,6 +1,6 @@
 //! What the words of a command ask for.
 ghost use Rattle.std.specs.Prelude.{◌≡◌, ◌≢◌, ◌≤◌, IfOk, Some, codes, if◌then◌else◌, unwrap_or};
-ghost use Rattle.command_line.specs.Asked.{has_picks, IsAsked, IsAsking, IsDrawing, IsExploration, IsLoneTask, IsPicked, IsPickedAfter, IsSubject, IsTrace, IsWork};
+ghost use Rattle.command_line.specs.Asked.{has_picks, IsAsked, IsAsking, IsDrawing, IsExploration, IsInspection, IsLoneTask, IsPicked, IsPickedAfter, IsSubject, IsTrace, IsWork};
 ghost use Rattle.command_line.specs.Rings.{ring_in};
 ghost use Rattle.command_line.specs.Said.{word_of};
 ghost use Rattle.command_line.specs.Workers.{workers_in};
@@ -13,8 +13,8 @@ use crate::apart::{ApartFault, stand_apart, stands_alone};
 use crate::names::{CommandName, LINES, USUAL_RING, USUAL_WORKERS};
 use crate::picking::{PickingFault, picking_named};
 use crate::request::{
-    Asking, Drawing, Exploration, IfThere, ImageTask, LoneTask, Picking, Request, Subject, Task,
-    Trace, Work,
+    Asking, Drawing, Exploration, IfThere, ImageTask, Inspection, LoneTask, Picking, Request,
+    Subject, Task, Trace, Work,
 };
 use crate::ring::{RingLength, ring_named};
 use crate::runs::shape_named;
@@ -93,6 +93,7 @@ fn subject_asked<'a>(alloc: Global, said: &Said<'_, 'a>) -> Result<Subject<'a>, 
     ensures { IfOk result (λ subject. IsSubject subject said.now) }
 {
     match (said.command, said.plant) {
+        (CommandName::Inspect, None) => alone(said, LoneTask::Inspect(inspection_asked(said))),
         (CommandName::Backup, _) => alone(said, LoneTask::Backup(path_in(said.copy)?)),
         (_, plant) => {
             let plant = path_in(plant)?;
@@ -147,7 +148,12 @@ fn work_asked<'a>(alloc: Global, said: &Said<'_, 'a>) -> Result<Work<'a>, Asking
             let asking = asking_asked(said)?;
             Ok(Work::OnImage(path_in(said.image)?, ImageTask::Run(script, asking)))
         }
+        CommandName::Serve => Ok(Work::OnImage(path_in(said.image)?, ImageTask::Serve)),
         CommandName::Recover => Ok(Work::OnImage(path_in(said.image)?, ImageTask::Recover)),
+        CommandName::Inspect => {
+            let task = ImageTask::Inspect(inspection_asked(said));
+            Ok(Work::OnImage(path_in(said.image)?, task))
+        }
         CommandName::Backup => unreachable!(),
         CommandName::Restate => Ok(Work::OnImage(path_in(said.image)?, ImageTask::Restate)),
         CommandName::Migrate => {
@@ -180,6 +186,16 @@ fn asking_asked<'a>(said: &Said<'_, 'a>) -> Result<Asking, AskingFault<'a>>
         (0, true) => Ok(Asking::Strict),
         (workers, false) => Ok(Asking::Shared(WorkerCount { workers })),
         (_, true) => Err(AskingFault::StrictShared),
+    }
+}
+
+/// What is to be printed of an image.
+fn inspection_asked(said: &Said<'_, '_>) -> Inspection
+    ensures { IsInspection result said.now }
+{
+    Inspection {
+        records: said.records,
+        states: said.states,
     }
 }
 

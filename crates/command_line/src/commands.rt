@@ -4,8 +4,9 @@ use crate::help::{
     ABOUT, AFTER, BACKUP_ABOUT, BACKUP_AFTER, BACKUP_BRIEF, BRIEF, CHECK_ABOUT, CHECK_AFTER,
     CHECK_BRIEF, CHOICES_ABOUT, CHOICES_AFTER, CHOICES_BRIEF, DRAW_ABOUT, DRAW_AFTER, DRAW_BRIEF,
     DRAW_USAGE, EXPLORE_ABOUT, EXPLORE_AFTER, EXPLORE_BRIEF, FORMAT_ABOUT, FORMAT_AFTER,
-    FORMAT_BRIEF, MIGRATE_ABOUT, MIGRATE_AFTER, MIGRATE_BRIEF, RECOVER_ABOUT, RECOVER_AFTER,
-    RECOVER_BRIEF, RESTATE_ABOUT, RESTATE_AFTER, RESTATE_BRIEF, RUN_ABOUT, RUN_AFTER, RUN_BRIEF,
+    FORMAT_BRIEF, INSPECT_ABOUT, INSPECT_AFTER, INSPECT_BRIEF, MIGRATE_ABOUT, MIGRATE_AFTER,
+    MIGRATE_BRIEF, RECOVER_ABOUT, RECOVER_AFTER, RECOVER_BRIEF, RESTATE_ABOUT, RESTATE_AFTER,
+    RESTATE_BRIEF, RUN_ABOUT, RUN_AFTER, RUN_BRIEF, SERVE_ABOUT, SERVE_AFTER, SERVE_BRIEF,
     STEP_ABOUT, STEP_AFTER, STEP_BRIEF, TRACE_ABOUT, TRACE_AFTER, TRACE_BRIEF, VERSION, WHY_ABOUT,
     WHY_AFTER, WHY_BRIEF,
 };
@@ -47,7 +48,9 @@ fn words_of(name: CommandName) -> &'static str {
         CommandName::Draw => "bip_run draw",
         CommandName::Format => "bip_run format",
         CommandName::Run => "bip_run run",
+        CommandName::Serve => "bip_run serve",
         CommandName::Recover => "bip_run recover",
+        CommandName::Inspect => "bip_run inspect",
         CommandName::Backup => "bip_run backup",
         CommandName::Restate => "bip_run restate",
         CommandName::Migrate => "bip_run migrate",
@@ -75,7 +78,9 @@ fn help_of<'a>(name: CommandName) -> Help<'a> {
         CommandName::Draw => (DRAW_BRIEF, DRAW_ABOUT, DRAW_AFTER),
         CommandName::Format => (FORMAT_BRIEF, FORMAT_ABOUT, FORMAT_AFTER),
         CommandName::Run => (RUN_BRIEF, RUN_ABOUT, RUN_AFTER),
+        CommandName::Serve => (SERVE_BRIEF, SERVE_ABOUT, SERVE_AFTER),
         CommandName::Recover => (RECOVER_BRIEF, RECOVER_ABOUT, RECOVER_AFTER),
+        CommandName::Inspect => (INSPECT_BRIEF, INSPECT_ABOUT, INSPECT_AFTER),
         CommandName::Backup => (BACKUP_BRIEF, BACKUP_ABOUT, BACKUP_AFTER),
         CommandName::Restate => (RESTATE_BRIEF, RESTATE_ABOUT, RESTATE_AFTER),
         CommandName::Migrate => (MIGRATE_BRIEF, MIGRATE_ABOUT, MIGRATE_AFTER),
@@ -142,9 +147,17 @@ fn arguments_of(name: CommandName) -> &'static [Argument] {
             Argument::Image,
             Argument::Script,
         ],
+        CommandName::Serve => &[Argument::Explain, Argument::PlantFile, Argument::Image],
         CommandName::Recover | CommandName::Restate => {
             &[Argument::Explain, Argument::Plant, Argument::Image]
         }
+        CommandName::Inspect => &[
+            Argument::Records,
+            Argument::ImageStates,
+            Argument::Explain,
+            Argument::Image,
+            Argument::PlantOfImage,
+        ],
         CommandName::Backup => &[Argument::Explain, Argument::Image, Argument::Copy],
         CommandName::Migrate => &[
             Argument::Ring,

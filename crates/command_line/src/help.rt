@@ -10,10 +10,11 @@ pub(crate) const ABOUT: &str =
     "Reads the text of a plant, and says what stands in it, draws it or runs it.
 
 With an image, a file that holds what was fired, a plant goes on from there after any
-stop: 'format' makes an image, 'run' runs the plant on it by a script, and 'recover' tells
-where the plant stands. 'backup' copies an image, and 'restate' writes the text of a plant
-that begins where the image stands. 'migrate' brings an image of an earlier version over
-to a new one. 'explore' tries a run with a power cut at each of its moments.
+stop: 'format' makes an image, 'run' runs the plant on it by a script, 'serve' runs it
+line by line, and 'recover' tells where the plant stands. 'inspect' looks into an image,
+'backup' copies it, and 'restate' writes the text of a plant that begins where the image
+stands. 'migrate' brings an image of an earlier version over to a new one. 'explore' tries
+a run with a power cut at each of its moments.
 
 A plant is atoms (machines with places, variables and ports), connectors (which ports
 move together, under which guards, and what data passes between them) and priorities
@@ -407,6 +408,90 @@ Exit status:
   2  the words of the command line were not understood
   3  a file ('file PATH'), the memory ('memory', or 'plant line 0: fault 15 Memory')
      or the standard output failed";
+
+pub(crate) const SERVE_BRIEF: &str =
+    "Lets another program drive a plant by lines, from where its image stands";
+
+pub(crate) const SERVE_ABOUT: &str =
+    "Lets another program drive a plant by lines, from where its image stands.
+
+Prints the state of each atom, 'front F A B' and a line 'end'. Then it reads a line of the
+standard input, does what that asks for, prints the answer and a line 'end', and reads the
+next one. So the other program sends a line, and reads up to 'end'. A line is an event, as
+in a script of 'run', or one of these:
+  choices          the choices that the plant has, by their numbers
+  state            the state of each atom, and 'front F A B'
+  why [CONNECTOR]  why each connector can't be fired, or this one
+  front            'front F A B'
+  room             how much room there is for records, and which atoms take it
+  save             stores the atoms that are behind, and drops what no restart needs
+  quit             ends
+A line that asks for nothing is answered by 'mistake WHY', and the next one is read.
+
+At the end of the input, or at 'quit', it prints 'front F A B' and 'end'. It does not flush
+of its own: what was fired and not flushed by then may be lost, as after any stop.";
+
+pub(crate) const SERVE_AFTER: &str = "Example:
+  printf 'fire send A.t/0 B.u/0\\nflush\\n' | bip_run serve examples/sample.plant sample.image
+prints, on an image that was formatted just before
+  state A [s] n=0
+  state B [s] m=0
+  front 0 0 1
+  end
+  1 send A.t/0 B.u/0
+  end
+  flushed 1
+  end
+  front 1 1 1
+  end
+
+Exit status:
+  0  the input was answered to its end, also where the plant refused some of its events
+  1  the plant or the image is refused, and nothing was fired; the standard error has
+     'plant line L: fault K NAME' or 'image: refusal K NAME'
+  2  the words of the command line were not understood
+  3  a file ('file PATH'; 'file PATH in use' where another program has the image open),
+     the device below the image ('image: refusal 8 Disk', or the lines 'refused 10 Disk'
+     and 'refused 11 Broken' of a run), the memory ('memory', 'plant line 0: fault 15
+     Memory' or 'image: refusal 9 Memory') or the standard output failed";
+
+pub(crate) const INSPECT_BRIEF: &str = "Looks into an image, and changes nothing in it";
+
+pub(crate) const INSPECT_ABOUT: &str = "Looks into an image, and changes nothing in it.
+
+Tells for which plant text the image was made, how long its ring is, which records it
+holds, what is saved of each atom, and which atoms keep the oldest record from being
+dropped. At the end stands what a start would come to: 'boots to L', or why it would be
+refused. A line 'doubt: ..' tells of what a start passes over without a word. Of a damaged
+image all is told that can be read.
+
+The image is opened for reading alone, so it may stand where nothing can be written. No
+other program may have it open to run a plant meanwhile.
+
+With --records there is a line for each record that a start reads, and with --states one
+for each saved state of each atom. With PLANT atoms and connectors have their names, if the
+image was made for that text. Without it they have their numbers, and no start can be
+judged: the last line is 'reads to L', where nothing is wrong whatever the plant.";
+
+pub(crate) const INSPECT_AFTER: &str = "Example:
+  bip_run inspect sample.image examples/sample.plant
+prints, of an image that was formatted just before with --ring 8 (but for the dots, which
+stand for the middle of the digest)
+  image 9c7e1145..b2081b48 ring 8 cells 15
+  base 1 last 0 live 0 free 8
+  atom A saved 0 at 0 behind 0 holds -
+  atom B saved 0 at 0 behind 0 holds -
+  held
+  boots to 0
+
+Exit status:
+  0  the image is told of, and nothing is wrong with it
+  1  there is a refusal or a doubt in what is told, or PLANT is no plant ('plant line L:
+     fault K NAME' on the standard error)
+  2  the words of the command line were not understood
+  3  a file ('file PATH'; 'file PATH in use' where another program has the image open),
+     the device below the image ('image: refusal 8 Disk'), the memory ('memory', 'plant
+     line 0: fault 15 Memory' or 'image: refusal 9 Memory') or the standard output failed";
 
 pub(crate) const BACKUP_BRIEF: &str = "Copies an image into a new file";
 

@@ -34,8 +34,8 @@ mod workers;
 pub use answer::Answered;
 pub use input::is_standard_input;
 pub use request::{
-    Asking, Drawing, Exploration, IfThere, ImageTask, LoneTask, Numbers, Picking, Request, Shape,
-    Subject, Task, Trace, Work,
+    Asking, Drawing, Exploration, IfThere, ImageTask, Inspection, LoneTask, Numbers, Picking,
+    Request, Shape, Subject, Task, Trace, Work,
 };
 pub use ring::RingLength;
 pub use words::read_request;

@@ -24,6 +24,10 @@ const MIGRATE: &str = "migrate";
 
 const EXPLORE: &str = "explore";
 
+const SERVE: &str = "serve";
+
+const INSPECT: &str = "inspect";
+
 const BACKUP: &str = "backup";
 
 const RESTATE: &str = "restate";
@@ -70,6 +74,8 @@ pub(crate) const RING: &str = "ring";
 
 pub(crate) const LIST: &str = "list";
 
+pub(crate) const RECORDS: &str = "records";
+
 pub(crate) const ONLY_NEW: &str = "new";
 
 pub(crate) const WORKERS: &str = "workers";
@@ -105,8 +111,12 @@ pub(crate) enum CommandName {
     Format,
     /// Runs a plant on its image.
     Run,
+    /// Runs a plant on its image by events that are typed or sent.
+    Serve,
     /// Tells where a plant stands by its image.
     Recover,
+    /// Tells what an image holds.
+    Inspect,
     /// Copies an image.
     Backup,
     /// Writes the text of a plant that begins where the image stands.
@@ -118,7 +128,7 @@ pub(crate) enum CommandName {
 }
 
 /// All commands, in the order of the help.
-pub(crate) const COMMANDS: [CommandName; 13] = [
+pub(crate) const COMMANDS: [CommandName; 15] = [
     CommandName::Check,
     CommandName::Choices,
     CommandName::Why,
@@ -127,7 +137,9 @@ pub(crate) const COMMANDS: [CommandName; 13] = [
     CommandName::Draw,
     CommandName::Format,
     CommandName::Run,
+    CommandName::Serve,
     CommandName::Recover,
+    CommandName::Inspect,
     CommandName::Backup,
     CommandName::Restate,
     CommandName::Migrate,
@@ -147,7 +159,9 @@ pub(crate) fn word_of(name: CommandName) -> &'static str
         CommandName::Draw => DRAW,
         CommandName::Format => FORMAT,
         CommandName::Run => RUN,
+        CommandName::Serve => SERVE,
         CommandName::Recover => RECOVER,
+        CommandName::Inspect => INSPECT,
         CommandName::Backup => BACKUP,
         CommandName::Restate => RESTATE,
         CommandName::Migrate => MIGRATE,

@@ -156,6 +156,15 @@ pub enum Asking {
     Shared(WorkerCount),
 }
 
+/// What is printed of an image, beside what it is.
+#[derive(Clone, Copy, Debug, PartialEq, Eq)]
+pub struct Inspection {
+    /// Whether each record is printed.
+    pub records: bool,
+    /// Whether each atom's states are printed.
+    pub states: bool,
+}
+
 /// What is to be done with a plant and its image.
 #[derive(Clone, Copy)]
 pub enum ImageTask<'a> {
@@ -163,8 +172,12 @@ pub enum ImageTask<'a> {
     Format(RingLength, IfThere),
     /// The plant goes on from what the image stands for, by the script at this path: a file, or `-` for the standard input.
     Run(&'a str, Asking),
+    /// The plant goes on from what the image stands for, by events that are read from the standard input, line by line.
+    Serve,
     /// Where the plant stands is printed.
     Recover,
+    /// What the image holds is printed, with the plant's names.
+    Inspect(Inspection),
     /// The plant's text is printed, with the state that the image stands for as its first one.
     Restate,
     /// The image is of the first layout, and is brought over to a new one: the file at this path, with room for so many records.
@@ -185,6 +198,8 @@ pub struct Exploration<'a> {
 /// What is to be done with an image alone, where no plant is named.
 #[derive(Clone, Copy)]
 pub enum LoneTask<'a> {
+    /// What the image holds is printed, without names.
+    Inspect(Inspection),
     /// The image is copied into a new file at this path.
     Backup(&'a str),
 }
@@ -200,6 +215,7 @@ impl<'a> LoneTask<'a> {
     {
         match self {
             LoneTask::Backup(copy) => Some(*copy),
+            LoneTask::Inspect(_) => None,
         }
     }
 }
@@ -222,20 +238,21 @@ impl<'a> Work<'a> {
     ghost use Rattle.command_line.specs.Files.{image_in, made_in, read_beside, saved_in};
     ghost use Rattle.command_line.specs.Said.{word_of};
 
-    /// What is read beside the plant and the image, if anything is: the path of the text of the picks or of a script, or `-` where lines are
-    /// typed.
+    /// What is read beside the plant and the image, if anything is: the path of the text of the picks or of a script, or `-` where lines are typed
+    /// or sent.
     pub fn input(&self) -> Option<&'a str>
         ensures { word_of result ≡ read_beside self.now }
     {
         match self {
             Work::OfPlant(task) => task.recorded(),
-            Work::ByHand => Some(STANDARD_INPUT),
+            Work::ByHand | Work::OnImage(_, ImageTask::Serve) => Some(STANDARD_INPUT),
             Work::OnImage(_, ImageTask::Run(script, _)) => Some(*script),
             Work::Explored(exploration) => Some(exploration.script),
             Work::OnImage(
                 _,
                 ImageTask::Format(_, _)
                 | ImageTask::Recover
+                | ImageTask::Inspect(_)
                 | ImageTask::Restate
                 | ImageTask::Migrate(_, _),
             ) => None,

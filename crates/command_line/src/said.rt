@@ -5,7 +5,8 @@ ghost use Rattle.command_line.specs.Read.{AreFound};
 
 use crate::names::{
     AFTER, COPY, CommandName, EXPLAIN, IMAGE, LIST, NEW, OLD, ONLY, ONLY_NEW, OUTLINE, PICK, PICKS,
-    PLANT, RANDOM, RING, RUN_FORMAT, SAVE_PICKS, SCRIPT, SEED, STATES, STRICT, WARN, WORKERS,
+    PLANT, RANDOM, RECORDS, RING, RUN_FORMAT, SAVE_PICKS, SCRIPT, SEED, STATES, STRICT, WARN,
+    WORKERS,
 };
 use clap::ArgMatches;
 
@@ -50,10 +51,12 @@ pub(crate) struct Said<'m, 'a> {
     pub(crate) strict: bool,
     /// Whether a drawing is an outline.
     pub(crate) outline: bool,
-    /// Whether the states of a run are printed.
+    /// Whether the states of a run are printed, or those that an image holds.
     pub(crate) states: bool,
     /// Whether what is probably a mistake is printed.
     pub(crate) warn: bool,
+    /// Whether the records that an image holds are printed.
+    pub(crate) records: bool,
     /// Whether each trial of a run is printed.
     pub(crate) list: bool,
     /// Whether a file that is there is not formatted.
@@ -89,6 +92,7 @@ pub(crate) fn said_in<'m, 'a>(command: CommandName, found: &'m ArgMatches<'a>) -
         outline: found.get_flag(OUTLINE),
         states: found.get_flag(STATES),
         warn: found.get_flag(WARN),
+        records: found.get_flag(RECORDS),
         list: found.get_flag(LIST),
         only_new: found.get_flag(ONLY_NEW),
         explain: found.get_flag(EXPLAIN),

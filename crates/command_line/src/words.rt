@@ -105,6 +105,9 @@ fn not_apart(
         (ApartFault::OneInput, CommandName::Run | CommandName::Explore) => {
             "the standard input cannot be both the plant and the script"
         }
+        (ApartFault::OneInput, CommandName::Serve) => {
+            "the standard input cannot be the plant: the events of the run are read there"
+        }
         (ApartFault::OneInput, CommandName::Step) => {
             "the standard input cannot be the plant: the commands of the run are read there"
         }

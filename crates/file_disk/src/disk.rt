@@ -16,6 +16,8 @@ pub struct FileDisk<F = File> {
     file: F,
     size: u64,
     failures: u64,
+    /// Why the file failed last.
+    failure: Option<io::Error>,
     syncs: u64,
     /// What was written since the last sync that succeeded.
     marks: Marks,
@@ -35,18 +37,27 @@ impl<F: FileExt + OpenFile> FileDisk<F> {
             file,
             size,
             failures: 0,
+            failure: None,
             syncs: 0,
             marks: Marks::new(),
             sync_failed: false,
         }
     }
 
-    /// Counts a failure, if it is one.
+    /// Why the file failed last, if it ever did: what the system told.
+    pub fn failure(&self) -> Option<io::Error>
+        ensures { result ≡ self.now.failure }
+    {
+        self.failure
+    }
+
+    /// Counts a failure, if it is one, and keeps what the system told.
     fn count(&mut self, answer: io::Result<()>) -> Result<(), DiskFault>
         ensures same { is_err result ≡ is_err answer }
         ensures counts { Counts (is_err answer) false (state_of self.old) (state_of self.new) }
     {
-        if answer.is_err() {
+        if let Err(failure) = answer {
+            self.failure = Some(failure);
             self.failures = self.failures.saturating_add(1);
             return Err(DiskFault);
         }

@@ -70,7 +70,8 @@ impl<'s, D: Disk> Plant<'s, D> {
     /// taken.
     pub fn show(&self, states: &mut PlantState)
         requires { IsOf (definition_of self.now) states.old }
-        ensures { states.new ≡ (view_of self.now).present }
+        ensures present { states.new ≡ (view_of self.now).present }
+        ensures as_many { IsOf (definition_of self.now) states.new }
     {
         self.system().keeps_its_rules();
         for atom in 0..states.len() {

@@ -99,4 +99,4 @@ pub use lines::{Lines, is_legal};
 pub use names::read_name;
 pub use numbers::{MAX_DIGITS, is_numeric, read_decimal, read_int};
 pub use splits::{PortWord, split_export, split_mask, split_port};
-pub use words::{Words, is_passed_over};
+pub use words::{Words, blanks_len, is_passed_over, word_len};

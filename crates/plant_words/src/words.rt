@@ -88,7 +88,7 @@ fn is_blank(byte: u8) -> bool
 }
 
 /// How many blanks stand before the first word.
-fn blanks_len(line: &[u8]) -> usize
+pub fn blanks_len(line: &[u8]) -> usize
     ensures value { result ≡ prefix_len is_blank line.now }
     ensures within { result ≤ length line.now }
 {
@@ -96,7 +96,7 @@ fn blanks_len(line: &[u8]) -> usize
 }
 
 /// How many bytes stand before the first blank.
-fn word_len(line: &[u8]) -> usize
+pub fn word_len(line: &[u8]) -> usize
     ensures value { result ≡ position_or_len is_blank line.now }
     ensures within { result ≤ length line.now }
 {

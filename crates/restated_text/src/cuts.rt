@@ -1,8 +1,8 @@
 //! A line, cut before and behind its first word.
 ghost use Rattle.std.specs.Prelude.{◌≡◌, ◌≤◌, length};
-ghost use Rattle.std.specs.List.{prefix_len, position_or_len};
-ghost use Rattle.plant_words.specs.Words.{is_blank};
 ghost use Rattle.restated_text.specs.Cuts.{behind_name, behind_word, blanks_before, from_word, up_to_name, word_at};
+
+use plant_words::{blanks_len, word_len};
 
 /// The blanks before the first word.
 pub(crate) fn blanks_before(line: &[u8]) -> &[u8]
@@ -49,26 +49,4 @@ pub(crate) fn up_to_name(line: &[u8]) -> &[u8]
     ensures { result.now ≡ up_to_name line.now }
 {
     line.split_at(line.len() - behind_name(line).len()).0
-}
-
-fn is_blank(byte: u8) -> bool
-    ensures { result ≡ is_blank byte }
-{
-    byte == b' ' || byte == b'\t'
-}
-
-/// How many blanks stand before the first word.
-fn blanks_len(line: &[u8]) -> usize
-    ensures value { result ≡ prefix_len is_blank line.now }
-    ensures within { result ≤ length line.now }
-{
-    line.iter().take_while(|byte| is_blank(**byte)).count()
-}
-
-/// How many bytes stand before the first blank.
-fn word_len(line: &[u8]) -> usize
-    ensures value { result ≡ position_or_len is_blank line.now }
-    ensures within { result ≤ length line.now }
-{
-    line.iter().take_while(|byte| !is_blank(**byte)).count()
 }

@@ -23,8 +23,8 @@ loop-atom-preserved g c =
       | in_default w ↦ absurd (w.in_default.not-Some _ (c.look.ensures ∙ slice_get-get_or present i (record { marking = 0; values = [] }) within))
     ]
 
-pub returns : goal.returns
-returns g c =
+pub returns-clause-present : goal.returns-clause-present
+returns-clause-present g c =
     let p = c.args.self.now in
     let present = (view_of p).present in
     let i = c.loop-atom.atom in

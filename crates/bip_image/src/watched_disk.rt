@@ -1,0 +1,65 @@
+//! The device of an image, and why its file failed last.
+ghost use Rattle.std.specs.Prelude.{◌^◌, ◌<◌};
+ghost use Rattle.disk_model.specs.DiskState.{size_of};
+ghost use Rattle.file_disk.specs.FileDisk.{state_of};
+
+use disk_model::{Disk, DiskFault};
+use file_disk::FileDisk;
+use std::cell::Cell;
+use std::io;
+
+/// A device over a file. It does what that does, and notes outside itself why the file failed last: a task that ends early keeps no device.
+#[derive(Drop)]
+pub(crate) struct WatchedDisk<'a> {
+    within: FileDisk,
+    failure: &'a Cell<Option<io::Error>>,
+    ghost small: { size_of (state_of within) < 2 ^ 64 },
+}
+
+impl<'a> WatchedDisk<'a> {
+    /// This device, and where it notes why its file failed.
+    pub(crate) fn new(within: FileDisk, failure: &'a Cell<Option<io::Error>>) -> Self {
+        WatchedDisk { within, failure }
+    }
+
+    /// Notes why the file failed last.
+    fn note(&self) {
+        self.failure.set(self.within.failure());
+    }
+}
+
+impl<'a> Disk for WatchedDisk<'a> {
+    ghost use Rattle.file_disk.specs.FileDisk.{state_of};
+
+    ghost state = { λ d. state_of d.within };
+
+    ghost fits = { λ d. d.small };
+
+    fn size(&mut self) -> Result<u64, DiskFault> {
+        self.within.size()
+    }
+
+    fn read_at(&mut self, at: u64, into: &mut [u8]) -> Result<(), DiskFault> {
+        let answer = self.within.read_at(at, into);
+        if answer.is_err() {
+            self.note();
+        }
+        answer
+    }
+
+    fn write_at(&mut self, at: u64, from: &[u8]) -> Result<(), DiskFault> {
+        let answer = self.within.write_at(at, from);
+        if answer.is_err() {
+            self.note();
+        }
+        answer
+    }
+
+    fn sync(&mut self) -> Result<(), DiskFault> {
+        let answer = self.within.sync();
+        if answer.is_err() {
+            self.note();
+        }
+        answer
+    }
+}

@@ -1,0 +1,5 @@
+mod Ranges
+mod Loaded
+mod Printed
+mod Endings
+mod Booted

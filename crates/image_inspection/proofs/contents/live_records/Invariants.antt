@@ -1,0 +1,16 @@
+-- the whole is what was read, and what is left
+use Rattle.std.proofs.Common.{◌≡◌, ◌+◌, ◌-◌, ◌≤◌, ◌++◌, vec_len, vec_capacity}
+use Rattle.std.specs.List.{range_with_len}
+use Rattle.gated_journal.specs.Live.{live_among}
+use Rattle.record_codec.specs.Ring.{record_cell}
+use Rattle.record_codec.specs.declared.layout.TheConstants.{LAST_NUMBER}
+use Rattle.image_inspection.proofs.contents.live_records.Given as goal
+
+abbrev pub invariant-loop-number : goal.invariant-loop-number
+invariant-loop-number l = record {
+  room : vec_capacity l.records ≡ l.ring;
+  long : l.base + vec_len l.records ≡ l.number;
+  read : live_among l.cells (record_cell l.atoms l.ring) (range_with_len l.base l.ring)
+      ≡ l.records.items ++ live_among l.cells (record_cell l.atoms l.ring) (range_with_len l.number (l.base + l.ring - l.number));
+  in_range : l.number ≤ LAST_NUMBER + 1;
+}

@@ -1,0 +1,11 @@
+pub mod Seen
+pub mod Endings
+pub mod Inspected
+pub mod Holding
+pub mod Open
+pub mod Places
+pub mod Verdicts
+pub mod Reasons
+pub mod Listing
+pub mod Lines
+pub mod Found

@@ -1,0 +1,9 @@
+mod Driving
+mod Behind
+mod Exchanging
+mod Lines
+mod Sessions
+mod Imaging
+mod Holding
+mod Roomy
+mod Fronts
