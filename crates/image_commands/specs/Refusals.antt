@@ -24,7 +24,7 @@ refusal_line (Image image.Memory) = codes "image: refusal 9 Memory"
 
 -- what a refusal means, and what an operator can do
 abbrev pub advice_for : ImageRefusal → List ℕ
-advice_for (Image image.NotFormatted) = codes "no whole image begins in the file: keep a copy of it, and name the right file; to format it destroys what it holds"
+advice_for (Image image.NotFormatted) = codes "no whole image begins in the file: keep a copy of it, and look into it by 'bip_run inspect'; to format it destroys what it holds"
 advice_for (Image image.OtherVersion) = codes "if an earlier version of this program formatted the image, bring it over to a new one by 'bip_run migrate'; if a later one did, go on with that version"
 advice_for (Image image.OtherSystem) = codes "the image was formatted for another plant text: use that very text, byte for byte, or another image"
 advice_for (Image image.WrongSize) = codes "the file has not the size of this image: it was cut short, or is for another plant or another --ring; use another file"

@@ -33,7 +33,7 @@ impl ImageRefusal {
     {
         match self {
             ImageRefusal::Image(ImageFault::NotFormatted) => {
-                "no whole image begins in the file: keep a copy of it, and name the right file; to format it destroys what it holds"
+                "no whole image begins in the file: keep a copy of it, and look into it by 'bip_run inspect'; to format it destroys what it holds"
             }
             ImageRefusal::Image(ImageFault::OtherVersion) => {
                 "if an earlier version of this program formatted the image, bring it over to a new one by 'bip_run migrate'; if a later one did, go on with that version"
