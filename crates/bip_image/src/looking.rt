@@ -15,6 +15,8 @@ use text_io::{WriteFault, end_line, print_number, print_text};
 
 /// Prints what the image at the path says, by the plant's names if there is one. It is only read. If a boot would refuse it, or there is a doubt, the task
 /// ends early.
+// It has a frame of its own, so that the other tasks need no more stack for the cells that it reads.
+#[inline(never)]
 pub(crate) fn inspect<R: Files<File = File> + AllocGlobal, W: Write>(
     rt: &R,
     image: &str,
@@ -36,6 +38,8 @@ pub(crate) fn inspect<R: Files<File = File> + AllocGlobal, W: Write>(
 }
 
 /// Puts aside what more is told of the image at the path, which is refused. For want of memory, or if it can't be read, it stays untold.
+// It has a frame of its own, as `inspect` has.
+#[inline(never)]
 pub(crate) fn note_reason<R: Files<File = File> + AllocGlobal>(
     rt: &R,
     image: &str,

@@ -145,6 +145,8 @@ fn run_events<
 }
 
 /// Serves the plant on its image by the lines of the standard input. A failure of that is put aside.
+// It has a frame of its own, so that the other tasks need no more stack for the plant that it boots.
+#[inline(never)]
 fn serve<R: Files<File = File> + Input + AllocGlobal + Threads + Sync, W: Write>(
     rt: &R,
     system: &System,
@@ -175,7 +177,7 @@ fn line_in(script: &[u8], place: usize) -> u32
 }
 
 /// Prints the plant's text with the state that the image stands for as its first one.
-// It has a frame of its own, so that the other tasks need no more stack for the plant that it boots.
+// It has a frame of its own, as `serve` has.
 #[inline(never)]
 fn restate<R: Files<File = File> + AllocGlobal + Threads + Sync, W: Write>(
     rt: &R,
