@@ -9,7 +9,7 @@ use crate::looking::{inspect, note_sizes};
 use crate::script::read_events;
 use crate::watched_disk::WatchedDisk;
 use crate::workers_line::WorkersLine;
-use command_line::{Asking, IfThere, ImageTask, WorkerCount};
+use command_line::{Asking, IfThere, ImageTask, RingLength, WorkerCount};
 use disk_model::Disk;
 use file_disk::FileDisk;
 use image_commands::{
@@ -47,18 +47,9 @@ pub(crate) fn work_on_image<
     output: &mut W,
     aside: &mut Aside,
 ) -> Result<(), Ending> {
-    let alloc = rt.alloc();
     match task {
         ImageTask::Format(ring, if_there) => {
-            let bytes = image_bytes(system, ring.records);
-            let mut disk = match if_there {
-                IfThere::Formatted => device_to_format(rt, image, bytes),
-                IfThere::Refused => FileDisk::create(rt, image, bytes),
-            }
-            .map_err(Ending::ImageUnopened)?;
-            note_sizes(alloc, disk.size(), bytes, &mut aside.reason);
-            let disk = WatchedDisk::new(disk, &aside.device);
-            format_image(alloc, system, ring.records, disk, output)?;
+            format(rt, system, ring, if_there, image, output, aside)?;
         }
         ImageTask::Run(script, asking) => {
             let events = script_at(rt, system, script, paths, aside)?;
@@ -74,29 +65,81 @@ pub(crate) fn work_on_image<
             )?;
         }
         ImageTask::Serve => serve(rt, system, image, output, aside)?,
-        ImageTask::Recover => {
-            let disk = device_at(rt, image, &aside.device)?;
-            recover_image(rt, alloc, system, disk, output)?;
-        }
+        ImageTask::Recover => recover(rt, system, image, output, aside)?,
         ImageTask::Inspect(inspection) => {
             inspect(rt, image, Some(system), inspection, output)?;
         }
         ImageTask::Restate => restate(rt, system, image, output, aside)?,
-        ImageTask::Migrate(made, ring) => {
-            // The old image is open, and locked, before anything is done to the new one.
-            let old = device_at(rt, image, &aside.device)?;
-            let bytes = image_bytes(system, ring.records);
-            let mut new = device_to_format(rt, made, bytes).map_err(Ending::NewUnopened)?;
-            note_sizes(alloc, new.size(), bytes, &mut aside.reason);
-            let new = WatchedDisk::new(new, &aside.made);
-            migrate_image(rt, alloc, system, ring.records, old, new, output)?;
-        }
+        ImageTask::Migrate(made, ring) => migrate(rt, system, ring, image, made, output, aside)?,
     }
     Ok(())
 }
 
+// Each task has a frame of its own, so that none needs the stack of the plants and the devices of the others.
+
+/// Formats the file at the path for the plant.
+#[inline(never)]
+fn format<R: Files<File = File> + AllocGlobal, W: Write>(
+    rt: &R,
+    system: &System,
+    ring: RingLength,
+    if_there: IfThere,
+    image: &str,
+    output: &mut W,
+    aside: &mut Aside,
+) -> Result<(), Ending> {
+    let alloc = rt.alloc();
+    let bytes = image_bytes(system, ring.records);
+    let mut disk = match if_there {
+        IfThere::Formatted => device_to_format(rt, image, bytes),
+        IfThere::Refused => FileDisk::create(rt, image, bytes),
+    }
+    .map_err(Ending::ImageUnopened)?;
+    note_sizes(alloc, disk.size(), bytes, &mut aside.reason);
+    let disk = WatchedDisk::new(disk, &aside.device);
+    format_image(alloc, system, ring.records, disk, output)?;
+    Ok(())
+}
+
+/// Prints where the plant stands by its image.
+#[inline(never)]
+fn recover<R: Files<File = File> + AllocGlobal + Threads + Sync, W: Write>(
+    rt: &R,
+    system: &System,
+    image: &str,
+    output: &mut W,
+    aside: &Aside,
+) -> Result<(), Ending> {
+    let disk = device_at(rt, image, &aside.device)?;
+    recover_image(rt, rt.alloc(), system, disk, output)?;
+    Ok(())
+}
+
+/// Brings the image of the first layout at the path over to a new one, the file at the other path.
+#[inline(never)]
+fn migrate<R: Files<File = File> + AllocGlobal + Threads + Sync, W: Write>(
+    rt: &R,
+    system: &System,
+    ring: RingLength,
+    image: &str,
+    made: &str,
+    output: &mut W,
+    aside: &mut Aside,
+) -> Result<(), Ending> {
+    let alloc = rt.alloc();
+    // The old image is open, and locked, before anything is done to the new one.
+    let old = device_at(rt, image, &aside.device)?;
+    let bytes = image_bytes(system, ring.records);
+    let mut new = device_to_format(rt, made, bytes).map_err(Ending::NewUnopened)?;
+    note_sizes(alloc, new.size(), bytes, &mut aside.reason);
+    let new = WatchedDisk::new(new, &aside.made);
+    migrate_image(rt, alloc, system, ring.records, old, new, output)?;
+    Ok(())
+}
+
 /// Runs the plant on its image by the events: they are asked one after another and answered, to the last or to the first that is refused, or are
-/// shared by so many workers. The script is the one that asks for them.
+/// shared by so many workers. The script that asks for them was put aside.
+#[inline(never)]
 fn run_events<
     R: Files<File = File> + Eprint + Clock + AllocGlobal + Threads + Wait + Sync,
     W: Write,
@@ -145,7 +188,6 @@ fn run_events<
 }
 
 /// Serves the plant on its image by the lines of the standard input. A failure of that is put aside.
-// It has a frame of its own, so that the other tasks need no more stack for the plant that it boots.
 #[inline(never)]
 fn serve<R: Files<File = File> + Input + AllocGlobal + Threads + Sync, W: Write>(
     rt: &R,
@@ -177,7 +219,6 @@ fn line_in(script: &[u8], place: usize) -> u32
 }
 
 /// Prints the plant's text with the state that the image stands for as its first one.
-// It has a frame of its own, as `serve` has.
 #[inline(never)]
 fn restate<R: Files<File = File> + AllocGlobal + Threads + Sync, W: Write>(
     rt: &R,
