@@ -2,6 +2,7 @@
 use crate::command::{Command, Task, USAGE, read_command};
 use crate::course::{fire_steps, hash_of_states};
 use crate::report::{Seconds, rate};
+use plant_model::System;
 use plant_text::read_plant;
 use run_text::RandomPicks;
 use std::alloc::Global;
@@ -9,7 +10,7 @@ use std::io::Read;
 use std::rt::{Clock, Env, Files};
 use std::time::Instant;
 use std::{env, fs, io};
-use step_core::{Stepper, System};
+use step_core::Stepper;
 
 /// The path that stands for the standard input.
 const STANDARD_INPUT: &str = "-";

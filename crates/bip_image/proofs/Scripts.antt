@@ -1,7 +1,7 @@
 -- Why a script ends the program.
 use Rattle.std.proofs.Common.{◌≡◌, ◌<◌, ℕ, List, length, Err, arith, Option, None, Some}
 use Rattle.std.specs.Prelude.{IfSome}
-use Rattle.step_core.specs.Plant.{PlantDefinition}
+use Rattle.plant_model.specs.Plant.{PlantDefinition}
 use Rattle.text_io.specs.declared.reading.TheConstants.{MAX_TEXT}
 use Rattle.script_lines.specs.Script.{IsFaultOf, script_meaning}
 use Rattle.script_lines.specs.declared.fault.ScriptFault.{ScriptFault}

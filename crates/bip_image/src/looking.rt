@@ -6,11 +6,11 @@ use command_line::Inspection;
 use disk_model::{Cells, DiskFault};
 use file_disk::FileView;
 use image_inspection::{Shown, inspect_image, print_reason};
+use plant_model::System;
 use std::alloc::Global;
 use std::fs::File;
 use std::io::Write;
 use std::rt::Files;
-use step_core::System;
 use text_io::{WriteFault, end_line, print_number, print_text};
 
 /// Prints what the image at the path says, by the plant's names if there is one. It is only read. If a boot would refuse it, or there is a doubt, the task

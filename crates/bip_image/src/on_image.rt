@@ -18,6 +18,7 @@ use image_commands::{
 };
 use part_lines::rule_lines;
 use plant_core::Event;
+use plant_model::{PlantState, System};
 use plant_service::{ServiceEnding, serve_image};
 use plant_tasks::{PlantEnding, Watched, open_text};
 use restated_text::print_restated;
@@ -29,7 +30,6 @@ use std::io::{BufReader, Write};
 use std::rt::{Clock, Files};
 use std::sync::Wait;
 use std::thread::Threads;
-use step_core::{PlantState, System};
 use text_io::hand_on;
 use worker_runs::run_by_workers;
 

@@ -13,6 +13,7 @@ use image_commands::{
     ImageEnding, ImageRefusal, MigrateEnding, MigrateRefusal, Progress, explore_plant,
 };
 use plant_core::Event;
+use plant_model::System;
 use plant_tasks::{
     PlantEnding, Watched, ended, plant_at, tell_file_failure, tell_more, tell_output_failure,
     words_of_process,
@@ -23,7 +24,6 @@ use std::io::{self, BufWriter, Write};
 use std::rt::{Clock, Env, Files};
 use std::sync::Wait;
 use std::thread::Threads;
-use step_core::System;
 
 /// Does what the words of the command line ask for, and gives the exit status. If a terminal shows the standard error, it is printed there how far
 /// a long task is, and more of a fault; of a fault also where the words ask for it.

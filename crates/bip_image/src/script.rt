@@ -3,18 +3,18 @@ ghost use Rattle.std.specs.Prelude.{◌≡◌, ◌≤◌, length, IfErr, IfOk, I
 ghost use Rattle.bip_image.specs.Script.{TellsOfScript};
 ghost use Rattle.bip_image.specs.declared.ending.Ending.TheVariants.{ScriptUnread};
 ghost use Rattle.script_lines.specs.Script.{script_meaning};
-ghost use Rattle.step_core.specs.Plant.{PlantDefinition};
-ghost use Rattle.step_core.specs.System.{plant_of};
+ghost use Rattle.plant_model.specs.Plant.{PlantDefinition};
+ghost use Rattle.plant_model.specs.System.{plant_of};
 ghost use Rattle.text_io.specs.Reading.{GivesUp};
 ghost use Rattle.text_io.specs.declared.reading.TheConstants.{MAX_TEXT};
 
 use crate::ending::Ending;
 use plant_core::Event;
+use plant_model::System;
 use plant_tasks::PlantEnding;
 use script_lines::read_script;
 use std::alloc::Global;
 use std::io::Read;
-use step_core::System;
 use text_io::{TextFault, read_text};
 
 /// Reads a script to the reader's end, and gives the events that it asks of a plant of the system. Its text is put into `text`, so that a mistake can

@@ -6,6 +6,7 @@ use crate::asked::PlantRequest;
 use crate::paths::ShownPaths;
 use crate::saving::{FileSaver, lead_to_one_file, perform_saving};
 use command_line::{Drawing, Request, Subject, Task, Work, is_standard_input, read_request};
+use plant_model::System;
 use plant_tasks::{
     PlantEnding, PlantEndingText, ReadPlant, TaskPaths, Watched, ended, open_text, plant_at, step,
     tell_more, words_of_process,
@@ -13,7 +14,6 @@ use plant_tasks::{
 use std::fs::File;
 use std::io::{self, BufReader, BufWriter, Write};
 use std::rt::{Env, Files};
-use step_core::System;
 
 /// Which ends of the process are a terminal.
 #[derive(Clone, Copy)]

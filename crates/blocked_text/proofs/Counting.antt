@@ -11,10 +11,10 @@ use Rattle.priority_filter.specs.declared.seen.Seen.{Seen}
 use Rattle.priority_filter.specs.declared.seen.TheConstants.{SEEN_ATOMS}
 use Rattle.priority_filter.proofs.Counting.{alike-counted}
 use Rattle.priority_filter.proofs.DecidedOrder.{decides_no_fault}
-use Rattle.step_core.specs.Choice.{active_in, is_marked_at, named, plant_interactions}
-use Rattle.step_core.specs.Plant.{PlantDefinition}
-use Rattle.step_core.specs.Rules.{fault_of}
-use Rattle.step_core.proofs.NoDeadlock.{order-sound}
+use Rattle.plant_model.specs.Choice.{active_in, is_marked_at, named, plant_interactions}
+use Rattle.plant_model.specs.Plant.{PlantDefinition}
+use Rattle.plant_model.specs.Rules.{fault_of}
+use Rattle.plant_model.proofs.NoDeadlock.{order-sound}
 
 -- the rules of a plant that breaks no rule of plants ask for places that a row can show
 pub seen-counts : (plant : PlantDefinition) (states : List Local) (seen : List Seen) → fault_of plant ≡ None

@@ -5,7 +5,7 @@ use Rattle.std.specs.List.{list_all, list_any, position_from}
 use Rattle.std.specs.Option.{option_map_or, option_or}
 use Rattle.std.proofs.lemmas.Bool.{false≢true}
 use Rattle.std.proofs.lemmas.Option.{none-some, same_Some}
-use Rattle.step_core.proofs.Membership.{here, later}
+use Rattle.plant_model.proofs.Membership.{here, later}
 
 -- the first place in a list of what a function makes
 pub position_from-map : {X Y : Type 0} (p : Y → Bool) (g : X → Y) (i : ℕ) (xs : List X) → position_from (λ x. p (g x)) i xs ≡ position_from p i (map g xs)

@@ -6,10 +6,10 @@ use Rattle.std.specs.Option.{option_map_or}
 use Rattle.std.proofs.lemmas.Bool.{and_parts}
 use Rattle.std.proofs.lemmas.List.Folds.{list_any-append}
 use Rattle.petri_atom.specs.Local.{Local}
-use Rattle.step_core.specs.Choice.{ChoiceDefinition, Interaction, choices_at, choices_of, combinations, flat_from, is_allowed_at, is_offered_port, is_possible, is_possible_at, moves_of, plant_interactions}
-use Rattle.step_core.specs.Plant.{PlantDefinition}
-use Rattle.step_core.specs.declared.choice.Move.{Move}
-use Rattle.step_core.proofs.NoDeadlock.{some-rows}
+use Rattle.plant_model.specs.Choice.{ChoiceDefinition, Interaction, choices_at, choices_of, combinations, flat_from, is_allowed_at, is_offered_port, is_possible, is_possible_at, moves_of, plant_interactions}
+use Rattle.plant_model.specs.Plant.{PlantDefinition}
+use Rattle.plant_model.specs.declared.choice.Move.{Move}
+use Rattle.plant_model.proofs.NoDeadlock.{some-rows}
 use Rattle.blocked_text.specs.Blocked.{can_fire, has_allowed, is_allowed_of}
 use Rattle.blocked_text.proofs.Reasoning.{none-allowed}
 

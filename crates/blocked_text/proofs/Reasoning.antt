@@ -15,9 +15,9 @@ use Rattle.connector_tree.specs.Tree.{leaves}
 use Rattle.connector_tree.specs.declared.tree.Port.{Port}
 use Rattle.priority_filter.specs.Decided.{is_below, is_overruled}
 use Rattle.priority_filter.proofs.DecidedOrder.{decides_below}
-use Rattle.step_core.specs.Choice.{Interaction, active_in, is_allowed_at, is_offered_port, is_possible, is_possible_at, named, passes_guards, plant_interactions}
-use Rattle.step_core.specs.Exports.{clause_applies, guards_hold, value_at}
-use Rattle.step_core.specs.Plant.{PlantDefinition, WireDefinition}
+use Rattle.plant_model.specs.Choice.{Interaction, active_in, is_allowed_at, is_offered_port, is_possible, is_possible_at, named, passes_guards, plant_interactions}
+use Rattle.plant_model.specs.Exports.{clause_applies, guards_hold, value_at}
+use Rattle.plant_model.specs.Plant.{PlantDefinition, WireDefinition}
 use Rattle.blocked_text.specs.Laws.{IsRight, IsZeroClause}
 use Rattle.blocked_text.specs.Reason.{first_idle, first_over, first_zero, is_over, is_zero_clause, reason_among, reason_by, reason_of, zero_of}
 use Rattle.blocked_text.specs.declared.reason.Reason.{Reason}

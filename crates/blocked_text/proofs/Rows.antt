@@ -15,8 +15,8 @@ use Rattle.priority_filter.specs.Decided.{is_below, is_overruled}
 use Rattle.priority_filter.specs.declared.rule.Rule.{Rule}
 use Rattle.priority_filter.specs.declared.rule.Rule.TheVariants.{Under, UnderAt}
 use Rattle.priority_filter.specs.declared.rule.Side.TheVariants.{Whole, One}
-use Rattle.step_core.specs.Plant.{PlantDefinition, WireDefinition}
-use Rattle.step_core.specs.declared.wire.Export.{Export}
+use Rattle.plant_model.specs.Plant.{PlantDefinition, WireDefinition}
+use Rattle.plant_model.specs.declared.wire.Export.{Export}
 use Rattle.blocked_text.specs.Blocked.{blocked_text, connector_text}
 use Rattle.blocked_text.specs.Reason.{reason_of}
 use Rattle.blocked_text.specs.declared.reason.Reason.TheVariants.{NotOffered, GuardIsZero, GivesWay}

@@ -6,13 +6,13 @@ use Rattle.std.proofs.lemmas.Bool.{and_parts, leb-true}
 use Rattle.petri_atom.specs.Definition.{AtomDefinition, TransitionDefinition, is_small_transition, is_well_formed}
 use Rattle.petri_atom.specs.Expression.{Tree, word_count}
 use Rattle.petri_atom.specs.declared.parts.TheConstants.{MAX_WORDS}
-use Rattle.step_core.specs.Plant.{PlantDefinition, WireDefinition}
-use Rattle.step_core.specs.Rules.{are_small_guards, early_fault, fault_of, fault_of_order, first_of, is_small_wire, is_within_limits, late_fault}
-use Rattle.step_core.specs.declared.fault.SystemFault.{SystemFault}
-use Rattle.step_core.specs.declared.fault.SystemFault.TheVariants.{Limit}
-use Rattle.step_core.specs.declared.wire.Export.{Export}
-use Rattle.step_core.proofs.Membership.{all-in, entry-in}
-use Rattle.step_core.proofs.TreeRules.{first_none}
+use Rattle.plant_model.specs.Plant.{PlantDefinition, WireDefinition}
+use Rattle.plant_model.specs.Rules.{are_small_guards, early_fault, fault_of, fault_of_order, first_of, is_small_wire, is_within_limits, late_fault}
+use Rattle.plant_model.specs.declared.fault.SystemFault.{SystemFault}
+use Rattle.plant_model.specs.declared.fault.SystemFault.TheVariants.{Limit}
+use Rattle.plant_model.specs.declared.wire.Export.{Export}
+use Rattle.plant_model.proofs.Membership.{all-in, entry-in}
+use Rattle.plant_model.proofs.TreeRules.{first_none}
 
 -- an entry passes a test that all pass
 pub entry-passes : {X : Type 0} (f : X → Bool) (xs : List X) (k : ℕ) (x : X) → list_all f xs ≡ true → slice_get xs k ≡ Some x → f x ≡ true

@@ -1,5 +1,5 @@
-use Rattle.step_core.specs.Plant.{PlantDefinition}
-use Rattle.step_core.specs.System.{plant_of}
+use Rattle.plant_model.specs.Plant.{PlantDefinition}
+use Rattle.plant_model.specs.System.{plant_of}
 use Rattle.blocked_text.specs.declared.reasons.Reasons.{Reasons}
 
 -- the plant that is asked for reasons

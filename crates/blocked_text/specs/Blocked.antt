@@ -3,8 +3,8 @@ use Rattle.std.specs.Prelude.{ℕ, Bool, false, ◌&&◌, ◌==◌, if◌then◌
 use Rattle.std.specs.List.{list_any, range_with_len}
 use Rattle.std.specs.Option.{option_map_or}
 use Rattle.petri_atom.specs.Local.{Local}
-use Rattle.step_core.specs.Choice.{Interaction, choices, plant_interactions}
-use Rattle.step_core.specs.Plant.{PlantDefinition, wire_name}
+use Rattle.plant_model.specs.Choice.{Interaction, choices, plant_interactions}
+use Rattle.plant_model.specs.Plant.{PlantDefinition, wire_name}
 use Rattle.text_io.specs.Numbered.{numbered}
 use Rattle.blocked_text.specs.Reason.{reason_among}
 use Rattle.blocked_text.specs.SameReason.{is_same_reason}

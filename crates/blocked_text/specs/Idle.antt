@@ -4,7 +4,7 @@ use Rattle.std.specs.Option.{option_map_or}
 use Rattle.petri_atom.specs.Definition.{AtomDefinition, TransitionDefinition, variable_name}
 use Rattle.petri_atom.specs.Local.{Local, value_in}
 use Rattle.connector_tree.specs.declared.tree.Port.{Port}
-use Rattle.step_core.specs.Plant.{of_atom}
+use Rattle.plant_model.specs.Plant.{of_atom}
 use Rattle.text_io.specs.Numbered.{numbered}
 use Rattle.part_text.specs.Rule.{place_name}
 use Rattle.part_text.specs.Words.{leaf_word}

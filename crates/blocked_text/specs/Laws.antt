@@ -5,10 +5,10 @@ use Rattle.petri_atom.specs.Expression.{Tree, value_of}
 use Rattle.petri_atom.specs.Local.{Local, has, is_in, value_in}
 use Rattle.connector_tree.specs.Tree.{leaves}
 use Rattle.priority_filter.specs.Order.{IsBelow}
-use Rattle.step_core.specs.Choice.{Interaction, active_in, is_offered_port, is_possible_at, named, plant_interactions}
-use Rattle.step_core.specs.Exports.{clause_applies, value_at}
-use Rattle.step_core.specs.Plant.{PlantDefinition, WireDefinition}
-use Rattle.step_core.specs.declared.wire.Export.{Export}
+use Rattle.plant_model.specs.Choice.{Interaction, active_in, is_offered_port, is_possible_at, named, plant_interactions}
+use Rattle.plant_model.specs.Exports.{clause_applies, value_at}
+use Rattle.plant_model.specs.Plant.{PlantDefinition, WireDefinition}
+use Rattle.plant_model.specs.declared.wire.Export.{Export}
 use Rattle.blocked_text.specs.declared.hindrance.Hindrance.{Hindrance}
 use Rattle.blocked_text.specs.declared.hindrance.Hindrance.TheVariants.{Unmarked, Marked, ZeroGuard}
 use Rattle.blocked_text.specs.declared.reason.Reason.{Reason}

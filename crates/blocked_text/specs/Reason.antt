@@ -9,10 +9,10 @@ use Rattle.connector_tree.specs.Tree.{leaves}
 use Rattle.connector_tree.specs.declared.tree.Port.{Port}
 use Rattle.priority_filter.specs.Decided.{is_below}
 use Rattle.priority_filter.specs.declared.rule.Rule.{Rule}
-use Rattle.step_core.specs.Choice.{Interaction, active_in, is_offered_port, is_possible_at, named, plant_interactions}
-use Rattle.step_core.specs.Exports.{clause_applies, value_at}
-use Rattle.step_core.specs.Plant.{PlantDefinition, WireDefinition}
-use Rattle.step_core.specs.declared.wire.Export.{Export}
+use Rattle.plant_model.specs.Choice.{Interaction, active_in, is_offered_port, is_possible_at, named, plant_interactions}
+use Rattle.plant_model.specs.Exports.{clause_applies, value_at}
+use Rattle.plant_model.specs.Plant.{PlantDefinition, WireDefinition}
+use Rattle.plant_model.specs.declared.wire.Export.{Export}
 use Rattle.blocked_text.specs.declared.reason.Reason.{Reason}
 use Rattle.blocked_text.specs.declared.reason.Reason.TheVariants.{NotOffered, GuardIsZero, GivesWay}
 

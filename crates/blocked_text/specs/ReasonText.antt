@@ -4,10 +4,10 @@ use Rattle.std.specs.Option.{option_map_or}
 use Rattle.petri_atom.specs.Definition.{AtomDefinition}
 use Rattle.petri_atom.specs.Local.{Local}
 use Rattle.connector_tree.specs.Tree.{leaves}
-use Rattle.step_core.specs.Choice.{Interaction}
-use Rattle.step_core.specs.Exports.{value_at}
-use Rattle.step_core.specs.Plant.{PlantDefinition, WireDefinition}
-use Rattle.step_core.specs.Rules.{is_same_export}
+use Rattle.plant_model.specs.Choice.{Interaction}
+use Rattle.plant_model.specs.Exports.{value_at}
+use Rattle.plant_model.specs.Plant.{PlantDefinition, WireDefinition}
+use Rattle.plant_model.specs.Rules.{is_same_export}
 use Rattle.part_text.specs.Export.{export_name}
 use Rattle.blocked_text.specs.Idle.{port_text}
 use Rattle.blocked_text.specs.Way.{way_text}

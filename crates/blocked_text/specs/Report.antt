@@ -1,9 +1,9 @@
 -- What is said in a report on a plant in a state.
 use Rattle.std.specs.Prelude.{ℕ, List, [], slice_get}
 use Rattle.std.specs.Option.{option_map_or}
-use Rattle.step_core.specs.Choice.{Interaction, plant_interactions}
-use Rattle.step_core.specs.Plant.{PlantDefinition}
-use Rattle.step_core.specs.System.{plant_of}
+use Rattle.plant_model.specs.Choice.{Interaction, plant_interactions}
+use Rattle.plant_model.specs.Plant.{PlantDefinition}
+use Rattle.plant_model.specs.System.{plant_of}
 use Rattle.blocked_text.specs.ReasonText.{clause_text, reason_text}
 use Rattle.blocked_text.specs.Way.{by_text, interaction_text, way_text}
 use Rattle.blocked_text.specs.declared.reason.Reason.{Reason}

@@ -7,8 +7,8 @@ use Rattle.priority_filter.specs.Active.{is_active}
 use Rattle.priority_filter.specs.Decided.{puts}
 use Rattle.priority_filter.specs.declared.rule.Rule.{Rule}
 use Rattle.priority_filter.specs.declared.seen.At.{At}
-use Rattle.step_core.specs.Choice.{Interaction, is_marked_at, named}
-use Rattle.step_core.specs.Plant.{PlantDefinition, wire_name}
+use Rattle.plant_model.specs.Choice.{Interaction, is_marked_at, named}
+use Rattle.plant_model.specs.Plant.{PlantDefinition, wire_name}
 use Rattle.part_text.specs.Rule.{rule_text}
 
 -- a connector has more than one interaction

@@ -1,7 +1,7 @@
 //! The lines of a state, and of a connector.
 ghost use Rattle.std.specs.Prelude.{◌≡◌, false, slice_get};
 ghost use Rattle.std.specs.Option.{option_map_or};
-ghost use Rattle.step_core.specs.Choice.{plant_interactions};
+ghost use Rattle.plant_model.specs.Choice.{plant_interactions};
 ghost use Rattle.text_io.specs.Printing.{Prints};
 ghost use Rattle.part_text.specs.Seen.{interaction_of};
 
@@ -9,8 +9,8 @@ use crate::reason::Reason;
 use crate::reason_text::print_reason;
 use crate::reasons::Reasons;
 use crate::report::Report;
+use plant_model::{Interaction, PlantState};
 use std::io::Write;
-use step_core::{Interaction, PlantState};
 use text_io::{WriteFault, end_line, print_text};
 
 impl Reasons<'_> {

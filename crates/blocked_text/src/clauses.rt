@@ -4,14 +4,14 @@ ghost use Rattle.std.specs.List.{position_from};
 ghost use Rattle.std.specs.Option.{option_map_or};
 ghost use Rattle.petri_atom.specs.Definition.{exported_value};
 ghost use Rattle.connector_tree.specs.Tree as connectors;
-ghost use Rattle.step_core.specs.Exports.{clause_applies, exported_at};
+ghost use Rattle.plant_model.specs.Exports.{clause_applies, exported_at};
 ghost use Rattle.part_text.specs.Seen.{definition_of, tree_of};
 ghost use Rattle.blocked_text.specs.Reason.{first_zero, is_zero_clause};
 
 use connector_tree::{Connector, Mask, Port};
 use part_text::leaf_at;
 use petri_atom::{Atom, Expression, Valuation, VariableTest};
-use step_core::{Export, PlantState};
+use plant_model::{Export, PlantState};
 
 /// The values of the variables that the ports of a connector's leaves export.
 #[derive(Clone, Copy)]
@@ -22,7 +22,7 @@ pub(crate) struct ExportValues<'a> {
 }
 
 impl Valuation<Export> for ExportValues<'_> {
-    ghost use Rattle.step_core.specs.Exports.{value_at};
+    ghost use Rattle.plant_model.specs.Exports.{value_at};
 
     ghost value_at = { λ values export. value_at (map definition_of values.atoms.now) values.states.now (connectors.leaves (connectors.tree_of values.connector.now)) export };
 
@@ -64,7 +64,7 @@ struct TakingPart {
 }
 
 impl VariableTest<Export> for TakingPart {
-    ghost use Rattle.step_core.specs.Exports.{takes_part};
+    ghost use Rattle.plant_model.specs.Exports.{takes_part};
 
     ghost passes = { λ taking export. takes_part taking.mask export };
 

@@ -3,7 +3,7 @@ ghost use Rattle.std.specs.Prelude.{◌≡◌, ◌++◌, [], true, codes, map, s
 ghost use Rattle.std.specs.List.{list_all};
 ghost use Rattle.std.specs.Option.{option_map_or};
 ghost use Rattle.petri_atom.specs.Definition.{is_small_transition};
-ghost use Rattle.step_core.specs.Plant.{of_atom};
+ghost use Rattle.plant_model.specs.Plant.{of_atom};
 ghost use Rattle.text_io.specs.Printing.{Prints};
 ghost use Rattle.part_text.specs.Seen.{definition_of, plant_of, transition_of};
 ghost use Rattle.blocked_text.specs.Idle.{hindered_text, hindered_word, hindered_words, hindrance_text, idle_by, idle_text, number_text, port_text, transition_count};
@@ -15,8 +15,8 @@ use crate::zero::print_zero;
 use connector_tree::Port;
 use part_text::{Variables, place_name, print_port};
 use petri_atom::{Atom, AtomState, Transition};
+use plant_model::{PlantState, System};
 use std::io::Write;
-use step_core::{PlantState, System};
 use text_io::{WriteFault, print_number, print_text};
 
 /// Prints a port by its name, and why it offers nothing.

@@ -2,8 +2,8 @@
 ghost use Rattle.std.specs.Prelude.{◌≡◌, ◌≢◌, ◌↔◌, ℕ, List, None, Some, false, true, slice_get};
 ghost use Rattle.petri_atom.specs.Definition.{AtomDefinition, TransitionDefinition, offers, offers_port};
 ghost use Rattle.petri_atom.specs.Local.{Local};
-ghost use Rattle.step_core.specs.Choice.{Interaction, is_allowed_at, plant_interactions};
-ghost use Rattle.step_core.specs.Plant.{PlantDefinition};
+ghost use Rattle.plant_model.specs.Choice.{Interaction, is_allowed_at, plant_interactions};
+ghost use Rattle.plant_model.specs.Plant.{PlantDefinition};
 ghost use Rattle.blocked_text.specs.Hindrance.{hindrance_of};
 ghost use Rattle.blocked_text.specs.Laws.{IsHindering, IsRight};
 ghost use Rattle.blocked_text.specs.Reason.{reason_of};

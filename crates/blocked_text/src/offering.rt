@@ -2,13 +2,13 @@
 ghost use Rattle.std.specs.Prelude.{◌≡◌, map, false, slice_get};
 ghost use Rattle.std.specs.Option.{option_map_or};
 ghost use Rattle.petri_atom.specs.Definition.{offers_port};
-ghost use Rattle.step_core.specs.Choice.{is_offered_port};
+ghost use Rattle.plant_model.specs.Choice.{is_offered_port};
 ghost use Rattle.part_text.specs.Seen.{definition_of};
 ghost use Rattle.blocked_text.specs.Reason.{first_idle};
 
 use connector_tree::Port;
 use petri_atom::Atom;
-use step_core::PlantState;
+use plant_model::PlantState;
 
 /// The first of the ports that is not offered.
 pub(crate) fn first_idle(atoms: &[Atom], states: &PlantState, ports: &[Port]) -> Option<Port>

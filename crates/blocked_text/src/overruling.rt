@@ -1,13 +1,13 @@
 //! Which possible interactions are above one.
 ghost use Rattle.std.specs.Prelude.{◌≡◌, length};
 ghost use Rattle.priority_filter.specs.Active.{active, may_be_marked};
-ghost use Rattle.step_core.specs.Choice.{is_possible, is_possible_at, plant_interactions};
+ghost use Rattle.plant_model.specs.Choice.{is_possible, is_possible_at, plant_interactions};
 ghost use Rattle.part_text.specs.Seen.{interaction_of};
 
 use crate::offering::first_idle;
 use crate::reasons::Reasons;
+use plant_model::{Interaction, PlantState};
 use priority_filter::{SEEN_ATOMS, Seen};
-use step_core::{Interaction, PlantState};
 
 impl Reasons<'_> {
     ghost use Rattle.blocked_text.specs.Asked.{plant_asked};

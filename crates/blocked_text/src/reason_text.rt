@@ -1,6 +1,6 @@
 //! What is printed of a reason.
 ghost use Rattle.std.specs.Prelude.{◌≡◌, true, map};
-ghost use Rattle.step_core.specs.Rules.{are_small_guards};
+ghost use Rattle.plant_model.specs.Rules.{are_small_guards};
 ghost use Rattle.text_io.specs.Printing.{Prints};
 ghost use Rattle.part_text.specs.Seen.{definition_of, interaction_of, wire_of};
 ghost use Rattle.blocked_text.specs.ReasonText.{clause_text};
@@ -14,8 +14,8 @@ use crate::way::print_way;
 use crate::zero::print_zero;
 use part_text::Exports;
 use petri_atom::Atom;
+use plant_model::{Interaction, PlantState, Wire};
 use std::io::Write;
-use step_core::{Interaction, PlantState, Wire};
 use text_io::WriteFault;
 
 /// Prints a reason of the interaction.

@@ -1,15 +1,15 @@
 //! A plant that is asked for reasons.
 ghost use Rattle.std.specs.Prelude.{◌≡◌, ◌≤◌, IfOk, length, map};
 ghost use Rattle.priority_filter.specs.declared.interaction_set.TheConstants.{INTERACTION_LIMIT};
-ghost use Rattle.step_core.specs.Choice.{named, plant_interactions};
+ghost use Rattle.plant_model.specs.Choice.{named, plant_interactions};
 ghost use Rattle.part_text.specs.Seen.{interaction_of, plant_of};
 
 use crate::clauses::{ExportValues, first_zero};
 use crate::offering::first_idle;
 use crate::reason::Reason;
+use plant_model::{Interaction, PlantState, System, names_of};
 use priority_filter::Order;
 use std::alloc::{AllocError, Global};
-use step_core::{Interaction, PlantState, System, names_of};
 
 /// A plant that is asked for reasons: its system, and the order that its priority rules put on its interactions.
 #[derive(Drop)]

@@ -1,6 +1,6 @@
 //! What reasons are printed of.
 
-use step_core::{PlantState, System};
+use plant_model::{PlantState, System};
 
 /// What reasons are printed of: a plant in a state, and the lines on which its rules stand in its text.
 #[derive(Clone, Copy)]

@@ -2,11 +2,11 @@
 ghost use Rattle.std.specs.Prelude.{◌≡◌};
 ghost use Rattle.priority_filter.specs.Decided.{is_on, is_proper_subset, puts};
 ghost use Rattle.priority_filter.specs.Active.{is_active};
-ghost use Rattle.step_core.specs.Choice.{is_marked_at};
+ghost use Rattle.plant_model.specs.Choice.{is_marked_at};
 ghost use Rattle.blocked_text.specs.Way.{first_rule};
 
+use plant_model::PlantState;
 use priority_filter::{Rule, Side};
-use step_core::PlantState;
 
 /// The number of the first rule that counts in the states and puts the lower interaction below the higher.
 pub(crate) fn first_rule(

@@ -5,7 +5,7 @@ ghost use Rattle.part_text.specs.Seen.{tree_of};
 ghost use Rattle.blocked_text.specs.Variables.{is_before, sought, variables_in};
 
 use petri_atom::Expression;
-use step_core::Export;
+use plant_model::Export;
 
 /// A variable as an expression names it.
 pub(crate) trait Same: Copy {
@@ -27,7 +27,7 @@ impl Same for u8 {
 }
 
 impl Same for Export {
-    ghost use Rattle.step_core.specs.Rules.{is_same_export};
+    ghost use Rattle.plant_model.specs.Rules.{is_same_export};
 
     ghost same = { is_same_export };
 

@@ -9,9 +9,9 @@ ghost use Rattle.blocked_text.specs.Way.{has_several, line_text, rule_with_line}
 use crate::report::Report;
 use crate::rules::first_rule;
 use part_text::print_rule;
+use plant_model::Interaction;
 use priority_filter::Rule;
 use std::io::Write;
-use step_core::Interaction;
 use text_io::{WriteFault, print_number, print_text};
 
 /// Prints that the lower interaction is possible and gives way to the higher, and which rule puts it below.

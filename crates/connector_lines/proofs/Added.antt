@@ -6,10 +6,10 @@ use Rattle.std.specs.Option.{ok_or}
 use Rattle.std.proofs.lemmas.Bool.{and_from, and_parts, le-leb, ltb-true, not-true}
 use Rattle.petri_atom.specs.Expression.{Tree, word_count, all_variables}
 use Rattle.petri_atom.specs.declared.parts.TheConstants.{MAX_WORDS}
-use Rattle.step_core.specs.Plant.{TransferDefinition}
-use Rattle.step_core.specs.Rules.{are_small_guards, are_small_transfers}
-use Rattle.step_core.specs.declared.limits.TheConstants.{MAX_GUARDS, MAX_TRANSFERS}
-use Rattle.step_core.specs.declared.wire.Export.{Export}
+use Rattle.plant_model.specs.Plant.{TransferDefinition}
+use Rattle.plant_model.specs.Rules.{are_small_guards, are_small_transfers}
+use Rattle.plant_model.specs.declared.limits.TheConstants.{MAX_GUARDS, MAX_TRANSFERS}
+use Rattle.plant_model.specs.declared.wire.Export.{Export}
 use Rattle.plant_words.specs.declared.line_fault.LineFault.{LineFault}
 use Rattle.plant_words.specs.declared.line_fault.LineFault.TheVariants.{Twice, UnknownName, Limit}
 use Rattle.plant_words.specs.Reading.{◌>>=◌, check, first_word}

@@ -3,9 +3,9 @@ use Rattle.std.proofs.Common.{◌≡◌, sym, refl, ◌<◌, ◌++◌, [], ◌�
 use Rattle.std.specs.Prelude.{nat_lt}
 use Rattle.std.proofs.lemmas.Bool.{ltb-true}
 use Rattle.petri_atom.specs.Expression.{Tree}
-use Rattle.step_core.specs.Plant.{TransferDefinition, WireDefinition}
-use Rattle.step_core.specs.declared.limits.TheConstants.{MAX_GUARDS, MAX_TRANSFERS}
-use Rattle.step_core.specs.declared.wire.Export.{Export}
+use Rattle.plant_model.specs.Plant.{TransferDefinition, WireDefinition}
+use Rattle.plant_model.specs.declared.limits.TheConstants.{MAX_GUARDS, MAX_TRANSFERS}
+use Rattle.plant_model.specs.declared.wire.Export.{Export}
 use Rattle.plant_words.specs.declared.line_fault.LineFault.{LineFault}
 use Rattle.plant_words.specs.declared.line_fault.LineFault.TheVariants.{Limit}
 use Rattle.plant_words.specs.Reading.{check}

@@ -5,7 +5,7 @@ use Rattle.petri_atom.specs.declared.parts.TheConstants.{MAX_WORDS}
 use Rattle.plant_words.specs.Expressions.{expression_in}
 use Rattle.plant_words.specs.declared.expression_fault.ExpressionFault.{ExpressionFault}
 use Rattle.plant_words.proofs.ExpressionParts.{words_of_expression, variables_of_expression}
-use Rattle.step_core.specs.declared.wire.Export.{Export}
+use Rattle.plant_model.specs.declared.wire.Export.{Export}
 use Rattle.plant_words.specs.declared.line_fault.LineFault.{LineFault}
 use Rattle.plant_words.specs.Reading.{◌>>=◌, at_end, on_line}
 use Rattle.connector_lines.specs.Rows.{Named, whole_expression}

@@ -11,9 +11,9 @@ use Rattle.priority_filter.specs.declared.rule.Rule.{Rule}
 use Rattle.priority_filter.specs.declared.rule.Rule.TheVariants.{UnderAt, Maximal}
 use Rattle.priority_filter.specs.declared.rule.Side.{Side}
 use Rattle.priority_filter.specs.declared.seen.At.{At}
-use Rattle.step_core.specs.Plant.{TransferDefinition}
-use Rattle.step_core.specs.declared.limits.TheConstants.{MAX_GUARDS, MAX_TRANSFERS}
-use Rattle.step_core.specs.declared.wire.Export.{Export}
+use Rattle.plant_model.specs.Plant.{TransferDefinition}
+use Rattle.plant_model.specs.declared.limits.TheConstants.{MAX_GUARDS, MAX_TRANSFERS}
+use Rattle.plant_model.specs.declared.wire.Export.{Export}
 use Rattle.plant_words.specs.Expressions.{expression_in}
 use Rattle.plant_words.specs.Lines.{is_legal_line}
 use Rattle.plant_words.specs.Reading.{◌>>=◌, check, first_word, first_keyword, at_end, on_line}

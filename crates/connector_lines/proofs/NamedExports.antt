@@ -4,7 +4,7 @@ use Rattle.std.specs.Prelude.{slice_get, option_map}
 use Rattle.std.specs.Option.{option_and_then}
 use Rattle.plant_words.specs.Splits.{export_parts}
 use Rattle.connector_tree.specs.declared.tree.Port.{Port}
-use Rattle.step_core.specs.declared.wire.Export.{Export}
+use Rattle.plant_model.specs.declared.wire.Export.{Export}
 use Rattle.connector_lines.specs.Exports.{leaf_of, export_at, export_of, variable_in}
 use Rattle.connector_lines.specs.Parts.{Passes}
 

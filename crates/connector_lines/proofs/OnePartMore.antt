@@ -7,8 +7,8 @@ use Rattle.std.proofs.lemmas.List.{map-append}
 use Rattle.std.proofs.Math.ListN.{length-map, length-append}
 use Rattle.std.proofs.lemmas.List.Folds.{list_all-append}
 use Rattle.petri_atom.specs.Expression.{Tree}
-use Rattle.step_core.specs.Plant.{TransferDefinition}
-use Rattle.step_core.specs.declared.wire.Export.{Export}
+use Rattle.plant_model.specs.Plant.{TransferDefinition}
+use Rattle.plant_model.specs.declared.wire.Export.{Export}
 use Rattle.plant_words.specs.declared.line_fault.LineFault.{LineFault}
 use Rattle.plant_words.specs.declared.line_fault.LineFault.TheVariants.{Twice, UnknownName}
 use Rattle.plant_words.specs.Reading.{◌>>=◌, check, first_word, first_keyword}

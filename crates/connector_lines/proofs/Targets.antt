@@ -4,11 +4,11 @@ use Rattle.std.specs.List.{list_any}
 use Rattle.std.proofs.lemmas.List.{map-append}
 use Rattle.petri_atom.specs.Definition.{is_each_once}
 use Rattle.petri_atom.proofs.Lists.{list_any-map}
-use Rattle.step_core.specs.Plant.{TransferDefinition}
-use Rattle.step_core.specs.Rules.{is_same_export}
-use Rattle.step_core.specs.Wire.{transfer_of}
-use Rattle.step_core.specs.declared.wire.Export.{Export}
-use Rattle.step_core.specs.declared.wire.Transfer.{Transfer}
+use Rattle.plant_model.specs.Plant.{TransferDefinition}
+use Rattle.plant_model.specs.Rules.{is_same_export}
+use Rattle.plant_model.specs.Wire.{transfer_of}
+use Rattle.plant_model.specs.declared.wire.Export.{Export}
+use Rattle.plant_model.specs.declared.wire.Transfer.{Transfer}
 use Rattle.plant_words.proofs.Once.{once_more, same_number-either_way}
 use Rattle.connector_lines.specs.Rows.{has_target, has_targets_once}
 

@@ -1,8 +1,8 @@
 -- What the steps of reading a transfer gave.
 use Rattle.std.proofs.Common.{◌≡◌, codes, List, ℕ, drop, Result, Ok}
 use Rattle.petri_atom.specs.Expression.{Tree}
-use Rattle.step_core.specs.Plant.{TransferDefinition}
-use Rattle.step_core.specs.declared.wire.Export.{Export}
+use Rattle.plant_model.specs.Plant.{TransferDefinition}
+use Rattle.plant_model.specs.declared.wire.Export.{Export}
 use Rattle.plant_words.specs.declared.line_fault.LineFault.{LineFault}
 use Rattle.plant_words.specs.Reading.{◌>>=◌, first_keyword}
 use Rattle.plant_words.proofs.Steps.{led_on, same_end}

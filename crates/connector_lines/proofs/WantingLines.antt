@@ -4,9 +4,9 @@ use Rattle.std.specs.Prelude.{nat_lt, IsOk}
 use Rattle.petri_atom.specs.Expression.{Tree}
 use Rattle.plant_words.specs.Expressions.{words_left}
 use Rattle.plant_words.specs.declared.expression_fault.ExpressionFault.{ExpressionFault}
-use Rattle.step_core.specs.Plant.{WireDefinition}
-use Rattle.step_core.specs.declared.limits.TheConstants.{MAX_GUARDS, MAX_TRANSFERS}
-use Rattle.step_core.specs.declared.wire.Export.{Export}
+use Rattle.plant_model.specs.Plant.{WireDefinition}
+use Rattle.plant_model.specs.declared.limits.TheConstants.{MAX_GUARDS, MAX_TRANSFERS}
+use Rattle.plant_model.specs.declared.wire.Export.{Export}
 use Rattle.plant_words.specs.declared.line_fault.LineFault.{LineFault}
 use Rattle.plant_words.specs.declared.line_fault.LineFault.TheVariants.{Limit}
 use Rattle.plant_words.specs.Reading.{◌>>=◌, check, at_end, on_line}

@@ -5,8 +5,8 @@ use Rattle.petri_atom.specs.Expression.{Tree, number, variable, operation}
 use Rattle.petri_atom.specs.declared.expression.Operator.TheVariants.{Add, Less}
 use Rattle.connector_tree.specs.Tree as connectors
 use Rattle.connector_tree.specs.declared.tree.Port.{Port}
-use Rattle.step_core.specs.Plant.{TransferDefinition, WireDefinition}
-use Rattle.step_core.specs.declared.wire.Export.{Export}
+use Rattle.plant_model.specs.Plant.{TransferDefinition, WireDefinition}
+use Rattle.plant_model.specs.declared.wire.Export.{Export}
 use Rattle.plant_words.specs.Words.{words_of}
 use Rattle.plant_words.specs.declared.line_fault.LineFault.TheVariants.{NotAscii, Twice, UnknownName, BadExpression, BadNumber, Shape, Limit}
 use Rattle.connector_lines.specs.Exports.{variable_in}

@@ -2,8 +2,8 @@
 use Rattle.std.specs.Prelude.{map}
 use Rattle.petri_atom.specs.Expression.{tree_of}
 use Rattle.connector_tree.specs.Tree as connectors
-use Rattle.step_core.specs.Plant.{WireDefinition}
-use Rattle.step_core.specs.Wire.{transfer_of}
+use Rattle.plant_model.specs.Plant.{WireDefinition}
+use Rattle.plant_model.specs.Wire.{transfer_of}
 use Rattle.connector_lines.specs.declared.draft.WireDraft.{WireDraft}
 
 -- the connector as its lines have written it so far

@@ -3,7 +3,7 @@ use Rattle.std.specs.Prelude.{ℕ, ◌==◌, List, slice_get, position, Option, 
 use Rattle.std.specs.Option.{option_and_then}
 use Rattle.plant_words.specs.Splits.{export_parts}
 use Rattle.connector_tree.specs.declared.tree.Port.{Port}
-use Rattle.step_core.specs.declared.wire.Export.{Export}
+use Rattle.plant_model.specs.declared.wire.Export.{Export}
 
 -- the number of the first of these leaves that is of the atom
 abbrev pub leaf_of : List Port → ℕ → Option ℕ

@@ -3,8 +3,8 @@ use Rattle.std.specs.Prelude.{◌≡◌, ℕ, Bool, true, ◌&&◌, List, nat_le
 use Rattle.std.specs.List.{list_all}
 use Rattle.petri_atom.specs.Expression.{Tree, word_count, all_variables}
 use Rattle.petri_atom.specs.declared.parts.TheConstants.{MAX_WORDS}
-use Rattle.step_core.specs.Plant.{WireDefinition}
-use Rattle.step_core.specs.declared.wire.Export.{Export}
+use Rattle.plant_model.specs.Plant.{WireDefinition}
+use Rattle.plant_model.specs.declared.wire.Export.{Export}
 use Rattle.connector_lines.specs.Rows.{Named}
 
 -- each variable that a word names passes a test

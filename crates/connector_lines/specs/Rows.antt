@@ -8,10 +8,10 @@ use Rattle.petri_atom.specs.Definition.{is_each_once}
 use Rattle.petri_atom.specs.Expression.{Tree}
 use Rattle.connector_tree.specs.Tree.{leaves}
 use Rattle.connector_tree.specs.declared.tree.Port.{Port}
-use Rattle.step_core.specs.Plant.{TransferDefinition, WireDefinition}
-use Rattle.step_core.specs.Rules.{is_same_export}
-use Rattle.step_core.specs.declared.limits.TheConstants.{MAX_GUARDS, MAX_TRANSFERS}
-use Rattle.step_core.specs.declared.wire.Export.{Export}
+use Rattle.plant_model.specs.Plant.{TransferDefinition, WireDefinition}
+use Rattle.plant_model.specs.Rules.{is_same_export}
+use Rattle.plant_model.specs.declared.limits.TheConstants.{MAX_GUARDS, MAX_TRANSFERS}
+use Rattle.plant_model.specs.declared.wire.Export.{Export}
 use Rattle.plant_words.specs.Expressions.{expression_in}
 use Rattle.plant_words.specs.declared.line_fault.LineFault.{LineFault}
 use Rattle.plant_words.specs.declared.line_fault.LineFault.TheVariants.{Twice, UnknownName, Limit}

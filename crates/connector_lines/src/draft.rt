@@ -3,9 +3,9 @@ ghost use Rattle.std.specs.Prelude.{◌≡◌, ◌≤◌, length, vec_len, map, 
 ghost use Rattle.petri_atom.specs.Expression.{tree_of};
 ghost use Rattle.connector_tree.specs.Tree as connectors;
 ghost use Rattle.connector_tree.specs.declared.tree.TheConstants.{MAX_LEAVES};
-ghost use Rattle.step_core.specs.Rules.{are_small_guards, are_small_transfers, is_small_wire};
-ghost use Rattle.step_core.specs.Wire.{wire_of, transfer_of};
-ghost use Rattle.step_core.specs.declared.wire.Export.{Export};
+ghost use Rattle.plant_model.specs.Rules.{are_small_guards, are_small_transfers, is_small_wire};
+ghost use Rattle.plant_model.specs.Wire.{wire_of, transfer_of};
+ghost use Rattle.plant_model.specs.declared.wire.Export.{Export};
 ghost use Rattle.plant_words.specs.LineFaults.{IsFaultOf, IsLast};
 ghost use Rattle.connector_lines.specs.Rows.{has_target, has_targets_once, named_on, whole_expression, transfer_in, guard_row, transfer_row};
 ghost use Rattle.connector_lines.specs.Exports.{variable_in};
@@ -15,10 +15,10 @@ use crate::exports::{Exports, LeafVariables};
 use crate::parts::{read_transfer, read_whole};
 use connector_tree::{Connector, MAX_LEAVES, Port, leaves};
 use petri_atom::{Expression, Name};
+use plant_model::{Export, MAX_GUARDS, MAX_TRANSFERS, Transfer, Wire};
 use plant_words::reading::check;
 use plant_words::{LineFault, Words};
 use std::alloc::{AllocError, Global};
-use step_core::{Export, MAX_GUARDS, MAX_TRANSFERS, Transfer, Wire};
 
 /// A connector to which lines add guard clauses and transfers.
 ///

@@ -5,8 +5,8 @@ ghost use Rattle.connector_tree.specs.declared.tree.TheConstants.{MAX_LEAVES};
 ghost use Rattle.connector_lines.specs.Exports.{leaf_of};
 
 use connector_tree::{MAX_LEAVES, Port};
+use plant_model::Export;
 use plant_words::{Variables, split_export};
-use step_core::Export;
 
 /// The atoms whose variables a connector's lines may name.
 pub trait Exports {

@@ -3,15 +3,15 @@ ghost use Rattle.std.specs.Prelude.{◌≡◌, false, drop, map, IfOk, IfErr, Ok
 ghost use Rattle.std.specs.List.{list_any};
 ghost use Rattle.petri_atom.specs.Expression.{tree_of};
 ghost use Rattle.plant_words.specs.LineFaults.{IsFaultOf, IsLast};
-ghost use Rattle.step_core.specs.Rules.{is_same_export};
-ghost use Rattle.step_core.specs.Wire.{transfer_of};
+ghost use Rattle.plant_model.specs.Rules.{is_same_export};
+ghost use Rattle.plant_model.specs.Wire.{transfer_of};
 ghost use Rattle.connector_lines.specs.Rows.{whole_expression, has_target, target_in, transfer_in};
 
 use petri_atom::Expression;
+use plant_model::{Export, Transfer};
 use plant_words::reading::{check, end, next_keyword, next_word};
 use plant_words::{LineFault, Variables, Words, read_expression};
 use std::alloc::Global;
-use step_core::{Export, Transfer};
 
 /// The expression that the words are, with none left over.
 pub(crate) fn read_whole<N: Variables<Export>>(

@@ -5,11 +5,11 @@ use Rattle.std.proofs.lemmas.Option.{get_or_from_slice_get}
 use Rattle.disk_model.specs.MemDisk.{AsksNoChange}
 use Rattle.disk_model.specs.declared.memory.MemDisk.{MemDisk}
 use Rattle.petri_atom.specs.Local.{Local}
-use Rattle.step_core.specs.Choice.{ChoiceDefinition, IsAllowed}
-use Rattle.step_core.specs.Plant.{PlantDefinition}
-use Rattle.step_core.specs.Runs.{IsRun, fold}
-use Rattle.step_core.specs.Step.{initial_states, next}
-use Rattle.step_core.proofs.OnRuns.{runs-cut}
+use Rattle.plant_model.specs.Choice.{ChoiceDefinition, IsAllowed}
+use Rattle.plant_model.specs.Plant.{PlantDefinition}
+use Rattle.plant_model.specs.Runs.{IsRun, fold}
+use Rattle.plant_model.specs.Step.{initial_states, next}
+use Rattle.plant_model.proofs.OnRuns.{runs-cut}
 use Rattle.plant_core.proofs.EventRuns.{fold-append}
 use Rattle.crash_explorer.specs.Judging.{IsRunOf, state_after}
 

@@ -13,8 +13,8 @@ use Rattle.plant_image.specs.Faults.{fault_of}
 use Rattle.plant_image.specs.Standing.{StandsFor}
 use Rattle.plant_image.specs.declared.fault.ImageFault.TheVariants.{NotFormatted}
 use Rattle.recovery.specs.Booting.{IsBooted}
-use Rattle.step_core.specs.Choice.{ChoiceDefinition}
-use Rattle.step_core.specs.Plant.{PlantDefinition}
+use Rattle.plant_model.specs.Choice.{ChoiceDefinition}
+use Rattle.plant_model.specs.Plant.{PlantDefinition}
 use Rattle.crash_explorer.specs.Judging.{IsRight, IsRightStop, IsRunOf, state_after}
 use Rattle.crash_explorer.specs.Outcomes.{IsNextOf, IsRightNext}
 use Rattle.crash_explorer.specs.Verdicts.{IsFound, IsOpened, found_in}

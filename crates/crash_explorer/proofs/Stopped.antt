@@ -22,14 +22,14 @@ use Rattle.petri_atom.specs.Local.{Local}
 use Rattle.record_codec.specs.Ring.{identity_cell}
 use Rattle.recovery.specs.Booting.{IsBooted, IsBooting}
 use Rattle.recovery.specs.Formatting.{IsFormatting, formatted_size}
-use Rattle.step_core.specs.Choice.{ChoiceDefinition}
-use Rattle.step_core.specs.Plant.{PlantDefinition}
-use Rattle.step_core.specs.Runs.{IsRun, fold}
-use Rattle.step_core.specs.Step.{initial_states}
-use Rattle.step_core.proofs.OnRuns.{run-folds, runs-join}
+use Rattle.plant_model.specs.Choice.{ChoiceDefinition}
+use Rattle.plant_model.specs.Plant.{PlantDefinition}
+use Rattle.plant_model.specs.Runs.{IsRun, fold}
+use Rattle.plant_model.specs.Step.{initial_states}
+use Rattle.plant_model.proofs.OnRuns.{run-folds, runs-join}
 use Rattle.crash_explorer.specs.Judging.{IsRight, IsRightStop, IsRunOf, state_after}
-use Rattle.step_core.specs.Chosen.{choice_of}
-use Rattle.step_core.specs.declared.choice.Choice.{Choice}
+use Rattle.plant_model.specs.Chosen.{choice_of}
+use Rattle.plant_model.specs.declared.choice.Choice.{Choice}
 use Rattle.crash_explorer.specs.Running.{IsAt, IsEnded, IsFirstBoot, IsLived, IsMadeUntil, device_in, fired_in, is_formatting}
 use Rattle.crash_explorer.specs.declared.running.Ended.{Ended}
 use Rattle.crash_explorer.specs.declared.running.Stage.{Stage}

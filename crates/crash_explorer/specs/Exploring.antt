@@ -9,10 +9,10 @@ use Rattle.disk_model.specs.declared.memory.MemDisk.{MemDisk}
 use Rattle.plant_core.specs.View.{View}
 use Rattle.plant_core.specs.declared.events.Event.{Event}
 use Rattle.recovery.specs.Formatting.{formatted_size}
-use Rattle.step_core.specs.Choice.{ChoiceDefinition}
-use Rattle.step_core.specs.Plant.{PlantDefinition}
-use Rattle.step_core.specs.System.{digest_of, plant_of}
-use Rattle.step_core.specs.declared.system.System.{System}
+use Rattle.plant_model.specs.Choice.{ChoiceDefinition}
+use Rattle.plant_model.specs.Plant.{PlantDefinition}
+use Rattle.plant_model.specs.System.{digest_of, plant_of}
+use Rattle.plant_model.specs.declared.system.System.{System}
 use Rattle.crash_explorer.specs.Judging.{IsRight, IsRightStop, IsRunOf}
 use Rattle.crash_explorer.specs.Running.{IsFirstBoot, IsLived, IsMadeUntil, is_formatting}
 use Rattle.crash_explorer.specs.Outcomes.{IsNextOf, IsRightNext, IsTorn}

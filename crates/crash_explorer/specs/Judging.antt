@@ -6,10 +6,10 @@ use Rattle.disk_model.specs.DiskState.{IsUnchanged}
 use Rattle.disk_model.specs.MemDisk.{AsksNoChange, fuse_of, state_of}
 use Rattle.disk_model.specs.declared.fuse.Fuse.TheVariants.{Off}
 use Rattle.disk_model.specs.declared.memory.MemDisk.{MemDisk}
-use Rattle.step_core.specs.Choice.{ChoiceDefinition}
-use Rattle.step_core.specs.Plant.{PlantDefinition}
-use Rattle.step_core.specs.Runs.{IsRun, fold}
-use Rattle.step_core.specs.Step.{initial_states}
+use Rattle.plant_model.specs.Choice.{ChoiceDefinition}
+use Rattle.plant_model.specs.Plant.{PlantDefinition}
+use Rattle.plant_model.specs.Runs.{IsRun, fold}
+use Rattle.plant_model.specs.Step.{initial_states}
 use Rattle.plant_image.specs.Faults.{fault_of}
 use Rattle.plant_image.specs.Standing.{StandsFor}
 use Rattle.plant_image.specs.declared.fault.ImageFault.TheVariants.{NotFormatted}

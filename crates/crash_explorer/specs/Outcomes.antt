@@ -11,8 +11,8 @@ use Rattle.plant_core.specs.View.{View}
 use Rattle.plant_core.specs.declared.events.Event.{Event}
 use Rattle.plant_core.specs.declared.events.Event.TheVariants.{Fire, Flush}
 use Rattle.recovery.specs.Booting.{IsBooted}
-use Rattle.step_core.specs.Choice.{ChoiceDefinition}
-use Rattle.step_core.specs.Plant.{PlantDefinition}
+use Rattle.plant_model.specs.Choice.{ChoiceDefinition}
+use Rattle.plant_model.specs.Plant.{PlantDefinition}
 use Rattle.crash_explorer.specs.Judging.{IsRight, IsRightStop}
 use Rattle.crash_explorer.specs.Running.{IsLived}
 use Rattle.crash_explorer.specs.Verdicts.{IsFound}

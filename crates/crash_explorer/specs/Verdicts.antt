@@ -8,8 +8,8 @@ use Rattle.plant_core.specs.View.{fired_number}
 use Rattle.plant_image.specs.Contents.{contents_of, last_number}
 use Rattle.plant_image.specs.Faults.{fault_of}
 use Rattle.recovery.specs.Booting.{IsBooted}
-use Rattle.step_core.specs.Choice.{ChoiceDefinition}
-use Rattle.step_core.specs.Plant.{PlantDefinition}
+use Rattle.plant_model.specs.Choice.{ChoiceDefinition}
+use Rattle.plant_model.specs.Plant.{PlantDefinition}
 use Rattle.crash_explorer.specs.Judging.{IsRight}
 use Rattle.crash_explorer.specs.declared.booting.Found.{Found}
 use Rattle.crash_explorer.specs.declared.booting.Found.TheVariants.{Booted, Refused}

@@ -9,9 +9,9 @@ use crate::watched::Watched;
 use disk_model::MemDisk;
 use plant_core::Plant;
 use plant_image::ImageFault;
+use plant_model::System;
 use recovery::{BootFault, boot};
 use std::alloc::Global;
-use step_core::System;
 
 /// What a device boots to.
 #[derive(Clone, Copy, Debug, PartialEq, Eq)]

@@ -13,9 +13,9 @@ use crate::running::{Stage, run};
 use crate::watched::Cut;
 use disk_model::{CELL, MemDisk, Tear};
 use plant_core::Event;
+use plant_model::System;
 use record_codec::ring::device_cells;
 use std::alloc::{AllocError, Global};
-use step_core::System;
 
 /// The ways in which a stop tears what is pending, in the order in which they are tried.
 pub const TEARS: [Tear; 4] = [Tear::Old, Tear::New, Tear::Gates, Tear::Mixed];

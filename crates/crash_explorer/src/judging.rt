@@ -9,8 +9,8 @@ use crate::loading::{load, size};
 use crate::states::are_behind_front;
 use disk_model::MemDisk;
 use plant_image::{ImageFault, read_image};
+use plant_model::{Choice, System};
 use std::alloc::Global;
-use step_core::{Choice, System};
 
 /// What the cells of a device come to.
 #[derive(Clone, Copy)]

@@ -16,8 +16,8 @@ use crate::watched::Watched;
 use disk_model::{MemDisk, Tear};
 use plant_core::{Event, Plant};
 use plant_image::ImageFault;
+use plant_model::{Choice, System};
 use std::alloc::Global;
-use step_core::{Choice, System};
 
 /// How a plant goes on that was booted after a stop: it fires its first choice, if it has one and room for it, and flushes. Then the power is cut again,
 /// and tears as before.

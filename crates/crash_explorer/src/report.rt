@@ -6,8 +6,8 @@ ghost use Rattle.crash_explorer.specs.Seen.{plant_of, digest_of, LEAST_RING, MOS
 use crate::explorer::Explorer;
 use crate::fault::ExploreFault;
 use plant_core::Event;
+use plant_model::System;
 use std::alloc::Global;
-use step_core::System;
 
 /// What was found of a run.
 #[derive(Clone, Copy, Debug, PartialEq, Eq)]

@@ -3,7 +3,7 @@ ghost use Rattle.std.specs.Prelude.{◌≡◌, ◌+◌, ◌++◌, ◌≤◌, [],
 ghost use Rattle.std.specs.Option.{option_to_list};
 ghost use Rattle.plant_core.specs.Events.{all_fired, fired_by};
 ghost use Rattle.plant_image.specs.Standing.{StandsFor};
-ghost use Rattle.step_core.specs.Step.{initial_states};
+ghost use Rattle.plant_model.specs.Step.{initial_states};
 ghost use Rattle.crash_explorer.specs.Seen.{plant_of, digest_of, choice_of, definition_of, device_of, text_digest, view_of, LEAST_RING, MOST_RING, formatted_size, BODY, size_of, Cell, MayBe, cell_of, fresh, state_of};
 ghost use Rattle.crash_explorer.specs.declared.running.Stage.TheVariants.{Running};
 ghost use Rattle.crash_explorer.specs.Watching.{IsCountable, IsWhole};
@@ -14,9 +14,9 @@ use crate::watched::Watched;
 use disk_model::MemDisk;
 use plant_core::{Event, FiredAs, Hands, Happened, Plant, Refused, drive};
 use plant_image::ImageFault;
+use plant_model::{Choice, System};
 use recovery::{BootFault, FormatFault, boot, format};
 use std::alloc::{AllocError, Global};
-use step_core::{Choice, System};
 
 /// What of a run a stop falls in.
 #[derive(Clone, Copy, Debug, PartialEq, Eq)]

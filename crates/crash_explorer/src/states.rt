@@ -1,13 +1,14 @@
 //! The state of a plant after some choices.
 ghost use Rattle.std.specs.Prelude.{◌≡◌, ◌+◌, ◌≤◌, ◌↔◌, ◌++◌, ℕ, IsTrue, IfOk, length, map, take};
+ghost use Rattle.plant_model.specs.Runs.{IsRun, fold};
+ghost use Rattle.plant_model.specs.declared.limits.TheConstants.{MAX_ATOMS};
 ghost use Rattle.step_core.specs.Running.{plant_in, states_in};
-ghost use Rattle.step_core.specs.Runs.{IsRun, fold};
-ghost use Rattle.step_core.specs.declared.limits.TheConstants.{MAX_ATOMS};
 ghost use Rattle.crash_explorer.specs.Seen.{plant_of, choice_of};
 ghost use Rattle.crash_explorer.specs.Judging.{IsRunOf, state_after};
 
+use plant_model::{Choice, PlantState, System};
 use std::alloc::{AllocError, Global};
-use step_core::{Choice, PlantState, Stepper, System};
+use step_core::Stepper;
 
 /// Whether these are the states after all of the acknowledged choices and a front of the tail, and `number` is how many choices that is.
 pub(crate) fn are_behind_front(

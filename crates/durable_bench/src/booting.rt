@@ -3,13 +3,13 @@ use crate::command::Crew;
 use file_disk::FileDisk;
 use parallel_replay::Quiet;
 use plant_core::Front;
+use plant_model::System;
 use recovery::boot_par;
 use std::fs::File;
 use std::rt::{Clock, Files};
 use std::thread::Threads;
 use std::time::{Duration, Instant};
 use std::{fs, io};
-use step_core::System;
 
 /// How long a boot took, and how far the plant was after it.
 #[derive(Clone, Copy)]

@@ -8,6 +8,7 @@ use bare_disk::BareDisk;
 use disk_model::{CELL, Disk};
 use engine_host::{Named, Naming, open};
 use plant_core::Plant;
+use plant_model::System;
 use record_codec::MOST_RING;
 use record_codec::ring::device_cells;
 use recovery::{boot, format};
@@ -15,7 +16,6 @@ use std::alloc::Global;
 use std::rt::Clock;
 use std::sync::Wait;
 use std::thread::Threads;
-use step_core::System;
 
 /// How many atoms the system has.
 pub(crate) fn atoms_of(system: &System) -> u16 {

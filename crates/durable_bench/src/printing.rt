@@ -7,12 +7,12 @@ use crate::report::{Ratio, Seconds};
 use crate::working::{Plan, Way};
 use bare_disk::BareDisk;
 use engine_host::name;
+use plant_model::System;
 use std::fs::File;
 use std::marker::Brand;
 use std::rt::{Clock, Files};
 use std::sync::Wait;
 use std::thread::Threads;
-use step_core::System;
 
 /// Prints how fast a plant fires alone and under a host, if nothing failed.
 pub(crate) fn print_firing<R: Clock + Print + Wait + AllocGlobal>(

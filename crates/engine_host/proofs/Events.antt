@@ -2,11 +2,11 @@
 use Rattle.std.proofs.Common.{◌≡◌, ℕ, ◌+◌, ◌≤◌, [], ◌∷◌, length, true, Option, None, Some, Result, Ok, Err, is_ok, if◌then◌else◌, refl, ap, sym, ◌∙◌, subst, arith, length-append, le_refl}
 use Rattle.front_word.specs.Fronts.{IsNotBelow}
 use Rattle.record_codec.specs.Saved.{SavedFields}
-use Rattle.step_core.specs.Choice.{ChoiceDefinition}
-use Rattle.step_core.specs.Chosen.{choice_of}
-use Rattle.step_core.specs.declared.choice.Choice.{Choice}
+use Rattle.plant_model.specs.Choice.{ChoiceDefinition}
+use Rattle.plant_model.specs.Chosen.{choice_of}
+use Rattle.plant_model.specs.declared.choice.Choice.{Choice}
+use Rattle.plant_model.specs.Plant.{PlantDefinition}
 use Rattle.step_core.specs.Job.{JobDefinition}
-use Rattle.step_core.specs.Plant.{PlantDefinition}
 use Rattle.plant_core.specs.Events.{IsEvent, IsFire, IsFlush, IsAsk, IsPut, IsTrim, IsBegin, IsBack, fired_by}
 use Rattle.plant_core.specs.View.{View, fired_number, may_go, with_all_acked, with_asked, with_back, with_begun, with_cut, with_fired, with_stored}
 use Rattle.plant_core.specs.declared.events.FiredAs.{FiredAs}

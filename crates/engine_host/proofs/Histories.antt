@@ -2,7 +2,7 @@
 use Rattle.std.proofs.Common.{◌≡◌, List, [], ◌∷◌, ◌++◌, refl, ap, sym, ◌∙◌, subst}
 use Rattle.plant_core.specs.declared.front.Front.{Front}
 use Rattle.front_word.specs.Fronts.{last_of}
-use Rattle.step_core.specs.Plant.{PlantDefinition}
+use Rattle.plant_model.specs.Plant.{PlantDefinition}
 use Rattle.plant_core.specs.Events.{IsEvent}
 use Rattle.plant_core.specs.View.{View}
 use Rattle.plant_core.specs.declared.events.Happened.{Happened}

@@ -4,7 +4,7 @@ use Rattle.std.proofs.lemmas.Bool.Decides.{nat_tests}
 use Rattle.plant_core.specs.declared.front.Front.{Front}
 use Rattle.front_word.specs.declared.front.TheConstants.{MOST_FIRED}
 use Rattle.front_word.specs.Fronts.{IsNotBelow, last_of}
-use Rattle.step_core.specs.Plant.{PlantDefinition}
+use Rattle.plant_model.specs.Plant.{PlantDefinition}
 use Rattle.plant_core.specs.Events.{IsEvent, fired_by}
 use Rattle.plant_core.specs.View.{View, fired_number}
 use Rattle.plant_core.specs.declared.events.Happened.{Happened}

@@ -3,10 +3,10 @@ use Rattle.std.proofs.Common.{◌≡◌, ℕ, Bool, true, false, true≢false, L
 use Rattle.std.specs.Prelude.{OnErr, Option, Some, drop, is_some, slice_get}
 use Rattle.std.proofs.lemmas.Option.{same_Some}
 use mathlib.Core.List.{IsPrefix}
-use Rattle.step_core.specs.Chosen.{choice_of}
+use Rattle.plant_model.specs.Chosen.{choice_of}
+use Rattle.plant_model.specs.Plant.{PlantDefinition}
 use Rattle.step_core.specs.Job.{JobDefinition}
 use Rattle.step_core.specs.Jobs.{AreJobsOf}
-use Rattle.step_core.specs.Plant.{PlantDefinition}
 use Rattle.plant_core.specs.Events.{IsReturned}
 use Rattle.plant_core.specs.View.{View, parts_in}
 use Rattle.plant_core.specs.declared.events.FiredAs.{FiredAs}

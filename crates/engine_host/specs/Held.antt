@@ -4,7 +4,7 @@ use Rattle.disk_model.specs.DiskState.{DiskState}
 use Rattle.disk_model.specs.declared.disk.Disk.{Ghosts}
 use Rattle.plant_core.specs.declared.front.Front.{Front}
 use Rattle.front_word.specs.declared.front.TheConstants.{MOST_FIRED}
-use Rattle.step_core.specs.Plant.{PlantDefinition}
+use Rattle.plant_model.specs.Plant.{PlantDefinition}
 use Rattle.plant_core.specs.Events.{IsEvent, fired_by}
 use Rattle.plant_core.specs.Plants.{device_of, text_digest, view_of}
 use Rattle.plant_core.specs.View.{View, fired_number}

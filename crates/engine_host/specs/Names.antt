@@ -6,7 +6,7 @@ use Rattle.plant_core.specs.declared.front.Front.{Front}
 use Rattle.plant_core.specs.declared.plant.Plant.{Plant}
 use Rattle.plant_core.specs.Plants.{definition_of, device_of, text_digest, view_of}
 use Rattle.plant_core.specs.View.{View}
-use Rattle.step_core.specs.Plant.{PlantDefinition}
+use Rattle.plant_model.specs.Plant.{PlantDefinition}
 use Rattle.engine_host.specs.Views.{front_in}
 
 -- the table of the word, the front where its history opens, the ledger with its parts, and how many seats there are

@@ -5,9 +5,9 @@ use Rattle.plant_core.specs.declared.front.Front.{Front}
 use Rattle.front_word.specs.declared.front.TheConstants.{MOST_FIRED}
 use Rattle.front_word.specs.Fronts.{last_of}
 use Rattle.record_codec.specs.Saved.{SavedFields}
-use Rattle.step_core.specs.Plant.{PlantDefinition}
-use Rattle.step_core.specs.Chosen.{choice_of}
-use Rattle.step_core.specs.declared.choice.Choice.{Choice}
+use Rattle.plant_model.specs.Plant.{PlantDefinition}
+use Rattle.plant_model.specs.Chosen.{choice_of}
+use Rattle.plant_model.specs.declared.choice.Choice.{Choice}
 use Rattle.step_core.specs.Job.{JobDefinition}
 use Rattle.step_core.specs.Jobs.{AreJobsOf}
 use Rattle.plant_core.specs.Events.{IsReturned}

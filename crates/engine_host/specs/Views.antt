@@ -2,7 +2,7 @@
 use Rattle.std.specs.Prelude.{◌==◌, ◌+◌, Bool, false, []}
 use Rattle.plant_core.specs.declared.front.Front.{Front}
 use Rattle.front_word.specs.declared.front.TheConstants.{MOST_FIRED}
-use Rattle.step_core.specs.Plant.{PlantDefinition}
+use Rattle.plant_model.specs.Plant.{PlantDefinition}
 use Rattle.plant_core.specs.View.{View, fired_number}
 
 abbrev pub no_plant : PlantDefinition

@@ -16,9 +16,10 @@ use crate::seat::Seat;
 use disk_model::Disk;
 use front_word::{FrontWord, Watch};
 use plant_core::{FiredAs, Front, PutRefused, Refused};
+use plant_model::Choice;
 use snapshot_writer::encode;
 use std::sync::{Mutex, Wait};
-use step_core::{Choice, Jobs, work};
+use step_core::{Jobs, work};
 
 /// One plant under one lock, with the word that tells how far it is.
 #[derive(Drop)]

@@ -9,15 +9,15 @@ ghost use Rattle.plant_core.specs.Plants.{definition_of, device_of, text_digest,
 ghost use Rattle.plant_core.specs.View.{fired_number, parts_in};
 ghost use Rattle.plant_core.specs.Backs.{refusal_in as back_refusal_in};
 ghost use Rattle.plant_core.specs.Events.{IsReturned, is_disk};
-ghost use Rattle.step_core.specs.Chosen.{choice_of};
+ghost use Rattle.plant_model.specs.Chosen.{choice_of};
+ghost use Rattle.plant_model.specs.Runs.{IsRun};
 ghost use Rattle.step_core.specs.Job.{job_done};
-ghost use Rattle.step_core.specs.Jobs.{AreJobsOf, jobs_of};
 ghost use Rattle.plant_core.specs.Stops.{StandsForAcked, StandsForFront};
 ghost use Rattle.disk_model.specs.Cells.{Cell, Leaves, MayBe};
 ghost use Rattle.disk_model.specs.DiskState.{CountsUpTo, counted, size_of};
 ghost use Rattle.disk_model.specs.declared.cells.TheConstants.{BODY};
 ghost use Rattle.plant_core.specs.Puts.{refusal_in};
-ghost use Rattle.step_core.specs.Runs.{IsRun};
+ghost use Rattle.step_core.specs.Jobs.{AreJobsOf, jobs_of};
 ghost use Rattle.engine_host.specs.Held.{IsMade};
 ghost use Rattle.engine_host.specs.History.{IsHistory, fronts};
 ghost use Rattle.engine_host.specs.Names.{hosted};
@@ -34,10 +34,11 @@ use crate::seat::Seat;
 use disk_model::Disk;
 use front_word::{FrontWord, MOST_FIRED, Publisher, Watch};
 use plant_core::{BackRefused, FiredAs, Front, Happened, Plant, PutRefused, Refused};
+use plant_model::Choice;
 use snapshot_writer::{Encoded, Parcel};
 use std::marker::Model;
 use std::sync::ledger::{Book, Share};
-use step_core::{Choice, Done, Jobs};
+use step_core::{Done, Jobs};
 
 /// The plant of a host, with the pass that publishes its history, and the book of what was fired. Each call but [`Locked::tell`] makes one
 /// event of the plant, and publishes it last.

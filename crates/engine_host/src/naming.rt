@@ -7,7 +7,7 @@ use std::sync::ledger::Ledger;
 /// keeps the disk model, and how many seats there are.
 pub trait Naming: WordNaming + Ledger {
     ghost use Rattle.std.specs.Prelude.{ℕ, Bool, List};
-    ghost use Rattle.step_core.specs.Plant.{PlantDefinition};
+    ghost use Rattle.plant_model.specs.Plant.{PlantDefinition};
     ghost use Rattle.plant_core.specs.View.{View};
 
     ghost plant: { PlantDefinition };

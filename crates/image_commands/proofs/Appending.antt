@@ -1,7 +1,7 @@
 -- What a writer took, where it is known.
 use Rattle.std.proofs.Common.{◌≡◌, ◌∙◌, subst, List, ℕ, Option, Some, None}
 use Rattle.std.specs.Io.KnownBytes.{Appends, Keeps}
-use Rattle.step_core.specs.Plant.{PlantDefinition}
+use Rattle.plant_model.specs.Plant.{PlantDefinition}
 use Rattle.plant_core.specs.View.{View}
 use Rattle.script_lines.specs.Answers.{standing_text}
 

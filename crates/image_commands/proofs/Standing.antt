@@ -7,7 +7,7 @@ use Rattle.disk_model.specs.Cells.{seen_cells}
 use Rattle.disk_model.specs.declared.cells.TheConstants.{BODY}
 use Rattle.petri_atom.specs.Atom.{definition_of}
 use Rattle.petri_atom.specs.declared.atom.Atom.{Atom}
-use Rattle.step_core.specs.Plant.{PlantDefinition}
+use Rattle.plant_model.specs.Plant.{PlantDefinition}
 use Rattle.plant_image.specs.Contents.{contents_of, last_number}
 use Rattle.plant_image.specs.Standing.{StandsFor}
 use Rattle.plant_core.specs.Hands.{HandFields, empty_hands}

@@ -7,9 +7,9 @@ use Rattle.std.proofs.lemmas.Grind.{flat_map-append}
 use Rattle.std.proofs.lemmas.List.{append-nil}
 use Rattle.disk_model.specs.declared.change.Tear.{Tear}
 use Rattle.plant_core.specs.declared.events.Event.{Event}
-use Rattle.step_core.specs.Plant.{PlantDefinition}
-use Rattle.step_core.specs.System.{digest_of, plant_of}
-use Rattle.step_core.specs.declared.system.System.{System}
+use Rattle.plant_model.specs.Plant.{PlantDefinition}
+use Rattle.plant_model.specs.System.{digest_of, plant_of}
+use Rattle.plant_model.specs.declared.system.System.{System}
 use Rattle.crash_explorer.specs.Exploring.{IsExplorerOf, IsNextTrial, IsTrial, stops_of, trials_left}
 use Rattle.crash_explorer.specs.declared.explorer.Explorer.{Explorer}
 use Rattle.crash_explorer.specs.declared.explorer.TheConstants.{TEARS}

@@ -1,6 +1,6 @@
 -- Bringing an image of the first layout over to a new one: what is printed, why it ends early, and what the new image stands for.
 use Rattle.std.specs.Prelude.{◌≡◌, ℕ, ◌+◌, List, ◌++◌, codes, decimal, if◌then◌else◌, Option, None}
-use Rattle.step_core.specs.Plant.{PlantDefinition}
+use Rattle.plant_model.specs.Plant.{PlantDefinition}
 use Rattle.disk_model.specs.DiskState.{DiskState, size_of}
 use Rattle.disk_model.specs.Cells.{Cell, MayBe, seen_cells}
 use Rattle.disk_model.specs.declared.cells.TheConstants.{BODY, FIRST_BODY}

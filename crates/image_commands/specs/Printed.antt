@@ -1,6 +1,6 @@
 -- What the commands on images print.
 use Rattle.std.specs.Prelude.{ℕ, List, ◌++◌, length, codes, decimal}
-use Rattle.step_core.specs.Plant.{PlantDefinition}
+use Rattle.plant_model.specs.Plant.{PlantDefinition}
 use Rattle.disk_model.specs.Cells.{Cell}
 use Rattle.record_codec.specs.Ring.{device_cells}
 use Rattle.plant_image.specs.Contents.{Contents, contents_of, last_number, states_of}

@@ -6,4 +6,4 @@ pub use Rattle.plant_core.specs.Plants.{definition_of, device_of, text_digest, v
 pub use Rattle.plant_core.specs.View.{View}
 pub use Rattle.record_codec.specs.declared.layout.TheConstants.{LEAST_RING, MOST_RING}
 pub use Rattle.recovery.specs.Formatting.{HasFormatted, formatted_size}
-pub use Rattle.step_core.specs.System.{plant_of, digest_of}
+pub use Rattle.plant_model.specs.System.{plant_of, digest_of}

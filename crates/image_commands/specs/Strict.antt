@@ -1,6 +1,6 @@
 -- Strict runs of plants on images.
 use Rattle.std.specs.Prelude.{◌≡◌, ℕ, true, false, List, Option, length}
-use Rattle.step_core.specs.Plant.{PlantDefinition}
+use Rattle.plant_model.specs.Plant.{PlantDefinition}
 use Rattle.disk_model.specs.DiskState.{DiskState}
 use Rattle.plant_core.specs.Hands.{HandFields, empty_hands}
 use Rattle.plant_core.specs.View.{View}

@@ -6,7 +6,7 @@ use Rattle.disk_model.specs.declared.change.Tear.TheVariants.{Old, New, Gates, M
 use Rattle.plant_core.specs.declared.events.Event.{Event}
 use Rattle.plant_image.specs.declared.fault.ImageFault.{ImageFault}
 use Rattle.plant_image.specs.declared.fault.ImageFault.TheVariants.{NotFormatted}
-use Rattle.step_core.specs.Plant.{PlantDefinition}
+use Rattle.plant_model.specs.Plant.{PlantDefinition}
 use Rattle.crash_explorer.specs.Exploring.{IsTrial, IsWholeRun}
 use Rattle.crash_explorer.specs.declared.booting.Found.{Found}
 use Rattle.crash_explorer.specs.declared.booting.Found.TheVariants.{Booted, Refused}

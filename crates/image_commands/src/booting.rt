@@ -7,10 +7,10 @@ ghost use Rattle.image_commands.specs.Refusals.{IsRefusedBy};
 use crate::refusal::ImageRefusal;
 use disk_model::Disk;
 use plant_core::Plant;
+use plant_model::System;
 use recovery::{Quiet, boot_par};
 use std::alloc::Global;
 use std::thread::Threads;
-use step_core::System;
 
 /// How many workers replay the atoms.
 const WORKERS: usize = 4;

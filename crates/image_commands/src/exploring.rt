@@ -7,9 +7,9 @@ ghost use Rattle.image_commands.specs.Trials.{IsExplored, listed_line, wrong_of}
 use crate::trial_line::{print_explored, print_trial};
 use crash_explorer::{ExploreFault, Explorer, Trial};
 use plant_core::Event;
+use plant_model::System;
 use std::alloc::Global;
 use std::io::Write;
-use step_core::System;
 use text_io::{WriteFault, hand_on};
 
 /// Who learns how far an exploration is.

@@ -9,10 +9,10 @@ ghost use Rattle.image_commands.specs.declared.ending.ImageEnding.TheVariants.{R
 
 use crate::ending::ImageEnding;
 use disk_model::{CELL, Disk};
+use plant_model::System;
 use record_codec::ring::device_cells;
 use std::alloc::Global;
 use std::io::Write;
-use step_core::System;
 use text_io::{WriteFault, end_line, hand_on, print_number, print_text};
 
 /// How many cells the image of a plant has that has room for so many records.

@@ -11,11 +11,11 @@ ghost use Rattle.image_commands.specs.declared.migrate_ending.MigrateEnding.TheV
 use crate::booting::booted;
 use crate::migrate_ending::{MigrateEnding, MigrateRefusal};
 use disk_model::Disk;
+use plant_model::System;
 use recovery::migrate;
 use std::alloc::Global;
 use std::io::Write;
 use std::thread::Threads;
-use step_core::System;
 use text_io::{WriteFault, end_line, hand_on, print_number, print_text};
 
 /// Brings the image of the first layout that the old device holds over to the new one, with room for so many records, boots the plant from

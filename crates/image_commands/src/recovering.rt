@@ -12,11 +12,11 @@ ghost use Rattle.image_commands.specs.declared.ending.ImageEnding.TheVariants.{R
 use crate::booting::booted;
 use crate::ending::ImageEnding;
 use disk_model::Disk;
+use plant_model::System;
 use script_lines::print_standing;
 use std::alloc::Global;
 use std::io::Write;
 use std::thread::Threads;
-use step_core::System;
 use text_io::hand_on;
 
 /// Boots the plant of the system from the device, after any stop, and prints where it stands: the state of each atom, and how far it is.

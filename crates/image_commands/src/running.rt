@@ -13,11 +13,11 @@ use crate::refusal::ImageRefusal;
 use disk_model::Disk;
 use plant_core::{Event, Hands};
 use plant_image::ImageFault;
+use plant_model::System;
 use script_lines::{Stop, run_script, run_strictly};
 use std::alloc::Global;
 use std::io::Write;
 use std::thread::Threads;
-use step_core::System;
 
 /// Boots the plant of the system from the device, after any stop, asks the events of it, one after another, and prints the answer of each; after
 /// them, where the plant then stands. What was printed is handed on before each event that makes calls of the device, after the answer,

@@ -12,10 +12,10 @@ use Rattle.record_codec.specs.Identity.{IdentityFields, identity_in}
 use Rattle.record_codec.specs.Ring.{device_cells, identity_cell}
 use Rattle.record_codec.specs.declared.layout.TheConstants.{MOST_ATOMS, MOST_RING, VERSION}
 use Rattle.record_codec.proofs.Identities.{held_identity_is_spelled}
-use Rattle.step_core.specs.Plant.{PlantDefinition}
-use Rattle.step_core.specs.Rules.{first_of, first_fault_in}
-use Rattle.step_core.specs.System.{plant_of, digest_of}
-use Rattle.step_core.specs.declared.system.System.{System}
+use Rattle.plant_model.specs.Plant.{PlantDefinition}
+use Rattle.plant_model.specs.Rules.{first_of, first_fault_in}
+use Rattle.plant_model.specs.System.{plant_of, digest_of}
+use Rattle.plant_model.specs.declared.system.System.{System}
 use Rattle.plant_image.specs.Contents.{contents_of, identity_held, ring_held}
 use Rattle.plant_image.specs.Faults.{atom_fault, base_fault, cell_bytes, fault_of, fault_where, first_cell_fault, first_fault, identity_fault, is_for, leading_fault, records_fault}
 use Rattle.plant_image.specs.declared.fault.ImageFault.{ImageFault}

@@ -8,7 +8,7 @@ use Rattle.disk_model.specs.Cells.{Cell}
 use Rattle.gated_journal.specs.Bases.{base_of}
 use Rattle.record_codec.specs.Fired.{FiredFields}
 use Rattle.record_codec.specs.Identity.{IdentityFields}
-use Rattle.step_core.specs.declared.system.System.{System}
+use Rattle.plant_model.specs.declared.system.System.{System}
 use Rattle.trimmer.specs.Covered.{MarkFields}
 use Rattle.trimmer.specs.declared.saved.SavedAt.{SavedAt}
 use Rattle.plant_image.specs.Contents.{Contents, contents_of, identity_held, last_number}

@@ -1,7 +1,7 @@
 -- What is known of an image once it is read.
 use Rattle.std.specs.Prelude.{◌≡◌, ℕ, List, Option}
 use Rattle.disk_model.specs.Cells.{Cell}
-use Rattle.step_core.specs.declared.system.System.{System}
+use Rattle.plant_model.specs.declared.system.System.{System}
 use Rattle.plant_image.specs.Contents.{contents_of}
 use Rattle.plant_image.specs.Reading.{contents_in}
 use Rattle.image_inspection.specs.Inspected.{IsWithin, marks_in_contents, saved_in_contents}

@@ -7,8 +7,8 @@ use Rattle.disk_model.specs.declared.cells.TheConstants.{BODY}
 use Rattle.record_codec.specs.Identity.{IdentityFields}
 use Rattle.record_codec.specs.Ring.{device_cells}
 use Rattle.record_codec.specs.declared.layout.TheConstants.{LAST_NUMBER, MOST_ATOMS, MOST_RING}
-use Rattle.step_core.specs.System.{plant_of, digest_of}
-use Rattle.step_core.specs.declared.system.System.{System}
+use Rattle.plant_model.specs.System.{plant_of, digest_of}
+use Rattle.plant_model.specs.declared.system.System.{System}
 use Rattle.plant_image.specs.Contents.{Contents}
 use Rattle.plant_image.specs.Faults.{is_for}
 use Rattle.plant_image.specs.declared.standing.Held.{Held}

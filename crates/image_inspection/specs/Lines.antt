@@ -7,7 +7,7 @@ use Rattle.hex.specs.Hex.{encode_lower}
 use Rattle.record_codec.specs.Identity.{IdentityFields}
 use Rattle.record_codec.specs.Saved.{SavedFields}
 use Rattle.snapshot_writer.specs.Slots.{newest}
-use Rattle.step_core.specs.declared.system.System.{System}
+use Rattle.plant_model.specs.declared.system.System.{System}
 use Rattle.trimmer.specs.Covered.{MarkFields}
 use Rattle.trimmer.specs.declared.saved.SavedAt.{SavedAt}
 use Rattle.plant_image.specs.Contents.{Contents, contents_of, identity_held, last_number}

@@ -11,10 +11,10 @@ use Rattle.record_codec.specs.declared.entry.Entry.{Entry}
 use Rattle.run_text.specs.Line.{fired_line, state_line}
 use Rattle.snapshot_writer.specs.Parcels.{local_in}
 use Rattle.snapshot_writer.specs.Slots.{saved_at}
-use Rattle.step_core.specs.Choice.{ChoiceDefinition}
-use Rattle.step_core.specs.System.{plant_of}
-use Rattle.step_core.specs.declared.choice.Move.{Move}
-use Rattle.step_core.specs.declared.system.System.{System}
+use Rattle.plant_model.specs.Choice.{ChoiceDefinition}
+use Rattle.plant_model.specs.System.{plant_of}
+use Rattle.plant_model.specs.declared.choice.Move.{Move}
+use Rattle.plant_model.specs.declared.system.System.{System}
 use Rattle.image_inspection.specs.Places.{slot_words}
 
 -- how often an atom had taken part, and the last record when its state was copied

@@ -2,8 +2,8 @@
 use Rattle.std.specs.Prelude.{ℕ, ◌-◌, ◌/◌, ◌%◌, ◌==◌, nat_lt, if◌then◌else◌, List, ◌++◌, Option, None, Some, codes, decimal, find}
 use Rattle.std.specs.List.{range_with_len}
 use Rattle.record_codec.specs.Ring.{base_cell, identity_cell, record_cell, slot_cell}
-use Rattle.step_core.specs.System.{plant_of}
-use Rattle.step_core.specs.declared.system.System.{System}
+use Rattle.plant_model.specs.System.{plant_of}
+use Rattle.plant_model.specs.declared.system.System.{System}
 use Rattle.script_lines.specs.Atoms.{atom_name}
 use Rattle.plant_image.specs.Contents.{Contents}
 use Rattle.plant_image.specs.declared.fault.ImageFault.{ImageFault}

@@ -5,8 +5,8 @@ use Rattle.disk_model.specs.Cells.{Cell}
 use Rattle.hex.specs.Hex.{encode_lower}
 use Rattle.record_codec.specs.Identity.{IdentityFields}
 use Rattle.record_codec.specs.Ring.{device_cells}
-use Rattle.step_core.specs.System.{plant_of, digest_of}
-use Rattle.step_core.specs.declared.system.System.{System}
+use Rattle.plant_model.specs.System.{plant_of, digest_of}
+use Rattle.plant_model.specs.declared.system.System.{System}
 use Rattle.plant_image.specs.Contents.{Contents, contents_of, identity_held}
 use Rattle.plant_image.specs.Faults.{cell_bytes}
 use Rattle.plant_image.specs.declared.fault.ImageFault.{ImageFault}

@@ -5,5 +5,5 @@ pub use Rattle.disk_model.specs.declared.cells.TheConstants.{BODY}
 pub use Rattle.plant_image.specs.Contents.{contents_of, identity_held}
 pub use Rattle.plant_image.specs.Reading.{contents_in}
 pub use Rattle.plant_core.specs.Marks.{marks_of}
-pub use Rattle.step_core.specs.System.{plant_of, digest_of}
+pub use Rattle.plant_model.specs.System.{plant_of, digest_of}
 pub use Rattle.text_io.specs.Printing.{Prints}

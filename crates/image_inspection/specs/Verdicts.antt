@@ -7,8 +7,8 @@ use Rattle.disk_model.specs.declared.cells.TheConstants.{BODY}
 use Rattle.record_codec.specs.Fired.{fired_in}
 use Rattle.record_codec.specs.Ring.{device_cells, identity_cell, record_cell, slot_cell}
 use Rattle.record_codec.specs.Saved.{SavedFields, saved_in}
-use Rattle.step_core.specs.System.{plant_of, digest_of}
-use Rattle.step_core.specs.declared.system.System.{System}
+use Rattle.plant_model.specs.System.{plant_of, digest_of}
+use Rattle.plant_model.specs.declared.system.System.{System}
 use Rattle.plant_image.specs.Contents.{Contents, contents_of, identity_held, last_number}
 use Rattle.plant_image.specs.Faults.{base_fault, cell_bytes, fault_of, fault_where, first_cell_fault, first_fault, is_any, is_full_but_not}
 use Rattle.plant_image.specs.declared.fault.ImageFault.{ImageFault}

@@ -26,10 +26,10 @@ use crate::verdict::Verdict;
 use disk_model::BODY;
 use plant_core::marks_of;
 use plant_image::{Held, ImageFault};
+use plant_model::System;
 use record_codec::Identity;
 use std::alloc::Global;
 use std::io::Write;
-use step_core::System;
 use text_io::{WriteFault, hand_on};
 use trimmer::{Mark, SavedAt};
 

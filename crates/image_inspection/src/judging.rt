@@ -10,8 +10,8 @@ use crate::bare::bare_fault;
 use crate::ending::InspectionEnding;
 use disk_model::BODY;
 use plant_image::{Held, ImageFault, read_image};
+use plant_model::System;
 use std::alloc::Global;
-use step_core::System;
 
 /// What is wrong with the image: what a boot of the plant would answer, or what is wrong whatever the plant.
 pub(crate) fn fault_told(

@@ -13,9 +13,9 @@ use crate::listing::print_saved;
 use crate::places::{print_atom, print_option, print_refusal};
 use disk_model::{BODY, CELL};
 use plant_image::{Held, ImageFault};
+use plant_model::System;
 use record_codec::Identity;
 use std::io::Write;
-use step_core::System;
 use text_io::{WriteFault, end_line, print_number, print_text};
 use trimmer::{Mark, SavedAt};
 

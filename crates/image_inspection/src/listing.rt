@@ -6,16 +6,16 @@ ghost use Rattle.std.specs.List.{range_with_len};
 ghost use Rattle.image_inspection.specs.Listing.{choice_in, entry_word, local_words, move_in, record_line, record_words, records_text, saved_words, slot_line, slot_text, slots_lines, slots_text, value_word};
 ghost use Rattle.image_inspection.specs.Seen.{Prints, plant_of};
 ghost use Rattle.snapshot_writer.specs.Parcels.{local_in};
-ghost use Rattle.step_core.specs.Chosen.{choice_of};
+ghost use Rattle.plant_model.specs.Chosen.{choice_of};
 
 use crate::contents::saved_at;
 use crate::places::print_slot;
 use disk_model::BODY;
 use petri_atom::AtomState;
+use plant_model::{Choice, Move, Moves, System};
 use record_codec::{Entry, Fired, Saved};
 use run_text::{print_choice, print_state};
 use std::io::Write;
-use step_core::{Choice, Move, Moves, System};
 use text_io::{WriteFault, end_line, print_number, print_signed, print_text};
 
 // ---- records

@@ -5,8 +5,8 @@ ghost use Rattle.image_inspection.specs.Seen.{digest_of, plant_of};
 ghost use Rattle.plant_image.specs.Faults.{is_for};
 ghost use Rattle.record_codec.specs.declared.layout.TheConstants.{MOST_ATOMS};
 
+use plant_model::System;
 use record_codec::Identity;
-use step_core::System;
 
 /// How many atoms the image has slots for: what it says itself, and else as many as the plant has.
 pub(crate) fn atoms_told(plant: Option<&System>, identity: &Option<Identity>) -> u16

@@ -7,10 +7,10 @@ ghost use Rattle.image_inspection.specs.Seen.{Prints, contents_in};
 ghost use Rattle.plant_image.specs.declared.fault.ImageFault.TheVariants.{NotEnabled};
 
 use plant_image::{Held, ImageFault};
+use plant_model::System;
 use record_codec::ring::{IDENTITY_CELL, base_cell, record_cell, slot_cell};
 use script_lines::atom_name;
 use std::io::Write;
-use step_core::System;
 use text_io::{WriteFault, end_line, print_number, print_text};
 
 /// Prints the line of a refusal.

@@ -15,11 +15,11 @@ use crate::places::print_place;
 use crate::reading::{ReadCells, load_cells};
 use disk_model::{BODY, CELL};
 use plant_image::{Held, ImageFault};
+use plant_model::System;
 use record_codec::Identity;
 use record_codec::ring::device_cells;
 use std::alloc::Global;
 use std::io::Write;
-use step_core::System;
 use text_io::{WriteFault, end_line, hand_on, print_number, print_text};
 
 /// Prints more of what is wrong with an image: both sizes, for which plant it was made, or where in the image the fault is. Of another fault, and of

@@ -2,7 +2,7 @@
 use Rattle.std.specs.Prelude.{◌≡◌, ℕ, ◌%◌, ◌<◌, List, Option, Some, None, Result, Ok, Err, length, slice_get, slice_index_or}
 use Rattle.std.specs.declared.alloc.AllocError.{AllocError}
 use Rattle.petri_atom.specs.Definition.{AtomDefinition, Fits}
-use Rattle.step_core.specs.Plant.{PlantDefinition}
+use Rattle.plant_model.specs.Plant.{PlantDefinition}
 use Rattle.plant_image.specs.Contents.{Contents, replayed}
 use Rattle.plant_image.specs.Faults.{fault_of_replay}
 use Rattle.plant_image.specs.Reading.{IsFault}

@@ -1,15 +1,15 @@
 //! What comes of all shares.
 ghost use Rattle.std.specs.Prelude.{◌≡◌, ◌≤◌};
-ghost use Rattle.step_core.specs.Rules.{first_fault_in};
-ghost use Rattle.step_core.specs.System.{plant_of};
+ghost use Rattle.plant_model.specs.Rules.{first_fault_in};
+ghost use Rattle.plant_model.specs.System.{plant_of};
 ghost use Rattle.plant_image.specs.Faults.{replay_fault};
 ghost use Rattle.plant_image.specs.Reading.{IsLed, IsSound, Tells, contents_in};
 ghost use Rattle.parallel_replay.specs.Shares.{AreShares};
 
 use crate::share::Share;
 use plant_image::{Held, ImageFault, Standing};
+use plant_model::{MAX_ATOMS, PlantState, System};
 use std::alloc::{AllocError, Global};
-use step_core::{MAX_ATOMS, PlantState, System};
 
 /// Puts what the workers found together with what was read, in the order of the atoms. So the fault that is answered is that of the least atom, whichever a worker
 /// met first.

@@ -1,14 +1,14 @@
 //! What one worker replays.
 ghost use Rattle.std.specs.Prelude.{◌≡◌, ◌≤◌, ◌<◌, ◌%◌, Some, length, slice_get, IfOk};
 ghost use Rattle.petri_atom.specs.Definition.{AtomDefinition};
-ghost use Rattle.step_core.specs.System.{plant_of};
+ghost use Rattle.plant_model.specs.System.{plant_of};
 ghost use Rattle.plant_image.specs.Reading.{IsSound, contents_in};
 ghost use Rattle.parallel_replay.specs.Shares.{IsPlaced, IsShareOf};
 
 use crate::turn::Turn;
 use plant_image::{Held, ImageFault, Reached, replay_saved};
+use plant_model::System;
 use std::alloc::{AllocError, Global};
-use step_core::System;
 
 /// What a worker found: at the place of each of its atoms where the records bring it, or why they bring it nowhere. The other places are empty.
 #[derive(Drop)]

@@ -1,6 +1,6 @@
 //! The threads of a replay.
 ghost use Rattle.std.specs.Prelude.{◌≡◌, ◌≤◌, IfOk};
-ghost use Rattle.step_core.specs.System.{digest_of, plant_of};
+ghost use Rattle.plant_model.specs.System.{digest_of, plant_of};
 ghost use Rattle.plant_image.specs.Faults.{fault_of, leading_fault};
 ghost use Rattle.plant_image.specs.Reading.{IsLed, IsSound, IsStanding, Tells, contents_in};
 ghost use Rattle.parallel_replay.specs.Shares.{AreShares, IsShare};
@@ -11,10 +11,10 @@ use crate::share::{Share, replay_share};
 use crate::turn::Turn;
 use disk_model::BODY;
 use plant_image::{Held, ImageFault, Standing, judge_standing, read_cells};
+use plant_model::System;
 use std::alloc::{AllocError, Global};
 use std::thread;
 use std::thread::Threads;
-use step_core::System;
 
 /// How many workers there may be: each may take a thread.
 pub const MOST_WORKERS: usize = 16;

@@ -11,7 +11,7 @@ use Rattle.connector_tree.specs.Tokens.{tokens_of}
 use Rattle.connector_tree.specs.declared.tree.Port.{Port}
 use Rattle.priority_filter.specs.declared.rule.Side.TheVariants.{Whole, One}
 use Rattle.priority_filter.specs.declared.rule.Rule.TheVariants.{Under, UnderAt, Maximal}
-use Rattle.step_core.specs.Plant.{PlantDefinition}
+use Rattle.plant_model.specs.Plant.{PlantDefinition}
 use Rattle.part_text.specs.Expression.{expression_text, is_one}
 use Rattle.part_text.specs.Export.{export_name}
 use Rattle.part_text.specs.Words.{leaf_word, spaced_word}

@@ -3,7 +3,7 @@ use Rattle.std.specs.Prelude.{ℕ, List, [], ◌++◌, codes, slice_get}
 use Rattle.std.specs.Option.{option_map_or}
 use Rattle.petri_atom.specs.Definition.{AtomDefinition, exports_of, variable_name}
 use Rattle.connector_tree.specs.declared.tree.Port.{Port}
-use Rattle.step_core.specs.declared.wire.Export.{Export}
+use Rattle.plant_model.specs.declared.wire.Export.{Export}
 
 -- the name of a variable that a port of an atom exports, by its place among those; empty if it exports no such one
 abbrev pub exported_name : AtomDefinition → ℕ → ℕ → List ℕ

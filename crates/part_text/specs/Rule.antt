@@ -7,7 +7,7 @@ use Rattle.priority_filter.specs.declared.rule.Side.TheVariants.{Whole, One}
 use Rattle.priority_filter.specs.declared.rule.Rule.{Rule}
 use Rattle.priority_filter.specs.declared.rule.Rule.TheVariants.{Under, UnderAt, Maximal}
 use Rattle.priority_filter.specs.declared.seen.At.{At}
-use Rattle.step_core.specs.Plant.{PlantDefinition, wire_name}
+use Rattle.plant_model.specs.Plant.{PlantDefinition, wire_name}
 
 -- a side as the plant text writes it
 abbrev pub side_word : PlantDefinition → Side → List ℕ

@@ -4,7 +4,6 @@ pub use Rattle.petri_atom.specs.Expression.{tree_of}
 pub use Rattle.petri_atom.specs.Parts.{port_of}
 pub use Rattle.petri_atom.specs.Transition.{transition_of}
 pub use Rattle.petri_atom.specs.Update.{update_of}
-pub use Rattle.step_core.specs.Interaction.{interaction_of}
-pub use Rattle.step_core.specs.Running.{plant_in, states_in}
-pub use Rattle.step_core.specs.System.{plant_of}
-pub use Rattle.step_core.specs.Wire.{transfer_of, wire_of}
+pub use Rattle.plant_model.specs.Interaction.{interaction_of}
+pub use Rattle.plant_model.specs.System.{plant_of}
+pub use Rattle.plant_model.specs.Wire.{transfer_of, wire_of}

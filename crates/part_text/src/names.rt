@@ -7,8 +7,8 @@ ghost use Rattle.part_text.specs.Export.{exported_name, variable_of_port};
 use crate::leaf::leaf_at;
 use connector_tree::{Connector, Port};
 use petri_atom::Atom;
+use plant_model::Export;
 use std::io::Write;
-use step_core::Export;
 use text_io::{WriteFault, print_text};
 
 /// How the variables of an expression are named.

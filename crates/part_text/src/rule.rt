@@ -1,15 +1,15 @@
 //! Priority rules as the plant text writes them.
 ghost use Rattle.std.specs.Prelude.{◌++◌, codes};
-ghost use Rattle.step_core.specs.Plant.{wire_name};
+ghost use Rattle.plant_model.specs.Plant.{wire_name};
 ghost use Rattle.std.specs.Prelude.{◌≡◌, map};
 ghost use Rattle.text_io.specs.Printing.{Prints};
 ghost use Rattle.part_text.specs.Seen.{definition_of, plant_of};
 ghost use Rattle.part_text.specs.Rule.{atom_name, condition_text, name_of_place, place_name, rule_text, side_word, sides_text};
 
 use petri_atom::Atom;
+use plant_model::System;
 use priority_filter::{At, Rule, Side};
 use std::io::Write;
-use step_core::System;
 use text_io::{WriteFault, print_number, print_text};
 
 /// Prints a rule as the words of its line: `prio LEFT < RIGHT`, with ` when ATOM at PLACE` if it has a condition, or `maximal NAME`,

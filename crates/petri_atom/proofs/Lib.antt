@@ -12,3 +12,5 @@ mod Members
 mod Giving
 mod Grouping
 pub mod Positions
+mod Straight
+mod Coded

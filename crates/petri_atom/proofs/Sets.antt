@@ -1,4 +1,4 @@
-use Rattle.std.proofs.Common.{◌≡◌, ℕ, zero, suc, ◌+◌, ◌-◌, ◌*◌, ◌%◌, ◌^◌, ◌<◌, ◌≤◌, ◌≢◌, min, max, Bool, true, false, cond, not, ◌&&◌, ◌||◌, eqb, refl, sym, ◌∙◌, ap, arith, lit<, pow-suc, add-one, mod-eq_of_lt, subst, List, [], ◌∷◌, ◌++◌, ⊎_elim}
+use Rattle.std.proofs.Common.{◌≡◌, ℕ, zero, suc, ◌+◌, ◌*◌, ◌%◌, ◌^◌, ◌<◌, ◌≤◌, ◌≢◌, Bool, true, false, cond, not, ◌&&◌, ◌||◌, eqb, refl, sym, ◌∙◌, ap, arith, lit<, pow-suc, add-one, mod-eq_of_lt, subst, List, [], ◌∷◌, ◌++◌, ⊎_elim}
 use Rattle.std.specs.Prelude.{bit_and, bit_or}
 use mir.Val.{bits}
 use Rattle.std.specs.Int.{Width, bit_not, w64, from_bool}

@@ -8,6 +8,7 @@ pub mod Parts
 pub mod Same
 pub mod SameTransition
 pub mod Groups
+pub mod StraightCode
 pub mod Atom
 pub mod Fault
 pub mod Codes

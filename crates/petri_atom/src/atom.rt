@@ -2,6 +2,7 @@
 ghost use Rattle.std.specs.Prelude.{◌≡◌, ◌≤◌, ◌↔◌, IsTrue, IfOk, IfErr, None, map, length};
 ghost use Rattle.petri_atom.specs.Definition.{is_well_formed, fault_of, IsFaultOf};
 ghost use Rattle.petri_atom.specs.Parts.{port_of, definition_by, set_of_port, sets_below};
+ghost use Rattle.petri_atom.specs.StraightCode.{AreCodesOf};
 ghost use Rattle.petri_atom.specs.Groups.{AreGroupsOf, unguarded_set};
 ghost use Rattle.petri_atom.specs.Transition.{transition_of};
 ghost use Rattle.petri_atom.specs.declared.parts.TheConstants.{MAX_PORTS, MAX_TRANSITIONS};
@@ -15,6 +16,7 @@ use crate::rules;
 use crate::same::{Same, all_same};
 use crate::state::{AtomState, Delivered};
 use crate::transition::Transition;
+use crate::transition_code::{TransitionCode, codes_of};
 use std::alloc::{AllocError, Global};
 
 /// An atom: a one-safe Petri net with variables and ports.
@@ -23,6 +25,7 @@ use std::alloc::{AllocError, Global};
 /// an atom, so that what can be asked of it cannot fail. For each port it has the set of the port's transitions, so that what
 /// a set of transitions has of a port is one operation. Transitions that ask the same of a
 /// marking are a group, so that it is tested once for all of them; to find all that is offered, no guard that is a number other than 0 is looked at.
+/// Guards and updates are kept as straight code too, by which a step judges and runs them.
 #[derive(Drop)]
 pub struct Atom {
     name: Name,
@@ -33,10 +36,12 @@ pub struct Atom {
     masks: Vec<u128>,
     pub(crate) groups: Vec<Group>,
     pub(crate) unguarded: u128,
+    pub(crate) codes: Vec<TransitionCode>,
     ghost well_formed: { IsTrue (is_well_formed (definition_by name places.items variables.items ports.items transitions.items)) },
     ghost masked: { masks.items ≡ sets_below (length ports.items) (map transition_of transitions.items) },
     ghost grouped: { AreGroupsOf groups.items (map transition_of transitions.items) },
     ghost unguarded_bits: { unguarded ≡ unguarded_set (map transition_of transitions.items) },
+    ghost coded: { AreCodesOf codes.items (map transition_of transitions.items) },
 }
 
 impl Atom {
@@ -62,6 +67,7 @@ impl Atom {
         let masks = masks_by_port(alloc, ports.len(), &transitions)?;
         let groups = groups_of(alloc, &transitions)?;
         let unguarded = mask_of_unguarded(&transitions);
+        let codes = codes_of(alloc, &transitions)?;
         Ok(Atom {
             name,
             places,
@@ -71,6 +77,7 @@ impl Atom {
             masks,
             groups,
             unguarded,
+            codes,
         })
     }
 
@@ -201,11 +208,12 @@ impl Atom {
         requires { IsTrue (offers_number (definition_of self.now) state.old transition) }
         ensures { state.new ≡ fired (definition_of self.now) transition delivered.now state.old }
     {
-        let transition = &self.transitions[usize::from(transition)];
+        let number = usize::from(transition);
+        let transition = &self.transitions[number];
         if let Some(port) = self.ports.get(usize::from(transition.port())) {
             state.deliver(&port.exports, delivered);
         }
-        transition.update(state);
+        self.codes[number].update(state);
         transition.shift(state);
     }
 }

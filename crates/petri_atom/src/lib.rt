@@ -14,6 +14,7 @@
 //! - `name`, `parts`, `transition`: what an atom is made of. A transition keeps its places as machine words
 //!   too, so that a test of a marking is two operations; that they are those sets is kept by its type.
 //! - `expression`: expressions over any kind of variable, and their values.
+//! - `code`, `coding`: the same as straight code, and how it is made. `transition_code`: that of a transition's guard and updates.
 //! - `state`: local states, and what is delivered to one.
 //! - `offered`: the offered transitions of a state as one set, which is then counted and picked from, by one port or by all
 //!   ([`Atom::offered`], [`Atom::first_enabled`]).
@@ -27,6 +28,8 @@
 #![tactic(auto)]
 
 mod atom;
+mod code;
+mod coding;
 mod expression;
 mod fault;
 mod groups;
@@ -39,6 +42,7 @@ mod rules;
 mod same;
 mod state;
 mod transition;
+mod transition_code;
 
 pub use atom::Atom;
 pub use expression::{Expression, Operator, Valuation, VariableTest};

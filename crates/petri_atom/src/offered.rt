@@ -66,7 +66,7 @@ impl Atom {
         let mut left = set;
         while left != 0 {
             let number = left.trailing_zeros();
-            if self.transitions()[number as usize].guard_holds(state) {
+            if self.codes[number as usize].guard_holds(state) {
                 passing |= 1u128 << number;
             }
             left &= left - 1;

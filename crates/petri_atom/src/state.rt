@@ -1,5 +1,5 @@
 //! Local states of atoms, and the values that a firing delivers to one.
-ghost use Rattle.std.specs.Prelude.{◌≡◌, ◌≤◌, ◌↔◌, take, map, IsTrue, length, slice_set};
+ghost use Rattle.std.specs.Prelude.{◌≡◌, ◌≤◌, ◌↔◌, ℕ, take, map, IsTrue, length, slice_set};
 ghost use Rattle.petri_atom.specs.Local.{has, set_below, value_in, IsZeroFrom, mask_of, values_of, delivered_value, given};
 ghost use Rattle.petri_atom.specs.declared.state.TheConstants.{MAX_EXPORTS};
 ghost use Rattle.petri_atom.specs.Definition.{delivered_to, is_marked_first};
@@ -155,6 +155,14 @@ impl AtomState {
         ensures { result.now ≡ self.now.values }
     {
         &self.vars[..usize::from(self.used)]
+    }
+
+    /// The values of the variables, and zeros after them.
+    pub(crate) fn variables(&self) -> &[i64; MAX_VARIABLES]
+        ensures values { (k : ℕ) → value_in result.now k ≡ value_in self.now.values k }
+        ensures length { length result.now ≡ MAX_VARIABLES }
+    {
+        &self.vars
     }
 
     /// The value of one variable, 0 of one that is not there.

@@ -70,7 +70,7 @@ impl Transition {
 }
 
 impl Transition {
-    ghost use Rattle.petri_atom.specs.Definition.{can_move, offers, updated};
+    ghost use Rattle.petri_atom.specs.Definition.{can_move, offers};
     ghost use Rattle.petri_atom.specs.Transition.{transition_of};
 
     /// The number of the transition's port.
@@ -128,17 +128,6 @@ impl Transition {
         ensures values { state.new.values ≡ state.old.values }
     {
         state.mark(self.marking_after(state.places()));
-    }
-
-    /// Runs the updates of the transition, in order.
-    pub(crate) fn update(&self, state: &mut AtomState)
-        ensures marking { state.new.marking ≡ state.old.marking }
-        ensures values { state.new.values ≡ updated (transition_of self.now).updates state.old.values }
-    {
-        for update in &self.updates {
-            let value = update.value.value(state);
-            state.assign(update.variable, value);
-        }
     }
 
     /// Whether the guard of the transition is not 0.

@@ -13,11 +13,11 @@ use Rattle.gated_journal.specs.Rings.{appended}
 use Rattle.gated_journal.specs.Stops.{HasAppended, HasAppendedAll}
 use Rattle.gated_journal.specs.declared.ring.Ring.{Ring}
 use Rattle.record_codec.specs.Fired.{FiredFields}
-use Rattle.step_core.specs.Choice.{ChoiceDefinition}
-use Rattle.step_core.specs.Plant.{PlantDefinition}
-use Rattle.step_core.specs.Rules.{fault_of}
-use Rattle.step_core.specs.Runs.{IsRun, fold}
-use Rattle.step_core.specs.Step.{next}
+use Rattle.plant_model.specs.Choice.{ChoiceDefinition}
+use Rattle.plant_model.specs.Plant.{PlantDefinition}
+use Rattle.plant_model.specs.Rules.{fault_of}
+use Rattle.plant_model.specs.Runs.{IsRun, fold}
+use Rattle.plant_model.specs.Step.{next}
 use Rattle.record_replay.specs.OfPlant.{is_record_of}
 use Rattle.record_replay.specs.Records.{counts_after, counts_after_all, record_by, records_of}
 use Rattle.record_replay.proofs.OfPlants.{record-of-plant}

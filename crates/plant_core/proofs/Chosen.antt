@@ -4,12 +4,12 @@ use Rattle.std.specs.List.{list_any}
 use Rattle.std.proofs.lemmas.Bool.{and_parts, and_from, eq-eqb, eqb-true, false≢true}
 use Rattle.std.proofs.lemmas.Map.Views.{Contains-from_any}
 use Rattle.petri_atom.specs.Local.{Local}
-use Rattle.step_core.specs.Choice.{ChoiceDefinition, IsAllowed, choices}
-use Rattle.step_core.specs.Plant.{PlantDefinition}
-use Rattle.step_core.specs.Runs.{IsRun, fold}
-use Rattle.step_core.specs.Step.{next}
-use Rattle.step_core.specs.declared.choice.Move.{Move}
-use Rattle.step_core.proofs.Membership.{in-entry}
+use Rattle.plant_model.specs.Choice.{ChoiceDefinition, IsAllowed, choices}
+use Rattle.plant_model.specs.Plant.{PlantDefinition}
+use Rattle.plant_model.specs.Runs.{IsRun, fold}
+use Rattle.plant_model.specs.Step.{next}
+use Rattle.plant_model.specs.declared.choice.Move.{Move}
+use Rattle.plant_model.proofs.Membership.{in-entry}
 use Rattle.record_replay.proofs.OfPlants.{any-of}
 use Rattle.plant_core.specs.Invariant.{are_same_moves, is_run_from, is_same_choice, is_same_move}
 

@@ -12,9 +12,9 @@ use Rattle.disk_model.specs.Cells.{Cell}
 use Rattle.record_codec.specs.Fired.{FiredFields}
 use Rattle.record_codec.specs.Saved.{SavedFields}
 use Rattle.snapshot_writer.specs.Parcels.{local_in, saved_by}
-use Rattle.step_core.specs.Choice.{ChoiceDefinition}
-use Rattle.step_core.specs.Plant.{PlantDefinition}
-use Rattle.step_core.specs.Runs.{IsRun, fold}
+use Rattle.plant_model.specs.Choice.{ChoiceDefinition}
+use Rattle.plant_model.specs.Plant.{PlantDefinition}
+use Rattle.plant_model.specs.Runs.{IsRun, fold}
 use Rattle.record_replay.specs.Records.{count_of, counts_after_all, records_of}
 use Rattle.record_replay.specs.Replay.{Position, ok_then, replay, replay_from}
 use Rattle.record_replay.proofs.OnRuns.{length-records, records-append}

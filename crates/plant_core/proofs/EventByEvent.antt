@@ -15,9 +15,9 @@ use Rattle.disk_model.specs.Moments.{leaves_start, leaves_then, leaves_weaker}
 use Rattle.disk_model.specs.declared.cells.TheConstants.{BODY}
 use Rattle.plant_image.specs.Standing.{StandsFor}
 use Rattle.record_codec.specs.declared.layout.TheConstants.{LAST_NUMBER}
-use Rattle.step_core.specs.Choice.{ChoiceDefinition}
-use Rattle.step_core.specs.Plant.{PlantDefinition}
-use Rattle.step_core.specs.Runs.{fold}
+use Rattle.plant_model.specs.Choice.{ChoiceDefinition}
+use Rattle.plant_model.specs.Plant.{PlantDefinition}
+use Rattle.plant_model.specs.Runs.{fold}
 use Rattle.plant_core.specs.Events.{AreHandsAfter, IsAckedOf, IsBack, IsBegin, IsEvent, IsEventRun, IsFire, IsFlush, IsHandedIn, IsHandedRun, all_fired, asked_in, fired_by, first_refusal, has_failed, has_none, is_any_away, is_call, is_disk, is_in_memory, may_call, refused_where}
 use Rattle.plant_core.specs.Driven.{IsDriven}
 use Rattle.plant_core.specs.Hands.{HandFields}

@@ -4,13 +4,13 @@ use Rattle.std.specs.Prelude.{slice_get, slice_set}
 use Rattle.std.proofs.Math.Seq.{drop-append-add, take-append-add}
 use Rattle.std.proofs.lemmas.List.{append-nil, append_assoc, length-append}
 use Rattle.petri_atom.specs.Local.{Local}
-use Rattle.step_core.specs.Choice.{ChoiceDefinition, IsAllowed}
-use Rattle.step_core.specs.Chosen.{choice_of}
+use Rattle.plant_model.specs.Choice.{ChoiceDefinition, IsAllowed}
+use Rattle.plant_model.specs.Chosen.{choice_of}
+use Rattle.plant_model.specs.Plant.{PlantDefinition}
+use Rattle.plant_model.specs.Runs.{IsRun, fold}
+use Rattle.plant_model.specs.Step.{next}
+use Rattle.plant_model.proofs.Membership.{entry-in}
 use Rattle.step_core.specs.Job.{JobDefinition}
-use Rattle.step_core.specs.Plant.{PlantDefinition}
-use Rattle.step_core.specs.Runs.{IsRun, fold}
-use Rattle.step_core.specs.Step.{next}
-use Rattle.step_core.proofs.Membership.{entry-in}
 use Rattle.step_core.proofs.SureAllowed.{sure-allowed}
 use Rattle.step_executor.specs.Outstanding.{is_out, jobs_after}
 use Rattle.plant_core.specs.Events.{IsAckedOf, IsEvent, IsEventRun, all_fired, fired_by}

@@ -10,15 +10,15 @@ use Rattle.petri_atom.specs.Local.{Local, Row}
 use Rattle.gated_journal.specs.declared.ring.Ring.{Ring}
 use Rattle.record_codec.specs.Fired.{FiredFields, IsFired, fired_in}
 use Rattle.record_codec.specs.declared.layout.TheConstants.{LAST_NUMBER}
-use Rattle.step_core.specs.Choice.{ChoiceDefinition, IsAllowed}
-use Rattle.step_core.specs.Chosen.{choice_of}
-use Rattle.step_core.specs.Delivery.{IsDelivered}
+use Rattle.plant_model.specs.Choice.{ChoiceDefinition, IsAllowed}
+use Rattle.plant_model.specs.Chosen.{choice_of}
+use Rattle.plant_model.specs.Delivery.{IsDelivered}
+use Rattle.plant_model.specs.Plant.{PlantDefinition}
+use Rattle.plant_model.specs.Rules.{fault_of}
+use Rattle.plant_model.specs.Step.{next}
+use Rattle.plant_model.specs.declared.choice.Choice.{Choice}
+use Rattle.plant_model.specs.declared.choice.Move.{Move}
 use Rattle.step_core.specs.Job.{JobDefinition}
-use Rattle.step_core.specs.Plant.{PlantDefinition}
-use Rattle.step_core.specs.Rules.{fault_of}
-use Rattle.step_core.specs.Step.{next}
-use Rattle.step_core.specs.declared.choice.Choice.{Choice}
-use Rattle.step_core.specs.declared.choice.Move.{Move}
 use Rattle.record_replay.specs.Records.{count_of, counts_after, counts_after_all, record_by, records_of}
 use Rattle.record_replay.proofs.Counting.{behind-append, behind-within}
 use Rattle.record_replay.proofs.OfPlants.{record-in-range}

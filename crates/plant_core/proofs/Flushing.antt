@@ -11,15 +11,15 @@ use Rattle.disk_model.specs.declared.cells.TheConstants.{BODY}
 use Rattle.gated_journal.specs.Live.{AreRecords}
 use Rattle.gated_journal.specs.Rings.{IsRing, appended, cells_of_ring}
 use Rattle.gated_journal.specs.declared.ring.Ring.{Ring}
-use Rattle.step_core.specs.Choice.{ChoiceDefinition}
-use Rattle.step_core.specs.Fitting.{IsOf, AllFit}
+use Rattle.plant_model.specs.Choice.{ChoiceDefinition}
+use Rattle.plant_model.specs.Fitting.{IsOf, AllFit}
+use Rattle.plant_model.specs.Plant.{PlantDefinition}
+use Rattle.plant_model.specs.Runs.{IsRun, fold}
+use Rattle.plant_model.specs.Step.{next}
+use Rattle.plant_model.specs.declared.choice.Choice.{Choice}
+use Rattle.plant_model.specs.declared.limits.TheConstants.{MAX_ATOMS}
+use Rattle.plant_model.proofs.OnRuns.{runs-cut}
 use Rattle.step_core.specs.Job.{JobDefinition}
-use Rattle.step_core.specs.Plant.{PlantDefinition}
-use Rattle.step_core.specs.Runs.{IsRun, fold}
-use Rattle.step_core.specs.Step.{next}
-use Rattle.step_core.specs.declared.choice.Choice.{Choice}
-use Rattle.step_core.specs.declared.limits.TheConstants.{MAX_ATOMS}
-use Rattle.step_core.proofs.OnRuns.{runs-cut}
 use Rattle.record_codec.specs.Saved.{SavedFields}
 use Rattle.record_replay.specs.Records.{count_of, counted_by, counts_after, counts_after_all, record_by, records_of}
 use Rattle.record_replay.proofs.Counting.{counted-entry, counted-grows, length-behind}

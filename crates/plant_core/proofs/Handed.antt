@@ -1,7 +1,7 @@
 -- There are as many hands after an event as before.
 use Rattle.std.proofs.Common.{◌≡◌, ℕ, refl, sym, ◌∙◌, subst, List, [], ◌∷◌, length, set, length-set, Option, Some, None, Ok, Err}
+use Rattle.plant_model.specs.Plant.{PlantDefinition}
 use Rattle.step_core.specs.Job.{JobDefinition}
-use Rattle.step_core.specs.Plant.{PlantDefinition}
 use Rattle.plant_core.specs.Events.{AreHandsAfter}
 use Rattle.plant_core.specs.Hands.{AreHandsFor, HandFields, with_jobs}
 use Rattle.plant_core.specs.View.{View}

@@ -4,15 +4,15 @@ use Rattle.std.specs.Prelude.{option_map, slice_get}
 use Rattle.std.proofs.lemmas.Bool.{cases_eq, cases_lt}
 use Rattle.std.proofs.lemmas.List.{get_or_past, map-set}
 use Rattle.std.proofs.lemmas.Option.{none-some, same_Some}
-use Rattle.step_core.specs.Job.{JobDefinition, job_of}
-use Rattle.step_core.specs.declared.job.Job.{Job}
+use Rattle.plant_model.specs.Choice.{ChoiceDefinition}
+use Rattle.plant_model.specs.Plant.{PlantDefinition}
 use Rattle.step_executor.specs.Outstanding.{kept_in}
 use Rattle.petri_atom.specs.Local.{Local}
-use Rattle.step_core.specs.Choice.{ChoiceDefinition}
-use Rattle.step_core.specs.Plant.{PlantDefinition}
-use Rattle.step_core.specs.Runs.{fold}
-use Rattle.step_core.specs.Step.{next, transfer}
-use Rattle.step_core.proofs.Stepping.{length-stepped}
+use Rattle.plant_model.specs.Runs.{fold}
+use Rattle.plant_model.specs.Step.{next, transfer}
+use Rattle.plant_model.proofs.Stepping.{length-stepped}
+use Rattle.step_core.specs.Job.{JobDefinition, job_of}
+use Rattle.step_core.specs.declared.job.Job.{Job}
 use Rattle.plant_core.specs.Hands.{AreOwnJobs, job_at}
 use Rattle.plant_core.specs.Invariant.{FitsTogether}
 use Rattle.plant_core.specs.View.{View}

@@ -14,7 +14,7 @@ use Rattle.record_codec.specs.Saved.{SavedFields}
 use Rattle.snapshot_writer.specs.Slots.{newest, newest_of, newest_slot, other_slot, saved_of, slot_of, IsSameNewest}
 use Rattle.snapshot_writer.specs.Storing.{HasStored, IsNewestNow}
 use Rattle.snapshot_writer.proofs.StoredCells.{others_stay}
-use Rattle.step_core.specs.Plant.{PlantDefinition}
+use Rattle.plant_model.specs.Plant.{PlantDefinition}
 use Rattle.plant_image.proofs.KeptCells.{behind_slots}
 use Rattle.plant_core.specs.Invariant.{AreNextSlots}
 use Rattle.plant_core.specs.Snapshots.{next_slot, with_written}

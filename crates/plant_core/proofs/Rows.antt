@@ -6,9 +6,9 @@ use Rattle.petri_atom.specs.Definition.{AtomDefinition}
 use Rattle.petri_atom.specs.Local.{Local, Row}
 use Rattle.record_codec.specs.Saved.{SavedFields}
 use Rattle.record_codec.specs.declared.layout.TheConstants.{LAST_NUMBER}
-use Rattle.step_core.specs.Choice.{ChoiceDefinition}
+use Rattle.plant_model.specs.Choice.{ChoiceDefinition}
+use Rattle.plant_model.specs.Plant.{PlantDefinition}
 use Rattle.step_core.specs.Job.{JobDefinition, worked}
-use Rattle.step_core.specs.Plant.{PlantDefinition}
 use Rattle.plant_core.specs.Events.{IsAsk, IsBack, IsPut, IsTrim, fire_refusal}
 use Rattle.plant_core.specs.View.{View, may_go, with_asked, with_cut}
 use Rattle.plant_core.specs.declared.limits.TheConstants.{MOST_TAIL}

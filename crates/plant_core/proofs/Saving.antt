@@ -10,8 +10,8 @@ use Rattle.petri_atom.specs.declared.state.TheConstants.{MAX_PLACES, MAX_VARIABL
 use Rattle.record_codec.specs.Saved.{SavedFields}
 use Rattle.record_replay.specs.Records.{count_of}
 use Rattle.snapshot_writer.specs.Parcels.{saved_by}
-use Rattle.step_core.specs.Fitting.{AllFit}
-use Rattle.step_core.specs.Plant.{PlantDefinition}
+use Rattle.plant_model.specs.Fitting.{AllFit}
+use Rattle.plant_model.specs.Plant.{PlantDefinition}
 use Rattle.trimmer.specs.Covered.{saved_count}
 use Rattle.trimmer.specs.declared.saved.SavedAt.{SavedAt}
 use Rattle.plant_image.proofs.SavedFits.{fitting_passes}

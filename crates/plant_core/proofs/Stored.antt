@@ -18,7 +18,7 @@ use Rattle.snapshot_writer.specs.Slots.{IsAbove, IsFree, newest, other_slot, sav
 use Rattle.snapshot_writer.specs.Storing.{HasStored, IsNewestNow, IsStored}
 use Rattle.snapshot_writer.proofs.NewestStates.{other_is_free, other_is_slot}
 use Rattle.snapshot_writer.proofs.StoredCells.{is_newest_now}
-use Rattle.step_core.specs.Plant.{PlantDefinition}
+use Rattle.plant_model.specs.Plant.{PlantDefinition}
 use Rattle.trimmer.specs.Covered.{saved_count}
 use Rattle.trimmer.specs.declared.saved.SavedAt.{SavedAt}
 use Rattle.plant_image.specs.Contents.{Contents, contents_of, newest_held, ring_in, unsaved}

@@ -8,7 +8,7 @@ use Rattle.gated_journal.specs.declared.ring.Ring.{Ring}
 use Rattle.record_codec.specs.Saved.{SavedFields}
 use Rattle.snapshot_writer.specs.Slots.{other_slot}
 use Rattle.snapshot_writer.specs.Storing.{HasStored, IsStored}
-use Rattle.step_core.specs.Plant.{PlantDefinition}
+use Rattle.plant_model.specs.Plant.{PlantDefinition}
 use Rattle.plant_image.specs.Contents.{Contents, contents_of}
 use Rattle.plant_image.specs.Faults.{is_of_atom}
 use Rattle.plant_image.specs.Standing.{IsOnTheWay, StandsFor}

@@ -20,7 +20,7 @@ use Rattle.record_replay.specs.Records.{records_of}
 use Rattle.record_replay.specs.Replay.{Position, is_included, replay_from}
 use Rattle.record_replay.proofs.OverRecords.{replay-behind, same_Ok}
 use Rattle.snapshot_writer.specs.Parcels.{local_in}
-use Rattle.step_core.specs.Plant.{PlantDefinition}
+use Rattle.plant_model.specs.Plant.{PlantDefinition}
 use Rattle.trimmer.specs.Covered.{is_covered, saved_count}
 use Rattle.trimmer.specs.declared.saved.SavedAt.{SavedAt}
 use Rattle.plant_image.specs.Contents.{Contents, contents_of, last_number, ring_in, saved_position, unsaved}

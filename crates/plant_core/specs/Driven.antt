@@ -4,7 +4,7 @@ use Rattle.std.specs.List.{list_all, list_any}
 use Rattle.disk_model.specs.Cells.{Leaves}
 use Rattle.disk_model.specs.DiskState.{DiskState, counted, size_of}
 use Rattle.disk_model.specs.declared.cells.TheConstants.{BODY}
-use Rattle.step_core.specs.Plant.{PlantDefinition}
+use Rattle.plant_model.specs.Plant.{PlantDefinition}
 use Rattle.plant_core.specs.Events.{IsEventRun, IsHandedRun, all_fired, asked_in, has_failed, is_in_memory, may_call}
 use Rattle.plant_core.specs.Hands.{HandFields}
 use Rattle.plant_core.specs.Stops.{StandsForFrontSince}

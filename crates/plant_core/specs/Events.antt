@@ -6,12 +6,12 @@ use Rattle.record_codec.specs.Saved.{SavedFields}
 use Rattle.record_codec.specs.declared.layout.TheConstants.{LAST_NUMBER}
 use Rattle.record_replay.specs.Records.{count_of}
 use Rattle.snapshot_writer.specs.Parcels.{saved_by}
-use Rattle.step_core.specs.Choice.{ChoiceDefinition}
-use Rattle.step_core.specs.Chosen.{choice_of}
+use Rattle.plant_model.specs.Choice.{ChoiceDefinition}
+use Rattle.plant_model.specs.Chosen.{choice_of}
+use Rattle.plant_model.specs.Plant.{PlantDefinition}
+use Rattle.plant_model.specs.Runs.{fold}
 use Rattle.step_core.specs.Job.{JobDefinition}
 use Rattle.step_core.specs.Jobs.{AreJobsOf}
-use Rattle.step_core.specs.Plant.{PlantDefinition}
-use Rattle.step_core.specs.Runs.{fold}
 use Rattle.trimmer.specs.Covered.{saved_count}
 use Rattle.plant_core.specs.Hands.{HandFields, job_at, with_jobs}
 use Rattle.plant_core.specs.Snapshots.{held_at, with_held, without}

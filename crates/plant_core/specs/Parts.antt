@@ -5,7 +5,7 @@ use Rattle.disk_model.specs.Cells.{cell_count, seen_cells}
 use Rattle.disk_model.specs.declared.cells.TheConstants.{BODY}
 use Rattle.gated_journal.specs.Rings.{cells_of_ring}
 use Rattle.record_replay.specs.Records.{count_of}
-use Rattle.step_core.specs.System.{digest_of}
+use Rattle.plant_model.specs.System.{digest_of}
 use Rattle.plant_image.specs.Contents.{contents_of}
 use Rattle.plant_core.specs.Invariant.{IsAtRest}
 use Rattle.plant_core.specs.Marks.{marks_of}

@@ -2,8 +2,8 @@
 use Rattle.std.specs.Prelude.{ℕ, List}
 use Rattle.disk_model.specs.DiskState.{DiskState}
 use Rattle.disk_model.specs.declared.disk.Disk.{Ghosts}
-use Rattle.step_core.specs.Plant.{PlantDefinition}
-use Rattle.step_core.specs.System.{digest_of}
+use Rattle.plant_model.specs.Plant.{PlantDefinition}
+use Rattle.plant_model.specs.System.{digest_of}
 use Rattle.step_executor.specs.Executing.{committed_in, jobs_in, plant_in, states_in, system_in}
 use Rattle.plant_core.specs.View.{View, view_by}
 use Rattle.plant_core.specs.declared.plant.Plant.{Plant}

@@ -1,9 +1,9 @@
 -- What a stop leaves of a durable plant.
 use Rattle.std.specs.Prelude.{ℕ, ◌+◌, ◌≤◌, ◌++◌, List, length, take}
 use Rattle.disk_model.specs.Cells.{Cell}
-use Rattle.step_core.specs.Choice.{ChoiceDefinition}
-use Rattle.step_core.specs.Plant.{PlantDefinition}
-use Rattle.step_core.specs.Runs.{fold}
+use Rattle.plant_model.specs.Choice.{ChoiceDefinition}
+use Rattle.plant_model.specs.Plant.{PlantDefinition}
+use Rattle.plant_model.specs.Runs.{fold}
 use Rattle.plant_image.specs.Contents.{contents_of, last_number}
 use Rattle.plant_image.specs.Standing.{StandsFor}
 use Rattle.plant_core.specs.View.{View}

@@ -4,13 +4,13 @@ use Rattle.std.specs.List.{prefix_len}
 use Rattle.std.specs.Option.{option_map_or}
 use Rattle.petri_atom.specs.Local.{Local}
 use Rattle.gated_journal.specs.declared.ring.Ring.{Ring}
-use Rattle.step_core.specs.Choice.{ChoiceDefinition}
-use Rattle.step_core.specs.Chosen.{choice_of}
+use Rattle.plant_model.specs.Choice.{ChoiceDefinition}
+use Rattle.plant_model.specs.Chosen.{choice_of}
+use Rattle.plant_model.specs.Plant.{PlantDefinition}
+use Rattle.plant_model.specs.Step.{next}
+use Rattle.plant_model.specs.declared.choice.Choice.{Choice}
 use Rattle.step_core.specs.Job.{JobDefinition}
-use Rattle.step_core.specs.Plant.{PlantDefinition}
-use Rattle.step_core.specs.Step.{next}
 use Rattle.step_core.specs.Sure.{sure_choices}
-use Rattle.step_core.specs.declared.choice.Choice.{Choice}
 use Rattle.step_executor.specs.Outstanding.{jobs_after, parts_without}
 use Rattle.record_codec.specs.Saved.{SavedFields}
 use Rattle.record_replay.specs.Records.{counts_after, record_by}

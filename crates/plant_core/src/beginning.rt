@@ -3,7 +3,7 @@ ghost use Rattle.std.specs.Prelude.{◌≡◌, ◌+◌, ◌<◌, [], None, Some,
 ghost use Rattle.record_codec.specs.Fired.{IsFired, fired_in};
 ghost use Rattle.record_codec.specs.declared.layout.TheConstants.{LAST_NUMBER};
 ghost use Rattle.record_replay.specs.Records.{record_delivered};
-ghost use Rattle.step_core.specs.Chosen.{choice_of};
+ghost use Rattle.plant_model.specs.Chosen.{choice_of};
 ghost use Rattle.step_core.specs.Job.{JobDefinition, job_done};
 ghost use Rattle.step_core.specs.Jobs.{AreJobsOf, jobs_of};
 ghost use Rattle.step_core.specs.Sure.{IsSure};
@@ -19,12 +19,14 @@ use crate::marks::mark_of;
 use crate::plant::Plant;
 use crate::refused::{BackRefused, Refused};
 use disk_model::Disk;
+use plant_model::laws::an_allowed_choice_is_in_range;
+use plant_model::{Choice, no_deliveries};
 use record_replay::laws::{
     a_record_of_what_was_delivered_is_that_of_the_choice, the_record_of_a_step_is_of_its_plant,
 };
 use record_replay::{count_participants, record_of};
-use step_core::laws::{an_allowed_choice_is_in_range, sure_is_allowed};
-use step_core::{Choice, Done, Jobs, no_deliveries};
+use step_core::laws::sure_is_allowed;
+use step_core::{Done, Jobs};
 
 impl<'s, D: Disk> Plant<'s, D> {
     /// Begins the choice at the place `pick`, modulo the number of choices, and answers it with its number: its participants go away, each with a

@@ -1,12 +1,13 @@
 //! What a durable plant can fire next.
 ghost use Rattle.std.specs.Prelude.{◌≡◌, ◌<◌, Contains, None, Some, IfSome, length, slice_get};
-ghost use Rattle.step_core.specs.Chosen.{choice_of};
+ghost use Rattle.plant_model.specs.Chosen.{choice_of};
 ghost use Rattle.plant_core.specs.Plants.{definition_of, view_of};
 ghost use Rattle.plant_core.specs.View.{sure_in};
 
 use crate::plant::Plant;
 use disk_model::Disk;
-use step_core::{Choice, Listed};
+use plant_model::Choice;
+use step_core::Listed;
 
 impl<'s, D: Disk> Plant<'s, D> {
     /// How many choices the plant has now: those of its present state, and the sure ones of these while atoms are away.

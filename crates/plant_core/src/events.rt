@@ -1,8 +1,8 @@
 //! What is asked of a durable plant, and what it answers.
 use crate::refused::Refused;
 use petri_atom::{AtomState, Delivered};
+use plant_model::Choice;
 use record_codec::Saved;
-use step_core::Choice;
 
 /// What is asked of a durable plant.
 #[derive(Drop)]

@@ -3,8 +3,8 @@ ghost use Rattle.std.specs.Prelude.{◌≡◌, ◌+◌, ◌<◌, None, Some, len
 ghost use Rattle.record_codec.specs.Fired.{IsFired, fired_in};
 ghost use Rattle.record_codec.specs.declared.layout.TheConstants.{LAST_NUMBER};
 ghost use Rattle.record_replay.specs.Records.{record_delivered};
+ghost use Rattle.plant_model.specs.Chosen.{choice_of};
 ghost use Rattle.step_core.specs.Sure.{IsSure};
-ghost use Rattle.step_core.specs.Chosen.{choice_of};
 ghost use Rattle.plant_core.specs.Events.{IsEvent, fire_refusal};
 ghost use Rattle.plant_core.specs.declared.events.Happened.TheVariants.{Fire, FireChoice};
 ghost use Rattle.plant_core.specs.Plants.{definition_of, device_of, text_digest, view_of};
@@ -16,13 +16,14 @@ use crate::marks::mark_of;
 use crate::plant::Plant;
 use crate::refused::Refused;
 use disk_model::Disk;
+use plant_model::laws::an_allowed_choice_is_in_range;
+use plant_model::{Choice, MAX_ATOMS, no_deliveries};
 use record_codec::LAST_NUMBER;
 use record_replay::laws::{
     a_record_of_what_was_delivered_is_that_of_the_choice, the_record_of_a_step_is_of_its_plant,
 };
 use record_replay::{count_participants, record_of};
-use step_core::laws::{an_allowed_choice_is_in_range, sure_is_allowed};
-use step_core::{Choice, MAX_ATOMS, no_deliveries};
+use step_core::laws::sure_is_allowed;
 
 impl<'s, D: Disk> Plant<'s, D> {
     /// Fires the choice at the place `pick`, modulo the number of choices, and answers it with its number. No call of the device is made,

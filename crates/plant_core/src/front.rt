@@ -1,8 +1,8 @@
 //! How far a durable plant is, and what it shows.
 ghost use Rattle.std.specs.Prelude.{◌≡◌, ◌+◌, ◌≤◌, slice_get};
 ghost use Rattle.record_codec.specs.declared.layout.TheConstants.{LAST_NUMBER, MOST_RING};
-ghost use Rattle.step_core.specs.Fitting.{IsOf};
-ghost use Rattle.step_core.specs.System.{digest_of, plant_of};
+ghost use Rattle.plant_model.specs.Fitting.{IsOf};
+ghost use Rattle.plant_model.specs.System.{digest_of, plant_of};
 ghost use Rattle.plant_core.specs.Plants.{definition_of, device_of, text_digest, view_of};
 ghost use Rattle.plant_core.specs.View.{fired_number};
 
@@ -10,7 +10,7 @@ use crate::limits::MOST_TAIL;
 use crate::plant::Plant;
 use disk_model::Disk;
 use petri_atom::AtomState;
-use step_core::{PlantState, System};
+use plant_model::{PlantState, System};
 
 /// How far a plant is.
 #[derive(Clone, Copy, Debug, PartialEq, Eq)]

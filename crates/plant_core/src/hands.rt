@@ -6,9 +6,10 @@ ghost use Rattle.step_executor.specs.Outstanding.{kept_in};
 ghost use Rattle.plant_core.specs.Hands.{AreOwnJobs, empty_hands, job_at, with_jobs};
 ghost use Rattle.plant_core.specs.Snapshots.{AreOwn, held_at, with_held};
 
+use plant_model::Move;
 use snapshot_writer::Encoded;
 use std::alloc::{AllocError, Global};
-use step_core::{Job, Jobs, Move};
+use step_core::{Job, Jobs};
 
 /// A hand for each atom, which holds the state of the atom that was asked for last, until it is stored, and the job that it was given last, until it
 /// is handed in. Only making them takes memory.

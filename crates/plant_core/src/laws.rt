@@ -1,7 +1,7 @@
 //! What a run of events does. These functions make no call: their clauses are the laws.
 ghost use Rattle.std.specs.Prelude.{◌≡◌, ◌++◌, List};
-ghost use Rattle.step_core.specs.Plant.{PlantDefinition};
-ghost use Rattle.step_core.specs.Runs.{IsRun, fold};
+ghost use Rattle.plant_model.specs.Plant.{PlantDefinition};
+ghost use Rattle.plant_model.specs.Runs.{IsRun, fold};
 ghost use Rattle.plant_core.specs.Events.{IsAckedOf, IsEventRun, all_fired};
 ghost use Rattle.plant_core.specs.View.{View};
 ghost use Rattle.plant_core.specs.declared.events.Happened.{Happened};

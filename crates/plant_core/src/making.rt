@@ -1,6 +1,6 @@
 //! Making a durable plant.
 ghost use Rattle.std.specs.Prelude.{◌≡◌};
-ghost use Rattle.step_core.specs.System.{digest_of};
+ghost use Rattle.plant_model.specs.System.{digest_of};
 ghost use Rattle.step_executor.specs.Executing.{plant_in, system_in};
 ghost use Rattle.plant_core.specs.Parts.{MakeAPlant, view_in};
 ghost use Rattle.plant_core.specs.Plants.{definition_of, device_of, text_digest, view_of};
@@ -9,7 +9,7 @@ use crate::plant::Plant;
 use crate::snapshots::Snapshots;
 use disk_model::{BODY, Cells, Disk};
 use gated_journal::Journal;
-use step_core::{Choice, MAX_ATOMS};
+use plant_model::{Choice, MAX_ATOMS};
 use step_executor::Executor;
 use trimmer::Mark;
 

@@ -6,13 +6,13 @@ ghost use Rattle.disk_model.specs.declared.cells.TheConstants.{BODY};
 ghost use Rattle.plant_core.specs.Invariant.{AreMarked, AreNextSlots, AreOnTheWay, FitsTogether, IsAtRest, IsFrontOf, IsJournalOf};
 ghost use Rattle.plant_core.specs.View.{view_by};
 ghost use Rattle.plant_core.specs.declared.limits.TheConstants.{MOST_TAIL};
-ghost use Rattle.step_core.specs.System.{digest_of};
+ghost use Rattle.plant_model.specs.System.{digest_of};
 ghost use Rattle.step_executor.specs.Executing.{committed_in, jobs_in, plant_in, states_in, system_in};
 
 use crate::snapshots::Snapshots;
 use disk_model::{BODY, Cells, Disk};
 use gated_journal::Journal;
-use step_core::{Choice, MAX_ATOMS};
+use plant_model::{Choice, MAX_ATOMS};
 use step_executor::Executor;
 use trimmer::Mark;
 

@@ -9,7 +9,7 @@ ghost use Rattle.plant_core.specs.Marks.{marks_of};
 ghost use Rattle.plant_core.specs.Snapshots.{known_of};
 ghost use Rattle.plant_core.specs.Stops.{StandsForAcked, StandsForFront};
 ghost use Rattle.plant_core.specs.View.{acked_marks};
-ghost use Rattle.step_core.specs.Runs.{IsRun};
+ghost use Rattle.plant_model.specs.Runs.{IsRun};
 
 use crate::plant::Plant;
 use disk_model::Disk;

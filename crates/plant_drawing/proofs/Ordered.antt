@@ -7,10 +7,10 @@ use Rattle.std.proofs.lemmas.Bool.Decides.{eqb_tells}
 use Rattle.std.proofs.lemmas.List.Folds.{list_any-from_Any, list_any_none}
 use Rattle.std.proofs.lemmas.Option.{get_or_from_slice_get, slice_get-get_or, slice_get_within}
 use Rattle.petri_atom.specs.Local.{Local}
-use Rattle.step_core.specs.Choice.{ChoiceDefinition, choices}
-use Rattle.step_core.specs.Laws.{IsBefore}
-use Rattle.step_core.specs.Plant.{PlantDefinition}
-use Rattle.step_core.proofs.InOrder.{choices-rise}
+use Rattle.plant_model.specs.Choice.{ChoiceDefinition, choices}
+use Rattle.plant_model.specs.Laws.{IsBefore}
+use Rattle.plant_model.specs.Plant.{PlantDefinition}
+use Rattle.plant_model.proofs.InOrder.{choices-rise}
 use Rattle.plant_drawing.specs.Drawn.{has_choice, is_of_connector}
 use Rattle.plant_drawing.specs.Place.{AreEarlier, AreLater, IsFirstFrom}
 

@@ -10,8 +10,8 @@ use Rattle.connector_tree.specs.Tree as connectors
 use Rattle.connector_tree.specs.declared.tree.Port.{Port}
 use Rattle.priority_filter.specs.declared.rule.Side.TheVariants.{Whole, One}
 use Rattle.priority_filter.specs.declared.rule.Rule.TheVariants.{Under, UnderAt, Maximal}
-use Rattle.step_core.specs.Plant.{PlantDefinition, WireDefinition}
-use Rattle.step_core.specs.Choice.{ChoiceDefinition}
+use Rattle.plant_model.specs.Plant.{PlantDefinition, WireDefinition}
+use Rattle.plant_model.specs.Choice.{ChoiceDefinition}
 use Rattle.plant_drawing.specs.declared.filling.Filling.TheVariants.{Alike}
 use Rattle.plant_drawing.specs.Drawn.{has_choice}
 use Rattle.plant_drawing.specs.Wrapped.{wrapped}

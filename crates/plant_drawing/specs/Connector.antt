@@ -6,8 +6,8 @@ use Rattle.petri_atom.specs.Expression.{Tree}
 use Rattle.connector_tree.specs.Tree.{leaves}
 use Rattle.connector_tree.specs.declared.tree.Port.{Port}
 use Rattle.connector_tree.specs.Tokens.{tokens_of}
-use Rattle.step_core.specs.Plant.{TransferDefinition, WireDefinition}
-use Rattle.step_core.specs.declared.wire.Export.{Export}
+use Rattle.plant_model.specs.Plant.{TransferDefinition, WireDefinition}
+use Rattle.plant_model.specs.declared.wire.Export.{Export}
 use Rattle.plant_drawing.specs.Drawn.{is_drawn}
 use Rattle.plant_drawing.specs.Edges.{end_of_edge, from_connector, token_edge}
 use Rattle.plant_drawing.specs.Node.{part_node, connector_node}

@@ -9,8 +9,8 @@ use Rattle.priority_filter.specs.declared.rule.Side.{Side}
 use Rattle.priority_filter.specs.declared.rule.Side.TheVariants.{Whole, One}
 use Rattle.priority_filter.specs.declared.rule.Rule.{Rule}
 use Rattle.priority_filter.specs.declared.rule.Rule.TheVariants.{Under, UnderAt, Maximal}
-use Rattle.step_core.specs.Plant.{PlantDefinition, WireDefinition}
-use Rattle.step_core.specs.Choice.{ChoiceDefinition, choices}
+use Rattle.plant_model.specs.Plant.{PlantDefinition, WireDefinition}
+use Rattle.plant_model.specs.Choice.{ChoiceDefinition, choices}
 use Rattle.plant_drawing.specs.declared.filling.Filling.{Filling}
 use Rattle.plant_drawing.specs.declared.filling.Filling.TheVariants.{Alike, ByChoice}
 

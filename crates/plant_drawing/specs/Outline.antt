@@ -3,7 +3,7 @@ use Rattle.std.specs.Prelude.{ℕ, Bool, List, ◌++◌, codes, flat_map}
 use Rattle.petri_atom.specs.Definition.{AtomDefinition}
 use Rattle.connector_tree.specs.Tokens.{tokens_of}
 use Rattle.connector_tree.specs.declared.tree.Port.{Port}
-use Rattle.step_core.specs.Plant.{PlantDefinition, WireDefinition}
+use Rattle.plant_model.specs.Plant.{PlantDefinition, WireDefinition}
 use Rattle.text_io.specs.Numbered.{numbered}
 use Rattle.plant_drawing.specs.Node.{atom_node, connector_node}
 use Rattle.plant_drawing.specs.Atom.{named}

@@ -1,6 +1,6 @@
 -- Places among choices that stand in the order of their connectors.
 use Rattle.std.specs.Prelude.{◌≡◌, ◌<◌, ◌≤◌, ℕ, List, Some, length, slice_get}
-use Rattle.step_core.specs.Choice.{ChoiceDefinition}
+use Rattle.plant_model.specs.Choice.{ChoiceDefinition}
 
 -- the choices before a place are of earlier connectors
 abbrev pub AreEarlier : List ChoiceDefinition → ℕ → ℕ → Type 0

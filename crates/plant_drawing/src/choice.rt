@@ -1,7 +1,7 @@
 //! Which connectors have a choice.
 ghost use Rattle.std.specs.Prelude.{◌≡◌};
-ghost use Rattle.step_core.specs.Choice.{choices};
-ghost use Rattle.part_text.specs.Seen.{plant_in, states_in};
+ghost use Rattle.plant_model.specs.Choice.{choices};
+ghost use Rattle.step_core.specs.Running.{plant_in, states_in};
 ghost use Rattle.plant_drawing.specs.Drawn.{has_choice, is_coloured};
 ghost use Rattle.plant_drawing.specs.Place.{IsFirstFrom};
 

@@ -8,8 +8,8 @@ ghost use Rattle.plant_drawing.specs.Connector.{guard_line, transfer_line};
 use crate::wrapping::{columns_past, print_assigned, print_expression_words};
 use part_text::{Exports, Names};
 use petri_atom::Expression;
+use plant_model::{Export, Transfer};
 use std::io::Write;
-use step_core::{Export, Transfer};
 use text_io::{WriteFault, print_text};
 
 /// Prints guard clauses, each on a line of its own.

@@ -2,7 +2,8 @@
 ghost use Rattle.std.specs.Prelude.{◌++◌, flat_map, map};
 ghost use Rattle.connector_tree.specs.Tree.{leaves};
 ghost use Rattle.text_io.specs.Printing.{Prints};
-ghost use Rattle.part_text.specs.Seen.{definition_of, plant_in, states_in, wire_of};
+ghost use Rattle.step_core.specs.Running.{plant_in, states_in};
+ghost use Rattle.part_text.specs.Seen.{definition_of, wire_of};
 ghost use Rattle.plant_drawing.specs.Drawn.{is_coloured};
 ghost use Rattle.plant_drawing.specs.Connector.{arrow_to, colour_of, connector_label, connector_line, connector_lines, connector_shape, drawn_connector, guard_line, port_edge, transfer_line, tree_text};
 
@@ -17,8 +18,9 @@ use crate::wrapping::COLUMNS;
 use connector_tree::Port;
 use part_text::Exports;
 use petri_atom::Atom;
+use plant_model::Wire;
 use std::io::Write;
-use step_core::{Stepper, Wire};
+use step_core::Stepper;
 use text_io::{WriteFault, print_text};
 
 /// Prints a connector if it is drawn; nothing of another.

@@ -7,8 +7,8 @@ ghost use Rattle.part_text.specs.Seen.{plant_of, wire_of};
 ghost use Rattle.plant_drawing.specs.Drawn.{is_drawn, is_drawn_at, is_drawn_rule, is_of_drawn, side_connector};
 
 use connector_tree::{Child, Node};
+use plant_model::{MAX_ATOMS, System, Wire};
 use priority_filter::{Rule, Side};
-use step_core::{MAX_ATOMS, System, Wire};
 
 /// The set of all atoms that a plant may have: bit k for the atom with number k.
 pub const ALL_ATOMS: u64 = u64::MAX;

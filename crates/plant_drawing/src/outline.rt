@@ -12,8 +12,8 @@ use crate::plant::print_style;
 use crate::rule::print_rules;
 use connector_tree::Port;
 use petri_atom::Atom;
+use plant_model::{System, Wire};
 use std::io::Write;
-use step_core::{System, Wire};
 use text_io::{WriteFault, print_text};
 
 /// Writes the outline of a plant: a node for each atom, then one for each connector with an edge to the atom of each of its leaves, and

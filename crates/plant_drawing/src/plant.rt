@@ -2,7 +2,8 @@
 ghost use Rattle.std.specs.Prelude.{◌≡◌, slice_get, Some};
 ghost use Rattle.text_io.specs.Numbered.{numbered};
 ghost use Rattle.text_io.specs.Printing.{Prints};
-ghost use Rattle.part_text.specs.Seen.{definition_of, plant_in, states_in};
+ghost use Rattle.step_core.specs.Running.{plant_in, states_in};
+ghost use Rattle.part_text.specs.Seen.{definition_of};
 ghost use Rattle.plant_drawing.specs.Connector.{drawn_connector};
 ghost use Rattle.plant_drawing.specs.Drawn.{is_coloured};
 ghost use Rattle.plant_drawing.specs.Drawing.{drawing_of, drawn_atom, parts_of, style};

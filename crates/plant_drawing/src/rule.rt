@@ -10,9 +10,9 @@ use crate::drawn::{is_drawn_rule, side_connector};
 use crate::edges::print_from;
 use crate::node::print_connector;
 use part_text::{print_condition, print_sides};
+use plant_model::System;
 use priority_filter::{At, Rule, Side};
 use std::io::Write;
-use step_core::System;
 use text_io::{WriteFault, print_text};
 
 /// Prints the edge of each rule that is drawn.

@@ -8,7 +8,7 @@ use Rattle.disk_model.specs.Cells.{Cell, cell}
 use Rattle.gated_journal.specs.Stops.{HasAppended}
 use Rattle.record_codec.specs.Fired.{FiredFields}
 use Rattle.record_replay.specs.OfPlant.{is_record_of}
-use Rattle.step_core.specs.Plant.{PlantDefinition}
+use Rattle.plant_model.specs.Plant.{PlantDefinition}
 use Rattle.plant_image.specs.Contents.{contents_of, ring_held, base_held, ring_in}
 use Rattle.plant_image.specs.Faults.{cells_fault, record_fault}
 use Rattle.plant_image.specs.Standing.{with_records}

@@ -9,7 +9,7 @@ use Rattle.petri_atom.specs.Definition.{AtomDefinition}
 use Rattle.record_codec.specs.Ring.{slot_cell}
 use Rattle.record_codec.specs.Saved.{SavedFields, saved_in}
 use Rattle.snapshot_writer.specs.Slots.{if_of_atom, saved_of, saved_at, newest_of, newest}
-use Rattle.step_core.specs.Rules.{first_of}
+use Rattle.plant_model.specs.Rules.{first_of}
 use Rattle.plant_image.specs.Contents.{newest_held, unsaved}
 use Rattle.plant_image.specs.Faults.{fault_where, is_full_but_not, is_of_atom, marks_known, slot_fault, atom_fault}
 use Rattle.plant_image.specs.declared.fault.ImageFault.{ImageFault}

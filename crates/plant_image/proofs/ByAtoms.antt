@@ -7,8 +7,8 @@ use Rattle.petri_atom.specs.Definition.{AtomDefinition}
 use Rattle.record_replay.specs.Records.{count_of}
 use Rattle.record_replay.specs.Replay.{Position}
 use Rattle.record_replay.specs.declared.fault.ReplayFault.{ReplayFault}
-use Rattle.step_core.specs.Plant.{PlantDefinition}
-use Rattle.step_core.specs.Rules.{first_of, first_fault_in}
+use Rattle.plant_model.specs.Plant.{PlantDefinition}
+use Rattle.plant_model.specs.Rules.{first_of, first_fault_in}
 use Rattle.plant_image.specs.Contents.{Contents, saved_position, replayed, place_or, places_from, states_of, counts_of}
 
 -- ---- lists

@@ -3,7 +3,7 @@ use Rattle.std.proofs.Common.{◌≡◌, ⊎_elim, ℕ, ◌+◌, ◌*◌, ◌<�
 use Rattle.disk_model.specs.Cells.{Cell, cell}
 use Rattle.gated_journal.specs.Live.{place}
 use Rattle.gated_journal.specs.Stops.{HasCleaned}
-use Rattle.step_core.specs.Plant.{PlantDefinition}
+use Rattle.plant_model.specs.Plant.{PlantDefinition}
 use Rattle.plant_image.specs.Contents.{contents_of, ring_held, base_held, ring_in}
 use Rattle.plant_image.specs.Faults.{cells_fault}
 use Rattle.plant_image.proofs.KeptCells.{IsSound, none_of, behind_slots, identity_same, ring_same, base_fault_same, base_cell_same, base_same, slots_fault_same, slots_same, record_same, record_empty, live_fit, records_none}

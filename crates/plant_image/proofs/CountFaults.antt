@@ -4,8 +4,8 @@ use Rattle.petri_atom.specs.Definition.{AtomDefinition}
 use Rattle.record_replay.specs.Records.{count_of}
 use Rattle.record_replay.specs.Replay.{Position}
 use Rattle.record_replay.specs.declared.fault.ReplayFault.{ReplayFault}
-use Rattle.step_core.specs.Plant.{PlantDefinition}
-use Rattle.step_core.specs.Rules.{first_fault_in}
+use Rattle.plant_model.specs.Plant.{PlantDefinition}
+use Rattle.plant_model.specs.Rules.{first_fault_in}
 use Rattle.plant_image.specs.Contents.{Contents, replayed, counts_of, last_number}
 use Rattle.plant_image.specs.Faults.{fault_where, count_fault, is_ahead, replay_fault, fault_of_replay}
 use Rattle.plant_image.specs.declared.fault.ImageFault.TheVariants.{Gap}

@@ -32,9 +32,9 @@ use Rattle.record_replay.specs.Replay.{Position, replay_from}
 use Rattle.snapshot_writer.specs.Slots.{newest, newest_of, saved_at, saved_of}
 use Rattle.snapshot_writer.specs.Storing.{HoldsSaved}
 use Rattle.snapshot_writer.specs.Parcels.{local_in, saved_by}
-use Rattle.step_core.specs.Plant.{PlantDefinition}
-use Rattle.step_core.specs.Rules.{first_of}
-use Rattle.step_core.specs.Step.{initial_states}
+use Rattle.plant_model.specs.Plant.{PlantDefinition}
+use Rattle.plant_model.specs.Rules.{first_of}
+use Rattle.plant_model.specs.Step.{initial_states}
 use Rattle.plant_image.specs.Contents.{contents_of, identity_held, ring_held, base_held, newest_held, saved_position, unsaved}
 use Rattle.plant_image.specs.Faults.{atom_fault, base_fault, cell_bytes, cells_fault, fault_where, first_cell_fault, first_fault, identity_fault, is_any, is_for, is_full_but_not, is_of_atom, record_fault, records_fault}
 use Rattle.plant_image.specs.Standing.{HasRoom, HoldsState, Leads, StandsFor, first_counts, identity_for}

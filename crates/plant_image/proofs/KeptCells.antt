@@ -16,8 +16,8 @@ use Rattle.record_codec.specs.Identity.{IdentityFields, identity_in}
 use Rattle.record_codec.specs.Ring.{base_cell, slot_cell, record_cell, device_cells}
 use Rattle.record_codec.specs.Saved.{SavedFields, saved_in}
 use Rattle.snapshot_writer.specs.Slots.{saved_of, saved_at, newest_of, newest}
-use Rattle.step_core.specs.Plant.{PlantDefinition}
-use Rattle.step_core.specs.Rules.{first_fault_in}
+use Rattle.plant_model.specs.Plant.{PlantDefinition}
+use Rattle.plant_model.specs.Rules.{first_fault_in}
 use Rattle.plant_image.specs.Contents.{contents_of, ring_held, base_held, newest_held, unsaved}
 use Rattle.plant_image.specs.Faults.{atom_fault, base_fault, cell_bytes, cells_fault, ends_or_fits, fault_where, first_cell_fault, first_fault, identity_fault, is_any, is_for, is_full_but_not, is_of_atom, record_fault, records_fault}
 use Rattle.plant_image.specs.declared.fault.ImageFault.{ImageFault}

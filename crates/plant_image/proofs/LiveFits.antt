@@ -11,7 +11,7 @@ use Rattle.gated_journal.proofs.Fronts.{front}
 use Rattle.record_codec.specs.Fired.{FiredFields, fired_in}
 use Rattle.record_codec.specs.Ring.{record_cell}
 use Rattle.record_replay.specs.OfPlant.{is_record_of}
-use Rattle.step_core.specs.Plant.{PlantDefinition}
+use Rattle.plant_model.specs.Plant.{PlantDefinition}
 use Rattle.plant_image.specs.Faults.{ends_or_fits, first_fault, is_full_but_not, numbers_fault, record_fault}
 use Rattle.plant_image.specs.declared.fault.ImageFault.TheVariants.{Damaged}
 use Rattle.plant_image.proofs.AtomSlots.{Holds, empty_or_holds, no_first, not_wrong}

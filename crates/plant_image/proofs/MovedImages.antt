@@ -14,8 +14,8 @@ use Rattle.record_codec.specs.Base.{base_in}
 use Rattle.record_codec.specs.Fired.{FiredFields}
 use Rattle.record_codec.specs.Ring.{base_cell, record_cell}
 use Rattle.record_replay.specs.OfPlant.{is_record_of}
-use Rattle.step_core.specs.Plant.{PlantDefinition}
-use Rattle.step_core.specs.Rules.{first_of}
+use Rattle.plant_model.specs.Plant.{PlantDefinition}
+use Rattle.plant_model.specs.Rules.{first_of}
 use Rattle.plant_image.specs.Contents.{contents_of, ring_held, base_held, ring_in}
 use Rattle.plant_image.specs.Faults.{base_cell_fault, base_fault, cells_fault, fault_where, is_any, is_full_but_not, record_fault}
 use Rattle.plant_image.specs.Standing.{cut_to}

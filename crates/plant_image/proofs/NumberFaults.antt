@@ -6,8 +6,8 @@ use Rattle.gated_journal.specs.Live.{record_in}
 use Rattle.gated_journal.proofs.Fronts.{front, first_is, front_stops}
 use Rattle.record_codec.specs.Fired.{FiredFields}
 use Rattle.record_codec.specs.Ring.{record_cell}
-use Rattle.step_core.specs.Plant.{PlantDefinition}
-use Rattle.step_core.specs.Rules.{first_of}
+use Rattle.plant_model.specs.Plant.{PlantDefinition}
+use Rattle.plant_model.specs.Rules.{first_of}
 use Rattle.plant_image.specs.Faults.{first_fault, numbers_fault, record_fault}
 use Rattle.plant_image.specs.declared.fault.ImageFault.{ImageFault}
 

@@ -14,12 +14,12 @@ use Rattle.record_replay.proofs.Counting.{counted-entry, length-counted, length-
 use Rattle.record_replay.proofs.OnRuns.{length-records, run-leads-on}
 use Rattle.record_replay.proofs.OverRecords.{replay-anew, replay-behind, replay-grows}
 use Rattle.snapshot_writer.specs.Parcels.{local_in}
-use Rattle.step_core.specs.Choice.{ChoiceDefinition}
-use Rattle.step_core.specs.Plant.{PlantDefinition}
-use Rattle.step_core.specs.Runs.{IsRun}
-use Rattle.step_core.specs.Step.{next, transfer}
-use Rattle.step_core.specs.declared.choice.Move.{Move}
-use Rattle.step_core.proofs.Stepping.{length-stepped}
+use Rattle.plant_model.specs.Choice.{ChoiceDefinition}
+use Rattle.plant_model.specs.Plant.{PlantDefinition}
+use Rattle.plant_model.specs.Runs.{IsRun}
+use Rattle.plant_model.specs.Step.{next, transfer}
+use Rattle.plant_model.specs.declared.choice.Move.{Move}
+use Rattle.plant_model.proofs.Stepping.{length-stepped}
 use Rattle.plant_image.specs.Contents.{Contents, replayed, saved_position, unsaved}
 use Rattle.plant_image.specs.Standing.{AreIncluded, IsOnTheWay, Leads, cut_to, with_records, with_saved}
 use Rattle.plant_image.proofs.ByAtoms.{element_at}

@@ -11,7 +11,7 @@ use Rattle.record_codec.specs.Fired.{FiredFields}
 use Rattle.record_codec.specs.Saved.{SavedFields}
 use Rattle.record_codec.specs.declared.entry.Entry.{Entry}
 use Rattle.snapshot_writer.specs.Parcels.{saved_by}
-use Rattle.step_core.specs.Plant.{PlantDefinition}
+use Rattle.plant_model.specs.Plant.{PlantDefinition}
 use Rattle.plant_image.specs.Contents.{Contents, counts_of, last_number, states_of}
 use Rattle.plant_image.specs.Faults.{atom_fault, base_fault, fault_of, leading_fault}
 use Rattle.plant_image.specs.declared.fault.ImageFault.TheVariants.{Damaged, Gap, NotEnabled, NotFormatted, WrongSize}

@@ -8,10 +8,10 @@ use Rattle.petri_atom.specs.Definition.{AtomDefinition, Fits}
 use Rattle.petri_atom.specs.Local.{Local}
 use Rattle.record_replay.specs.Records.{count_of}
 use Rattle.record_replay.specs.Replay.{Position}
-use Rattle.step_core.specs.Fitting.{IsOf, AllFit}
-use Rattle.step_core.specs.Plant.{PlantDefinition}
-use Rattle.step_core.specs.Rules.{first_of, first_fault_in}
-use Rattle.step_core.specs.declared.limits.TheConstants.{MAX_ATOMS}
+use Rattle.plant_model.specs.Fitting.{IsOf, AllFit}
+use Rattle.plant_model.specs.Plant.{PlantDefinition}
+use Rattle.plant_model.specs.Rules.{first_of, first_fault_in}
+use Rattle.plant_model.specs.declared.limits.TheConstants.{MAX_ATOMS}
 use Rattle.plant_image.specs.Contents.{Contents, replayed, states_of, counts_of}
 use Rattle.plant_image.specs.Faults.{replay_fault, fault_of_replay}
 use Rattle.plant_image.specs.Reading.{IsLed, contents_in}

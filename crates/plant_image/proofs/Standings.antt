@@ -12,8 +12,8 @@ use Rattle.record_codec.proofs.Bases.{held_base_is_spelled}
 use Rattle.record_replay.specs.Records.{count_of}
 use Rattle.record_replay.specs.Replay.{Position}
 use Rattle.record_replay.specs.declared.fault.ReplayFault.{ReplayFault}
-use Rattle.step_core.specs.Plant.{PlantDefinition}
-use Rattle.step_core.specs.Rules.{first_of, first_fault_in}
+use Rattle.plant_model.specs.Plant.{PlantDefinition}
+use Rattle.plant_model.specs.Rules.{first_of, first_fault_in}
 use Rattle.plant_image.specs.Contents.{Contents, contents_of, base_held, last_number, replayed, states_of, counts_of}
 use Rattle.plant_image.specs.Faults.{cells_fault, count_fault, fault_where, is_ahead, leading_fault, replay_fault, fault_of_replay}
 use Rattle.plant_image.specs.Standing.{Leads, StandsFor}

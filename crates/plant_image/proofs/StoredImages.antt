@@ -17,8 +17,8 @@ use Rattle.snapshot_writer.specs.Slots.{IsFree, if_of_atom, saved_at, saved_of}
 use Rattle.snapshot_writer.specs.Storing.{HasStored, HoldsSaved}
 use Rattle.snapshot_writer.proofs.NewestStates.{first_is_newest, second_is_newest}
 use Rattle.snapshot_writer.proofs.StoredCells.{kept_or_stored, others_stay}
-use Rattle.step_core.specs.Plant.{PlantDefinition}
-use Rattle.step_core.specs.Rules.{first_of, first_fault_in}
+use Rattle.plant_model.specs.Plant.{PlantDefinition}
+use Rattle.plant_model.specs.Rules.{first_of, first_fault_in}
 use Rattle.plant_image.specs.Contents.{contents_of, newest_held, ring_held, base_held, unsaved}
 use Rattle.plant_image.specs.Faults.{atom_fault, cells_fault, fault_where, is_full_but_not, is_of_atom, slot_fault}
 use Rattle.plant_image.specs.Standing.{with_saved}

@@ -11,8 +11,8 @@ use Rattle.record_codec.specs.Identity.{IdentityFields, IsIdentity}
 use Rattle.record_codec.specs.Ring.{base_cell, record_cell}
 use Rattle.record_codec.specs.Saved.{SavedFields}
 use Rattle.record_codec.specs.declared.layout.TheConstants.{LAST_NUMBER}
-use Rattle.step_core.specs.Plant.{PlantDefinition}
-use Rattle.step_core.specs.Rules.{first_of}
+use Rattle.plant_model.specs.Plant.{PlantDefinition}
+use Rattle.plant_model.specs.Rules.{first_of}
 use Rattle.plant_image.specs.Contents.{Contents, contents_of, identity_held, ring_held, base_held}
 use Rattle.plant_image.specs.Faults.{base_fault, first_fault, numbers_fault, records_fault}
 use Rattle.plant_image.specs.Reading.{IsFault, IsInRange}

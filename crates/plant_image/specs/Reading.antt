@@ -1,8 +1,8 @@
 -- What reading an image answers.
 use Rattle.std.specs.Prelude.{◌≡◌, ℕ, ◌+◌, ◌≤◌, true, List, Option, None, Some, Result, Ok, Err, length, slice_get, slice_index_or}
 use Rattle.petri_atom.specs.Definition.{AtomDefinition}
-use Rattle.step_core.specs.Fitting.{IsOf, AllFit}
-use Rattle.step_core.specs.Plant.{PlantDefinition}
+use Rattle.plant_model.specs.Fitting.{IsOf, AllFit}
+use Rattle.plant_model.specs.Plant.{PlantDefinition}
 use Rattle.disk_model.specs.Cells.{Cell}
 use Rattle.record_codec.specs.declared.layout.TheConstants.{LAST_NUMBER, LEAST_RING}
 use Rattle.gated_journal.specs.Rings.{IsReadFor, IsRing}

@@ -3,9 +3,9 @@ use Rattle.std.specs.Prelude.{◌≡◌, ℕ, ◌+◌, ◌-◌, ◌*◌, ◌≤�
 use Rattle.std.specs.List.{list_all}
 use Rattle.petri_atom.specs.Local.{Local}
 use Rattle.petri_atom.specs.Definition.{AtomDefinition}
-use Rattle.step_core.specs.Fitting.{IsOf, AllFit}
-use Rattle.step_core.specs.Plant.{PlantDefinition}
-use Rattle.step_core.specs.Step.{initial_states}
+use Rattle.plant_model.specs.Fitting.{IsOf, AllFit}
+use Rattle.plant_model.specs.Plant.{PlantDefinition}
+use Rattle.plant_model.specs.Step.{initial_states}
 use Rattle.disk_model.specs.Cells.{Cell, cell}
 use Rattle.disk_model.specs.declared.cells.TheConstants.{BODY}
 use Rattle.record_codec.specs.Base.{base_bytes}

@@ -2,7 +2,7 @@
 ghost use Rattle.std.specs.Prelude.{◌≡◌, Some, length};
 ghost use Rattle.disk_model.specs.Cells.{cell};
 ghost use Rattle.record_codec.specs.Ring.{identity_cell};
-ghost use Rattle.step_core.specs.System.{plant_of, digest_of};
+ghost use Rattle.plant_model.specs.System.{plant_of, digest_of};
 ghost use Rattle.plant_image.specs.Contents.{identity_held};
 ghost use Rattle.plant_image.specs.Faults.{first_cell_fault, identity_fault};
 ghost use Rattle.plant_image.specs.Reading.{Tells};
@@ -10,9 +10,9 @@ ghost use Rattle.plant_image.specs.Reading.{Tells};
 use crate::bodies::body_of;
 use crate::fault::ImageFault;
 use disk_model::{BODY, CELL};
+use plant_model::System;
 use record_codec::ring::{IDENTITY_CELL, device_cells};
 use record_codec::{Identity, VERSION};
-use step_core::System;
 
 /// What the device was formatted for. It is this system, and the device has the size for it.
 pub(crate) fn read_identity(

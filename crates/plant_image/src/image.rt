@@ -1,7 +1,7 @@
 //! The reading of a whole image.
 ghost use Rattle.std.specs.Prelude.{◌≡◌, None, length, IfOk};
-ghost use Rattle.step_core.specs.Rules.{first_fault_in};
-ghost use Rattle.step_core.specs.System.{plant_of, digest_of};
+ghost use Rattle.plant_model.specs.Rules.{first_fault_in};
+ghost use Rattle.plant_model.specs.System.{plant_of, digest_of};
 ghost use Rattle.plant_image.specs.Faults.{cells_fault, fault_of, leading_fault, replay_fault};
 ghost use Rattle.plant_image.specs.Reading.{IsHeld, IsLed, IsSound, IsStanding, Tells, contents_in};
 
@@ -13,8 +13,8 @@ use crate::replaying::{judge_counts, replay_all};
 use crate::slots::read_slots;
 use crate::standing::{Held, Standing};
 use disk_model::BODY;
+use plant_model::System;
 use std::alloc::Global;
-use step_core::System;
 
 /// What an image of so many bytes with these cells stands for, or the first thing that is wrong with it. A cell past the end of the
 /// list counts as empty. No device is called.

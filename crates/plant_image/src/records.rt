@@ -5,18 +5,18 @@ ghost use Rattle.disk_model.specs.Cells.{cell};
 ghost use Rattle.gated_journal.specs.Live.{live_among, record_in};
 ghost use Rattle.record_codec.specs.Ring.{record_cell};
 ghost use Rattle.record_codec.specs.declared.layout.TheConstants.{LAST_NUMBER, MOST_RING};
-ghost use Rattle.step_core.specs.System.{plant_of};
+ghost use Rattle.plant_model.specs.System.{plant_of};
 ghost use Rattle.plant_image.specs.Faults.{numbers_fault, record_fault};
 ghost use Rattle.plant_image.specs.Reading.{Tells};
 
 use crate::bodies::body_of;
 use crate::fault::ImageFault;
 use disk_model::BODY;
+use plant_model::System;
 use record_codec::Fired;
 use record_codec::ring::record_cell;
 use record_replay::is_record_of;
 use std::alloc::Global;
-use step_core::System;
 
 /// The live records of a ring of so many: the base and those after it, up to the first cell that is empty or holds another number.
 pub(crate) fn read_records(

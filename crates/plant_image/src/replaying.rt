@@ -5,9 +5,9 @@ ghost use Rattle.petri_atom.specs.Definition.{AtomDefinition, Fits};
 ghost use Rattle.record_replay.specs.Records.{count_of};
 ghost use Rattle.record_replay.specs.Replay.{replay_from};
 ghost use Rattle.snapshot_writer.specs.Parcels.{local_in};
-ghost use Rattle.step_core.specs.Fitting.{IsOf, AllFit};
-ghost use Rattle.step_core.specs.Rules.{first_fault_in};
-ghost use Rattle.step_core.specs.System.{plant_of};
+ghost use Rattle.plant_model.specs.Fitting.{IsOf, AllFit};
+ghost use Rattle.plant_model.specs.Rules.{first_fault_in};
+ghost use Rattle.plant_model.specs.System.{plant_of};
 ghost use Rattle.plant_image.specs.Contents.{counts_of, states_of, unsaved};
 ghost use Rattle.plant_image.specs.Faults.{fault_where, is_of_atom, replay_fault, fault_of_replay};
 ghost use Rattle.plant_image.specs.Reading.{IsLed, IsSound, Tells, contents_in};
@@ -16,10 +16,10 @@ ghost use Rattle.plant_image.specs.declared.fault.ImageFault.TheVariants.{Gap};
 use crate::fault::ImageFault;
 use crate::standing::{Held, Standing};
 use petri_atom::{Atom, AtomState};
+use plant_model::{MAX_ATOMS, PlantState, System};
 use record_codec::{Fired, Saved};
 use record_replay::{ReplayFault, replay_atom};
 use std::alloc::Global;
-use step_core::{MAX_ATOMS, PlantState, System};
 
 /// Where the records bring one atom.
 #[derive(Drop)]

@@ -5,8 +5,8 @@ ghost use Rattle.disk_model.specs.Cells.{cell};
 ghost use Rattle.petri_atom.specs.Atom.{definition_of};
 ghost use Rattle.record_codec.specs.Ring.{slot_cell};
 ghost use Rattle.snapshot_writer.specs.Slots.{saved_at};
-ghost use Rattle.step_core.specs.Rules.{first_fault_in};
-ghost use Rattle.step_core.specs.System.{plant_of};
+ghost use Rattle.plant_model.specs.Rules.{first_fault_in};
+ghost use Rattle.plant_model.specs.System.{plant_of};
 ghost use Rattle.plant_image.specs.Contents.{newest_held};
 ghost use Rattle.plant_image.specs.Faults.{atom_fault, is_of_atom, marks_known, slot_fault};
 ghost use Rattle.plant_image.specs.Reading.{Tells};
@@ -15,10 +15,10 @@ use crate::bodies::body_of;
 use crate::fault::ImageFault;
 use disk_model::BODY;
 use petri_atom::{Atom, MAX_PLACES};
+use plant_model::System;
 use record_codec::Saved;
 use record_codec::ring::slot_cell;
 use std::alloc::Global;
-use step_core::System;
 
 /// The newest saved state of each atom, by the atoms' numbers.
 pub(crate) fn read_slots(

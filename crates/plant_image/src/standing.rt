@@ -1,7 +1,7 @@
 //! What the cells of an image say, and what it stands for, as it was read.
 
+use plant_model::{MAX_ATOMS, PlantState};
 use record_codec::{Fired, Saved};
-use step_core::{MAX_ATOMS, PlantState};
 
 /// What the cells of a device hold.
 #[derive(Drop)]

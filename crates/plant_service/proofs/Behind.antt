@@ -8,7 +8,7 @@ use Rattle.record_codec.specs.Saved.{SavedFields}
 use Rattle.record_replay.specs.Records.{count_of}
 use Rattle.trimmer.specs.Covered.{saved_count}
 use Rattle.trimmer.specs.declared.saved.SavedAt.{SavedAt}
-use Rattle.step_core.specs.Plant.{PlantDefinition}
+use Rattle.plant_model.specs.Plant.{PlantDefinition}
 use Rattle.plant_core.specs.Events.{IsAsk, IsEvent, IsEventRun, IsPut, asked_in}
 use Rattle.plant_core.specs.Snapshots.{known_of, with_known}
 use Rattle.plant_core.specs.View.{View, with_asked, with_stored}

@@ -7,8 +7,8 @@ use Rattle.std.proofs.KnownBytes.{Appends-nil, Appends-trans}
 use Rattle.std.proofs.lemmas.Grind.{flat_map-append}
 use Rattle.std.proofs.lemmas.List.Folds.{list_any-append}
 use Rattle.disk_model.specs.DiskState.{DiskState}
-use Rattle.step_core.specs.Plant.{PlantDefinition}
-use Rattle.step_core.specs.Runs.{fold}
+use Rattle.plant_model.specs.Plant.{PlantDefinition}
+use Rattle.plant_model.specs.Runs.{fold}
 use Rattle.plant_core.specs.Driven.{IsDriven}
 use Rattle.plant_core.specs.Events.{IsEventRun, has_failed}
 use Rattle.plant_core.specs.Hands.{HandFields}

@@ -2,7 +2,7 @@
 use Rattle.std.proofs.Common.{◌≡◌, ◌∙◌, ap, sym, subst, ℕ, Bool, true, false, List, Option}
 use Rattle.std.specs.Prelude.{IfSome, Some, None, flat_map}
 use Rattle.disk_model.specs.DiskState.{DiskState}
-use Rattle.step_core.specs.Plant.{PlantDefinition}
+use Rattle.plant_model.specs.Plant.{PlantDefinition}
 use Rattle.plant_core.specs.View.{View}
 use Rattle.plant_core.specs.declared.events.Happened.{Happened}
 use Rattle.plant_core.proofs.EventByEvent.{events-sound}

@@ -9,8 +9,8 @@ use Rattle.std.proofs.lemmas.List.Folds.{list_any-append}
 use Rattle.disk_model.specs.DiskState.{DiskState}
 use Rattle.plant_words.specs.Lines.{is_legal_line, lines_of}
 use Rattle.plant_words.specs.Words.{words_of}
-use Rattle.step_core.specs.Plant.{PlantDefinition}
-use Rattle.step_core.specs.Runs.{fold}
+use Rattle.plant_model.specs.Plant.{PlantDefinition}
+use Rattle.plant_model.specs.Runs.{fold}
 use Rattle.plant_core.specs.Hands.{HandFields}
 use Rattle.plant_core.specs.View.{View}
 use Rattle.recorded_picks.proofs.KeptLine.{BeginsLike, begins-like, kept, no-line-kept}

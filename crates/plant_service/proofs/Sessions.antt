@@ -8,7 +8,7 @@ use Rattle.std.proofs.lemmas.Option.{IfSome_then}
 use Rattle.disk_model.specs.DiskState.{DiskState}
 use Rattle.petri_atom.specs.Atom.{definition_of}
 use Rattle.petri_atom.specs.declared.atom.Atom.{Atom}
-use Rattle.step_core.specs.Plant.{PlantDefinition}
+use Rattle.plant_model.specs.Plant.{PlantDefinition}
 use Rattle.plant_core.specs.Hands.{HandFields, empty_hands}
 use Rattle.plant_core.specs.View.{View}
 use Rattle.script_lines.specs.Answers.{standing_text}

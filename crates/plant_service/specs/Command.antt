@@ -4,8 +4,8 @@ use Rattle.std.specs.Option.{option_map_or}
 use Rattle.petri_atom.specs.Name.{is_same_text}
 use Rattle.plant_words.specs.Lines.{is_legal_line}
 use Rattle.plant_words.specs.Words.{words_of}
-use Rattle.step_core.specs.Lookup.{connector_named}
-use Rattle.step_core.specs.Plant.{PlantDefinition}
+use Rattle.plant_model.specs.Lookup.{connector_named}
+use Rattle.plant_model.specs.Plant.{PlantDefinition}
 use Rattle.script_lines.specs.Script.{line_in}
 use Rattle.script_lines.specs.declared.line.ScriptLine.{ScriptLine}
 use Rattle.script_lines.specs.declared.line.ScriptLine.TheVariants as script

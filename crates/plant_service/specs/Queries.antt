@@ -4,7 +4,7 @@ use Rattle.std.specs.List.{list_any, range_with_len}
 use Rattle.blocked_text.specs.Blocked.{connector_text, why_text}
 use Rattle.plant_core.specs.View.{View, fired_number, is_base_held_by, sure_in}
 use Rattle.run_text.specs.Choices.{choices_text}
-use Rattle.step_core.specs.Plant.{PlantDefinition}
+use Rattle.plant_model.specs.Plant.{PlantDefinition}
 use Rattle.script_lines.specs.Answers.{front_line, front_of, standing_text}
 use Rattle.script_lines.specs.Atoms.{atom_name}
 use Rattle.script_lines.specs.Mistakes.{mistake_text, quoted, word_in}

@@ -6,7 +6,7 @@ use Rattle.trimmer.specs.Covered.{saved_count}
 use Rattle.plant_core.specs.View.{View}
 use Rattle.plant_core.specs.declared.events.Event.{Event}
 use Rattle.plant_core.specs.declared.events.Event.TheVariants.{Ask, Put, Trim}
-use Rattle.step_core.specs.Plant.{PlantDefinition}
+use Rattle.plant_model.specs.Plant.{PlantDefinition}
 
 -- the newest saved state of an atom is behind the acknowledged one
 abbrev pub is_behind : View → ℕ → Bool

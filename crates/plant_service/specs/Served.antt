@@ -1,6 +1,6 @@
 -- Plants that are served on images.
 use Rattle.std.specs.Prelude.{◌≡◌, ℕ, Bool, true, false, List, Option}
-use Rattle.step_core.specs.Plant.{PlantDefinition}
+use Rattle.plant_model.specs.Plant.{PlantDefinition}
 use Rattle.disk_model.specs.DiskState.{DiskState}
 use Rattle.plant_core.specs.View.{View}
 use Rattle.image_commands.specs.Runs.{IsBootedFrom, StandsForAllAcked}

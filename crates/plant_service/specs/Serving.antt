@@ -10,7 +10,7 @@ use Rattle.plant_core.specs.View.{View}
 use Rattle.plant_core.specs.declared.events.Event.{Event}
 use Rattle.plant_core.specs.declared.events.Happened.{Happened}
 use Rattle.plant_words.specs.Lines.{lines_of}
-use Rattle.step_core.specs.Plant.{PlantDefinition}
+use Rattle.plant_model.specs.Plant.{PlantDefinition}
 use Rattle.script_lines.specs.Answers.{front_line, front_of, standing_text}
 use Rattle.script_lines.specs.Runs.{happened_text}
 use Rattle.plant_service.specs.Command.{command_in, quits}

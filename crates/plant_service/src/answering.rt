@@ -4,7 +4,7 @@ ghost use Rattle.blocked_text.specs.Asked.{plant_asked};
 ghost use Rattle.plant_core.specs.Handed.{hands_of};
 ghost use Rattle.plant_core.specs.Hands.{AreHandsFor};
 ghost use Rattle.plant_core.specs.Plants.{definition_of, device_of, text_digest, view_of};
-ghost use Rattle.step_core.specs.Fitting.{IsOf};
+ghost use Rattle.plant_model.specs.Fitting.{IsOf};
 ghost use Rattle.plant_service.specs.Serving.{HasBeenDriven, IsAnsweredAs};
 
 use crate::command::Command;
@@ -13,9 +13,9 @@ use crate::saving::save;
 use blocked_text::Reasons;
 use disk_model::Disk;
 use plant_core::{Hands, Plant};
+use plant_model::PlantState;
 use script_lines::{answer, has_failed};
 use std::io::Write;
-use step_core::PlantState;
 use text_io::WriteFault;
 
 /// Does what a line asks for, prints the answer, and tells whether the device failed. The reasons are those of the plant, rule k of it stands on

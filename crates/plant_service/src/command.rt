@@ -1,13 +1,13 @@
 //! What a line asks for.
 ghost use Rattle.std.specs.Prelude.{◌≡◌};
-ghost use Rattle.step_core.specs.System.{plant_of};
+ghost use Rattle.plant_model.specs.System.{plant_of};
 ghost use Rattle.plant_service.specs.Command.{alone, command_after, command_in, of_script, why_in};
 
 use crate::line_length::MAX_LINE;
 use plant_core::Event;
+use plant_model::System;
 use plant_words::{Words, is_legal};
 use script_lines::{Mistake, ScriptLine, Wrong, read_line};
-use step_core::System;
 
 /// What a line asks for.
 #[derive(Drop)]

@@ -12,10 +12,10 @@ use crate::ending::ServiceEnding;
 use crate::serving::serve;
 use disk_model::Disk;
 use image_commands::{ImageEnding, booted};
+use plant_model::System;
 use std::alloc::Global;
 use std::io::{BufRead, Write};
 use std::thread::Threads;
-use step_core::System;
 
 /// Boots the plant of the system from the device, after any stop, and serves it: prints where it stands, answers each line of the input until one
 /// asks to quit, or to its end, and prints how far the plant is then. Rule k of the plant stands on the line `rule_lines[k]` of its text.

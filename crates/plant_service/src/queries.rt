@@ -3,8 +3,8 @@ ghost use Rattle.std.specs.Prelude.{◌≡◌, OnOk};
 ghost use Rattle.std.specs.Io.KnownBytes.{Appends};
 ghost use Rattle.blocked_text.specs.Asked.{plant_asked};
 ghost use Rattle.plant_core.specs.Plants.{definition_of, view_of};
-ghost use Rattle.step_core.specs.Fitting.{IsOf};
-ghost use Rattle.step_core.specs.System.{plant_of};
+ghost use Rattle.plant_model.specs.Fitting.{IsOf};
+ghost use Rattle.plant_model.specs.System.{plant_of};
 ghost use Rattle.plant_service.specs.Queries.{mistake_line, query_text, wrong_in, too_long_line};
 
 use crate::command::Command;
@@ -13,12 +13,12 @@ use crate::room::print_room;
 use blocked_text::Reasons;
 use disk_model::Disk;
 use plant_core::Plant;
+use plant_model::{PlantState, System};
 use run_text::print_choices;
 use script_lines::{
     Mistake, Wrong, print_front, print_mistake, print_of_word, print_standing, word_in,
 };
 use std::io::Write;
-use step_core::{PlantState, System};
 use text_io::{WriteFault, end_line, print_number, print_text};
 
 /// Prints the answer to a question, or what is wrong with a line: nothing for a line that asks for events, or to end. The states are room in which

@@ -5,7 +5,7 @@ ghost use Rattle.blocked_text.specs.Asked.{plant_asked};
 ghost use Rattle.plant_core.specs.Handed.{hands_of};
 ghost use Rattle.plant_core.specs.Hands.{AreHandsFor};
 ghost use Rattle.plant_core.specs.Plants.{definition_of, device_of, text_digest, view_of};
-ghost use Rattle.step_core.specs.Fitting.{IsOf};
+ghost use Rattle.plant_model.specs.Fitting.{IsOf};
 ghost use Rattle.plant_service.specs.Serving.{AreLinesServed, HasBeenDriven, HasBeenServed, IsSession, closing_text};
 
 use crate::answering::answer_command;
@@ -16,11 +16,11 @@ use arrayvec::ArrayVec;
 use blocked_text::Reasons;
 use disk_model::Disk;
 use plant_core::{Hands, Plant};
+use plant_model::PlantState;
 use plant_words::Lines;
 use script_lines::{print_front, print_standing};
 use std::alloc::Global;
 use std::io::{BufRead, Write};
-use step_core::PlantState;
 use text_io::{WriteFault, hand_on, print_text, read_line};
 
 /// Serves a durable plant: prints where it stands, and answers each line of the input until one asks to quit, or to the input's end; then it prints

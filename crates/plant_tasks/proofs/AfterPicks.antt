@@ -4,8 +4,8 @@ use Rattle.std.specs.Prelude.{IfErr, IfSome, OnOk, option_map}
 use Rattle.std.specs.Option.{option_map_or}
 use Rattle.std.specs.Io.KnownBytes.{Appends}
 use Rattle.petri_atom.specs.Local.{Local}
-use Rattle.step_core.specs.Plant.{PlantDefinition}
-use Rattle.step_core.specs.Step.{initial_states}
+use Rattle.plant_model.specs.Plant.{PlantDefinition}
+use Rattle.plant_model.specs.Step.{initial_states}
 use Rattle.blocked_text.specs.Blocked.{blocked_text}
 use Rattle.run_text.specs.Picks.{PickDefinition}
 use Rattle.run_text.specs.Ran.{IfRan, OnRan}

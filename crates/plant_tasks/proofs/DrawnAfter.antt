@@ -3,8 +3,8 @@ use Rattle.std.proofs.Common.{◌≡◌, subst, List, ℕ, Option, Some, None}
 use Rattle.std.specs.Prelude.{IfSome}
 use Rattle.std.specs.Io.KnownBytes.{Appends}
 use Rattle.petri_atom.specs.Local.{Local}
-use Rattle.step_core.specs.Plant.{PlantDefinition}
-use Rattle.step_core.specs.Step.{initial_states}
+use Rattle.plant_model.specs.Plant.{PlantDefinition}
+use Rattle.plant_model.specs.Step.{initial_states}
 use Rattle.run_text.specs.Picks.{PickDefinition}
 use Rattle.run_text.specs.Runs.{state_after}
 use Rattle.plant_drawing.specs.Drawing.{drawing_of}

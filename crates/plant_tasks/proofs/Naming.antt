@@ -12,7 +12,7 @@ use Rattle.petri_atom.specs.Name.{is_same_text}
 use Rattle.petri_atom.specs.declared.atom.Atom.{Atom}
 use Rattle.petri_atom.proofs.Lists.{list_any-map}
 use Rattle.plant_words.proofs.Positions.{position_of_mapped}
-use Rattle.step_core.specs.Plant.{PlantDefinition}
+use Rattle.plant_model.specs.Plant.{PlantDefinition}
 use Rattle.plant_tasks.specs.Drawn.{drawn_atoms, has_atom, is_named, is_named_at, is_named_in}
 
 -- an atom has a name in the one form where it has it in the other

@@ -1,7 +1,7 @@
 -- The picks by which a plant is run.
 use Rattle.std.specs.Prelude.{ℕ, List, [], option_map, Option, None, Some}
 use Rattle.std.specs.Option.{option_map_or}
-use Rattle.step_core.specs.Plant.{PlantDefinition}
+use Rattle.plant_model.specs.Plant.{PlantDefinition}
 use Rattle.run_text.specs.Picks.{PickDefinition, counted_picks, given_picks, random_picks}
 use Rattle.run_text.specs.Runs.{refusal_of}
 use Rattle.run_text.specs.declared.fault.Refusal.{Refusal}

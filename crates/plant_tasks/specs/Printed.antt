@@ -1,9 +1,9 @@
 -- What the program prints of a plant, and what it saves of its run.
 use Rattle.std.specs.Prelude.{ℕ, List, [], ◌++◌, length, codes, decimal, option_map, Option, None, Some}
-use Rattle.step_core.specs.Choice.{plant_interactions}
-use Rattle.step_core.specs.Plant.{PlantDefinition}
-use Rattle.step_core.specs.Step.{initial_states}
-use Rattle.step_core.specs.System.{plant_of}
+use Rattle.plant_model.specs.Choice.{plant_interactions}
+use Rattle.plant_model.specs.Plant.{PlantDefinition}
+use Rattle.plant_model.specs.Step.{initial_states}
+use Rattle.plant_model.specs.System.{plant_of}
 use Rattle.run_text.specs.Choices.{choices_after}
 use Rattle.run_text.specs.Picks.{PickDefinition}
 use Rattle.run_text.specs.Runs.{state_after}

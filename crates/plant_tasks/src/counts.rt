@@ -3,8 +3,8 @@ ghost use Rattle.std.specs.Prelude.{◌≡◌, length};
 ghost use Rattle.run_text.specs.Seen.{Prints, plant_of};
 ghost use Rattle.plant_tasks.specs.Printed.{counted, counts_line};
 
+use plant_model::System;
 use std::io::Write;
-use step_core::System;
 use text_io::{WriteFault, end_line, print_number, print_text};
 
 /// Prints how many atoms, connectors, interactions and priority rules the plant has.

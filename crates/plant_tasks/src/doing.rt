@@ -19,12 +19,12 @@ use crate::task::ReadPlant;
 use blocked_text::Reasons;
 use command_line::{Shape, Task};
 use part_lines::{PartLines, rule_lines};
+use plant_model::System;
 use plant_warnings::print_warnings;
 use run_states::{States, Waves};
 use run_text::{Picks, Trace, TraceFault, print_choices_after, run_after, tell_run};
 use std::alloc::Global;
 use std::io::{BufRead, Write};
-use step_core::System;
 
 /// Prints what the task says of the plant, and saves what it fires if it is to.
 pub(crate) fn print_task<F: BufRead + Drop, W: Write, S: Write>(

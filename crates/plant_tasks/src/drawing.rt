@@ -6,7 +6,7 @@ ghost use Rattle.petri_atom.specs.Name.{is_same_text};
 ghost use Rattle.std.specs.Io.KnownBytes.{Appends};
 ghost use Rattle.run_text.specs.Seen.{definition_of, plant_of};
 ghost use Rattle.petri_atom.specs.Local.{set_below};
-ghost use Rattle.step_core.specs.declared.limits.TheConstants.{MAX_ATOMS};
+ghost use Rattle.plant_model.specs.declared.limits.TheConstants.{MAX_ATOMS};
 ghost use Rattle.run_text.specs.Ran.{IfRan};
 ghost use Rattle.run_text.specs.Runs.{refusal_of};
 ghost use Rattle.run_text.specs.declared.fault.TraceFault.{TraceFault};
@@ -20,10 +20,10 @@ use crate::picks::picks_of;
 use command_line::{Drawing, Picking};
 use petri_atom::Atom;
 use plant_drawing::{ALL_ATOMS, Filling, draw_to, outline_to};
+use plant_model::System;
 use run_text::{GivenPicks, Numbers, Picks, TraceFault, run_after};
 use std::alloc::Global;
 use std::io::{BufRead, Write};
-use step_core::System;
 
 /// Prints the drawing of the plant. Where a pick is refused nothing is printed.
 pub(crate) fn print_drawing<F: BufRead + Drop, W: Write>(

@@ -5,11 +5,11 @@ ghost use Rattle.run_text.specs.RunPicks.{picks_left};
 ghost use Rattle.plant_tasks.specs.Picked.{numbers_of, picks_said};
 
 use command_line::{Numbers, Picking};
+use plant_model::System;
 use recorded_picks::RecordedPicks;
 use run_text::{GivenPicks, RandomPicks, RunPicks};
 use std::alloc::{AllocError, Global};
 use std::io::BufRead;
-use step_core::System;
 
 /// The picks of a run, whatever gives them; `F` reads the text of those that a text has.
 pub(crate) type TaskPicks<'a, F> = RunPicks<'a, RecordedPicks<'a, F>>;

@@ -3,10 +3,10 @@ use crate::ending::PlantEnding;
 use crate::task::read_plant;
 use crate::watched::Watched;
 use command_line::is_standard_input;
+use plant_model::System;
 use std::fs::{self, File};
 use std::io::{self, Read};
 use std::rt::Files;
-use step_core::System;
 
 /// A text that is open for reading.
 #[derive(Drop)]

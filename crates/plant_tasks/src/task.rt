@@ -13,10 +13,10 @@ ghost use Rattle.plant_tasks.specs.declared.ending.PlantEnding.TheVariants.{Plan
 use crate::doing::print_task;
 use crate::ending::PlantEnding;
 use command_line::Task;
+use plant_model::System;
 use plant_text::{PlantFault, plant_of_text};
 use std::alloc::Global;
 use std::io::{BufRead, Read, Write};
-use step_core::System;
 use text_io::{WriteFault, hand_on, read_text};
 
 /// A plant that was read, and its text.

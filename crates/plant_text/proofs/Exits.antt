@@ -2,7 +2,7 @@
 use Rattle.std.proofs.Common.{◌≡◌, ◌≢◌, ◌∙◌, sym, ap, ℕ, Bool, ◌+◌, List, length, map, Result, Ok, Err}
 use Rattle.std.specs.Prelude.{nat_le, IfErr}
 use Rattle.std.specs.Result.{IsErrAnd}
-use Rattle.step_core.specs.declared.limits.TheConstants.{MAX_INTERACTIONS}
+use Rattle.plant_model.specs.declared.limits.TheConstants.{MAX_INTERACTIONS}
 use Rattle.connector_tree.specs.TokenMeaning.{interactions_in}
 use Rattle.plant_text.specs.Fault.{of_no_line}
 use Rattle.plant_words.specs.Reading.{check}

@@ -6,7 +6,7 @@ use Rattle.std.proofs.lemmas.Bool.{and_from}
 use Rattle.petri_atom.specs.Definition.{AtomDefinition}
 use Rattle.petri_atom.specs.Parts.{definition_by}
 use Rattle.priority_filter.specs.declared.rule.Rule.{Rule}
-use Rattle.step_core.specs.declared.limits.TheConstants.{MAX_ATOMS, MAX_WIRES, MAX_RULES}
+use Rattle.plant_model.specs.declared.limits.TheConstants.{MAX_ATOMS, MAX_WIRES, MAX_RULES}
 use Rattle.plant_words.specs.Lines.{is_legal_line, lines_of}
 use Rattle.plant_words.specs.Reading.{◌>>=◌, check, first_name, at_end}
 use Rattle.plant_words.specs.Words.{words_of, is_passed_over}

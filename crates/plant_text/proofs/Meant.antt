@@ -2,8 +2,8 @@
 use Rattle.std.proofs.Common.{◌≡◌, ◌≢◌, ◌∙◌, ap, sym, ℕ, List, Result, Ok, Err}
 use Rattle.std.specs.Prelude.{IfOk, IfErr, OnOk}
 use Rattle.std.specs.Result.{IsErrAnd}
-use Rattle.step_core.specs.System.{plant_of}
-use Rattle.step_core.specs.declared.system.System.{System}
+use Rattle.plant_model.specs.System.{plant_of}
+use Rattle.plant_model.specs.declared.system.System.{System}
 use Rattle.plant_text.specs.Fault.{of_no_line}
 use Rattle.plant_text.specs.Meaning.{meaning, written_in, with_an_order}
 use Rattle.plant_words.specs.Reading.{◌>>=◌}

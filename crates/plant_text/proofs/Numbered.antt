@@ -13,13 +13,13 @@ use Rattle.connector_tree.specs.Masks as mask
 use Rattle.connector_tree.specs.Tree.{Tree, leaves}
 use Rattle.priority_filter.specs.Decided.{order_fault}
 use Rattle.priority_filter.specs.declared.fault.OrderFault.{OrderFault}
-use Rattle.step_core.specs.Choice as choice
-use Rattle.step_core.specs.Plant.{WireDefinition, PlantDefinition}
-use Rattle.step_core.specs.Rules.{first_of, first_fault_in, atom_fault, tree_fault, wire_fault, fault_of_wire, fault_of_count, is_within_limits, early_fault, late_fault, fault_of_order, fault_of}
-use Rattle.step_core.specs.declared.fault.SystemFault.{SystemFault}
-use Rattle.step_core.specs.declared.fault.SystemFault.TheVariants.{Limit, BadAtom, BadConnector, BadWire, Order}
-use Rattle.step_core.specs.declared.limits.TheConstants.{MAX_INTERACTIONS}
-use Rattle.step_core.proofs.NoDeadlock.{order-sound}
+use Rattle.plant_model.specs.Choice as choice
+use Rattle.plant_model.specs.Plant.{WireDefinition, PlantDefinition}
+use Rattle.plant_model.specs.Rules.{first_of, first_fault_in, atom_fault, tree_fault, wire_fault, fault_of_wire, fault_of_count, is_within_limits, early_fault, late_fault, fault_of_order, fault_of}
+use Rattle.plant_model.specs.declared.fault.SystemFault.{SystemFault}
+use Rattle.plant_model.specs.declared.fault.SystemFault.TheVariants.{Limit, BadAtom, BadConnector, BadWire, Order}
+use Rattle.plant_model.specs.declared.limits.TheConstants.{MAX_INTERACTIONS}
+use Rattle.plant_model.proofs.NoDeadlock.{order-sound}
 use Rattle.connector_tree.specs.Tokens.{tokens_of}
 use Rattle.connector_tree.proofs.TokenMeaning as connector
 use Rattle.plant_text.specs.Interactions.{interactions_at, interactions_from, interactions_of, trees_of}

@@ -1,6 +1,6 @@
 -- A text is that of one plant at most.
 use Rattle.std.proofs.Common.{◌≡◌, ap, refl, ℕ, List, [], ◌∷◌, map, Result, Ok}
-use Rattle.step_core.specs.Plant.{WireDefinition, PlantDefinition}
+use Rattle.plant_model.specs.Plant.{WireDefinition, PlantDefinition}
 use Rattle.connector_tree.proofs.OneTree.{one_tree}
 use Rattle.plant_text.specs.Meaning.{meaning}
 use Rattle.plant_text.specs.Text.{WireText, PlantText, wire_text_of, text_of}

@@ -11,12 +11,12 @@ use Rattle.petri_atom.specs.Name.{is_same_text}
 use Rattle.petri_atom.proofs.Lists.{list_any-map}
 use Rattle.priority_filter.specs.Decided.{order_fault}
 use Rattle.priority_filter.specs.declared.fault.OrderFault.{OrderFault}
-use Rattle.step_core.specs.Choice as choice
-use Rattle.step_core.specs.Plant.{WireDefinition, PlantDefinition}
-use Rattle.step_core.specs.Rules.{first_of, first_fault_in, first_broken, is_small_wire, is_within_limits, is_known_port, is_known_export, names_known, atom_fault, tree_fault, fault_of_wire, wire_fault, early_fault, fault_of_count, late_fault, fault_of_order, fault_of}
-use Rattle.step_core.specs.declared.fault.SystemFault.TheVariants.{Limit, BadAtom, BadConnector, BadWire, Order}
-use Rattle.step_core.specs.declared.limits.TheConstants.{MAX_ATOMS, MAX_WIRES, MAX_RULES, MAX_INTERACTIONS}
-use Rattle.step_core.proofs.FirstFault.{four}
+use Rattle.plant_model.specs.Choice as choice
+use Rattle.plant_model.specs.Plant.{WireDefinition, PlantDefinition}
+use Rattle.plant_model.specs.Rules.{first_of, first_fault_in, first_broken, is_small_wire, is_within_limits, is_known_port, is_known_export, names_known, atom_fault, tree_fault, fault_of_wire, wire_fault, early_fault, fault_of_count, late_fault, fault_of_order, fault_of}
+use Rattle.plant_model.specs.declared.fault.SystemFault.TheVariants.{Limit, BadAtom, BadConnector, BadWire, Order}
+use Rattle.plant_model.specs.declared.limits.TheConstants.{MAX_ATOMS, MAX_WIRES, MAX_RULES, MAX_INTERACTIONS}
+use Rattle.plant_model.proofs.FirstFault.{four}
 use Rattle.text_io.specs.declared.reading.TheConstants.{MAX_TEXT}
 use Rattle.plant_words.specs.Lines.{lines_of}
 use Rattle.connector_tree.proofs.TokenFaults.{fault-tree}

@@ -11,8 +11,8 @@ use Rattle.connector_tree.specs.declared.tree.Port.{Port}
 use Rattle.priority_filter.specs.declared.rule.Rule.{Rule}
 use Rattle.priority_filter.specs.declared.rule.Rule.TheVariants.{Under, UnderAt, Maximal}
 use Rattle.priority_filter.specs.declared.seen.At.{At}
-use Rattle.step_core.specs.Rules.{is_known_port, is_exported, is_known_export, is_known_place, is_known_condition}
-use Rattle.step_core.specs.declared.wire.Export.{Export}
+use Rattle.plant_model.specs.Rules.{is_known_port, is_exported, is_known_export, is_known_place, is_known_condition}
+use Rattle.plant_model.specs.declared.wire.Export.{Export}
 use Rattle.atom_lines.specs.Lookup.{place_number, port_number, export_number, is_named}
 use Rattle.atom_lines.proofs.Growing.{Grows}
 use Rattle.plant_words.proofs.Positions.{position-within}

@@ -10,8 +10,8 @@ use Rattle.petri_atom.specs.Name.{is_same_text}
 use Rattle.petri_atom.specs.Parts.{definition_by}
 use Rattle.petri_atom.proofs.Fitting.{all_weaker}
 use Rattle.priority_filter.specs.declared.rule.Rule.{Rule}
-use Rattle.step_core.specs.Rules.{is_known_condition}
-use Rattle.step_core.specs.declared.limits.TheConstants.{MAX_ATOMS, MAX_WIRES, MAX_RULES, MAX_INTERACTIONS}
+use Rattle.plant_model.specs.Rules.{is_known_condition}
+use Rattle.plant_model.specs.declared.limits.TheConstants.{MAX_ATOMS, MAX_WIRES, MAX_RULES, MAX_INTERACTIONS}
 use Rattle.plant_words.specs.Lines.{is_legal_line}
 use Rattle.plant_words.specs.Words.{words_of, is_passed_over}
 use Rattle.plant_words.specs.Reading.{first_name, at_end, ◌>>=◌, check}

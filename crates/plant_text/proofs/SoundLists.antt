@@ -6,7 +6,7 @@ use Rattle.std.specs.Option.{option_map_or}
 use Rattle.std.proofs.lemmas.Bool.{and_from}
 use Rattle.std.proofs.lemmas.List.{length-append, map-append}
 use Rattle.std.proofs.Math.Seq.{set-append_seam, take-append_seam}
-use Rattle.step_core.specs.Rules.{first_of, first_fault_in}
+use Rattle.plant_model.specs.Rules.{first_of, first_fault_in}
 use Rattle.plant_words.specs.declared.line_fault.LineFault.{LineFault}
 use Rattle.plant_words.specs.Reading.{◌>>=◌}
 use Rattle.plant_words.proofs.Steps.{led_on, same_end}

@@ -6,7 +6,7 @@ use Rattle.priority_filter.specs.declared.rule.Rule.{Rule}
 use Rattle.priority_filter.specs.declared.rule.Rule.TheVariants.{Under, UnderAt, Maximal}
 use Rattle.priority_filter.specs.declared.seen.At.{At}
 use Rattle.priority_filter.specs.declared.rule.Side.{Side}
-use Rattle.step_core.specs.Rules.{is_known_place, is_known_condition}
+use Rattle.plant_model.specs.Rules.{is_known_place, is_known_condition}
 use Rattle.plant_words.specs.declared.line_fault.LineFault.{LineFault}
 use Rattle.plant_words.specs.declared.line_fault.LineFault.TheVariants.{UnknownName}
 use Rattle.plant_words.specs.Reading.{◌>>=◌, first_word, first_keyword, at_end}

@@ -9,10 +9,10 @@ use Rattle.petri_atom.specs.Expression.{Tree, all_variables}
 use Rattle.petri_atom.specs.Name.{is_same_text}
 use Rattle.petri_atom.proofs.Fitting.{all_weaker}
 use Rattle.connector_tree.specs.declared.tree.Port.{Port}
-use Rattle.step_core.specs.Plant.{TransferDefinition}
-use Rattle.step_core.specs.Rules.{is_known_port, is_known_export}
-use Rattle.step_core.specs.declared.limits.TheConstants.{MAX_WIRES}
-use Rattle.step_core.specs.declared.wire.Export.{Export}
+use Rattle.plant_model.specs.Plant.{TransferDefinition}
+use Rattle.plant_model.specs.Rules.{is_known_port, is_known_export}
+use Rattle.plant_model.specs.declared.limits.TheConstants.{MAX_WIRES}
+use Rattle.plant_model.specs.declared.wire.Export.{Export}
 use Rattle.plant_words.specs.Reading.{first_name, ◌>>=◌, check}
 use Rattle.plant_words.specs.declared.line_fault.LineFault.{LineFault}
 use Rattle.plant_words.specs.declared.line_kind.WirePart.{WirePart}

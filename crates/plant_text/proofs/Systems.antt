@@ -8,14 +8,14 @@ use Rattle.petri_atom.specs.declared.atom.Atom.{Atom}
 use Rattle.priority_filter.specs.Decided.{order_fault}
 use Rattle.priority_filter.specs.declared.fault.OrderFault.{OrderFault}
 use Rattle.priority_filter.specs.declared.rule.Rule.{Rule}
-use Rattle.step_core.specs.Plant.{PlantDefinition}
-use Rattle.step_core.specs.Choice.{named, plant_interactions}
-use Rattle.step_core.specs.Made.{plant_by}
-use Rattle.step_core.specs.Rules.{IsFaultOf, fault_of}
-use Rattle.step_core.specs.Wire.{wire_of}
-use Rattle.step_core.specs.declared.fault.SystemFault.{SystemFault}
-use Rattle.step_core.specs.declared.fault.SystemFault.TheVariants as system
-use Rattle.step_core.specs.declared.wire.Wire.{Wire}
+use Rattle.plant_model.specs.Plant.{PlantDefinition}
+use Rattle.plant_model.specs.Choice.{named, plant_interactions}
+use Rattle.plant_model.specs.Made.{plant_by}
+use Rattle.plant_model.specs.Rules.{IsFaultOf, fault_of}
+use Rattle.plant_model.specs.Wire.{wire_of}
+use Rattle.plant_model.specs.declared.fault.SystemFault.{SystemFault}
+use Rattle.plant_model.specs.declared.fault.SystemFault.TheVariants as system
+use Rattle.plant_model.specs.declared.wire.Wire.{Wire}
 use Rattle.atom_lines.specs.Draft.{drafted as atom_drafted}
 use Rattle.atom_lines.specs.declared.draft.AtomDraft.{AtomDraft}
 use Rattle.plant_text.specs.Fault.{of_no_line, of_system}

@@ -3,7 +3,7 @@ use Rattle.std.specs.Prelude.{List, map}
 use Rattle.priority_filter.specs.declared.rule.Rule.{Rule}
 use Rattle.atom_lines.specs.declared.draft.AtomDraft.{AtomDraft}
 use Rattle.atom_lines.specs.Draft as atom
-use Rattle.step_core.specs.Plant.{WireDefinition}
+use Rattle.plant_model.specs.Plant.{WireDefinition}
 use Rattle.connector_lines.specs.Draft as wire
 use Rattle.plant_text.specs.Text.{WireText, PlantText}
 use Rattle.plant_text.specs.Wires.{wire_drafted}

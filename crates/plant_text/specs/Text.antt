@@ -3,8 +3,8 @@ use Rattle.std.specs.Prelude.{ℕ, List, map}
 use Rattle.petri_atom.specs.Expression.{Tree}
 use Rattle.petri_atom.specs.Definition.{AtomDefinition}
 use Rattle.priority_filter.specs.declared.rule.Rule.{Rule}
-use Rattle.step_core.specs.Plant.{TransferDefinition, WireDefinition, PlantDefinition}
-use Rattle.step_core.specs.declared.wire.Export.{Export}
+use Rattle.plant_model.specs.Plant.{TransferDefinition, WireDefinition, PlantDefinition}
+use Rattle.plant_model.specs.declared.wire.Export.{Export}
 use Rattle.connector_tree.specs.declared.token.Token.{Token}
 use Rattle.connector_tree.specs.Tokens.{tokens_of}
 

@@ -1,7 +1,7 @@
 //! The plant as its lines have written it so far.
 ghost use Rattle.std.specs.Prelude.{◌≡◌, ◌<◌, ◌≤◌, [], ◌∷◌, ◌++◌, length, map, false, is_ok, IfOk, IfErr, IfNone, IfSome, OnOk, Ok, None};
 ghost use Rattle.petri_atom.specs.Parts.{definition_by};
-ghost use Rattle.step_core.specs.declared.limits.TheConstants.{MAX_ATOMS, MAX_WIRES, MAX_RULES};
+ghost use Rattle.plant_model.specs.declared.limits.TheConstants.{MAX_ATOMS, MAX_WIRES, MAX_RULES};
 ghost use Rattle.connector_tree.specs.Tree.{tree_of};
 ghost use Rattle.connector_tree.specs.Faults.{fault_of};
 ghost use Rattle.atom_lines.specs.Draft.{drafted as atom_drafted};
@@ -24,13 +24,13 @@ use atom_lines::AtomDraft;
 use connector_lines::read_tree;
 use connector_tree::Connector;
 use petri_atom::Name;
+use plant_model::{MAX_ATOMS, MAX_RULES, MAX_WIRES};
 use plant_words::reading::{check, end, next_name};
 use plant_words::{
     AtomPart, LineKind, NameIndex, RuleKind, WirePart, Words, is_legal, is_passed_over,
 };
 use priority_filter::Rule;
 use std::alloc::{AllocError, Global};
-use step_core::{MAX_ATOMS, MAX_RULES, MAX_WIRES};
 
 /// A plant to which lines add parts.
 ///

@@ -1,11 +1,11 @@
 //! What follows of the meaning of a text. Each function does nothing: its contract is the law.
 ghost use Rattle.std.specs.Prelude.{◌≡◌, ℕ, List, Ok, None, true};
 ghost use Rattle.std.specs.List.{list_all};
-ghost use Rattle.step_core.specs.Plant.{PlantDefinition};
-ghost use Rattle.step_core.specs.declared.system.System.{System};
-ghost use Rattle.step_core.specs.System.{plant_of};
+ghost use Rattle.plant_model.specs.Plant.{PlantDefinition};
+ghost use Rattle.plant_model.specs.declared.system.System.{System};
+ghost use Rattle.plant_model.specs.System.{plant_of};
 ghost use Rattle.sha2.specs.Sha256.{sha256};
-ghost use Rattle.step_core.specs.Rules.{fault_of};
+ghost use Rattle.plant_model.specs.Rules.{fault_of};
 ghost use Rattle.plant_words.specs.Lines.{is_legal_line, lines_of};
 ghost use Rattle.plant_text.specs.Meaning.{meaning};
 ghost use Rattle.plant_text.specs.Text.{PlantText, text_of};

@@ -1,4 +1,4 @@
-//! Reading a whole plant text: from its bytes to the [`System`](step_core::System) that it describes.
+//! Reading a whole plant text: from its bytes to the [`System`](plant_model::System) that it describes.
 //!
 //! A plant text is a list of lines, numbered from 1. Its first word says what a line adds to the plant so far:
 //!

@@ -1,8 +1,8 @@
 //! A system is made of the atoms, connectors and rules of a draft.
 ghost use Rattle.std.specs.Prelude.{◌≡◌, ◌≢◌, map, IfOk, IfErr, OnOk, Ok, Err};
 ghost use Rattle.petri_atom.specs.Atom.{definition_of};
-ghost use Rattle.step_core.specs.System.{plant_of};
-ghost use Rattle.step_core.specs.Wire.{wire_of};
+ghost use Rattle.plant_model.specs.System.{plant_of};
+ghost use Rattle.plant_model.specs.Wire.{wire_of};
 ghost use Rattle.atom_lines.specs.Draft.{drafted as atom_drafted};
 ghost use Rattle.plant_text.specs.Parts.{wire_defined};
 ghost use Rattle.plant_text.specs.Draft.{drafted};
@@ -16,8 +16,8 @@ use crate::fault::{Fault, PlantFault};
 use crate::listed::ListedWire;
 use atom_lines::AtomDraft;
 use petri_atom::Atom;
+use plant_model::{System, SystemFault, Wire};
 use std::alloc::{AllocError, Global};
-use step_core::{System, SystemFault, Wire};
 
 /// The system of the atoms, the connectors and the rules of a draft, with the digest of the text that they were read from.
 pub(crate) fn system_of(draft: PlantDraft, digest: [u8; 32]) -> Result<System, PlantFault>

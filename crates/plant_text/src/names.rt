@@ -1,6 +1,6 @@
 //! The atoms so far, by the names that connectors and conditions use.
 ghost use Rattle.std.specs.Prelude.{◌≡◌, ◌<◌, ◌≤◌, length, map, IfSome};
-ghost use Rattle.step_core.specs.declared.limits.TheConstants.{MAX_ATOMS};
+ghost use Rattle.plant_model.specs.declared.limits.TheConstants.{MAX_ATOMS};
 ghost use Rattle.atom_lines.specs.Draft.{drafted};
 ghost use Rattle.plant_text.specs.Index.{names_of_atoms};
 ghost use Rattle.plant_text.specs.Names.{atom_number};
@@ -8,8 +8,8 @@ ghost use Rattle.plant_text.specs.Names.{atom_number};
 use atom_lines::AtomDraft;
 use connector_lines::{Exports, Places, Ports};
 use connector_tree::Port;
+use plant_model::MAX_ATOMS;
 use plant_words::NameIndex;
-use step_core::MAX_ATOMS;
 
 /// The atoms so far, numbered from 0. The `ghost` lines are for contracts alone: there are few enough, and `names` has their names.
 #[derive(Drop)]

@@ -2,8 +2,8 @@
 ghost use Rattle.std.specs.Prelude.{◌≡◌, ◌≢◌, ◌≤◌, length, IfOk, IfErr, IfSome, OnOk, Ok, Err};
 ghost use Rattle.std.specs.Io.KnownBytes.{IsAtEnd};
 ghost use Rattle.sha2.specs.Sha256.{sha256};
-ghost use Rattle.step_core.specs.Plant.{PlantDefinition};
-ghost use Rattle.step_core.specs.System.{plant_of};
+ghost use Rattle.plant_model.specs.Plant.{PlantDefinition};
+ghost use Rattle.plant_model.specs.System.{plant_of};
 ghost use Rattle.plant_words.specs.Lines.{lines_of};
 ghost use Rattle.text_io.specs.declared.reading.TheConstants.{MAX_TEXT};
 ghost use Rattle.plant_text.specs.Draft.{drafted};
@@ -16,10 +16,10 @@ ghost use Rattle.plant_text.specs.declared.fault.Fault.TheVariants as fault;
 use crate::draft::PlantDraft;
 use crate::fault::{Fault, PlantFault};
 use crate::making::system_of;
+use plant_model::System;
 use plant_words::Lines;
 use std::alloc::Global;
 use std::io::Read;
-use step_core::System;
 use text_io::{MAX_TEXT, digest_of, read_text};
 
 /// Reads a plant text to the reader's end, and gives its system.

@@ -1,6 +1,6 @@
 //! The connectors so far, by the names that rules use.
 ghost use Rattle.std.specs.Prelude.{◌≡◌, ◌+◌, ◌<◌, ◌≤◌, length, nat_le, map, IfSome};
-ghost use Rattle.step_core.specs.declared.limits.TheConstants.{MAX_WIRES, MAX_INTERACTIONS};
+ghost use Rattle.plant_model.specs.declared.limits.TheConstants.{MAX_WIRES, MAX_INTERACTIONS};
 ghost use Rattle.atom_lines.specs.Draft.{drafted};
 ghost use Rattle.plant_text.specs.Index.{names_of_wires};
 ghost use Rattle.plant_text.specs.Interactions.{interactions_of};
@@ -11,9 +11,9 @@ ghost use Rattle.plant_text.specs.Rows.{rule_in};
 use crate::listed::ListedWire;
 use crate::names::AtomTable;
 use connector_lines::{Connectors, read_maximal, read_priority};
+use plant_model::{MAX_INTERACTIONS, MAX_WIRES};
 use plant_words::{LineFault, NameIndex, RuleKind, Words};
 use priority_filter::Rule;
-use step_core::{MAX_INTERACTIONS, MAX_WIRES};
 
 /// Whether a plant with these connectors may have so many interactions more.
 pub(crate) fn have_room(wires: &[ListedWire], more: usize) -> bool

@@ -7,8 +7,8 @@ use Rattle.petri_atom.specs.declared.expression.Operator.TheVariants.{Add, Less}
 use Rattle.connector_tree.specs.Tree.{Tree, no_child, child, leaf}
 use Rattle.priority_filter.specs.declared.rule.Side.TheVariants.{Whole, One}
 use Rattle.priority_filter.specs.declared.rule.Rule.TheVariants.{Under, Maximal}
-use Rattle.step_core.specs.Plant.{PlantDefinition, WireDefinition}
-use Rattle.step_core.specs.declared.wire.Export.{Export}
+use Rattle.plant_model.specs.Plant.{PlantDefinition, WireDefinition}
+use Rattle.plant_model.specs.declared.wire.Export.{Export}
 use Rattle.part_lines.specs.Table.{part_lines}
 use Rattle.plant_warnings.specs.Lines.{line_of}
 use Rattle.plant_warnings.specs.Names.{name_of_port}

@@ -2,8 +2,8 @@
 use Rattle.std.proofs.Common.{◌≡◌, ◌∙◌, refl, ap, ℕ, Bool, ◌==◌, ◌&&◌, ◌||◌, List, [], ◌∷◌, map}
 use Rattle.std.specs.List.{list_any}
 use Rattle.priority_filter.specs.Decided.{is_proper_subset}
-use Rattle.step_core.specs.Interaction.{interaction_of}
-use Rattle.step_core.specs.declared.interaction.Interaction.{Interaction}
+use Rattle.plant_model.specs.Interaction.{interaction_of}
+use Rattle.plant_model.specs.declared.interaction.Interaction.{Interaction}
 use Rattle.plant_warnings.specs.Rules.{has_one_within, is_within_one}
 use Rattle.plant_warnings.proofs.Mapped.{any_mapped}
 

@@ -3,8 +3,8 @@ use Rattle.std.specs.Prelude.{ℕ, Bool, false, not, List, slice_get}
 use Rattle.std.specs.List.{list_any}
 use Rattle.std.specs.Option.{option_map_or}
 use Rattle.petri_atom.specs.Expression.{Tree, number, variable, negation, operation, is_true}
-use Rattle.step_core.specs.Plant.{PlantDefinition, WireDefinition}
-use Rattle.step_core.specs.declared.wire.Export.{Export}
+use Rattle.plant_model.specs.Plant.{PlantDefinition, WireDefinition}
+use Rattle.plant_model.specs.declared.wire.Export.{Export}
 use Rattle.text_io.specs.Numbered.{numbered}
 use Rattle.plant_warnings.specs.Lines.{warned_if}
 use Rattle.plant_warnings.specs.declared.warning.Warning.{Warning}

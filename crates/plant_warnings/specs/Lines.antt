@@ -1,6 +1,6 @@
 -- The lines on which warnings are printed.
 use Rattle.std.specs.Prelude.{ℕ, Bool, if◌then◌else◌, List, [], ◌∷◌, ◌++◌, codes, decimal, Option, unwrap_or}
-use Rattle.step_core.specs.Plant.{PlantDefinition}
+use Rattle.plant_model.specs.Plant.{PlantDefinition}
 use Rattle.plant_words.specs.declared.line_kind.AtomPart.TheVariants.{Place, Variable, Port}
 use Rattle.plant_words.specs.declared.line_kind.WirePart.TheVariants.{Guard}
 use Rattle.part_lines.specs.Lookup.{atom_line, atom_part_line, connector_part_line, rule_line}

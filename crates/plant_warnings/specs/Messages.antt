@@ -1,6 +1,6 @@
 -- What the warnings say.
 use Rattle.std.specs.Prelude.{ℕ, List, ◌++◌, codes}
-use Rattle.step_core.specs.Plant.{PlantDefinition, wire_name}
+use Rattle.plant_model.specs.Plant.{PlantDefinition, wire_name}
 use Rattle.plant_warnings.specs.Names.{atom_name, name_of_place, name_of_port, name_of_variable}
 use Rattle.plant_warnings.specs.declared.warning.Warning.{Warning}
 use Rattle.plant_warnings.specs.declared.warning.Warning.TheVariants.{NoMarkedPlace, PortInNoConnector, PortWithoutTransition, PlaceNeverMarked, VariableNeverRead, ZeroGuard, NothingWithin, DeadSide}

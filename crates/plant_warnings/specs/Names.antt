@@ -2,7 +2,7 @@
 use Rattle.std.specs.Prelude.{ℕ, List, [], slice_get}
 use Rattle.std.specs.Option.{option_map_or}
 use Rattle.petri_atom.specs.Definition.{AtomDefinition, port_name, variable_name}
-use Rattle.step_core.specs.Plant.{PlantDefinition}
+use Rattle.plant_model.specs.Plant.{PlantDefinition}
 
 -- what is said of the atom with a number; nothing if it is not there
 abbrev pub of_atom : PlantDefinition → ℕ → (AtomDefinition → List ℕ) → List ℕ

@@ -3,7 +3,7 @@ use Rattle.std.specs.Prelude.{ℕ, Bool, not, ◌&&◌, ◌==◌}
 use Rattle.std.specs.List.{list_any}
 use Rattle.petri_atom.specs.Definition.{AtomDefinition}
 use Rattle.connector_tree.specs.Tree.{leaves}
-use Rattle.step_core.specs.Plant.{PlantDefinition, WireDefinition}
+use Rattle.plant_model.specs.Plant.{PlantDefinition, WireDefinition}
 
 -- a port of an atom stands in a connector: it is one of its leaves
 abbrev pub has_leaf : ℕ → ℕ → WireDefinition → Bool

@@ -4,8 +4,8 @@ use Rattle.std.specs.List.{list_any, enumerate_from}
 use Rattle.petri_atom.specs.Expression.{Tree, all_variables}
 use Rattle.petri_atom.specs.Definition.{AtomDefinition, TransitionDefinition, exports_of}
 use Rattle.connector_tree.specs.Tree.{leaves}
-use Rattle.step_core.specs.Plant.{PlantDefinition, WireDefinition}
-use Rattle.step_core.specs.declared.wire.Export.{Export}
+use Rattle.plant_model.specs.Plant.{PlantDefinition, WireDefinition}
+use Rattle.plant_model.specs.declared.wire.Export.{Export}
 
 -- a variable stands in an expression: not each variable of it is another
 abbrev pub has_variable : ℕ → Tree ℕ → Bool

@@ -1,6 +1,6 @@
 -- What a report says of a warning.
 use Rattle.std.specs.Prelude.{ℕ, List, Option, Result, flat_map}
-use Rattle.step_core.specs.System.{plant_of}
+use Rattle.plant_model.specs.System.{plant_of}
 use Rattle.text_io.specs.Printing.{Prints}
 use Rattle.plant_warnings.specs.Lines.{warning_line}
 use Rattle.plant_warnings.specs.declared.report.Report.{Report}

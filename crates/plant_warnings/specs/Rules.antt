@@ -7,8 +7,8 @@ use Rattle.priority_filter.specs.declared.rule.Side.{Side}
 use Rattle.priority_filter.specs.declared.rule.Side.TheVariants.{Whole, One}
 use Rattle.priority_filter.specs.declared.rule.Rule.{Rule}
 use Rattle.priority_filter.specs.declared.rule.Rule.TheVariants.{Under, UnderAt, Maximal}
-use Rattle.step_core.specs.Choice.{Interaction, plant_interactions}
-use Rattle.step_core.specs.Plant.{PlantDefinition}
+use Rattle.plant_model.specs.Choice.{Interaction, plant_interactions}
+use Rattle.plant_model.specs.Plant.{PlantDefinition}
 use Rattle.plant_warnings.specs.Connectors.{is_dead}
 use Rattle.plant_warnings.specs.Lines.{warned_if}
 use Rattle.plant_warnings.specs.declared.warning.Warning.{Warning}

@@ -1,6 +1,6 @@
 -- All warnings of a plant, and their text.
 use Rattle.std.specs.Prelude.{ℕ, List, ◌++◌, flat_map}
-use Rattle.step_core.specs.Plant.{PlantDefinition}
+use Rattle.plant_model.specs.Plant.{PlantDefinition}
 use Rattle.text_io.specs.Numbered.{numbered}
 use Rattle.part_lines.specs.declared.table.PartLine.{PartLine}
 use Rattle.plant_warnings.specs.Atoms.{atom_warnings}

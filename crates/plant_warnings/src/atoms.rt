@@ -2,7 +2,7 @@
 ghost use Rattle.std.specs.Prelude.{◌≡◌, map};
 ghost use Rattle.std.specs.List.{list_any};
 ghost use Rattle.petri_atom.specs.Atom.{definition_of};
-ghost use Rattle.step_core.specs.System.{plant_of};
+ghost use Rattle.plant_model.specs.System.{plant_of};
 ghost use Rattle.text_io.specs.Numbered.{numbered};
 ghost use Rattle.text_io.specs.Printing.{Prints};
 ghost use Rattle.plant_warnings.specs.Atoms.{atom_warnings, has_no_marked_place, place_warnings, port_warnings, variable_warnings, warnings_of_port, warnings_of_variable};

@@ -2,8 +2,8 @@
 ghost use Rattle.std.specs.Prelude.{◌≡◌, map};
 ghost use Rattle.std.specs.List.{list_any};
 ghost use Rattle.petri_atom.specs.Expression.{tree_of};
-ghost use Rattle.step_core.specs.System.{plant_of};
-ghost use Rattle.step_core.specs.Wire.{wire_of};
+ghost use Rattle.plant_model.specs.System.{plant_of};
+ghost use Rattle.plant_model.specs.Wire.{wire_of};
 ghost use Rattle.text_io.specs.Numbered.{numbered};
 ghost use Rattle.text_io.specs.Printing.{Prints};
 ghost use Rattle.plant_warnings.specs.Connectors.{connector_warnings, guard_warnings, has_zero_guard, is_dead, is_zero};
@@ -12,8 +12,8 @@ ghost use Rattle.plant_warnings.specs.Report.{Warns};
 use crate::report::{Report, print_if};
 use crate::warning::Warning;
 use petri_atom::Expression;
+use plant_model::{Export, System, Wire};
 use std::io::Write;
-use step_core::{Export, System, Wire};
 use text_io::WriteFault;
 
 /// Prints the warnings of connectors, in the order of their numbers.

@@ -1,12 +1,12 @@
 //! What the warnings say.
-ghost use Rattle.step_core.specs.System.{plant_of};
+ghost use Rattle.plant_model.specs.System.{plant_of};
 ghost use Rattle.text_io.specs.Printing.{Prints};
 ghost use Rattle.plant_warnings.specs.Messages.{message_of, about, about_part};
 
 use crate::names::{atom_name, connector_name, name_of_place, name_of_port, name_of_variable};
 use crate::warning::Warning;
+use plant_model::System;
 use std::io::Write;
-use step_core::System;
 use text_io::{WriteFault, print_text};
 
 /// Prints what the warning says.

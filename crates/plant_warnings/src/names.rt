@@ -2,12 +2,12 @@
 ghost use Rattle.std.specs.Prelude.{◌≡◌};
 ghost use Rattle.petri_atom.specs.Atom.{definition_of};
 ghost use Rattle.petri_atom.specs.Definition.{port_name, variable_name};
-ghost use Rattle.step_core.specs.Plant.{wire_name};
-ghost use Rattle.step_core.specs.System.{plant_of};
+ghost use Rattle.plant_model.specs.Plant.{wire_name};
+ghost use Rattle.plant_model.specs.System.{plant_of};
 ghost use Rattle.plant_warnings.specs.Names.{atom_name, name_of_place, name_of_port, name_of_variable, place_name};
 
 use petri_atom::Atom;
-use step_core::System;
+use plant_model::System;
 
 /// The name of an atom.
 pub(crate) fn atom_name(system: &System, atom: usize) -> &[u8]

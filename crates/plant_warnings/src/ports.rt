@@ -5,14 +5,14 @@ ghost use Rattle.petri_atom.specs.Atom.{definition_of};
 ghost use Rattle.petri_atom.specs.Transition.{transition_of};
 ghost use Rattle.connector_tree.specs.Tree.{leaves};
 ghost use Rattle.connector_tree.specs.declared.tree.TheConstants.{MAX_LEAVES};
-ghost use Rattle.step_core.specs.Rules.{first_fault_in, tree_fault};
-ghost use Rattle.step_core.specs.System.{plant_of};
-ghost use Rattle.step_core.specs.Wire.{wire_of};
+ghost use Rattle.plant_model.specs.Rules.{first_fault_in, tree_fault};
+ghost use Rattle.plant_model.specs.System.{plant_of};
+ghost use Rattle.plant_model.specs.Wire.{wire_of};
 ghost use Rattle.plant_warnings.specs.Ports.{has_leaf, has_no_transition, is_in_no_connector};
 
 use connector_tree::LeafRow;
 use petri_atom::{Atom, Transition};
-use step_core::{System, Wire};
+use plant_model::{System, Wire};
 
 /// Whether no transition of the atom has the port with this number.
 pub(crate) fn has_no_transition(atom: &Atom, port: usize) -> bool

@@ -1,5 +1,5 @@
 //! The warnings of a whole plant.
-ghost use Rattle.step_core.specs.System.{plant_of};
+ghost use Rattle.plant_model.specs.System.{plant_of};
 ghost use Rattle.text_io.specs.Printing.{Prints};
 ghost use Rattle.plant_warnings.specs.Warnings.{warnings_text};
 
@@ -8,8 +8,8 @@ use crate::connectors::print_of_wires;
 use crate::report::Report;
 use crate::rules::print_of_rules;
 use part_lines::PartLines;
+use plant_model::System;
 use std::io::Write;
-use step_core::System;
 use text_io::WriteFault;
 
 /// Prints a line `PATH:LINE: warning: MESSAGE` for each warning of the plant: those of its atoms, then those of its

@@ -7,14 +7,14 @@ ghost use Rattle.petri_atom.specs.Transition.{transition_of};
 ghost use Rattle.petri_atom.specs.Update.{update_of};
 ghost use Rattle.connector_tree.specs.Tree.{leaves};
 ghost use Rattle.connector_tree.specs.declared.tree.TheConstants.{MAX_LEAVES};
-ghost use Rattle.step_core.specs.Rules.{first_fault_in, tree_fault};
-ghost use Rattle.step_core.specs.System.{plant_of};
-ghost use Rattle.step_core.specs.Wire.{transfer_of, wire_of};
+ghost use Rattle.plant_model.specs.Rules.{first_fault_in, tree_fault};
+ghost use Rattle.plant_model.specs.System.{plant_of};
+ghost use Rattle.plant_model.specs.Wire.{transfer_of, wire_of};
 ghost use Rattle.plant_warnings.specs.Reads.{has_export, has_variable, is_never_read, is_read_by_leaf, is_read_in, is_read_inside, reads_export, reads_variable};
 
 use connector_tree::LeafRow;
 use petri_atom::{Atom, Expression, Transition, Update, VariableTest};
-use step_core::{Export, System, Transfer, Wire};
+use plant_model::{Export, System, Transfer, Wire};
 
 /// Whether nothing reads the variable of the atom with this number: no transition of the atom, and no connector.
 pub(crate) fn is_never_read(system: &System, number: usize, atom: &Atom, variable: usize) -> bool

@@ -6,8 +6,8 @@ ghost use Rattle.plant_warnings.specs.Report.{Warns, line_in};
 use crate::message::print_message;
 use crate::warning::Warning;
 use part_lines::PartLines;
+use plant_model::System;
 use std::io::Write;
-use step_core::System;
 use text_io::{WriteFault, end_line, print_number, print_text};
 
 /// What warnings are printed about: a plant, the lines on which its parts stand in its text, and the path of the text.

@@ -3,7 +3,7 @@ ghost use Rattle.std.specs.Prelude.{◌≡◌, ◌==◌, ◌&&◌};
 ghost use Rattle.std.specs.List.{list_any};
 ghost use Rattle.priority_filter.specs.Decided.{is_proper_subset};
 ghost use Rattle.priority_filter.specs.declared.rule.Rule.TheVariants.{Under};
-ghost use Rattle.step_core.specs.System.{plant_of};
+ghost use Rattle.plant_model.specs.System.{plant_of};
 ghost use Rattle.text_io.specs.Numbered.{numbered};
 ghost use Rattle.text_io.specs.Printing.{Prints};
 ghost use Rattle.plant_warnings.specs.Report.{Warns};
@@ -13,9 +13,9 @@ use crate::connectors::is_dead;
 use crate::report::{Report, print_if, print_warning};
 use crate::warning::Warning;
 use connector_tree::Mask;
+use plant_model::{Interaction, System};
 use priority_filter::{Rule, Side};
 use std::io::Write;
-use step_core::{Interaction, System};
 use text_io::WriteFault;
 
 /// Prints the warnings of rules, in the order of their numbers.

@@ -4,8 +4,8 @@ use Rattle.std.specs.Option.{ok_or, option_and_then, option_map_or}
 use Rattle.petri_atom.specs.Definition.{AtomDefinition}
 use Rattle.petri_atom.specs.declared.parts.Place.{Place}
 use Rattle.priority_filter.specs.declared.seen.At.{At}
-use Rattle.step_core.specs.Plant.{PlantDefinition}
-use Rattle.step_core.specs.Rules.{is_known_place}
+use Rattle.plant_model.specs.Plant.{PlantDefinition}
+use Rattle.plant_model.specs.Rules.{is_known_place}
 use Rattle.plant_words.specs.Lines.{is_legal_line}
 use Rattle.plant_words.specs.Reading.{◌>>=◌, first_word, first_keyword, at_end}
 use Rattle.plant_words.specs.Words.{words_of}

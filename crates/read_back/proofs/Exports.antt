@@ -11,8 +11,8 @@ use Rattle.petri_atom.specs.declared.parts.Variable.{Variable}
 use Rattle.petri_atom.proofs.Fitting.{all_get}
 use Rattle.connector_tree.specs.Faults as tree
 use Rattle.connector_tree.specs.declared.tree.Port.{Port}
-use Rattle.step_core.specs.Rules.{is_exported, is_known_export}
-use Rattle.step_core.specs.declared.wire.Export.{Export}
+use Rattle.plant_model.specs.Rules.{is_exported, is_known_export}
+use Rattle.plant_model.specs.declared.wire.Export.{Export}
 use Rattle.plant_words.specs.ExpressionWords.{variable_found, word_in}
 use Rattle.plant_words.specs.Expressions.{expression_in}
 use Rattle.plant_words.specs.Words.{words_of}

@@ -12,7 +12,7 @@ use Rattle.petri_atom.specs.Name.{is_name, is_same_text}
 use Rattle.petri_atom.proofs.Fitting.{all_get}
 use Rattle.connector_tree.specs.Faults.{has_repeat, atoms}
 use Rattle.connector_tree.specs.declared.tree.Port.{Port}
-use Rattle.step_core.proofs.OfInteractions.{apart as ports_apart}
+use Rattle.plant_model.proofs.OfInteractions.{apart as ports_apart}
 use Rattle.read_back.specs.Names.{are_named}
 use Rattle.read_back.proofs.Bytes.{IsOfName, name_parts}
 

@@ -12,14 +12,14 @@ use Rattle.petri_atom.proofs.Fitting.{all_get, all_weaker}
 use Rattle.connector_tree.specs.Tree.{leaves}
 use Rattle.priority_filter.specs.declared.rule.Rule.{Rule}
 use Rattle.priority_filter.specs.declared.rule.Rule.TheVariants.{Under, UnderAt, Maximal}
-use Rattle.step_core.specs.Choice.{plant_interactions}
-use Rattle.step_core.specs.Plant.{WireDefinition, PlantDefinition}
-use Rattle.step_core.specs.Rules.{first_of, first_fault_in, is_known_condition, first_broken, atom_fault, tree_fault, wire_fault, fault_of_wire, fault_of_wires, fault_of_count, fault_of_order, is_within_limits, early_fault, late_fault, fault_of, is_known_port, is_known_export, names_known}
-use Rattle.step_core.specs.declared.fault.SystemFault.{SystemFault}
-use Rattle.step_core.specs.declared.fault.SystemFault.TheVariants.{Limit, BadAtom, BadWire}
-use Rattle.step_core.specs.declared.fault.WireFault.{WireFault}
-use Rattle.step_core.proofs.Membership.{all-in}
-use Rattle.step_core.proofs.TreeRules.{first_none, second_none}
+use Rattle.plant_model.specs.Choice.{plant_interactions}
+use Rattle.plant_model.specs.Plant.{WireDefinition, PlantDefinition}
+use Rattle.plant_model.specs.Rules.{first_of, first_fault_in, is_known_condition, first_broken, atom_fault, tree_fault, wire_fault, fault_of_wire, fault_of_wires, fault_of_count, fault_of_order, is_within_limits, early_fault, late_fault, fault_of, is_known_port, is_known_export, names_known}
+use Rattle.plant_model.specs.declared.fault.SystemFault.{SystemFault}
+use Rattle.plant_model.specs.declared.fault.SystemFault.TheVariants.{Limit, BadAtom, BadWire}
+use Rattle.plant_model.specs.declared.fault.WireFault.{WireFault}
+use Rattle.plant_model.proofs.Membership.{all-in}
+use Rattle.plant_model.proofs.TreeRules.{first_none, second_none}
 use Rattle.read_back.specs.Names.{have_names, are_named, names_its_parts, are_named_atoms, has_names, plant_has_names}
 use Rattle.read_back.specs.Rules.{has_named_condition}
 use Rattle.read_back.proofs.Found.{passing}

@@ -21,13 +21,13 @@ use Rattle.priority_filter.specs.declared.rule.Rule.TheVariants.{Under, UnderAt,
 use Rattle.priority_filter.specs.declared.rule.Side.{Side}
 use Rattle.priority_filter.specs.declared.rule.Side.TheVariants.{Whole, One}
 use Rattle.priority_filter.proofs.DecidedOrder.{decides_no_fault}
-use Rattle.step_core.specs.Choice.{Interaction, named, plant_interactions}
-use Rattle.step_core.specs.Laws.{IsInteractionOf}
-use Rattle.step_core.specs.Plant.{PlantDefinition}
-use Rattle.step_core.specs.Rules.{fault_of, is_known_condition, is_known_place}
-use Rattle.step_core.proofs.NoDeadlock.{order-sound}
-use Rattle.step_core.proofs.Membership.{all-in, from-filter}
-use Rattle.step_core.proofs.OfInteractions.{interaction-of, sound-tree}
+use Rattle.plant_model.specs.Choice.{Interaction, named, plant_interactions}
+use Rattle.plant_model.specs.Laws.{IsInteractionOf}
+use Rattle.plant_model.specs.Plant.{PlantDefinition}
+use Rattle.plant_model.specs.Rules.{fault_of, is_known_condition, is_known_place}
+use Rattle.plant_model.proofs.NoDeadlock.{order-sound}
+use Rattle.plant_model.proofs.Membership.{all-in, from-filter}
+use Rattle.plant_model.proofs.OfInteractions.{interaction-of, sound-tree}
 use Rattle.plant_text.specs.Interactions.{has_interaction}
 use Rattle.plant_text.specs.Text.{WireText, wire_text_of, text_of}
 use Rattle.read_back.specs.Rules.{is_side_of, is_rule_of}

@@ -12,12 +12,12 @@ use Rattle.connector_tree.specs.Tree.{leaves}
 use Rattle.connector_tree.specs.declared.tree.Port.{Port}
 use Rattle.connector_tree.proofs.Sound.{sound}
 use Rattle.priority_filter.specs.declared.rule.Rule.{Rule}
-use Rattle.step_core.specs.Plant.{PlantDefinition, TransferDefinition, WireDefinition}
-use Rattle.step_core.specs.Rules.{are_small_guards, are_small_transfers, is_known_export, is_small_wire, names_known}
-use Rattle.step_core.specs.declared.limits.TheConstants.{MAX_GUARDS, MAX_RULES, MAX_TRANSFERS}
-use Rattle.step_core.specs.declared.wire.Export.{Export}
-use Rattle.step_core.proofs.Membership.{all-in}
-use Rattle.step_core.proofs.TreeRules.{early_trees, tree_sound}
+use Rattle.plant_model.specs.Plant.{PlantDefinition, TransferDefinition, WireDefinition}
+use Rattle.plant_model.specs.Rules.{are_small_guards, are_small_transfers, is_known_export, is_small_wire, names_known}
+use Rattle.plant_model.specs.declared.limits.TheConstants.{MAX_GUARDS, MAX_RULES, MAX_TRANSFERS}
+use Rattle.plant_model.specs.declared.wire.Export.{Export}
+use Rattle.plant_model.proofs.Membership.{all-in}
+use Rattle.plant_model.proofs.TreeRules.{early_trees, tree_sound}
 use Rattle.plant_words.specs.Words.{words_of}
 use Rattle.plant_text.specs.Rows.{words_row}
 use Rattle.part_text.specs.Rule.{rule_text}

@@ -9,7 +9,7 @@ use Rattle.connector_tree.specs.Tree as connectors
 use Rattle.priority_filter.specs.declared.rule.Rule.{Rule}
 use Rattle.priority_filter.specs.declared.rule.Rule.TheVariants.{Under, UnderAt}
 use Rattle.priority_filter.specs.declared.rule.Side.TheVariants.{Whole, One}
-use Rattle.step_core.specs.Plant.{PlantDefinition}
+use Rattle.plant_model.specs.Plant.{PlantDefinition}
 use Rattle.plant_words.specs.Expressions.{expression_in}
 use Rattle.plant_words.specs.Words.{words_of}
 use Rattle.atom_lines.specs.Lookup.{variable_number}

@@ -12,9 +12,9 @@ use Rattle.priority_filter.specs.declared.rule.Rule.TheVariants.{Under, UnderAt,
 use Rattle.priority_filter.specs.declared.rule.Side.{Side}
 use Rattle.priority_filter.specs.declared.rule.Side.TheVariants.{Whole, One}
 use Rattle.priority_filter.specs.declared.seen.At.{At}
-use Rattle.step_core.specs.Plant.{PlantDefinition, WireDefinition, wire_name}
-use Rattle.step_core.specs.Rules.{is_known_place}
-use Rattle.step_core.specs.declared.limits.TheConstants.{MAX_RULES}
+use Rattle.plant_model.specs.Plant.{PlantDefinition, WireDefinition, wire_name}
+use Rattle.plant_model.specs.Rules.{is_known_place}
+use Rattle.plant_model.specs.declared.limits.TheConstants.{MAX_RULES}
 use Rattle.plant_words.specs.Lines.{is_legal_byte, is_legal_line}
 use Rattle.plant_words.specs.Numbers.{is_digit, pick_in}
 use Rattle.plant_words.specs.Reading.{◌>>=◌, check, first_keyword, at_end}

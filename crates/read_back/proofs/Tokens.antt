@@ -12,7 +12,7 @@ use Rattle.petri_atom.proofs.Fitting.{all_get}
 use Rattle.connector_tree.specs.declared.token.Token.{Token}
 use Rattle.connector_tree.specs.declared.token.Token.TheVariants.{Leaf, Open, Close}
 use Rattle.connector_tree.specs.declared.tree.Port.{Port}
-use Rattle.step_core.specs.Rules.{is_known_port}
+use Rattle.plant_model.specs.Rules.{is_known_port}
 use Rattle.plant_words.specs.Lines.{is_legal_byte, is_legal_line}
 use Rattle.plant_words.specs.Splits.{PortParts, sides_in, is_quoted, port_parts}
 use Rattle.plant_words.specs.Words.{is_blank, is_filled}

@@ -16,7 +16,7 @@ use Rattle.connector_tree.proofs.Sound.{sound}
 use Rattle.connector_tree.proofs.TokenFaults.{fault-tree}
 use Rattle.connector_tree.proofs.TokenLeaves.{ports-tree}
 use Rattle.connector_tree.proofs.Written.{bracket_before, child_before}
-use Rattle.step_core.specs.Rules.{is_known_port}
+use Rattle.plant_model.specs.Rules.{is_known_port}
 use Rattle.plant_words.specs.Words.{words_of}
 use Rattle.connector_lines.specs.Tokens.{Names, token_in, led_by, behind, tokens_in}
 use Rattle.connector_lines.specs.Trees.{unless, tree_in}

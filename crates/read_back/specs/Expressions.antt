@@ -4,8 +4,8 @@ use Rattle.petri_atom.specs.Definition.{AtomDefinition}
 use Rattle.petri_atom.specs.Expression.{Tree, number, variable, negation, operation, word_count, all_variables, has_variables_below}
 use Rattle.petri_atom.specs.declared.parts.TheConstants.{MAX_WORDS}
 use Rattle.connector_tree.specs.declared.tree.Port.{Port}
-use Rattle.step_core.specs.Rules.{is_known_export}
-use Rattle.step_core.specs.declared.wire.Export.{Export}
+use Rattle.plant_model.specs.Rules.{is_known_export}
+use Rattle.plant_model.specs.declared.wire.Export.{Export}
 
 -- a number within signed 64 bits
 abbrev pub is_in_range : ℤ → Bool

@@ -3,7 +3,7 @@ use Rattle.std.specs.Prelude.{ℕ, Bool, ◌&&◌, List}
 use Rattle.std.specs.List.{list_all}
 use Rattle.petri_atom.specs.Definition.{AtomDefinition, is_each_once}
 use Rattle.petri_atom.specs.Name.{is_name, is_same_text}
-use Rattle.step_core.specs.Plant.{PlantDefinition}
+use Rattle.plant_model.specs.Plant.{PlantDefinition}
 
 -- each of the parts has a name
 abbrev pub have_names : {X : Type 0} → (X → List ℕ) → List X → Bool

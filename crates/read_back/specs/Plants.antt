@@ -2,8 +2,8 @@
 use Rattle.std.specs.Prelude.{◌≡◌, true, None}
 use Rattle.std.specs.List.{list_all}
 use Rattle.petri_atom.specs.Definition.{is_well_formed}
-use Rattle.step_core.specs.Plant.{PlantDefinition}
-use Rattle.step_core.specs.Rules.{fault_of}
+use Rattle.plant_model.specs.Plant.{PlantDefinition}
+use Rattle.plant_model.specs.Rules.{fault_of}
 use Rattle.read_back.specs.Names.{plant_has_names}
 
 -- the plant breaks no rule of plants, its atoms break none of atoms, and what it has for names are names

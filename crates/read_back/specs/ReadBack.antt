@@ -5,7 +5,7 @@ use Rattle.petri_atom.specs.Expression.{Tree}
 use Rattle.connector_tree.specs.Tokens.{tokens_of}
 use Rattle.connector_tree.specs.Tree as connectors
 use Rattle.connector_tree.specs.declared.tree.Port.{Port}
-use Rattle.step_core.specs.declared.wire.Export.{Export}
+use Rattle.plant_model.specs.declared.wire.Export.{Export}
 use Rattle.plant_words.specs.Expressions.{expression_in}
 use Rattle.plant_words.specs.Words.{words_of}
 use Rattle.atom_lines.specs.Lookup.{variable_number}

@@ -5,8 +5,8 @@ use Rattle.priority_filter.specs.declared.rule.Side.{Side}
 use Rattle.priority_filter.specs.declared.rule.Side.TheVariants.{Whole, One}
 use Rattle.priority_filter.specs.declared.rule.Rule.{Rule}
 use Rattle.priority_filter.specs.declared.rule.Rule.TheVariants.{Under, UnderAt, Maximal}
-use Rattle.step_core.specs.Plant.{PlantDefinition}
-use Rattle.step_core.specs.Rules.{is_known_place}
+use Rattle.plant_model.specs.Plant.{PlantDefinition}
+use Rattle.plant_model.specs.Rules.{is_known_place}
 use Rattle.plant_text.specs.Interactions.{has_interaction}
 use Rattle.plant_text.specs.Text.{PlantText, text_of}
 use Rattle.read_back.specs.Names.{are_named}

@@ -15,16 +15,16 @@ use Rattle.record_codec.specs.Entry.{IsEntry}
 use Rattle.record_codec.specs.Fired.{IsFired}
 use Rattle.record_codec.specs.declared.entry.Entry.{Entry}
 use Rattle.record_codec.specs.declared.layout.TheConstants.{LAST_NUMBER}
-use Rattle.step_core.specs.Choice.{ChoiceDefinition, Interaction, IsAllowed, plant_interactions}
-use Rattle.step_core.specs.Laws.{IsInRange, IsWithinLimits, are_moves_at, is_move_at, is_of_port}
-use Rattle.step_core.specs.Plant.{PlantDefinition}
-use Rattle.step_core.specs.Rules.{fault_of}
-use Rattle.step_core.specs.Step.{transfer}
-use Rattle.step_core.specs.declared.choice.Move.{Move}
-use Rattle.step_core.proofs.Membership.{all-in, entry-in, here, later}
-use Rattle.step_core.proofs.OfChoices.{in-range, taking}
-use Rattle.step_core.proofs.OfInteractions.{within-limits}
-use Rattle.step_core.proofs.PastExports.{past-exports}
+use Rattle.plant_model.specs.Choice.{ChoiceDefinition, Interaction, IsAllowed, plant_interactions}
+use Rattle.plant_model.specs.Laws.{IsInRange, IsWithinLimits, are_moves_at, is_move_at, is_of_port}
+use Rattle.plant_model.specs.Plant.{PlantDefinition}
+use Rattle.plant_model.specs.Rules.{fault_of}
+use Rattle.plant_model.specs.Step.{transfer}
+use Rattle.plant_model.specs.declared.choice.Move.{Move}
+use Rattle.plant_model.proofs.Membership.{all-in, entry-in, here, later}
+use Rattle.plant_model.proofs.OfChoices.{in-range, taking}
+use Rattle.plant_model.proofs.OfInteractions.{within-limits}
+use Rattle.plant_model.proofs.PastExports.{past-exports}
 use Rattle.record_replay.specs.OfPlant.{are_parts_at, has_none_past, is_of_interaction, is_part_at, is_record_of}
 use Rattle.record_replay.specs.Records.{count_of, entry_by, record_by}
 

@@ -8,17 +8,17 @@ use Rattle.petri_atom.specs.Definition.{AtomDefinition, fired, offers_number}
 use Rattle.petri_atom.specs.Local.{Local, Row}
 use Rattle.record_codec.specs.Fired.{FiredFields}
 use Rattle.record_codec.specs.declared.entry.Entry.{Entry}
-use Rattle.step_core.specs.Choice.{ChoiceDefinition, IsAllowed}
-use Rattle.step_core.specs.Laws.{is_of_port}
-use Rattle.step_core.specs.Plant.{PlantDefinition}
-use Rattle.step_core.specs.Runs.{IsRun, fold}
-use Rattle.step_core.specs.Step.{moved_by, next, stepped, transfer}
-use Rattle.step_core.specs.declared.choice.Move.{Move}
-use Rattle.step_core.proofs.ByAtom.{next-entry}
-use Rattle.step_core.proofs.Membership.{here, later}
-use Rattle.step_core.proofs.OfChoices.{taking}
-use Rattle.step_core.proofs.OfPorts.{port-of-move}
-use Rattle.step_core.proofs.OnRuns.{runs-cut}
+use Rattle.plant_model.specs.Choice.{ChoiceDefinition, IsAllowed}
+use Rattle.plant_model.specs.Laws.{is_of_port}
+use Rattle.plant_model.specs.Plant.{PlantDefinition}
+use Rattle.plant_model.specs.Runs.{IsRun, fold}
+use Rattle.plant_model.specs.Step.{moved_by, next, stepped, transfer}
+use Rattle.plant_model.specs.declared.choice.Move.{Move}
+use Rattle.plant_model.proofs.ByAtom.{next-entry}
+use Rattle.plant_model.proofs.Membership.{here, later}
+use Rattle.plant_model.proofs.OfChoices.{taking}
+use Rattle.plant_model.proofs.OfPorts.{port-of-move}
+use Rattle.plant_model.proofs.OnRuns.{runs-cut}
 use Rattle.record_replay.specs.Records.{count_of, counted_by, counts_after, counts_after_all, entry_by, record_by, records_of}
 use Rattle.record_replay.specs.Replay.{Position, ok_then, replay, replay_from, replay_record}
 use Rattle.record_replay.proofs.Counting.{counted-entry, counted-grows, length-counted}

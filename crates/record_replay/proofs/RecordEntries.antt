@@ -5,7 +5,7 @@ use Rattle.std.proofs.lemmas.Option.{same_Some}
 use Rattle.petri_atom.specs.Local.{Row}
 use Rattle.record_codec.specs.Entry.{IsEntry}
 use Rattle.record_codec.specs.declared.entry.Entry.{Entry}
-use Rattle.step_core.specs.declared.choice.Move.{Move}
+use Rattle.plant_model.specs.declared.choice.Move.{Move}
 use Rattle.record_replay.specs.Records.{entries_delivered, entry_by}
 
 module _ (counts : List ℕ) where

@@ -9,9 +9,9 @@ use Rattle.connector_tree.specs.Tree as connectors
 use Rattle.connector_tree.specs.Tree.{child, leaf, no_child}
 use Rattle.record_codec.specs.Fired.{FiredFields, is_fired}
 use Rattle.record_codec.specs.declared.entry.Entry.{Entry}
-use Rattle.step_core.specs.Choice.{ChoiceDefinition}
-use Rattle.step_core.specs.Plant.{PlantDefinition, TransferDefinition, WireDefinition}
-use Rattle.step_core.specs.declared.wire.Export.{Export}
+use Rattle.plant_model.specs.Choice.{ChoiceDefinition}
+use Rattle.plant_model.specs.Plant.{PlantDefinition, TransferDefinition, WireDefinition}
+use Rattle.plant_model.specs.declared.wire.Export.{Export}
 use Rattle.record_replay.specs.OfPlant.{is_record_of}
 use Rattle.record_replay.specs.Records.{counts_after_all, record_delivered, records_of}
 use Rattle.record_replay.specs.Replay.{Position, is_included, replay_from}

@@ -6,9 +6,9 @@ use Rattle.petri_atom.specs.Definition.{AtomDefinition, exports_of}
 use Rattle.connector_tree.specs.declared.tree.Port.{Port}
 use Rattle.record_codec.specs.Fired.{FiredFields}
 use Rattle.record_codec.specs.declared.entry.Entry.{Entry}
-use Rattle.step_core.specs.Choice.{Interaction, plant_interactions}
-use Rattle.step_core.specs.Laws.{is_of_port}
-use Rattle.step_core.specs.Plant.{PlantDefinition}
+use Rattle.plant_model.specs.Choice.{Interaction, plant_interactions}
+use Rattle.plant_model.specs.Laws.{is_of_port}
+use Rattle.plant_model.specs.Plant.{PlantDefinition}
 use Rattle.std.specs.Option.{option_map_or}
 use Rattle.std.specs.Prelude.{slice_get}
 

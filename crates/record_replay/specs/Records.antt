@@ -4,10 +4,10 @@ use Rattle.std.specs.Option.{option_map_or}
 use Rattle.petri_atom.specs.Local.{Local, Row}
 use Rattle.record_codec.specs.Fired.{FiredFields}
 use Rattle.record_codec.specs.declared.entry.Entry.{Entry}
-use Rattle.step_core.specs.Choice.{ChoiceDefinition}
-use Rattle.step_core.specs.Plant.{PlantDefinition}
-use Rattle.step_core.specs.Step.{next, transfer}
-use Rattle.step_core.specs.declared.choice.Move.{Move}
+use Rattle.plant_model.specs.Choice.{ChoiceDefinition}
+use Rattle.plant_model.specs.Plant.{PlantDefinition}
+use Rattle.plant_model.specs.Step.{next, transfer}
+use Rattle.plant_model.specs.declared.choice.Move.{Move}
 
 -- how often an atom has taken part, if that is known of all atoms
 abbrev pub count_of : List ℕ → ℕ → ℕ

@@ -1,15 +1,15 @@
 //! Whether a record can be of a plant.
 ghost use Rattle.std.specs.Prelude.{◌≡◌, map};
 ghost use Rattle.petri_atom.specs.Atom.{definition_of};
-ghost use Rattle.step_core.specs.Interaction.{interaction_of};
-ghost use Rattle.step_core.specs.Laws.{is_of_port};
-ghost use Rattle.step_core.specs.System.{plant_of};
+ghost use Rattle.plant_model.specs.Interaction.{interaction_of};
+ghost use Rattle.plant_model.specs.Laws.{is_of_port};
+ghost use Rattle.plant_model.specs.System.{plant_of};
 ghost use Rattle.record_replay.specs.OfPlant.{has_none_past, is_part_at, are_parts_at, is_of_interaction, is_record_of};
 
 use connector_tree::Port;
 use petri_atom::Atom;
+use plant_model::{Interaction, System};
 use record_codec::{Entry, Fired, MOST_EXPORTED};
-use step_core::{Interaction, System};
 
 /// Whether the record is one of an interaction of the plant: its connector and its atoms are that one's, each transition is there
 /// and of the port, and nothing is delivered past what the port exports.

@@ -5,12 +5,12 @@ ghost use Rattle.petri_atom.specs.Definition.{AtomDefinition, Fits, is_well_form
 ghost use Rattle.petri_atom.specs.Local.{Local, Row};
 ghost use Rattle.record_codec.specs.Fired.{FiredFields, IsFired};
 ghost use Rattle.record_codec.specs.declared.layout.TheConstants.{LAST_NUMBER};
-ghost use Rattle.step_core.specs.Choice.{ChoiceDefinition, IsAllowed};
-ghost use Rattle.step_core.specs.Delivery.{IsDelivered};
-ghost use Rattle.step_core.specs.Plant.{PlantDefinition};
-ghost use Rattle.step_core.specs.Rules.{fault_of};
-ghost use Rattle.step_core.specs.Runs.{IsRun, fold};
-ghost use Rattle.step_core.specs.Step.{transfer};
+ghost use Rattle.plant_model.specs.Choice.{ChoiceDefinition, IsAllowed};
+ghost use Rattle.plant_model.specs.Delivery.{IsDelivered};
+ghost use Rattle.plant_model.specs.Plant.{PlantDefinition};
+ghost use Rattle.plant_model.specs.Rules.{fault_of};
+ghost use Rattle.plant_model.specs.Runs.{IsRun, fold};
+ghost use Rattle.plant_model.specs.Step.{transfer};
 ghost use Rattle.record_replay.specs.OfPlant.{is_record_of};
 ghost use Rattle.record_replay.specs.Records.{count_of, counts_after_all, record_by, record_delivered, records_of};
 ghost use Rattle.record_replay.specs.Replay.{Position, is_included, ok_then, replay, replay_from};

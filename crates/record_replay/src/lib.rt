@@ -27,9 +27,9 @@ pub use replay::replay_atom;
 // What the model and the layout of a record say of the same numbers.
 const _: () = prove!(connector_tree::MAX_LEAVES == record_codec::MOST_ENTRIES);
 
-const _: () = prove!(step_core::MAX_ATOMS == record_codec::MOST_ATOMS as usize);
+const _: () = prove!(plant_model::MAX_ATOMS == record_codec::MOST_ATOMS as usize);
 
-const _: () = prove!(step_core::MAX_WIRES == record_codec::MOST_CONNECTORS as usize);
+const _: () = prove!(plant_model::MAX_WIRES == record_codec::MOST_CONNECTORS as usize);
 
 const _: () = prove!(petri_atom::MAX_TRANSITIONS == record_codec::MOST_TRANSITIONS as usize);
 

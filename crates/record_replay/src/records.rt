@@ -2,15 +2,15 @@
 ghost use Rattle.std.specs.Prelude.{◌≡◌, ◌+◌, ◌<◌, ◌^◌, Contains};
 ghost use Rattle.std.specs.List.Sorted.{IsStrictlyIncreasing};
 ghost use Rattle.record_codec.specs.Fired.{IsFired};
-ghost use Rattle.step_core.specs.Chosen.{choice_of};
-ghost use Rattle.step_core.specs.Laws.{atoms_of};
-ghost use Rattle.step_core.specs.declared.choice.Move.{Move};
+ghost use Rattle.plant_model.specs.Chosen.{choice_of};
+ghost use Rattle.plant_model.specs.Laws.{atoms_of};
+ghost use Rattle.plant_model.specs.declared.choice.Move.{Move};
 ghost use Rattle.record_replay.specs.Records.{count_of, counts_after, entry_by, record_delivered};
 
 use connector_tree::MAX_LEAVES;
 use petri_atom::Delivered;
+use plant_model::{Choice, MAX_ATOMS, Move};
 use record_codec::{Entry, Fired, MOST_EXPORTED};
-use step_core::{Choice, MAX_ATOMS, Move};
 
 /// The record with the number of a choice that was fired: `delivered` has at the place of each move what its atom got, and `counts` how
 /// often each atom had taken part before.

@@ -8,15 +8,15 @@ use Rattle.std.proofs.lemmas.Option.{none-some, same_Some, slice_get-map, slice_
 use Rattle.petri_atom.specs.Name.{is_same_text}
 use Rattle.petri_atom.specs.Definition.{AtomDefinition}
 use Rattle.plant_words.proofs.Positions.{position_of_mapped}
-use Rattle.step_core.specs.Plant.{PlantDefinition, WireDefinition}
-use Rattle.step_core.specs.Rules.{atom_fault, early_fault, fault_of, fault_of_count, fault_of_order, fault_of_wire, fault_of_wires, first_broken, first_of, first_fault_in, is_within_limits, late_fault, tree_fault, wire_fault}
-use Rattle.step_core.specs.Choice.{plant_interactions}
-use Rattle.step_core.specs.declared.fault.SystemFault.TheVariants.{BadAtom, BadWire, Limit}
-use Rattle.step_core.specs.declared.fault.WireFault.{WireFault}
-use Rattle.step_core.specs.declared.limits.TheConstants.{MAX_ATOMS, MAX_WIRES}
-use Rattle.step_core.proofs.Initial.{map-map}
-use Rattle.step_core.proofs.OfInteractions.{none-told, within-limits}
-use Rattle.step_core.proofs.TreeRules.{first_none, second_none}
+use Rattle.plant_model.specs.Plant.{PlantDefinition, WireDefinition}
+use Rattle.plant_model.specs.Rules.{atom_fault, early_fault, fault_of, fault_of_count, fault_of_order, fault_of_wire, fault_of_wires, first_broken, first_of, first_fault_in, is_within_limits, late_fault, tree_fault, wire_fault}
+use Rattle.plant_model.specs.Choice.{plant_interactions}
+use Rattle.plant_model.specs.declared.fault.SystemFault.TheVariants.{BadAtom, BadWire, Limit}
+use Rattle.plant_model.specs.declared.fault.WireFault.{WireFault}
+use Rattle.plant_model.specs.declared.limits.TheConstants.{MAX_ATOMS, MAX_WIRES}
+use Rattle.plant_model.proofs.Initial.{map-map}
+use Rattle.plant_model.proofs.OfInteractions.{none-told, within-limits}
+use Rattle.plant_model.proofs.TreeRules.{first_none, second_none}
 use Rattle.recorded_picks.specs.Names.{AreApart, atom_names, connector_names, place_of}
 
 -- ---- one part more

@@ -6,7 +6,7 @@ use Rattle.std.proofs.lemmas.Bool.{and_from}
 use Rattle.std.proofs.lemmas.List.Folds.{list_all-append}
 use Rattle.std.proofs.lemmas.List.Splits.{slice_split_at, slice_split_none}
 use Rattle.plant_words.specs.Words.{is_blank, is_filled, words_of}
-use Rattle.step_core.proofs.Membership.{here, later}
+use Rattle.plant_model.proofs.Membership.{here, later}
 use Rattle.recorded_picks.proofs.Plain.{none-at, none_is}
 
 -- a word has no blank, and a byte

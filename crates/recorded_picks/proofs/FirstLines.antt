@@ -10,7 +10,7 @@ use Rattle.std.proofs.lemmas.List.Sums.{fails_before_first, passes_at_first, pos
 use Rattle.plant_words.specs.Lines.{lines_of}
 use Rattle.plant_words.specs.Words.{words_of}
 use Rattle.plant_words.proofs.Cuts.{lines_of-first, lines_of-last}
-use Rattle.step_core.specs.Plant.{PlantDefinition}
+use Rattle.plant_model.specs.Plant.{PlantDefinition}
 use Rattle.run_text.specs.Picks.{misread}
 use Rattle.run_text.specs.declared.pick.Misread.TheVariants.{TooLong}
 use Rattle.run_text.specs.declared.pick.Numbers.{Numbers}

@@ -4,7 +4,7 @@ use Rattle.std.specs.Prelude.{Option, Some, None, option_map}
 use Rattle.std.specs.Io.BufRead.{drop_through, take_through, DropsThrough}
 use Rattle.std.specs.Option.{option_to_list}
 use Rattle.plant_words.specs.Lines.{lines_of}
-use Rattle.step_core.specs.Plant.{PlantDefinition}
+use Rattle.plant_model.specs.Plant.{PlantDefinition}
 use Rattle.text_io.specs.Numbered.{numbered}
 use Rattle.run_text.specs.Picks.{Gives, PickDefinition, TakeDefinition, pick_of, take_of}
 use Rattle.run_text.specs.declared.pick.Numbers.{Numbers}

@@ -15,13 +15,13 @@ use Rattle.petri_atom.specs.declared.parts.TheConstants.{MAX_TRANSITIONS}
 use Rattle.plant_words.specs.Numbers.{below}
 use Rattle.plant_words.specs.Splits.{both_of, export_parts}
 use Rattle.plant_words.specs.Words.{is_blank, is_filled}
-use Rattle.step_core.specs.Choice.{move_of}
-use Rattle.step_core.specs.Plant.{PlantDefinition}
-use Rattle.step_core.specs.declared.choice.Move.{Move}
+use Rattle.plant_model.specs.Choice.{move_of}
+use Rattle.plant_model.specs.Plant.{PlantDefinition}
+use Rattle.plant_model.specs.declared.choice.Move.{Move}
 use Rattle.run_text.specs.Line.{fired_port_name, participant}
 use Rattle.recorded_picks.specs.Moves.{is_fired_at, is_of_named_port, is_slash, move_at, move_in, move_named, moves_after, moves_in, transition_in}
 use Rattle.recorded_picks.specs.Names.{AreApart, atom_named, atom_names, place_of}
-use Rattle.step_core.proofs.Membership.{here, later}
+use Rattle.plant_model.proofs.Membership.{here, later}
 use Rattle.recorded_picks.proofs.FiredWords.{IsPlain, length-participant, none-in-participant, regrouped}
 use Rattle.recorded_picks.proofs.Plain.{Spares, after-it, before-it, decimal-none, decimal-read, name-filled, name-none, name-short, none-at, none_is, spares-blanks, spares-byte}
 use Rattle.std.proofs.lemmas.List.Folds.{list_all-append}

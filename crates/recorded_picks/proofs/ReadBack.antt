@@ -18,15 +18,15 @@ use Rattle.connector_tree.specs.Masks.{interactions_of, ports_of}
 use Rattle.plant_words.specs.Lines.{lines_of}
 use Rattle.plant_words.specs.Words.{is_blank, words_of}
 use Rattle.plant_words.proofs.Cuts.{lines_of-first}
-use Rattle.step_core.specs.Choice.{ChoiceDefinition, Interaction, IsAllowed, plant_interactions}
-use Rattle.step_core.specs.Laws.{IsInRange, IsInteractionOf, IsTaking, are_moves_at, is_move_at, is_of_port}
-use Rattle.step_core.specs.Plant.{PlantDefinition, WireDefinition, of_atom}
-use Rattle.step_core.specs.Rules.{fault_of}
-use Rattle.step_core.specs.declared.choice.Move.{Move}
-use Rattle.step_core.proofs.Membership.{all-in, entry-in, here, here-or-later, later}
-use Rattle.step_core.proofs.OfChoices.{in-range, taking}
-use Rattle.step_core.proofs.OfInteractions.{interaction-of, sound-tree}
-use Rattle.step_core.proofs.OfPorts.{port-of-move, port-of-transition}
+use Rattle.plant_model.specs.Choice.{ChoiceDefinition, Interaction, IsAllowed, plant_interactions}
+use Rattle.plant_model.specs.Laws.{IsInRange, IsInteractionOf, IsTaking, are_moves_at, is_move_at, is_of_port}
+use Rattle.plant_model.specs.Plant.{PlantDefinition, WireDefinition, of_atom}
+use Rattle.plant_model.specs.Rules.{fault_of}
+use Rattle.plant_model.specs.declared.choice.Move.{Move}
+use Rattle.plant_model.proofs.Membership.{all-in, entry-in, here, here-or-later, later}
+use Rattle.plant_model.proofs.OfChoices.{in-range, taking}
+use Rattle.plant_model.proofs.OfInteractions.{interaction-of, sound-tree}
+use Rattle.plant_model.proofs.OfPorts.{port-of-move, port-of-transition}
 use Rattle.text_io.specs.Numbered.{numbered}
 use Rattle.run_text.specs.Line.{interaction_line, participant}
 use Rattle.run_text.specs.Picks.{misread, named, number_as}

@@ -10,12 +10,12 @@ use Rattle.connector_tree.specs.declared.tree.TheConstants.{MAX_LEAVES}
 use Rattle.run_text.specs.declared.pick.Misread.{Misread}
 use Rattle.run_text.specs.declared.pick.Misread.TheVariants.{NoInteraction, UnknownConnector, UnknownMove}
 use Rattle.plant_words.specs.Reading.{◌>>=◌}
-use Rattle.step_core.specs.Choice.{ChoiceDefinition, Interaction, plant_interactions}
-use Rattle.step_core.specs.Plant.{PlantDefinition}
-use Rattle.step_core.specs.Rules.{fault_of}
-use Rattle.step_core.specs.declared.choice.Move.{Move}
-use Rattle.step_core.proofs.Membership.{here, later}
-use Rattle.step_core.proofs.OfInteractions.{interaction-of}
+use Rattle.plant_model.specs.Choice.{ChoiceDefinition, Interaction, plant_interactions}
+use Rattle.plant_model.specs.Plant.{PlantDefinition}
+use Rattle.plant_model.specs.Rules.{fault_of}
+use Rattle.plant_model.specs.declared.choice.Move.{Move}
+use Rattle.plant_model.proofs.Membership.{here, later}
+use Rattle.plant_model.proofs.OfInteractions.{interaction-of}
 use Rattle.recorded_picks.specs.Choices.{choice_by, choice_in, few_moves, fires, is_fired_by, mask_of, moves_read}
 use Rattle.recorded_picks.specs.Moves.{move_in, moves_after, moves_in}
 use Rattle.recorded_picks.specs.Names.{connector_named}

@@ -3,11 +3,11 @@ use Rattle.std.proofs.Common.{◌≡◌, ℕ, ◌+◌, ◌<◌, ◌≤◌, ◌^�
 use Rattle.std.specs.Prelude.{Option, None, Some}
 use Rattle.std.proofs.lemmas.Bool.{cond-true, lt-ltb}
 use Rattle.petri_atom.specs.Local.{Local}
-use Rattle.step_core.specs.Choice.{ChoiceDefinition, IsAllowed}
-use Rattle.step_core.specs.Plant.{PlantDefinition}
-use Rattle.step_core.specs.Runs.{IsRun}
-use Rattle.step_core.specs.Step.{next}
-use Rattle.step_core.proofs.Membership.{here-or-later}
+use Rattle.plant_model.specs.Choice.{ChoiceDefinition, IsAllowed}
+use Rattle.plant_model.specs.Plant.{PlantDefinition}
+use Rattle.plant_model.specs.Runs.{IsRun}
+use Rattle.plant_model.specs.Step.{next}
+use Rattle.plant_model.proofs.Membership.{here-or-later}
 use Rattle.run_text.specs.Picks.{PickDefinition, named}
 use Rattle.run_text.specs.Runs.{chosen, refusal_in}
 use Rattle.run_text.specs.Taken.{Taken, fires, stuck, refused, by_taken, taken, taken_as}

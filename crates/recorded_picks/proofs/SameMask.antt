@@ -9,7 +9,7 @@ use Rattle.connector_tree.specs.Tree.{Tree, leaves}
 use Rattle.connector_tree.specs.declared.tree.Port.{Port}
 use Rattle.connector_tree.proofs.Filtered.{passing_is}
 use Rattle.connector_tree.proofs.Sets.{distinct, same_port-refl}
-use Rattle.step_core.proofs.Membership.{here, here-or-later, later}
+use Rattle.plant_model.proofs.Membership.{here, here-or-later, later}
 
 in-holds : (ps : List Port) (p : Port) → Contains ps p → holds_port ps p ≡ true
 in-holds [] p at = absurd (omega (arith, at.1))

@@ -4,7 +4,7 @@ use Rattle.std.specs.Prelude.{None, Some, nat_lt}
 use Rattle.std.proofs.lemmas.Bool.{le-ltb, lt-ltb}
 use Rattle.std.proofs.lemmas.List.{take_all}
 use Rattle.plant_words.specs.Words.{words_of}
-use Rattle.step_core.specs.Plant.{PlantDefinition}
+use Rattle.plant_model.specs.Plant.{PlantDefinition}
 use Rattle.run_text.specs.Picks.{misread}
 use Rattle.run_text.specs.declared.pick.Misread.TheVariants.{TooLong}
 use Rattle.run_text.specs.declared.pick.Numbers.{Numbers}

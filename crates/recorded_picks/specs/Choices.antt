@@ -6,10 +6,10 @@ use Rattle.petri_atom.specs.Definition.{AtomDefinition}
 use Rattle.connector_tree.specs.declared.tree.Port.{Port}
 use Rattle.connector_tree.specs.declared.tree.TheConstants.{MAX_LEAVES}
 use Rattle.plant_words.specs.Reading.{◌>>=◌}
-use Rattle.step_core.specs.Choice.{ChoiceDefinition, Interaction, plant_interactions}
-use Rattle.step_core.specs.Laws.{is_of_port}
-use Rattle.step_core.specs.Plant.{PlantDefinition}
-use Rattle.step_core.specs.declared.choice.Move.{Move}
+use Rattle.plant_model.specs.Choice.{ChoiceDefinition, Interaction, plant_interactions}
+use Rattle.plant_model.specs.Laws.{is_of_port}
+use Rattle.plant_model.specs.Plant.{PlantDefinition}
+use Rattle.plant_model.specs.declared.choice.Move.{Move}
 use Rattle.run_text.specs.declared.pick.Misread.{Misread}
 use Rattle.run_text.specs.declared.pick.Misread.TheVariants.{UnknownConnector, UnknownMove, NoInteraction}
 use Rattle.recorded_picks.specs.Moves.{moves_in}

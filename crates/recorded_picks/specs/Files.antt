@@ -2,7 +2,7 @@
 use Rattle.std.specs.Prelude.{ℕ, List, option_map}
 use Rattle.std.specs.Option.{option_to_list}
 use Rattle.plant_words.specs.Lines.{lines_of}
-use Rattle.step_core.specs.Plant.{PlantDefinition}
+use Rattle.plant_model.specs.Plant.{PlantDefinition}
 use Rattle.text_io.specs.Numbered.{numbered}
 use Rattle.run_text.specs.Picks.{PickDefinition}
 use Rattle.run_text.specs.declared.pick.Numbers.{Numbers}

@@ -3,9 +3,9 @@ use Rattle.std.specs.Prelude.{◌≡◌, ℕ, ◌&&◌, Bool, true, List, [], �
 use Rattle.std.specs.List.{list_all}
 use Rattle.petri_atom.specs.Definition.{AtomDefinition, is_well_formed}
 use Rattle.petri_atom.specs.Name.{is_name}
-use Rattle.step_core.specs.Choice.{ChoiceDefinition}
-use Rattle.step_core.specs.Plant.{PlantDefinition}
-use Rattle.step_core.specs.Rules.{fault_of}
+use Rattle.plant_model.specs.Choice.{ChoiceDefinition}
+use Rattle.plant_model.specs.Plant.{PlantDefinition}
+use Rattle.plant_model.specs.Rules.{fault_of}
 use Rattle.text_io.specs.Numbered.{numbered}
 use Rattle.run_text.specs.Picks.{PickDefinition, named}
 

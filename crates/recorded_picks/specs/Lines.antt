@@ -3,8 +3,8 @@ use Rattle.std.specs.Prelude.{ℕ, Bool, false, if◌then◌else◌, nat_lt, Lis
 use Rattle.std.specs.Option.{option_map_or}
 use Rattle.plant_words.specs.Numbers.{pick_in}
 use Rattle.plant_words.specs.Words.{begins_with, words_of}
-use Rattle.step_core.specs.Choice.{ChoiceDefinition}
-use Rattle.step_core.specs.Plant.{PlantDefinition}
+use Rattle.plant_model.specs.Choice.{ChoiceDefinition}
+use Rattle.plant_model.specs.Plant.{PlantDefinition}
 use Rattle.run_text.specs.Picks.{TakeDefinition, named, misread, number_as}
 use Rattle.run_text.specs.declared.pick.Misread.{Misread}
 use Rattle.run_text.specs.declared.pick.Misread.TheVariants.{TooLong}

@@ -7,9 +7,9 @@ use Rattle.petri_atom.specs.Name.{is_same_text}
 use Rattle.petri_atom.specs.declared.parts.TheConstants.{MAX_TRANSITIONS}
 use Rattle.plant_words.specs.Numbers.{below, pick_in}
 use Rattle.plant_words.specs.Splits.{export_parts}
-use Rattle.step_core.specs.Choice.{move_of}
-use Rattle.step_core.specs.Plant.{PlantDefinition}
-use Rattle.step_core.specs.declared.choice.Move.{Move}
+use Rattle.plant_model.specs.Choice.{move_of}
+use Rattle.plant_model.specs.Plant.{PlantDefinition}
+use Rattle.plant_model.specs.declared.choice.Move.{Move}
 use Rattle.recorded_picks.specs.Names.{atom_named}
 
 -- a slash (47)

@@ -1,7 +1,7 @@
 -- Connectors and atoms by their names.
 use Rattle.std.specs.Prelude.{◌≡◌, ℕ, List, map, take, slice_get, position, Option, Some, None}
 use Rattle.petri_atom.specs.Name.{is_same_text}
-use Rattle.step_core.specs.Plant.{PlantDefinition}
+use Rattle.plant_model.specs.Plant.{PlantDefinition}
 
 -- the names of a plant's connectors, and of its atoms, by their numbers
 abbrev pub connector_names : PlantDefinition → List (List ℕ)

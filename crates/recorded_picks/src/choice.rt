@@ -3,17 +3,17 @@ ghost use Rattle.std.specs.Prelude.{◌≡◌, ◌∷◌, [], ◌++◌, ◌≤�
 ghost use Rattle.std.specs.Cmp.Lexicographic.{pointwise};
 ghost use Rattle.std.specs.Option.{option_and_then};
 ghost use Rattle.run_text.specs.Seen.{choice_of, definition_of, plant_of};
-ghost use Rattle.step_core.specs.Interaction.{interaction_of};
-ghost use Rattle.step_core.specs.Laws.{is_of_port};
+ghost use Rattle.plant_model.specs.Interaction.{interaction_of};
+ghost use Rattle.plant_model.specs.Laws.{is_of_port};
 ghost use Rattle.recorded_picks.specs.Choices.{choice_in, few_moves, fires, is_at_port, is_fired_by, mask_among, mask_of, moves_read};
 ghost use Rattle.recorded_picks.specs.Moves.{moves_in};
 
 use crate::names::PlantNames;
 use connector_tree::{MAX_LEAVES, Mask, Port};
 use petri_atom::Atom;
+use plant_model::{Choice, Interaction, Move, Moves, System};
 use plant_words::Words;
 use run_text::Misread;
-use step_core::{Choice, Interaction, Move, Moves, System};
 
 /// The choice that the name of a connector and the words after it name, or what is wrong with them.
 pub fn read_choice(

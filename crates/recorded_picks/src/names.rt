@@ -3,15 +3,15 @@ ghost use Rattle.std.specs.Prelude.{◌≡◌, ◌≤◌, length, map, None, IfO
 ghost use Rattle.std.specs.List.{after_first, before_first, position_or_len};
 ghost use Rattle.std.proofs.Props.{props};
 ghost use Rattle.run_text.specs.Seen.{definition_of, plant_of};
-ghost use Rattle.step_core.specs.Rules.{fault_of};
-ghost use Rattle.step_core.specs.declared.limits.TheConstants.{MAX_ATOMS, MAX_WIRES};
+ghost use Rattle.plant_model.specs.Rules.{fault_of};
+ghost use Rattle.plant_model.specs.declared.limits.TheConstants.{MAX_ATOMS, MAX_WIRES};
 ghost use Rattle.recorded_picks.specs.Moves.{is_fired_at, is_of_named_port, is_slash, move_in, move_named, transition_in};
 ghost use Rattle.recorded_picks.specs.Names.{AreApart, atom_names, atom_named, connector_names, connector_named};
 
 use petri_atom::{Atom, MAX_TRANSITIONS};
+use plant_model::{Move, System, Wire};
 use plant_words::{NameIndex, read_decimal, split_export};
 use std::alloc::{AllocError, Global};
-use step_core::{Move, System, Wire};
 
 /// The names of the connectors and of the atoms, each found by one look-up.
 #[derive(Drop)]

@@ -8,12 +8,12 @@ use crate::kept_line::KEPT;
 use crate::line::take_of_line;
 use crate::names::PlantNames;
 use arrayvec::ArrayVec;
+use plant_model::System;
 use plant_words::Lines;
 use run_text::{Numbers, Pick, Picks, ReadFault};
 use std::alloc::{AllocError, Global};
 use std::io::BufRead;
 use std::marker::Model;
-use step_core::System;
 use text_io::read_line;
 
 /// The picks of a text, read line by line as they are taken. In a contract it is the list of those that are left, if the reader's

@@ -5,10 +5,10 @@ use Rattle.disk_model.specs.Cells.{Cell, MayBe}
 use Rattle.disk_model.specs.DiskState.{DiskState, size_of}
 use Rattle.disk_model.specs.declared.cells.TheConstants.{BODY}
 use Rattle.petri_atom.specs.Local.{Local}
-use Rattle.step_core.specs.Choice.{ChoiceDefinition}
-use Rattle.step_core.specs.Plant.{PlantDefinition}
-use Rattle.step_core.specs.Runs.{IsRun, fold}
-use Rattle.step_core.proofs.OnRuns.{runs-cut, runs-join}
+use Rattle.plant_model.specs.Choice.{ChoiceDefinition}
+use Rattle.plant_model.specs.Plant.{PlantDefinition}
+use Rattle.plant_model.specs.Runs.{IsRun, fold}
+use Rattle.plant_model.proofs.OnRuns.{runs-cut, runs-join}
 use Rattle.plant_image.specs.Contents.{last_number}
 use Rattle.plant_image.specs.Standing.{StandsFor}
 use Rattle.plant_core.specs.Events.{IsAckedOf, all_fired}

@@ -9,8 +9,8 @@ use Rattle.record_codec.specs.Ring.{slot_cell}
 use Rattle.record_replay.specs.Records.{count_of}
 use Rattle.snapshot_writer.specs.Parcels.{saved_by}
 use Rattle.snapshot_writer.specs.Storing.{HoldsSaved}
-use Rattle.step_core.specs.Plant.{PlantDefinition}
-use Rattle.step_core.specs.declared.limits.TheConstants.{MAX_ATOMS}
+use Rattle.plant_model.specs.Plant.{PlantDefinition}
+use Rattle.plant_model.specs.declared.limits.TheConstants.{MAX_ATOMS}
 use Rattle.plant_image.specs.Contents.{Contents, contents_of, counts_of, last_number, states_of}
 use Rattle.plant_image.specs.Faults.{fault_of}
 use Rattle.plant_image.specs.Reading.{contents_in}

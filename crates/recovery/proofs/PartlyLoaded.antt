@@ -12,9 +12,9 @@ use Rattle.record_codec.specs.Identity.{IdentityFields, identity_in}
 use Rattle.record_codec.specs.Ring.{device_cells, identity_cell}
 use Rattle.record_codec.specs.declared.layout.TheConstants.{MOST_RING, VERSION}
 use Rattle.record_codec.proofs.Identities.{held_identity_is_spelled}
-use Rattle.step_core.specs.Plant.{PlantDefinition}
-use Rattle.step_core.specs.declared.limits.TheConstants.{MAX_ATOMS}
-use Rattle.step_core.specs.Rules.{first_of, first_fault_in}
+use Rattle.plant_model.specs.Plant.{PlantDefinition}
+use Rattle.plant_model.specs.declared.limits.TheConstants.{MAX_ATOMS}
+use Rattle.plant_model.specs.Rules.{first_of, first_fault_in}
 use Rattle.plant_image.specs.Contents.{contents_of, identity_held, ring_held}
 use Rattle.plant_image.specs.Faults.{atom_fault, base_fault, cell_bytes, cells_fault, fault_of, fault_where, first_cell_fault, first_fault, identity_fault, is_for, leading_fault, records_fault}
 use Rattle.plant_image.specs.Reading.{IsStanding, IsFault, Tells}

@@ -15,9 +15,9 @@ use Rattle.record_codec.specs.Fired.{FiredFields}
 use Rattle.record_codec.specs.Saved.{SavedFields}
 use Rattle.record_replay.specs.Records.{count_of}
 use Rattle.record_replay.proofs.OverRecords.{replay-grows}
+use Rattle.plant_model.specs.Plant.{PlantDefinition}
+use Rattle.plant_model.specs.declared.limits.TheConstants.{MAX_ATOMS}
 use Rattle.step_core.specs.Job.{JobDefinition}
-use Rattle.step_core.specs.Plant.{PlantDefinition}
-use Rattle.step_core.specs.declared.limits.TheConstants.{MAX_ATOMS}
 use Rattle.plant_image.specs.Contents.{Contents, contents_of, counts_of, last_number, newest_held, ring_in, saved_position, unsaved}
 use Rattle.plant_image.specs.Faults.{cells_fault, fault_of, leading_fault}
 use Rattle.plant_image.specs.Reading.{IsStanding, contents_in}

@@ -10,12 +10,12 @@ use Rattle.petri_atom.specs.Local.{Local}
 use Rattle.petri_atom.specs.declared.state.TheConstants.{MAX_VARIABLES}
 use Rattle.record_codec.specs.Identity.{IsIdentity}
 use Rattle.record_codec.specs.declared.layout.TheConstants.{DIGEST, LEAST_RING, MOST_RING, MOST_VARIABLES}
-use Rattle.step_core.specs.Fitting.{AllFit, IsOf}
-use Rattle.step_core.specs.Laws.{IsWithinLimits}
-use Rattle.step_core.specs.Plant.{PlantDefinition}
-use Rattle.step_core.specs.Rules.{fault_of}
-use Rattle.step_core.proofs.Membership.{all-in, entry-in}
-use Rattle.step_core.proofs.OfInteractions.{within-limits}
+use Rattle.plant_model.specs.Fitting.{AllFit, IsOf}
+use Rattle.plant_model.specs.Laws.{IsWithinLimits}
+use Rattle.plant_model.specs.Plant.{PlantDefinition}
+use Rattle.plant_model.specs.Rules.{fault_of}
+use Rattle.plant_model.proofs.Membership.{all-in, entry-in}
+use Rattle.plant_model.proofs.OfInteractions.{within-limits}
 use Rattle.plant_core.proofs.Saving.{few_variables}
 use Rattle.plant_image.proofs.ByAtoms.{element_at}
 

@@ -20,7 +20,7 @@ use Rattle.record_codec.specs.Ring.{device_cells, identity_cell, record_cell, sl
 use Rattle.record_replay.specs.Records.{count_of}
 use Rattle.snapshot_writer.specs.Parcels.{saved_by}
 use Rattle.snapshot_writer.specs.Storing.{HasStored, HoldsSaved, IsStored}
-use Rattle.step_core.specs.Plant.{PlantDefinition}
+use Rattle.plant_model.specs.Plant.{PlantDefinition}
 use Rattle.plant_image.specs.Standing.{HasRoom, HoldsState, StandsFor, identity_for}
 use Rattle.plant_image.proofs.FormattedImages.{held_stands}
 use Rattle.recovery.specs.Formatting.{formatted_size}

@@ -5,7 +5,7 @@ use Rattle.disk_model.specs.DiskState.{DiskState, size_of}
 use Rattle.disk_model.specs.Cells.{Cell, MayBe, seen_cells}
 use Rattle.disk_model.specs.declared.cells.TheConstants.{BODY}
 use Rattle.record_replay.specs.Records.{count_of}
-use Rattle.step_core.specs.Plant.{PlantDefinition}
+use Rattle.plant_model.specs.Plant.{PlantDefinition}
 use Rattle.gated_journal.specs.Stops.{HasCleaned}
 use Rattle.plant_image.specs.Contents.{contents_of, counts_of, last_number, ring_in, states_of}
 use Rattle.plant_image.specs.Faults.{fault_of}

@@ -3,8 +3,8 @@ use Rattle.std.specs.Prelude.{ℕ, ◌*◌, Bool, true, false, List, Result, Ok,
 use Rattle.disk_model.specs.DiskState.{DiskState}
 use Rattle.disk_model.specs.Cells.{Cell}
 use Rattle.record_codec.specs.Ring.{device_cells}
-use Rattle.step_core.specs.Plant.{PlantDefinition}
-use Rattle.step_core.specs.Step.{initial_states}
+use Rattle.plant_model.specs.Plant.{PlantDefinition}
+use Rattle.plant_model.specs.Step.{initial_states}
 use Rattle.plant_image.specs.Faults.{cell_bytes}
 use Rattle.plant_image.specs.Standing.{first_counts}
 use Rattle.recovery.specs.Writing.{HasWritten, IsWriting}

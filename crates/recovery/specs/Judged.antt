@@ -1,7 +1,7 @@
 -- What was judged of the cells of a device.
 use Rattle.std.specs.Prelude.{◌≡◌, ℕ, Bool, true, List, None, Result}
 use Rattle.disk_model.specs.Cells.{Cell}
-use Rattle.step_core.specs.Plant.{PlantDefinition}
+use Rattle.plant_model.specs.Plant.{PlantDefinition}
 use Rattle.plant_image.specs.Faults.{fault_of}
 use Rattle.plant_image.specs.Reading.{IsStanding, Tells}
 use Rattle.plant_image.specs.declared.fault.ImageFault.{ImageFault}

@@ -2,8 +2,8 @@
 use Rattle.std.specs.Prelude.{◌≡◌, ℕ, ◌-◌, false, List, [], ◌∷◌, None, length, map, replicate, take}
 use Rattle.std.specs.List.{flat_map}
 use Rattle.disk_model.specs.Cells.{Cell}
-use Rattle.step_core.specs.Choice.{ChoiceDefinition}
-use Rattle.step_core.specs.Plant.{PlantDefinition}
+use Rattle.plant_model.specs.Choice.{ChoiceDefinition}
+use Rattle.plant_model.specs.Plant.{PlantDefinition}
 use Rattle.plant_image.specs.Contents.{contents_of, counts_of, last_number, states_of}
 use Rattle.plant_core.specs.Events.{IsEventRun, all_fired}
 use Rattle.plant_core.specs.Marks.{marks_of}

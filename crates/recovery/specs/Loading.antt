@@ -5,7 +5,7 @@ use Rattle.disk_model.specs.DiskState.{Counts, CountsUpTo, DiskState, IsSettled,
 use Rattle.disk_model.specs.declared.cells.TheConstants.{BODY}
 use Rattle.record_codec.specs.Ring.{device_cells}
 use Rattle.record_codec.specs.declared.layout.TheConstants.{MOST_RING}
-use Rattle.step_core.specs.Plant.{PlantDefinition}
+use Rattle.plant_model.specs.Plant.{PlantDefinition}
 use Rattle.recovery.specs.declared.loading.Loaded.{Loaded}
 
 -- It was loaded of a device of so many bytes: of the cells that a read gives as many as any device for the plant has, if the device keeps the disk

@@ -3,9 +3,9 @@ use Rattle.std.specs.Prelude.{◌≡◌, ℕ, ◌+◌, ◌≤◌, List, None, le
 use Rattle.disk_model.specs.DiskState.{DiskState, size_of}
 use Rattle.disk_model.specs.Cells.{seen_cells}
 use Rattle.disk_model.specs.declared.cells.TheConstants.{BODY}
-use Rattle.step_core.specs.Plant.{PlantDefinition}
-use Rattle.step_core.specs.System.{plant_of}
-use Rattle.step_core.specs.declared.system.System.{System}
+use Rattle.plant_model.specs.Plant.{PlantDefinition}
+use Rattle.plant_model.specs.System.{plant_of}
+use Rattle.plant_model.specs.declared.system.System.{System}
 use Rattle.plant_image.specs.Contents.{ring_in}
 use Rattle.plant_image.specs.Reading.{contents_in}
 use Rattle.plant_image.specs.declared.standing.Standing.{Standing}

@@ -1,7 +1,7 @@
 -- What bringing an image of the first layout over to a new device answers, and what it has made at its end.
 use Rattle.std.specs.Prelude.{◌≡◌, ℕ, Bool, true, false, List, Option, None, Result, Ok, Err}
 use Rattle.disk_model.specs.DiskState.{DiskState}
-use Rattle.step_core.specs.Plant.{PlantDefinition}
+use Rattle.plant_model.specs.Plant.{PlantDefinition}
 use Rattle.plant_image.specs.Contents.{Contents, counts_of, last_number, states_of}
 use Rattle.plant_image.specs.declared.fault.ImageFault.{ImageFault}
 use Rattle.recovery.specs.Booting.{IsBootFault}

@@ -9,7 +9,7 @@ use Rattle.petri_atom.specs.Local.{Local}
 use Rattle.record_codec.specs.Bytes.{AreBytes}
 use Rattle.record_codec.specs.FirstLayout.{todays_body, todays_identity, todays_record}
 use Rattle.record_codec.specs.Ring.{device_cells, identity_cell}
-use Rattle.step_core.specs.Plant.{PlantDefinition}
+use Rattle.plant_model.specs.Plant.{PlantDefinition}
 use Rattle.plant_image.specs.Faults.{cell_bytes, fault_of}
 use Rattle.plant_image.specs.Standing.{StandsFor}
 use Rattle.plant_image.specs.Contents.{Contents, contents_of}

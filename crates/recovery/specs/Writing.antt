@@ -8,7 +8,7 @@ use Rattle.record_codec.specs.Ring.{identity_cell, slot_cell}
 use Rattle.record_replay.specs.Records.{count_of}
 use Rattle.snapshot_writer.specs.Parcels.{saved_by}
 use Rattle.snapshot_writer.specs.Storing.{HoldsSaved}
-use Rattle.step_core.specs.Plant.{PlantDefinition}
+use Rattle.plant_model.specs.Plant.{PlantDefinition}
 use Rattle.plant_image.specs.Standing.{HoldsState, StandsFor}
 
 -- Cells that a stop leaves of a device on which no identity is set yet: some that a stop in the old state might have left; or the first

@@ -17,9 +17,9 @@ use gated_journal::Journal;
 use parallel_replay::{MOST_WORKERS, Turn, read_image_by};
 use plant_core::{MOST_TAIL, Parts, Plant, Snapshots, marks_of};
 use plant_image::{ImageFault, Standing, read_image};
+use plant_model::System;
 use std::alloc::{AllocError, Global};
 use std::thread::Threads;
-use step_core::System;
 use step_executor::Executor;
 
 /// The plant of the system that the device stands for, after any stop. It syncs the device, judges all that a read gives, and takes all

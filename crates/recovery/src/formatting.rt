@@ -7,8 +7,8 @@ ghost use Rattle.recovery.specs.Formatting.{HasFormatted, IsFormatting, formatte
 use crate::fault::{FormatFault, FormatRefused};
 use crate::writing::{other_cells, write_image};
 use disk_model::{BODY, Cells, Disk};
+use plant_model::{MAX_ATOMS, PlantState, System};
 use std::alloc::Global;
-use step_core::{MAX_ATOMS, PlantState, System};
 
 /// Makes of the device one that stands for the first state of the plant and for the number 0, with a ring of so many records. Whatever it
 /// held is gone then. A stop inside leaves what it held, or an unformatted device, or the whole new one. All memory is taken before the first

@@ -1,6 +1,6 @@
 //! Loading the cells of a device, and judging what they stand for.
 ghost use Rattle.std.specs.Prelude.{◌≡◌, ◌≤◌, true, length, take, IfErr, IfOk, OnOk, Option};
-ghost use Rattle.step_core.specs.declared.limits.TheConstants.{MAX_ATOMS};
+ghost use Rattle.plant_model.specs.declared.limits.TheConstants.{MAX_ATOMS};
 ghost use Rattle.recovery.specs.Seen.{plant_of, digest_of, fault_of, ImageFault, MOST_RING, device_cells, Reads, size_of, cell_count, seen_cells};
 ghost use Rattle.recovery.specs.Booting.{IsBootFault, has_failed, is_disk};
 ghost use Rattle.recovery.specs.Judged.{WasReadOf};
@@ -10,10 +10,10 @@ use crate::fault::BootFault;
 use crate::reading::ReadAsToday;
 use disk_model::{BODY, CELL, Cells, Disk};
 use plant_image::{Standing, read_image};
+use plant_model::System;
 use record_codec::MOST_RING;
 use record_codec::ring::device_cells;
 use std::alloc::Global;
-use step_core::System;
 
 /// What was loaded of a device.
 #[derive(Drop)]

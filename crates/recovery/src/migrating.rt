@@ -17,8 +17,8 @@ use crate::old_image::judge_old;
 use crate::writing::{other_cells, write_image};
 use disk_model::{BODY, Cells, Disk, FIRST_BODY};
 use plant_image::Standing;
+use plant_model::System;
 use std::alloc::Global;
-use step_core::System;
 
 /// Brings the image of the first layout that the old device holds over to the new one, with a ring of so many records: the new device stands
 /// then for the state and the number that the old one stands for, and no record. The old device is only read, and whatever the new one held is

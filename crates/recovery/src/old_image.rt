@@ -8,8 +8,8 @@ use crate::fault::BootFault;
 use crate::loading::read;
 use disk_model::{Cells, Disk, FIRST_BODY, FirstCells};
 use plant_image::Standing;
+use plant_model::System;
 use std::alloc::Global;
-use step_core::System;
 
 /// What the device stands for, or the first thing that is wrong with it; and the device. Nothing is written, and after it a stop leaves
 /// what a read gives.

@@ -11,11 +11,11 @@ ghost use Rattle.recovery.specs.Writing.{HasStoredStates, HasWritten, IsBlank, I
 
 use crate::fault::FormatFault;
 use disk_model::{BODY, CELL, Cells, Disk, DiskFault};
+use plant_model::{PlantState, System};
 use record_codec::ring::{IDENTITY_CELL, base_cell, device_cells};
 use record_codec::{Base, DIGEST, Identity};
 use snapshot_writer::{Parcel, encode, store};
 use std::alloc::{AllocError, Global};
-use step_core::{PlantState, System};
 
 /// How many cells the device has for the plant and a ring of so many records.
 fn cells_for(system: &System, ring: u32) -> u64

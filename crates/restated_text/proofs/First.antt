@@ -11,9 +11,9 @@ use Rattle.petri_atom.specs.Local.{Local, has, set_below}
 use Rattle.petri_atom.specs.declared.parts.Place.{Place}
 use Rattle.petri_atom.specs.declared.parts.Variable.{Variable}
 use Rattle.petri_atom.proofs.Sets.{has-above, same_set, set_below-lt, has-set_below, set_below-is}
-use Rattle.step_core.specs.Fitting.{IsOf, AllFit}
-use Rattle.step_core.specs.Plant.{PlantDefinition}
-use Rattle.step_core.specs.Step.{initial_states}
+use Rattle.plant_model.specs.Fitting.{IsOf, AllFit}
+use Rattle.plant_model.specs.Plant.{PlantDefinition}
+use Rattle.plant_model.specs.Step.{initial_states}
 use Rattle.restated_text.specs.Plants.{each_numbered, place_with, first_valued, variable_with, atom_in_state, atom_with, plant_in_states, unmarked, unvalued, but_for_its_state, has_ranged_values, is_in_memory}
 use Rattle.restated_text.proofs.LegalLines.{got_passes}
 use Rattle.restated_text.proofs.Numbered.{length_numbered, get_numbered}

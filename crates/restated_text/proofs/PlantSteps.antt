@@ -12,7 +12,7 @@ use Rattle.petri_atom.specs.Parts.{definition_by}
 use Rattle.priority_filter.specs.declared.rule.Rule.{Rule}
 use Rattle.connector_tree.specs.declared.token.Token.{Token}
 use Rattle.connector_tree.specs.declared.tree.Port.{Port}
-use Rattle.step_core.specs.declared.limits.TheConstants.{MAX_ATOMS, MAX_WIRES, MAX_RULES}
+use Rattle.plant_model.specs.declared.limits.TheConstants.{MAX_ATOMS, MAX_WIRES, MAX_RULES}
 use Rattle.plant_words.specs.Lines.{is_legal_line}
 use Rattle.plant_words.specs.LineKinds.{kind_in}
 use Rattle.plant_words.specs.Reading.{◌>>=◌, check, first_name, at_end}

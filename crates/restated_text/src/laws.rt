@@ -2,9 +2,9 @@
 ghost use Rattle.std.specs.Prelude.{◌≡◌, ◌≤◌, ℕ, List, Ok, true, length, map};
 ghost use Rattle.std.specs.List.{list_all};
 ghost use Rattle.petri_atom.specs.Local.{Local};
-ghost use Rattle.step_core.specs.Fitting.{AllFit, IsOf};
-ghost use Rattle.step_core.specs.Plant.{PlantDefinition};
-ghost use Rattle.step_core.specs.Step.{initial_states};
+ghost use Rattle.plant_model.specs.Fitting.{AllFit, IsOf};
+ghost use Rattle.plant_model.specs.Plant.{PlantDefinition};
+ghost use Rattle.plant_model.specs.Step.{initial_states};
 ghost use Rattle.text_io.specs.declared.reading.TheConstants.{MAX_TEXT};
 ghost use Rattle.plant_text.specs.Meaning.{meaning};
 ghost use Rattle.plant_text.specs.Text.{text_of};

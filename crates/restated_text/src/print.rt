@@ -1,6 +1,6 @@
 //! Printing a restated text.
 ghost use Rattle.std.specs.Prelude.{◌≡◌, ◌<◌, ◌≤◌, IfErr, OnOk, length};
-ghost use Rattle.step_core.specs.declared.limits.TheConstants.{MAX_ATOMS};
+ghost use Rattle.plant_model.specs.declared.limits.TheConstants.{MAX_ATOMS};
 ghost use Rattle.text_io.specs.Printing.{Prints};
 ghost use Rattle.text_io.specs.declared.reading.TheConstants.{MAX_TEXT};
 ghost use Rattle.restated_text.specs.Printing.{Leaves};
@@ -8,9 +8,9 @@ ghost use Rattle.restated_text.specs.Text.{restated_text};
 
 use crate::fault::RestateFault;
 use crate::text::restate;
+use plant_model::PlantState;
 use std::alloc::Global;
 use std::io::Write;
-use step_core::PlantState;
 use text_io::{MAX_TEXT, print_text};
 
 /// Prints the text with the states as its atoms' first ones, if it is no longer than a text may be. The whole text is made first, and

@@ -3,7 +3,7 @@ ghost use Rattle.std.specs.Prelude.{◌≡◌, ◌≤◌, ◌<◌, ◌++◌, ◌
 ghost use Rattle.std.specs.List.{position_or_len, slice_split};
 ghost use Rattle.std.specs.Option.{option_map_or};
 ghost use Rattle.std.specs.Str.Lines.{strip_carriage_return};
-ghost use Rattle.step_core.specs.declared.limits.TheConstants.{MAX_ATOMS};
+ghost use Rattle.plant_model.specs.declared.limits.TheConstants.{MAX_ATOMS};
 ghost use Rattle.petri_atom.specs.Local.{has};
 ghost use Rattle.restated_text.specs.Counts.{HaveRoom, kind_of};
 ghost use Rattle.restated_text.specs.Text.{after_part_of_text, is_line_feed, latest_state, line_in_state, restated_line, restated_part, restated_text};
@@ -12,9 +12,9 @@ ghost use Rattle.restated_text.specs.Lines.{variable_line};
 use crate::counts::{Counts, kind_of};
 use crate::line::{add_place_line, add_variable_line};
 use petri_atom::{AtomState, MAX_PLACES};
+use plant_model::PlantState;
 use plant_words::{AtomPart, LineKind};
 use std::alloc::{AllocError, Global};
-use step_core::PlantState;
 
 const LINE_FEED: u8 = b'\n';
 

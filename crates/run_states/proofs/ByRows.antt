@@ -1,10 +1,10 @@
 -- What stands before the state after a firing, by the rows that it delivered, is what is said of the choice that was fired.
 use Rattle.std.proofs.Common.{◌≡◌, ap, List, ◌++◌, codes}
 use Rattle.petri_atom.specs.Local.{Local}
-use Rattle.step_core.specs.Plant.{PlantDefinition}
-use Rattle.step_core.specs.Chosen.{choice_of}
-use Rattle.step_core.specs.Delivery.{IsDelivered}
-use Rattle.step_core.specs.Step.{transfer}
+use Rattle.plant_model.specs.Plant.{PlantDefinition}
+use Rattle.plant_model.specs.Chosen.{choice_of}
+use Rattle.plant_model.specs.Delivery.{IsDelivered}
+use Rattle.plant_model.specs.Step.{transfer}
 use Rattle.text_io.specs.declared.format.Format.{Format}
 use Rattle.text_io.specs.declared.format.Format.TheVariants.{Lines, Csv, Jsonl}
 use Rattle.run_text.specs.Jsonl.{fired_members}

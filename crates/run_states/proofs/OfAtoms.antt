@@ -7,7 +7,7 @@ use Rattle.petri_atom.specs.Atom.{definition_of}
 use Rattle.petri_atom.specs.Definition.{AtomDefinition}
 use Rattle.petri_atom.specs.Local.{Local}
 use Rattle.petri_atom.specs.declared.atom.Atom.{Atom}
-use Rattle.step_core.specs.Plant.{PlantDefinition}
+use Rattle.plant_model.specs.Plant.{PlantDefinition}
 use Rattle.text_io.specs.Numbered.{numbered}
 use Rattle.text_io.proofs.Leading.{Leads, leads-element}
 use Rattle.run_text.specs.Word.{after_words, separated_after}

@@ -1,7 +1,7 @@
 -- What is said of a firing by the rows that it delivered: a row for each move, at the move's place.
 use Rattle.std.specs.Prelude.{ℕ, List, ◌++◌, codes}
-use Rattle.step_core.specs.Plant.{PlantDefinition}
-use Rattle.step_core.specs.Chosen.{choice_of}
+use Rattle.plant_model.specs.Plant.{PlantDefinition}
+use Rattle.plant_model.specs.Chosen.{choice_of}
 use Rattle.text_io.specs.declared.format.Format.{Format}
 use Rattle.text_io.specs.declared.format.Format.TheVariants.{Lines, Csv, Jsonl}
 use Rattle.run_text.specs.Jsonl.{fired_members}

@@ -6,7 +6,7 @@ use Rattle.petri_atom.specs.Definition.{AtomDefinition}
 use Rattle.petri_atom.specs.Local.{Local, has, value_in}
 use Rattle.petri_atom.specs.declared.parts.Place.{Place}
 use Rattle.petri_atom.specs.declared.parts.Variable.{Variable}
-use Rattle.step_core.specs.Plant.{PlantDefinition}
+use Rattle.plant_model.specs.Plant.{PlantDefinition}
 use Rattle.text_io.specs.Numbered.{numbered}
 use Rattle.run_states.specs.OfAtoms.{of_atom, of_atoms}
 use Rattle.run_states.specs.Signals.{place_value, variable_value}

@@ -4,7 +4,7 @@ use Rattle.std.specs.Fmt.{signed_decimal}
 use Rattle.petri_atom.specs.Definition.{AtomDefinition}
 use Rattle.petri_atom.specs.Local.{Local, value_in}
 use Rattle.petri_atom.specs.declared.parts.Variable.{Variable}
-use Rattle.step_core.specs.Plant.{PlantDefinition}
+use Rattle.plant_model.specs.Plant.{PlantDefinition}
 use Rattle.text_io.specs.Numbered.{numbered}
 use Rattle.text_io.specs.declared.format.Format.TheVariants.{Csv}
 use Rattle.run_text.specs.Line.{places_text}

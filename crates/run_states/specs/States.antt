@@ -1,9 +1,9 @@
 -- A run with its states, in each format.
 use Rattle.std.specs.Prelude.{ℕ, List, [], ◌++◌, codes}
 use Rattle.petri_atom.specs.Local.{Local}
-use Rattle.step_core.specs.Plant.{PlantDefinition}
-use Rattle.step_core.specs.Choice.{ChoiceDefinition}
-use Rattle.step_core.specs.Step.{next}
+use Rattle.plant_model.specs.Plant.{PlantDefinition}
+use Rattle.plant_model.specs.Choice.{ChoiceDefinition}
+use Rattle.plant_model.specs.Step.{next}
 use Rattle.text_io.specs.declared.format.Format.{Format}
 use Rattle.text_io.specs.declared.format.Format.TheVariants.{Lines, Csv, Jsonl}
 use Rattle.run_text.specs.Format.{step_text, stuck_text}

@@ -1,9 +1,9 @@
 -- A run as a value change dump: time counts the interactions that are fired.
 use Rattle.std.specs.Prelude.{ℕ, List, ◌++◌, codes, decimal}
 use Rattle.petri_atom.specs.Local.{Local}
-use Rattle.step_core.specs.Plant.{PlantDefinition}
-use Rattle.step_core.specs.Choice.{ChoiceDefinition}
-use Rattle.step_core.specs.Step.{next}
+use Rattle.plant_model.specs.Plant.{PlantDefinition}
+use Rattle.plant_model.specs.Choice.{ChoiceDefinition}
+use Rattle.plant_model.specs.Step.{next}
 use Rattle.run_text.specs.Picks.{PickDefinition}
 use Rattle.run_text.specs.Steps.{Parts, run_printed}
 use Rattle.run_states.specs.Changes.{changes_of}

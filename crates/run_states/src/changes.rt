@@ -6,9 +6,9 @@ ghost use Rattle.run_states.specs.Changes.{atom_changes, changes_of, place_chang
 
 use crate::signals::{print_place, print_variable};
 use petri_atom::{Atom, AtomState, Place, Variable};
+use plant_model::{PlantState, System};
 use run_text::{is_marked, value_at};
 use std::io::Write;
-use step_core::{PlantState, System};
 use text_io::WriteFault;
 
 /// Prints the values of the signals that differ from the state before.

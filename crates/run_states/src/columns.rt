@@ -5,9 +5,9 @@ ghost use Rattle.text_io.specs.Numbered.{numbered};
 ghost use Rattle.run_states.specs.Columns.{atom_columns, atom_names, columns_of, names_of, value_column, value_text, variable_name};
 
 use petri_atom::{Atom, AtomState, Name, Variable};
+use plant_model::System;
 use run_text::{PlantAt, print_places, value_at};
 use std::io::Write;
-use step_core::System;
 use text_io::{Format, WriteFault, end_line, print_signed, print_text};
 
 /// Prints the row that names the columns: those of a step, and then those of a state.

@@ -6,8 +6,8 @@ ghost use Rattle.run_states.specs.Declarations.{declarations_of, module_lines, p
 
 use crate::signals::print_code;
 use petri_atom::{Atom, Place, Variable};
+use plant_model::System;
 use std::io::Write;
-use step_core::System;
 use text_io::{WriteFault, print_text};
 
 /// Prints the head: a module for each atom, with a signal for each of its places and variables.

@@ -5,9 +5,9 @@ ghost use Rattle.run_states.specs.States.{head_line, start_begin, start_lines};
 
 use crate::columns::print_names;
 use crate::present::print_present;
+use plant_model::System;
 use run_text::PlantAt;
 use std::io::Write;
-use step_core::System;
 use text_io::{Format, WriteFault, print_text};
 
 /// Prints what comes before the run: the row that names the columns, if there are some.

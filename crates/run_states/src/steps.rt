@@ -4,9 +4,9 @@ ghost use Rattle.run_states.specs.States.{stuck_lines};
 ghost use Rattle.run_states.specs.ByRows.{begin_by_rows};
 
 use crate::present::print_present;
+use plant_model::System;
 use run_text::{Firing, PlantAt, print_fired_step, print_step_members, stuck_text};
 use std::io::Write;
-use step_core::System;
 use text_io::{Format, WriteFault, end_line, print_text};
 
 /// Prints a choice that was fired, up to where the state after it follows.

@@ -6,10 +6,11 @@ ghost use Rattle.run_states.specs.Waves.{start_values, time_line};
 use crate::changes::{copy_states, print_changes};
 use crate::declarations::print_declarations;
 use crate::values::print_values;
+use plant_model::{PlantState, System};
 use run_text::{Firing, PlantAt, Telling};
 use std::alloc::{AllocError, Global};
 use std::io::Write;
-use step_core::{PlantState, Stepper, System};
+use step_core::Stepper;
 use text_io::{WriteFault, print_text};
 
 /// A run that is printed as a value change dump: the signals that there are, their values at the start, and for each pick the time,

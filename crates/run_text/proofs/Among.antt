@@ -6,9 +6,9 @@ use Rattle.std.specs.Cmp.Lexicographic.{pointwise_decides}
 use Rattle.std.proofs.lemmas.Bool.{false≢true}
 use Rattle.std.proofs.lemmas.Bool.Decides.{Decides-and, Decides-eqb, Decides-like, same_from_decides}
 use Rattle.std.proofs.lemmas.List.Folds.{Any-from_list_any, list_any-from_Any}
-use Rattle.step_core.specs.Choice.{ChoiceDefinition}
-use Rattle.step_core.specs.declared.choice.Move.{Move}
-use Rattle.step_core.proofs.Membership.{entry-in}
+use Rattle.plant_model.specs.Choice.{ChoiceDefinition}
+use Rattle.plant_model.specs.declared.choice.Move.{Move}
+use Rattle.plant_model.proofs.Membership.{entry-in}
 use Rattle.run_text.specs.Taken.{is_among, is_same_choice, is_same_move}
 
 -- the same choice, part by part

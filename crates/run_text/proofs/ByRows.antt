@@ -5,12 +5,12 @@ use Rattle.std.specs.Io.KnownBytes.{Appends}
 use Rattle.std.proofs.lemmas.List.{get_or_default}
 use Rattle.std.proofs.lemmas.Option.{get_or_from_slice_get}
 use Rattle.petri_atom.specs.Local.{Local, Row}
-use Rattle.step_core.specs.Plant.{PlantDefinition}
-use Rattle.step_core.specs.Choice.{ChoiceDefinition}
-use Rattle.step_core.specs.Chosen.{choice_of}
-use Rattle.step_core.specs.Delivery.{IsDelivered}
-use Rattle.step_core.specs.Step.{transfer}
-use Rattle.step_core.specs.declared.choice.Move.{Move}
+use Rattle.plant_model.specs.Plant.{PlantDefinition}
+use Rattle.plant_model.specs.Choice.{ChoiceDefinition}
+use Rattle.plant_model.specs.Chosen.{choice_of}
+use Rattle.plant_model.specs.Delivery.{IsDelivered}
+use Rattle.plant_model.specs.Step.{transfer}
+use Rattle.plant_model.specs.declared.choice.Move.{Move}
 use Rattle.text_io.specs.Numbered.{numbered}
 use Rattle.text_io.proofs.Leading.{Leads}
 use Rattle.text_io.specs.declared.format.Format.{Format}

@@ -5,10 +5,10 @@ use Rattle.std.specs.Io.KnownBytes.{Appends}
 use Rattle.std.proofs.KnownBytes.{Appends-nil}
 use Rattle.std.proofs.lemmas.Option.{none-some, same_Some}
 use Rattle.petri_atom.specs.Local.{Local}
-use Rattle.step_core.specs.Plant.{PlantDefinition}
-use Rattle.step_core.specs.Choice.{ChoiceDefinition}
-use Rattle.step_core.specs.Runs.{fold}
-use Rattle.step_core.specs.Step.{next}
+use Rattle.plant_model.specs.Plant.{PlantDefinition}
+use Rattle.plant_model.specs.Choice.{ChoiceDefinition}
+use Rattle.plant_model.specs.Runs.{fold}
+use Rattle.plant_model.specs.Step.{next}
 use Rattle.text_io.proofs.Leading.{Leads, leads-more, leads-same}
 use Rattle.run_text.specs.Picks.{Gives, PickDefinition, pick_of, take_of}
 use Rattle.run_text.specs.Runs.{chosen, refusal_in}

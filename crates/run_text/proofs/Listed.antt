@@ -1,8 +1,8 @@
 -- The choices of a state as they are listed.
 use Rattle.std.proofs.Common.{◌≡◌, ◌-◌, ◌<◌, ◌∙◌, ap, arith, List, [], ◌∷◌, ◌++◌, length, take, min}
 use Rattle.std.proofs.lemmas.List.{take_min}
-use Rattle.step_core.specs.Plant.{PlantDefinition}
-use Rattle.step_core.specs.Choice.{ChoiceDefinition}
+use Rattle.plant_model.specs.Plant.{PlantDefinition}
+use Rattle.plant_model.specs.Choice.{ChoiceDefinition}
 use Rattle.run_text.specs.declared.choices.TheConstants.{MOST_LISTED}
 use Rattle.run_text.specs.Choices.{choice_text, choices_text, more_text}
 use Rattle.text_io.specs.Numbered.{numbered}

@@ -8,7 +8,7 @@ use Rattle.petri_atom.specs.Definition.{AtomDefinition}
 use Rattle.petri_atom.specs.declared.parts.Place.{Place}
 use Rattle.petri_atom.specs.declared.parts.Variable.{Variable}
 use Rattle.connector_tree.specs.Tree as connectors
-use Rattle.step_core.specs.Plant.{PlantDefinition}
+use Rattle.plant_model.specs.Plant.{PlantDefinition}
 use Rattle.run_text.specs.Line.{participant, fired_line, state_line}
 use Rattle.run_text.specs.Word.{separated_by}
 use Rattle.run_text.specs.Csv.{state_row}

@@ -8,11 +8,11 @@ use Rattle.petri_atom.specs.Local.{Local, set_below, moved}
 use Rattle.petri_atom.specs.declared.expression.Operator.TheVariants.{Add}
 use Rattle.connector_tree.specs.Tree.{no_child, child, leaf}
 use Rattle.connector_tree.specs.declared.tree.Port.{Port}
-use Rattle.step_core.specs.Plant.{TransferDefinition, PlantDefinition}
-use Rattle.step_core.specs.Choice.{ChoiceDefinition, interaction_by, plant_interactions, choices}
+use Rattle.plant_model.specs.Plant.{TransferDefinition, PlantDefinition}
+use Rattle.plant_model.specs.Choice.{ChoiceDefinition, interaction_by, plant_interactions, choices}
 use Rattle.priority_filter.specs.Decided.{is_overruled, is_below}
-use Rattle.step_core.specs.Step.{next}
-use Rattle.step_core.specs.declared.choice.Move.{Move}
+use Rattle.plant_model.specs.Step.{next}
+use Rattle.plant_model.specs.declared.choice.Move.{Move}
 use Rattle.run_text.specs.Choices.{choices_after, more_text}
 use Rattle.run_text.specs.Message.{message_of}
 use Rattle.run_text.specs.Picks.{PickDefinition, counted, counted_picks, named, numbered_picks, random_picks}

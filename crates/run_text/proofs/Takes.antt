@@ -6,10 +6,10 @@ use Rattle.std.proofs.Math.Nat.{mod-lt}
 use Rattle.std.proofs.lemmas.Bool.{cond-true, false≢true, lt-ltb, ltb-true}
 use Rattle.std.proofs.lemmas.Option.{none-some, slice_get-get_or}
 use Rattle.petri_atom.specs.Local.{Local}
-use Rattle.step_core.specs.Plant.{PlantDefinition}
-use Rattle.step_core.specs.Choice.{ChoiceDefinition, IsAllowed, choices}
-use Rattle.step_core.specs.Step.{next}
-use Rattle.step_core.proofs.Membership.{entry-in}
+use Rattle.plant_model.specs.Plant.{PlantDefinition}
+use Rattle.plant_model.specs.Choice.{ChoiceDefinition, IsAllowed, choices}
+use Rattle.plant_model.specs.Step.{next}
+use Rattle.plant_model.proofs.Membership.{entry-in}
 use Rattle.run_text.specs.Picks.{TakeDefinition, counted, numbered, named, misread, placed}
 use Rattle.run_text.specs.Runs.{refusal_in}
 use Rattle.run_text.specs.Taken.{Taken, fires, stuck, refused, by_taken, is_among, picked, taken, taken_as}

@@ -1,9 +1,9 @@
 -- What is said of a firing by the rows that it delivered: a row for each move, at the move's place.
 use Rattle.std.specs.Prelude.{ℕ, List, [], ◌∷◌, slice_index_or}
 use Rattle.petri_atom.specs.Local.{Row}
-use Rattle.step_core.specs.Plant.{PlantDefinition}
-use Rattle.step_core.specs.Chosen.{choice_of}
-use Rattle.step_core.specs.declared.choice.Move.{Move}
+use Rattle.plant_model.specs.Plant.{PlantDefinition}
+use Rattle.plant_model.specs.Chosen.{choice_of}
+use Rattle.plant_model.specs.declared.choice.Move.{Move}
 use Rattle.text_io.specs.Numbered.{numbered}
 use Rattle.text_io.specs.declared.format.Format.{Format}
 use Rattle.text_io.specs.declared.format.Format.TheVariants.{Lines, Csv, Jsonl}

@@ -1,8 +1,8 @@
 -- The list of what can be fired next.
 use Rattle.std.specs.Prelude.{ℕ, ◌-◌, ◌==◌, if◌then◌else◌, List, [], ◌∷◌, ◌++◌, length, take, codes, decimal}
-use Rattle.step_core.specs.Plant.{PlantDefinition}
-use Rattle.step_core.specs.Choice.{ChoiceDefinition, choices}
-use Rattle.step_core.specs.Step.{initial_states}
+use Rattle.plant_model.specs.Plant.{PlantDefinition}
+use Rattle.plant_model.specs.Choice.{ChoiceDefinition, choices}
+use Rattle.plant_model.specs.Step.{initial_states}
 use Rattle.run_text.specs.declared.choices.TheConstants.{MOST_LISTED}
 use Rattle.run_text.specs.Line.{fired_line}
 use Rattle.text_io.specs.Numbered.{numbered}

@@ -1,11 +1,11 @@
 -- What is known of a choice that was fired, once the plant is in the state after it.
 use Rattle.std.specs.Prelude.{◌≡◌, List}
 use Rattle.petri_atom.specs.Local.{Local}
-use Rattle.step_core.specs.Chosen.{choice_of}
-use Rattle.step_core.specs.Delivery.{IsDelivered}
-use Rattle.step_core.specs.Fitting.{IsOf}
-use Rattle.step_core.specs.Plant.{PlantDefinition}
-use Rattle.step_core.specs.Step.{next, transfer}
+use Rattle.plant_model.specs.Chosen.{choice_of}
+use Rattle.plant_model.specs.Delivery.{IsDelivered}
+use Rattle.plant_model.specs.Fitting.{IsOf}
+use Rattle.plant_model.specs.Plant.{PlantDefinition}
+use Rattle.plant_model.specs.Step.{next, transfer}
 use Rattle.run_text.specs.declared.fired.Firing.{Firing}
 
 -- the plant was in the one state, the choice was fired, and now it is in the other; the rows have what was delivered

@@ -4,10 +4,10 @@ use Rattle.std.specs.Option.{option_map_or}
 use Rattle.petri_atom.specs.Local.{Local}
 use Rattle.petri_atom.specs.Definition.{AtomDefinition}
 use Rattle.petri_atom.specs.Local.{Row}
-use Rattle.step_core.specs.Plant.{PlantDefinition, wire_name}
-use Rattle.step_core.specs.Choice.{ChoiceDefinition}
-use Rattle.step_core.specs.Step.{transfer}
-use Rattle.step_core.specs.declared.choice.Move.{Move}
+use Rattle.plant_model.specs.Plant.{PlantDefinition, wire_name}
+use Rattle.plant_model.specs.Choice.{ChoiceDefinition}
+use Rattle.plant_model.specs.Step.{transfer}
+use Rattle.plant_model.specs.declared.choice.Move.{Move}
 use Rattle.text_io.specs.declared.format.Format.TheVariants.{Jsonl}
 use Rattle.run_text.specs.Word.{quoted, separated_by}
 use Rattle.run_text.specs.Line.{fired_port_name, places_text, value_words}

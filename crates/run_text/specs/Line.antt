@@ -6,9 +6,9 @@ use Rattle.petri_atom.specs.Local.{Local, has, value_in}
 use Rattle.petri_atom.specs.Definition.{AtomDefinition, port_name}
 use Rattle.petri_atom.specs.declared.parts.Place.{Place}
 use Rattle.petri_atom.specs.declared.parts.Variable.{Variable}
-use Rattle.step_core.specs.Plant.{PlantDefinition, wire_name}
-use Rattle.step_core.specs.Choice.{ChoiceDefinition}
-use Rattle.step_core.specs.declared.choice.Move.{Move}
+use Rattle.plant_model.specs.Plant.{PlantDefinition, wire_name}
+use Rattle.plant_model.specs.Choice.{ChoiceDefinition}
+use Rattle.plant_model.specs.declared.choice.Move.{Move}
 use Rattle.text_io.specs.Numbered.{numbered}
 use Rattle.text_io.specs.declared.format.Format.{Format}
 use Rattle.text_io.specs.declared.format.Format.TheVariants.{Lines}

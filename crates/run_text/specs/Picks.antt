@@ -1,7 +1,7 @@
 -- Picks: how each says which choice it takes, and random ones: xorshift64* with the shifts 12, 25 and 27.
 use Rattle.std.specs.Prelude.{◌≡◌, ℕ, zero, suc, ◌+◌, ◌*◌, ◌/◌, ◌%◌, ◌^◌, ◌==◌, if◌then◌else◌, bit_xor, List, [], ◌∷◌, Option, Some, None}
-use Rattle.step_core.specs.Choice.{ChoiceDefinition}
-use Rattle.step_core.specs.Chosen.{choice_of}
+use Rattle.plant_model.specs.Choice.{ChoiceDefinition}
+use Rattle.plant_model.specs.Chosen.{choice_of}
 use Rattle.run_text.specs.declared.pick.Misread.{Misread}
 use Rattle.run_text.specs.declared.pick.Numbers.{Numbers}
 use Rattle.run_text.specs.declared.pick.Numbers.TheVariants.{Modulo, Strict}

@@ -1,10 +1,10 @@
 -- The run that picks choose.
 use Rattle.std.specs.Prelude.{ℕ, ◌+◌, List, [], ◌∷◌, Option, Some, None}
 use Rattle.petri_atom.specs.Local.{Local}
-use Rattle.step_core.specs.Plant.{PlantDefinition}
-use Rattle.step_core.specs.Choice.{ChoiceDefinition}
-use Rattle.step_core.specs.Runs.{fold}
-use Rattle.step_core.specs.Step.{initial_states, next}
+use Rattle.plant_model.specs.Plant.{PlantDefinition}
+use Rattle.plant_model.specs.Choice.{ChoiceDefinition}
+use Rattle.plant_model.specs.Runs.{fold}
+use Rattle.plant_model.specs.Step.{initial_states, next}
 use Rattle.run_text.specs.Picks.{PickDefinition}
 use Rattle.run_text.specs.Taken.{by_taken, taken_as}
 use Rattle.run_text.specs.declared.fault.Refusal.{Refusal}

@@ -1,9 +1,9 @@
 -- What is printed of a run, and what is saved of it, step by step.
 use Rattle.std.specs.Prelude.{ℕ, ◌+◌, List, [], ◌∷◌, ◌++◌, codes, flat_map}
 use Rattle.petri_atom.specs.Local.{Local}
-use Rattle.step_core.specs.Plant.{PlantDefinition}
-use Rattle.step_core.specs.Choice.{ChoiceDefinition}
-use Rattle.step_core.specs.Step.{initial_states, next}
+use Rattle.plant_model.specs.Plant.{PlantDefinition}
+use Rattle.plant_model.specs.Choice.{ChoiceDefinition}
+use Rattle.plant_model.specs.Step.{initial_states, next}
 use Rattle.run_text.specs.Line.{interaction_line}
 use Rattle.run_text.specs.Picks.{PickDefinition}
 use Rattle.run_text.specs.Runs.{chosen}

@@ -4,9 +4,9 @@ use Rattle.std.specs.Cmp.Lexicographic.{pointwise}
 use Rattle.std.specs.List.{list_any}
 use Rattle.std.specs.Option.{option_map_or}
 use Rattle.petri_atom.specs.Local.{Local}
-use Rattle.step_core.specs.Plant.{PlantDefinition}
-use Rattle.step_core.specs.Choice.{ChoiceDefinition, choices}
-use Rattle.step_core.specs.declared.choice.Move.{Move}
+use Rattle.plant_model.specs.Plant.{PlantDefinition}
+use Rattle.plant_model.specs.Choice.{ChoiceDefinition, choices}
+use Rattle.plant_model.specs.declared.choice.Move.{Move}
 use Rattle.run_text.specs.Picks.{TakeDefinition, counted, numbered, named, misread}
 use Rattle.run_text.specs.declared.fault.RefusedPick.{RefusedPick}
 use Rattle.run_text.specs.declared.fault.RefusedPick.TheVariants.{PastList, NotPossible, Misread, TooMany}

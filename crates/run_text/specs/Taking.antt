@@ -1,5 +1,5 @@
 -- What comes of a pick, as it is kept.
-use Rattle.step_core.specs.Chosen.{choice_of}
+use Rattle.plant_model.specs.Chosen.{choice_of}
 use Rattle.run_text.specs.Taken.{Taken, fires, stuck, refused}
 use Rattle.run_text.specs.declared.taking.Taking.{Taking}
 use Rattle.run_text.specs.declared.taking.Taking.TheVariants.{Fires, Stuck, Refused}

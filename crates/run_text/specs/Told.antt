@@ -1,7 +1,7 @@
 -- What the run of a plant comes to that is printed and saved.
 use Rattle.std.specs.Prelude.{◌≡◌, ℕ, List, Option, Result, Err, IfSome}
 use Rattle.std.specs.Io.KnownBytes.{Appends}
-use Rattle.step_core.specs.Plant.{PlantDefinition}
+use Rattle.plant_model.specs.Plant.{PlantDefinition}
 use Rattle.run_text.specs.Picks.{PickDefinition}
 use Rattle.run_text.specs.Ran.{IfRan, OnRan}
 use Rattle.run_text.specs.Runs.{refusal_of}

@@ -1,6 +1,6 @@
 -- What the run of a plant prints.
 use Rattle.std.specs.Prelude.{ℕ, List, ◌++◌, codes}
-use Rattle.step_core.specs.Plant.{PlantDefinition}
+use Rattle.plant_model.specs.Plant.{PlantDefinition}
 use Rattle.text_io.specs.declared.format.Format.{Format}
 use Rattle.text_io.specs.declared.format.Format.TheVariants.{Lines}
 use Rattle.run_text.specs.Format.{head_text, step_text, stuck_text, end_text}

@@ -14,10 +14,11 @@ use crate::fired::print_choice;
 use crate::picks::Picks;
 use crate::running::run_picks;
 use crate::telling::Silence;
+use plant_model::System;
 use std::alloc::Global;
 use std::io;
 use std::io::Write;
-use step_core::{Listed, Stepper, System};
+use step_core::{Listed, Stepper};
 use text_io::{WriteFault, end_line, print_text};
 
 /// How many choices of a state are listed at most.

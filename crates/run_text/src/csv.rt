@@ -10,8 +10,8 @@ use crate::delivered::print_delivered;
 use crate::fired::{Firing, print_moves};
 use crate::states::{print_places, print_values};
 use petri_atom::{Atom, AtomState, Delivered};
+use plant_model::{Move, System};
 use std::io::Write;
-use step_core::{Move, System};
 use text_io::{Format, WriteFault, print_number, print_text};
 
 /// Prints the row of a fired interaction, without its end.

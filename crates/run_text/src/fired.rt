@@ -7,8 +7,8 @@ ghost use Rattle.run_text.specs.Word.{separated_after};
 
 use connector_tree::MAX_LEAVES;
 use petri_atom::{Atom, Delivered};
+use plant_model::{Choice, Move, System};
 use std::io::Write;
-use step_core::{Choice, Move, System};
 use text_io::{WriteFault, end_line, print_number, print_text};
 
 /// A choice that was fired.

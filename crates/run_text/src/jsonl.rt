@@ -11,8 +11,8 @@ use crate::fired::{Firing, fired_port_name};
 use crate::states::{print_places, print_values};
 use crate::word::print_quoted;
 use petri_atom::{Atom, AtomState, Delivered};
+use plant_model::{Move, System};
 use std::io::Write;
-use step_core::{Move, System};
 use text_io::{Format, WriteFault, print_number, print_text};
 
 /// Prints the object of a fired interaction, without the end of its line.

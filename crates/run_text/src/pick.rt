@@ -2,8 +2,8 @@
 ghost use Rattle.std.specs.Prelude.{◌≡◌};
 ghost use Rattle.run_text.specs.Picks.{number_as, take_of};
 
+use plant_model::Choice;
 use std::fmt;
-use step_core::Choice;
 
 /// A pick: it takes the next choice of a run.
 #[derive(Drop)]

@@ -2,7 +2,8 @@
 ghost use Rattle.std.specs.Prelude.{◌≡◌};
 ghost use Rattle.run_text.specs.Seen.{IsOf, plant_in, plant_of, states_in};
 
-use step_core::{PlantState, Stepper, System};
+use plant_model::{PlantState, System};
+use step_core::Stepper;
 
 /// A plant in a state of it.
 #[derive(Clone, Copy)]

@@ -16,9 +16,10 @@ use crate::taking::{Taking, taken_after};
 use crate::telling::Telling;
 use connector_tree::MAX_LEAVES;
 use petri_atom::Delivered;
+use plant_model::{Choice, System, no_deliveries};
 use std::alloc::Global;
 use std::io::Write;
-use step_core::{Choice, Stepper, System, no_deliveries};
+use step_core::Stepper;
 use text_io::WriteFault;
 
 /// Prints the run of a plant from its first states on as `telling` does: its start, and then what [`run_picks`] prints and saves.

@@ -12,8 +12,8 @@ use crate::jsonl::print_state_object;
 use crate::plant_at::PlantAt;
 use crate::word::{print_assigned, print_name};
 use petri_atom::{Atom, AtomState, MAX_PLACES, Place, Variable};
+use plant_model::{PlantState, System};
 use std::io::Write;
-use step_core::{PlantState, System};
 use text_io::{Format, WriteFault, end_line, print_text};
 
 /// Prints a line for the state of each atom, in the order of the atoms: `state`, the atom's name, its marked places in

@@ -7,7 +7,8 @@ ghost use Rattle.run_text.specs.Taking.{taking_of};
 
 use crate::fault::RefusedPick;
 use crate::pick::Take;
-use step_core::{Choice, Stepper};
+use plant_model::Choice;
+use step_core::Stepper;
 
 /// What comes of a pick.
 #[derive(Drop)]

@@ -18,10 +18,11 @@ use crate::plant_at::PlantAt;
 use crate::running::tell_run;
 use crate::states::print_end;
 use crate::telling::Telling;
+use plant_model::System;
 use std::alloc::Global;
 use std::io;
 use std::io::Write;
-use step_core::{Stepper, System};
+use step_core::Stepper;
 use text_io::{Format, WriteFault, end_line, print_text};
 
 /// Prints the run of a plant from its first states on in the fixed lines, as [`trace_as`] does with [`Format::Lines`]: for each

@@ -7,7 +7,7 @@ use Rattle.plant_core.specs.declared.events.Returned.{Returned}
 use Rattle.plant_core.specs.declared.refused.Refused.TheVariants.{Stuck, Busy, TailFull, RingFull, Spent, Away, Ahead, Stranger, NothingNew, Disk, Broken}
 use Rattle.petri_atom.specs.Definition.{AtomDefinition}
 use Rattle.record_codec.specs.Saved.{SavedFields}
-use Rattle.step_core.specs.Plant.{PlantDefinition}
+use Rattle.plant_model.specs.Plant.{PlantDefinition}
 use Rattle.script_lines.specs.Script.{script_meaning, is_refused}
 use Rattle.script_lines.specs.Answers.{flushed_line, front_line, happened_line, refused_line}
 use Rattle.script_lines.specs.Message.{message_of}

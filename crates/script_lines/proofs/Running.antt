@@ -7,9 +7,9 @@ use Rattle.std.proofs.Math.Bool.{or-false}
 use Rattle.std.proofs.lemmas.Grind.{flat_map-append}
 use Rattle.std.proofs.lemmas.List.{drop_more, map-append, take-append-drop, take_all}
 use Rattle.std.proofs.lemmas.List.Folds.{list_any-append}
-use Rattle.step_core.specs.Plant.{PlantDefinition}
+use Rattle.plant_model.specs.Plant.{PlantDefinition}
 use Rattle.disk_model.specs.DiskState.{DiskState}
-use Rattle.step_core.specs.Runs.{fold}
+use Rattle.plant_model.specs.Runs.{fold}
 use Rattle.plant_core.specs.Driven.{IsDriven}
 use Rattle.plant_core.specs.Events.{has_failed}
 use Rattle.plant_core.specs.Hands.{HandFields}

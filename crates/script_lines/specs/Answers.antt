@@ -1,8 +1,8 @@
 -- The lines of what happened to a durable plant, and of where it stands.
 use Rattle.std.specs.Prelude.{ℕ, List, [], ◌++◌, Option, None, Some, Result, Ok, Err, codes, decimal}
-use Rattle.step_core.specs.Choice.{ChoiceDefinition}
-use Rattle.step_core.specs.Chosen.{choice_of}
-use Rattle.step_core.specs.Plant.{PlantDefinition}
+use Rattle.plant_model.specs.Choice.{ChoiceDefinition}
+use Rattle.plant_model.specs.Chosen.{choice_of}
+use Rattle.plant_model.specs.Plant.{PlantDefinition}
 use Rattle.run_text.specs.Line.{fired_line, states_text}
 use Rattle.plant_core.specs.Refusals.{number_of}
 use Rattle.plant_core.specs.View.{View, fired_number}

@@ -1,7 +1,7 @@
 -- The names of a plant's atoms, by their numbers.
 use Rattle.std.specs.Prelude.{ℕ, List, [], slice_get}
 use Rattle.std.specs.Option.{option_map_or}
-use Rattle.step_core.specs.Plant.{PlantDefinition}
+use Rattle.plant_model.specs.Plant.{PlantDefinition}
 
 -- the name of the atom with the number; empty if there is no such atom
 abbrev pub atom_name : PlantDefinition → ℕ → List ℕ

@@ -3,7 +3,7 @@ use Rattle.std.specs.Prelude.{ℕ, suc, zero, ◌+◌, ◌-◌, if◌then◌else
 use Rattle.std.specs.List.{position_or_len}
 use Rattle.std.specs.Option.{option_map_or}
 use Rattle.plant_words.specs.Words.{words_of}
-use Rattle.step_core.specs.Plant.{PlantDefinition}
+use Rattle.plant_model.specs.Plant.{PlantDefinition}
 use Rattle.recorded_picks.specs.Moves.{move_in}
 use Rattle.recorded_picks.specs.Names.{atom_names, connector_names}
 use Rattle.script_lines.specs.declared.mistake.Mistake.{Mistake}

@@ -3,9 +3,9 @@ use Rattle.std.specs.Prelude.{◌≡◌, ℕ, Bool, true, false, if◌then◌els
 use Rattle.std.specs.List.{position_from}
 use Rattle.std.specs.Option.{option_map, option_map_or}
 use Rattle.petri_atom.specs.Name.{is_same_text}
-use Rattle.step_core.specs.Choice.{ChoiceDefinition}
-use Rattle.step_core.specs.Plant.{PlantDefinition}
-use Rattle.step_core.specs.declared.choice.Choice.{Choice}
+use Rattle.plant_model.specs.Choice.{ChoiceDefinition}
+use Rattle.plant_model.specs.Plant.{PlantDefinition}
+use Rattle.plant_model.specs.declared.choice.Choice.{Choice}
 use Rattle.run_text.specs.declared.pick.Misread.{Misread}
 use Rattle.run_text.specs.declared.pick.Misread.TheVariants as reads
 use Rattle.run_text.specs.declared.pick.Misread.TheVariants.{TooLong}
@@ -17,7 +17,7 @@ use Rattle.text_io.specs.Numbered.{numbered}
 use Rattle.text_io.specs.declared.reading.TheConstants.{MAX_TEXT}
 use Rattle.plant_core.specs.declared.events.Event.{Event}
 use Rattle.plant_core.specs.declared.events.Event.TheVariants.{Fire, FireChoice, Flush, Ask, Put, Trim, Begin, Back}
-use Rattle.step_core.specs.Lookup.{atom_named}
+use Rattle.plant_model.specs.Lookup.{atom_named}
 use Rattle.script_lines.specs.declared.fault.ScriptFault.{ScriptFault}
 use Rattle.script_lines.specs.declared.fault.ScriptFault.TheVariants.{Line, Memory}
 use Rattle.script_lines.specs.declared.line.ScriptLine.{ScriptLine}

@@ -12,7 +12,7 @@ use Rattle.plant_core.specs.declared.events.Happened.{Happened}
 use Rattle.plant_core.specs.declared.events.Happened.TheVariants.{Fire, FireChoice, Flush, Ask, Put, Empty, Trim, Begin, Back, Idle}
 use Rattle.plant_core.specs.declared.refused.Refused as by_plant
 use Rattle.plant_core.specs.declared.refused.Refused.TheVariants as cause
-use Rattle.step_core.specs.Plant.{PlantDefinition}
+use Rattle.plant_model.specs.Plant.{PlantDefinition}
 use Rattle.script_lines.specs.Answers.{not_now_line, refused_line, standing_text}
 use Rattle.script_lines.specs.Runs.{happened_text}
 use Rattle.script_lines.specs.declared.strict.Refusal.{Refusal}

@@ -1,15 +1,15 @@
 //! The lines of answers, refusals and fronts.
 ghost use Rattle.std.specs.Prelude.{◌≡◌, OnOk};
 ghost use Rattle.std.specs.Io.KnownBytes.{Appends};
-ghost use Rattle.step_core.specs.Chosen.{choice_of};
-ghost use Rattle.step_core.specs.System.{plant_of};
+ghost use Rattle.plant_model.specs.Chosen.{choice_of};
+ghost use Rattle.plant_model.specs.System.{plant_of};
 ghost use Rattle.script_lines.specs.Answers.{asked_line, atom_in, atom_said, back_line, base_line, begun_line, fire_line, flushed_line, front_line, happened_line, name_of, not_now_line, nothing_line, refused_line, stored_line};
 
 use crate::atoms::atom_name;
 use plant_core::{FiredAs, Front, Happened, Refused};
+use plant_model::System;
 use run_text::print_choice;
 use std::io::Write;
-use step_core::System;
 use text_io::{WriteFault, print_number, print_text};
 
 /// Prints what happened to a durable plant of the system: a choice that was fired as a trace prints it, with ` begun` after it where its

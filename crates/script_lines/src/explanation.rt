@@ -2,14 +2,14 @@
 ghost use Rattle.std.specs.Prelude.{◌≡◌, ◌+◌, ◌-◌, ◌≤◌, length, option_map, slice_get, OnOk};
 ghost use Rattle.std.specs.Io.KnownBytes.{Appends};
 ghost use Rattle.plant_words.specs.Lines.{lines_of};
-ghost use Rattle.step_core.specs.System.{plant_of};
+ghost use Rattle.plant_model.specs.System.{plant_of};
 ghost use Rattle.script_lines.specs.Mistakes.{colon_text, place_text, placed_mistake};
 
 use crate::mistake::Mistake;
 use crate::mistake_text::{place_at_fault, print_mistake};
+use plant_model::System;
 use plant_words::{Lines, Words};
 use std::io::Write;
-use step_core::System;
 use text_io::{WriteFault, end_line, print_number, print_text};
 
 /// The line of the text with the number, counted from 1.

@@ -1,14 +1,14 @@
 //! What one line of a script says.
 ghost use Rattle.std.specs.Prelude.{◌≡◌};
-ghost use Rattle.step_core.specs.System.{plant_of};
+ghost use Rattle.plant_model.specs.System.{plant_of};
 ghost use Rattle.script_lines.specs.Script.{alone, asked_for, event_in, fire_in, line_in, misread_at, only_atom, only_pick, pick_in_line};
 
 use crate::mistake::{Mistake, Wrong};
 use plant_core::Event;
+use plant_model::System;
 use plant_words::{Words, is_legal, is_numeric, read_decimal};
 use recorded_picks::{PlantNames, read_choice};
 use run_text::Misread;
-use step_core::System;
 
 /// What a line of a script says.
 #[derive(Drop)]

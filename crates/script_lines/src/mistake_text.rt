@@ -1,15 +1,15 @@
 //! What is said of a line that asks for no event.
 ghost use Rattle.std.specs.Prelude.{◌≡◌, ℕ, List, map, OnOk};
 ghost use Rattle.std.specs.Io.KnownBytes.{Appends};
-ghost use Rattle.step_core.specs.System.{plant_of};
+ghost use Rattle.plant_model.specs.System.{plant_of};
 ghost use Rattle.script_lines.specs.Mistakes.{fitting, listed_names, mistake_text, more_names, place_at_fault, quoted, unknown_text, word_in, wrong_move_in, wrong_text};
 
 use crate::mistake::{Mistake, Wrong};
 use petri_atom::Atom;
+use plant_model::{System, Wire};
 use plant_words::Words;
 use recorded_picks::PlantNames;
 use std::io::Write;
-use step_core::{System, Wire};
 use text_io::{WriteFault, print_text};
 
 /// How many bytes of a word are shown.
@@ -166,7 +166,7 @@ impl Named for Atom {
 }
 
 impl Named for Wire {
-    ghost use Rattle.step_core.specs.Wire.{wire_of};
+    ghost use Rattle.plant_model.specs.Wire.{wire_of};
 
     ghost name_of = { λ wire. (wire_of wire).name };
 

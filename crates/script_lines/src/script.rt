@@ -1,15 +1,15 @@
 //! A script, line by line.
 ghost use Rattle.std.specs.Prelude.{◌≡◌, ◌≤◌, [], ◌∷◌, ◌++◌, length, slice_get, Ok, IfErr, IfOk, IsOkAnd};
-ghost use Rattle.step_core.specs.System.{plant_of};
+ghost use Rattle.plant_model.specs.System.{plant_of};
 ghost use Rattle.text_io.specs.declared.reading.TheConstants.{MAX_TEXT};
 ghost use Rattle.script_lines.specs.Script.{IsFaultOf, event_lines, has_words, script_meaning};
 
 use crate::fault::ScriptFault;
 use crate::line::{ScriptLine, read_line};
 use plant_core::Event;
+use plant_model::System;
 use plant_words::{Lines, Words};
 use std::alloc::{AllocError, Global};
-use step_core::System;
 use text_io::MAX_TEXT;
 
 /// The events that a script asks of a plant of the system, or the first line that it is refused for: its number from 1, and 0 if the

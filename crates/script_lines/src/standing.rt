@@ -3,7 +3,7 @@ ghost use Rattle.std.specs.Prelude.{◌≡◌, ◌++◌, [], codes, OnOk};
 ghost use Rattle.std.specs.Io.KnownBytes.{Appends};
 ghost use Rattle.std.specs.Option.{option_map_or};
 ghost use Rattle.petri_atom.specs.Atom.{definition_of as atom_definition_of};
-ghost use Rattle.step_core.specs.System.{plant_of};
+ghost use Rattle.plant_model.specs.System.{plant_of};
 ghost use Rattle.plant_core.specs.Plants.{definition_of, view_of};
 ghost use Rattle.run_text.specs.Line.{state_line, states_text};
 ghost use Rattle.script_lines.specs.Answers.{standing_text};
@@ -12,9 +12,9 @@ use crate::answers::print_front;
 use disk_model::Disk;
 use petri_atom::{Atom, AtomState};
 use plant_core::Plant;
+use plant_model::System;
 use run_text::print_state;
 use std::io::Write;
-use step_core::System;
 use text_io::{WriteFault, end_line, print_text};
 
 /// Prints where a plant stands: a line for the present state of each atom, in the order of the atoms, as a trace prints it, and

@@ -5,7 +5,7 @@ use Rattle.std.specs.Fmt.{decimal}
 use Rattle.petri_atom.specs.Name.{is_same_text}
 use Rattle.petri_atom.specs.declared.state.TheConstants.{MAX_PLACES, MAX_VARIABLES, MAX_EXPORTS}
 use Rattle.petri_atom.specs.declared.parts.TheConstants.{MAX_PORTS, MAX_TRANSITIONS, MAX_UPDATES, MAX_WORDS}
-use Rattle.step_core.specs.declared.limits.TheConstants.{MAX_ATOMS, MAX_WIRES, MAX_RULES, MAX_GUARDS, MAX_TRANSFERS, MAX_INTERACTIONS}
+use Rattle.plant_model.specs.declared.limits.TheConstants.{MAX_ATOMS, MAX_WIRES, MAX_RULES, MAX_GUARDS, MAX_TRANSFERS, MAX_INTERACTIONS}
 use Rattle.plant_words.specs.LineKinds.{kind_in}
 use Rattle.plant_words.specs.declared.line_kind.AtomPart.TheVariants.{Place, Variable, Port, Transition}
 use Rattle.plant_words.specs.declared.line_kind.WirePart.TheVariants.{Guard, Transfer}

@@ -8,9 +8,9 @@ use crate::wanted::{Wanted, wanted_after};
 use petri_atom::{
     MAX_EXPORTS, MAX_PLACES, MAX_PORTS, MAX_TRANSITIONS, MAX_UPDATES, MAX_VARIABLES, MAX_WORDS,
 };
+use plant_model::{MAX_ATOMS, MAX_GUARDS, MAX_INTERACTIONS, MAX_RULES, MAX_TRANSFERS, MAX_WIRES};
 use plant_words::{AtomPart, LineKind, RuleKind, WirePart};
 use std::alloc::{AllocError, Global};
-use step_core::{MAX_ATOMS, MAX_GUARDS, MAX_INTERACTIONS, MAX_RULES, MAX_TRANSFERS, MAX_WIRES};
 
 /// Which limit a line passes whose word that is at fault stands after these.
 pub(crate) fn limit_advice(alloc: Global, front: &[u8], word: &[u8]) -> Result<Vec<u8>, AllocError>

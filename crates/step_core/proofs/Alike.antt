@@ -11,14 +11,14 @@ use Rattle.petri_atom.specs.Definition.{AtomDefinition, exported_value, offers_n
 use Rattle.petri_atom.specs.declared.state.TheConstants.{MAX_EXPORTS}
 use Rattle.connector_tree.specs.Masks.{chosen, is_set}
 use Rattle.connector_tree.specs.declared.tree.Port.{Port}
-use Rattle.step_core.specs.Choice.{is_offered_port}
-use Rattle.step_core.specs.Exports.{clause_applies, exported_at, guards_hold, takes_part, value_at}
-use Rattle.step_core.specs.Laws.{are_moves_at, is_move_at, is_of_port}
-use Rattle.step_core.specs.Plant.{TransferDefinition, of_atom}
-use Rattle.step_core.specs.Step.{applies, delivered_by, is_to, transfer_to, value_to}
-use Rattle.step_core.specs.declared.choice.Move.{Move}
-use Rattle.step_core.specs.declared.wire.Export.{Export}
-use Rattle.step_core.proofs.Membership.{here, later}
+use Rattle.plant_model.specs.Choice.{is_offered_port}
+use Rattle.plant_model.specs.Exports.{clause_applies, exported_at, guards_hold, takes_part, value_at}
+use Rattle.plant_model.specs.Laws.{are_moves_at, is_move_at, is_of_port}
+use Rattle.plant_model.specs.Plant.{TransferDefinition, of_atom}
+use Rattle.plant_model.specs.Step.{applies, delivered_by, is_to, transfer_to, value_to}
+use Rattle.plant_model.specs.declared.choice.Move.{Move}
+use Rattle.plant_model.specs.declared.wire.Export.{Export}
+use Rattle.plant_model.proofs.Membership.{here, later}
 
 -- what is found passes
 found-passes : {X : Type 0} (f : X → Bool) (xs : List X) (x : X) → find f xs ≡ Some x → f x ≡ true

@@ -7,10 +7,10 @@ use Rattle.std.proofs.lemmas.List.{take_all, drop_all}
 use Rattle.std.proofs.lemmas.Option.{slice_get-get_or, slice_get_past}
 use Rattle.petri_atom.specs.Local.{Local}
 use Rattle.petri_atom.specs.Definition.{AtomDefinition}
-use Rattle.step_core.specs.Plant.{WireDefinition, PlantDefinition}
-use Rattle.step_core.specs.Choice.{Interaction, ChoiceDefinition, active_in, named, is_possible, is_possible_at, is_allowed_at, choices_of, flat_from}
+use Rattle.plant_model.specs.Plant.{WireDefinition, PlantDefinition}
+use Rattle.plant_model.specs.Choice.{Interaction, ChoiceDefinition, active_in, named, is_possible, is_possible_at, is_allowed_at, choices_of, flat_from}
+use Rattle.plant_model.specs.Ways.{ways_at}
 use Rattle.step_core.specs.ChoicesIn.{AreAllPossible, choices_in, choices_where, is_kept_at}
-use Rattle.step_core.specs.Ways.{ways_at}
 use Rattle.priority_filter.specs.Active.{active}
 use Rattle.priority_filter.specs.Decided.{is_overruled}
 use Rattle.priority_filter.specs.declared.seen.At.{At}

@@ -8,21 +8,21 @@ use Rattle.std.proofs.lemmas.Option.{none-some, same_Some}
 use Rattle.petri_atom.specs.Local.{Local, Row, has}
 use Rattle.petri_atom.specs.Definition.{AtomDefinition, Fits, fired, is_well_formed}
 use Rattle.connector_tree.specs.declared.tree.Port.{Port}
-use Rattle.step_core.specs.Choice.{ChoiceDefinition}
+use Rattle.plant_model.specs.Choice.{ChoiceDefinition}
+use Rattle.plant_model.specs.Laws.{are_moves_at, is_move_at}
+use Rattle.plant_model.specs.Plant.{PlantDefinition}
+use Rattle.plant_model.specs.Step.{moved_by, next, stepped, transfer}
+use Rattle.plant_model.specs.declared.choice.Move.{Move}
+use Rattle.plant_model.proofs.ByAtom.{next-entry}
+use Rattle.plant_model.proofs.Membership.{all-in, entry-in}
+use Rattle.plant_model.proofs.OnRuns.{stepped-fits}
+use Rattle.plant_model.proofs.Stepping.{length-stepped}
 use Rattle.step_core.specs.Dispatching.{AllPresentFit, ArePartsKept}
-use Rattle.step_core.specs.Laws.{are_moves_at, is_move_at}
 use Rattle.step_core.specs.Parts.{is_present, parts_of, shown_in}
-use Rattle.step_core.specs.Plant.{PlantDefinition}
-use Rattle.step_core.specs.Step.{moved_by, next, stepped, transfer}
 use Rattle.step_core.specs.Sure.{IsSure, moved_parts, went_on}
-use Rattle.step_core.specs.declared.choice.Move.{Move}
-use Rattle.step_core.proofs.ByAtom.{next-entry}
-use Rattle.step_core.proofs.Membership.{all-in, entry-in}
 use Rattle.step_core.proofs.OfSure.{sure-choice-of}
-use Rattle.step_core.proofs.OnRuns.{stepped-fits}
 use Rattle.step_core.proofs.PartsKept.{part, part-at, told-away}
 use Rattle.step_core.proofs.Refreshing.{stays}
-use Rattle.step_core.proofs.Stepping.{length-stepped}
 
 -- ---- the atoms of a sure choice are present
 

@@ -2,8 +2,8 @@
 use Rattle.std.proofs.Common.{◌≡◌, ℕ, zero, suc, true, refl, List, [], ◌∷◌}
 use Rattle.std.specs.List.{list_all}
 use Rattle.std.proofs.lemmas.Bool.{and_parts}
-use Rattle.step_core.specs.Choice.{Interaction}
-use Rattle.step_core.specs.Ways.{fits_word, each_fits_word, fits_word_at}
+use Rattle.plant_model.specs.Choice.{Interaction}
+use Rattle.plant_model.specs.Ways.{fits_word, each_fits_word, fits_word_at}
 
 -- where that of each does, that of the one with a number does
 pub fits-at : (all : List Interaction) (n : ℕ) → each_fits_word all ≡ true → fits_word_at all n ≡ true

@@ -3,8 +3,8 @@ use Rattle.std.proofs.Common.{◌≡◌, ℕ, zero, suc, ⊎_elim, ◌+◌, ◌-
 use Rattle.std.specs.Prelude.{slice_get}
 use Rattle.std.proofs.lemmas.List.{take_more, drop_more, take_all, drop_all, length-append, length-take, append-nil, append_assoc}
 use Rattle.std.proofs.lemmas.Bool.{cases_lt}
-use Rattle.step_core.specs.Choice.{flat_from}
-use Rattle.step_core.proofs.Combinations.{slice_get-left, slice_get-right}
+use Rattle.plant_model.specs.Choice.{flat_from}
+use Rattle.plant_model.proofs.Combinations.{slice_get-left, slice_get-right}
 
 -- what a list gives in two parts
 flat-append : {X Z : Type 0} (g : ℕ → X → List Z) (n : ℕ) (xs ys : List X) → flat_from g n (xs ++ ys) ≡ flat_from g n xs ++ flat_from g (n + length xs) ys

@@ -5,9 +5,9 @@ use Rattle.std.specs.Int.{bit_not, trailing_zeros}
 use Rattle.petri_atom.specs.Local.{Local}
 use Rattle.petri_atom.specs.Definition.{AtomDefinition}
 use Rattle.priority_filter.specs.Members.{has_bit}
-use Rattle.step_core.specs.Choice.{Interaction}
+use Rattle.plant_model.specs.Choice.{Interaction}
+use Rattle.plant_model.specs.Plant.{WireDefinition}
 use Rattle.step_core.specs.ChoicesIn.{AreAllPossible}
-use Rattle.step_core.specs.Plant.{WireDefinition}
 use Rattle.step_core.proofs.Counted.{kept-within}
 use Rattle.step_core.proofs.LowestBits.{IsRest, bit-below, bit-from, bit-passes, none-between, none-left, rest-next}
 

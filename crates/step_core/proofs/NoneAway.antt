@@ -10,9 +10,9 @@ use Rattle.connector_tree.specs.declared.tree.Port.{Port}
 use Rattle.priority_filter.specs.Active.{active}
 use Rattle.priority_filter.specs.Decided.{is_overruled}
 use Rattle.priority_filter.specs.declared.seen.At.{At}
-use Rattle.step_core.specs.Choice.{Interaction, active_in, choices, choices_among, choices_of, flat_from, is_allowed_at, is_marked_at, is_offered_port, is_possible, is_possible_at, named, passes_guards, plant_interactions}
+use Rattle.plant_model.specs.Choice.{Interaction, active_in, choices, choices_among, choices_of, flat_from, is_allowed_at, is_marked_at, is_offered_port, is_possible, is_possible_at, named, passes_guards, plant_interactions}
+use Rattle.plant_model.specs.Plant.{PlantDefinition}
 use Rattle.step_core.specs.Parts.{is_present, may_be_marked_in, may_count_in, shown_in}
-use Rattle.step_core.specs.Plant.{PlantDefinition}
 use Rattle.step_core.specs.Sure.{is_possible_in, is_ruled_out, is_sure_at, is_whole, may_come, sure_among, sure_choices}
 use Rattle.step_core.proofs.OfParts.{all-first, some-fails}
 

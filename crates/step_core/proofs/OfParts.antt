@@ -10,11 +10,11 @@ use Rattle.std.proofs.lemmas.Option.{slice_get-map}
 use Rattle.petri_atom.specs.Local.{Local, all_marked}
 use Rattle.petri_atom.specs.Definition.{AtomDefinition, TransitionDefinition, has_each_once, has_known_numbers, has_source_and_target, has_sources_and_targets, is_well_formed, is_within_limits, numbers_of, offers, offers_number, offers_port}
 use Rattle.connector_tree.specs.declared.tree.Port.{Port}
-use Rattle.step_core.specs.Choice.{Interaction, is_offered_port, is_possible, is_possible_at, passes_guards}
+use Rattle.plant_model.specs.Choice.{Interaction, is_offered_port, is_possible, is_possible_at, passes_guards}
+use Rattle.plant_model.specs.Plant.{WireDefinition}
+use Rattle.plant_model.proofs.Membership.{all-in, entry-in}
 use Rattle.step_core.specs.Parts.{is_present, nothing_shown, shown, shown_in}
-use Rattle.step_core.specs.Plant.{WireDefinition}
 use Rattle.step_core.specs.Sure.{is_open, is_open_at, is_ruled_out, is_whole, may_come}
-use Rattle.step_core.proofs.Membership.{all-in, entry-in}
 
 -- ---- an atom that is away
 

@@ -6,14 +6,15 @@ use Rattle.std.proofs.lemmas.Bool.{and_parts, and_from, false_from_ne_true, fals
 use Rattle.petri_atom.specs.Local.{Local}
 use Rattle.priority_filter.specs.Decided.{is_overruled}
 use Rattle.priority_filter.proofs.DecidedOrder.{decides_overruled}
-use Rattle.step_core.specs.Choice.{ChoiceDefinition, Interaction, choices_of, combinations, is_possible, moves_of, named, plant_interactions}
-use Rattle.step_core.specs.Laws.{IsSureChoiceOf, IsSurelyOnTop, IsTaking}
+use Rattle.plant_model.specs.Choice.{ChoiceDefinition, Interaction, choices_of, combinations, is_possible, moves_of, named, plant_interactions}
+use Rattle.plant_model.specs.Laws.{IsTaking}
+use Rattle.plant_model.specs.Plant.{PlantDefinition}
+use Rattle.plant_model.proofs.Membership.{from-flat_from, to-flat_from, to-map}
+use Rattle.plant_model.proofs.OfChoices.{choice_by, none-above, of-interaction}
+use Rattle.plant_model.proofs.OfPorts.{row-to-ports}
+use Rattle.step_core.specs.Laws.{IsSureChoiceOf, IsSurelyOnTop}
 use Rattle.step_core.specs.Parts.{may_count_in, shown_in}
-use Rattle.step_core.specs.Plant.{PlantDefinition}
 use Rattle.step_core.specs.Sure.{IsSure, is_possible_in, is_sure_at, is_whole, may_come, sure_at}
-use Rattle.step_core.proofs.Membership.{from-flat_from, to-flat_from, to-map}
-use Rattle.step_core.proofs.OfChoices.{choice_by, none-above, of-interaction}
-use Rattle.step_core.proofs.OfPorts.{row-to-ports}
 
 module _ (plant : PlantDefinition) (parts : List (Option Local)) where
   abbrev all : List Interaction

@@ -8,10 +8,10 @@ use Rattle.std.proofs.lemmas.List.{length-map}
 use Rattle.petri_atom.specs.Local.{Local}
 use Rattle.petri_atom.specs.Definition.{AtomDefinition, enabled, numbers_of, offers_number, offers_port}
 use Rattle.connector_tree.specs.declared.tree.Port.{Port}
-use Rattle.step_core.specs.Plant.{WireDefinition}
-use Rattle.step_core.specs.Choice.{Interaction, is_offered_port, passes_guards, is_possible, move_of, moves_of, combinations}
-use Rattle.step_core.proofs.NoDeadlock.{some-moves, some-rows}
-use Rattle.step_core.proofs.Combinations.{length-rows}
+use Rattle.plant_model.specs.Plant.{WireDefinition}
+use Rattle.plant_model.specs.Choice.{Interaction, is_offered_port, passes_guards, is_possible, move_of, moves_of, combinations}
+use Rattle.plant_model.proofs.NoDeadlock.{some-moves, some-rows}
+use Rattle.plant_model.proofs.Combinations.{length-rows}
 
 -- where something is kept, something passes
 kept-some : {X : Type 0} (f : X → Bool) (xs : List X) → 1 ≤ length (filter f xs) → list_any f xs ≡ true

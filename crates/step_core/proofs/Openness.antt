@@ -14,13 +14,13 @@ use Rattle.priority_filter.specs.Active.{AskAlike}
 use Rattle.priority_filter.specs.Decided.{is_overruled}
 use Rattle.priority_filter.specs.declared.seen.At.{At}
 use Rattle.priority_filter.proofs.Counting.{alike-counted}
-use Rattle.step_core.specs.Choice.{Interaction, is_offered_port, is_possible_at, moves_of, named}
+use Rattle.plant_model.specs.Choice.{Interaction, is_offered_port, is_possible_at, moves_of, named}
+use Rattle.plant_model.specs.Dependents.{AreDependents, at_port, is_noted}
+use Rattle.plant_model.specs.Plant.{PlantDefinition}
+use Rattle.plant_model.proofs.Membership.{all-in, entry-in}
 use Rattle.step_core.specs.ChoicesIn.{is_kept_at}
-use Rattle.step_core.specs.Dependents.{AreDependents, at_port, is_noted}
 use Rattle.step_core.specs.Parts.{is_present, may_be_marked_in, may_count_in, shown_in}
-use Rattle.step_core.specs.Plant.{PlantDefinition}
 use Rattle.step_core.specs.Sure.{is_open, is_open_at, is_sure_at, may_come}
-use Rattle.step_core.proofs.Membership.{all-in, entry-in}
 use Rattle.step_core.proofs.OfParts.{may-by-sets, possible-in}
 use Rattle.step_core.proofs.Offering.{offered-told}
 

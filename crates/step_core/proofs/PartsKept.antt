@@ -12,6 +12,7 @@ use Rattle.std.proofs.lemmas.Nat.Bits.{bit_at-lt, same_from_bits, bit_at_set_sam
 use Rattle.std.proofs.lemmas.Option.{none-some, same_Some, slice_get_within}
 use Rattle.petri_atom.specs.Local.{Local, has}
 use Rattle.petri_atom.proofs.Sets.{has-above, has-and}
+use Rattle.plant_model.proofs.ValueRows.{set-here, set-other}
 use Rattle.step_core.specs.Dispatching.{ArePartsKept, state_at}
 use Rattle.step_core.specs.Parts.{is_present, nothing_shown, parts_from, parts_of, shown, shown_in}
 
@@ -102,20 +103,6 @@ set-part away other states n x same =
 pub none-there : (b : Bool) (o : Option Local) → o ≡ None → cond b None o ≡ None
 none-there true o none = refl
 none-there false o none = none
-
--- ---- an entry that is put in the place of another
-
-pub set-here : {X : Type 0} (xs : List X) (n : ℕ) (x : X) → n < length xs → slice_get (set xs n x) n ≡ Some x
-set-here [] n x below = absurd (omega (arith, below))
-set-here (y ∷ ys) zero x below = refl
-set-here (y ∷ ys) (suc n) x below = set-here ys n x (omega (arith, below))
-
-pub set-other : {X : Type 0} (xs : List X) (n : ℕ) (x : X) (j : ℕ) → j ≢ n → slice_get (set xs n x) j ≡ slice_get xs j
-set-other [] n x j differs = refl
-set-other (y ∷ ys) zero x zero differs = absurd (differs refl)
-set-other (y ∷ ys) zero x (suc j) differs = refl
-set-other (y ∷ ys) (suc n) x zero differs = refl
-set-other (y ∷ ys) (suc n) x (suc j) differs = set-other ys n x j (λ e. differs (ap suc e))
 
 -- ---- as they are kept
 

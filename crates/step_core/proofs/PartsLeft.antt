@@ -9,19 +9,19 @@ use Rattle.std.proofs.lemmas.List.Folds.{list_any-append}
 use Rattle.std.proofs.lemmas.Option.{none-some, same_Some, slice_get-get_or, slice_get_within}
 use Rattle.petri_atom.specs.Local.{Local}
 use Rattle.petri_atom.specs.Definition.{AtomDefinition, Fits, offers_number}
-use Rattle.step_core.specs.Choice.{ChoiceDefinition}
+use Rattle.plant_model.specs.Choice.{ChoiceDefinition}
+use Rattle.plant_model.specs.Plant.{PlantDefinition}
+use Rattle.plant_model.specs.Rules.{fault_of}
+use Rattle.plant_model.specs.declared.choice.Move.{Move}
+use Rattle.plant_model.proofs.Membership.{entry-in}
+use Rattle.plant_model.proofs.OwnAtoms.{no-earlier}
+use Rattle.plant_model.proofs.Stepping.{no_move}
 use Rattle.step_core.specs.Dispatching.{AllPresentFit}
 use Rattle.step_core.specs.Job.{JobDefinition}
 use Rattle.step_core.specs.Jobs.{AreJobsOf, IsJobOf}
 use Rattle.step_core.specs.Parts.{is_present, shown_in}
-use Rattle.step_core.specs.Plant.{PlantDefinition}
-use Rattle.step_core.specs.Rules.{fault_of}
 use Rattle.step_core.specs.Sure.{IsSure, has_move, left_by, left_from}
-use Rattle.step_core.specs.declared.choice.Move.{Move}
-use Rattle.step_core.proofs.Membership.{entry-in}
-use Rattle.step_core.proofs.OwnAtoms.{no-earlier}
 use Rattle.step_core.proofs.Present.{participant, sure-shown}
-use Rattle.step_core.proofs.Stepping.{no_move}
 
 -- ---- what is left, by number
 

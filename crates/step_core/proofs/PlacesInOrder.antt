@@ -4,9 +4,9 @@ use Rattle.std.specs.Prelude.{Some, slice_get}
 use Rattle.std.specs.Option.{option_map_or}
 use Rattle.std.proofs.lemmas.Bool.{and_parts, cases_lt, eqb-true, false≢true, ltb-true, or_cases}
 use Rattle.std.proofs.lemmas.Option.{get_or_from_slice_get, slice_get_within}
-use Rattle.step_core.specs.Choice.{ChoiceDefinition}
-use Rattle.step_core.specs.Laws.{IsBefore, comes_before, order_key}
-use Rattle.step_core.proofs.Membership.{in-entry}
+use Rattle.plant_model.specs.Choice.{ChoiceDefinition}
+use Rattle.plant_model.specs.Laws.{IsBefore, comes_before, order_key}
+use Rattle.plant_model.proofs.Membership.{in-entry}
 
 -- two rows of numbers are not each before the other
 not-both : (ms ns : List ℕ) → comes_before ms ns ≡ true → comes_before ns ms ≡ true → ⊥

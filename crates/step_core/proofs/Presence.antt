@@ -5,12 +5,12 @@ use Rattle.std.proofs.lemmas.Bool.{cases_eq, eq-eqb, false≢true, or_parts}
 use Rattle.std.proofs.lemmas.Option.{none-some, same_Some}
 use Rattle.petri_atom.specs.Local.{Local, is_in}
 use Rattle.petri_atom.specs.Definition.{AtomDefinition, Fits}
+use Rattle.plant_model.specs.Fitting.{AllFit}
+use Rattle.plant_model.specs.Plant.{PlantDefinition}
+use Rattle.plant_model.specs.declared.choice.Move.{Move}
+use Rattle.plant_model.proofs.ValueRows.{set-here, set-other}
 use Rattle.step_core.specs.Dispatching.{AllPresentFit, state_at}
-use Rattle.step_core.specs.Fitting.{AllFit}
-use Rattle.step_core.specs.Plant.{PlantDefinition}
 use Rattle.step_core.specs.Sure.{has_move}
-use Rattle.step_core.specs.declared.choice.Move.{Move}
-use Rattle.step_core.proofs.PartsKept.{set-here, set-other}
 
 -- where all are present and fit, all that are present fit
 pub all-fit : (plant : PlantDefinition) (states : List Local) → AllFit plant states → AllPresentFit plant (map Some states)

@@ -7,17 +7,17 @@ use Rattle.std.proofs.lemmas.Option.{slice_get-map}
 use Rattle.petri_atom.specs.Local.{Local}
 use Rattle.petri_atom.specs.Definition.{AtomDefinition, offers_number}
 use Rattle.connector_tree.specs.declared.tree.Port.{Port}
-use Rattle.step_core.specs.Choice.{ChoiceDefinition, Interaction, IsAllowed}
-use Rattle.step_core.specs.Laws.{IsInRange, is_of_port}
+use Rattle.plant_model.specs.Choice.{ChoiceDefinition, Interaction, IsAllowed}
+use Rattle.plant_model.specs.Laws.{IsInRange, is_of_port}
+use Rattle.plant_model.specs.Plant.{PlantDefinition, of_atom}
+use Rattle.plant_model.specs.Rules.{fault_of}
+use Rattle.plant_model.specs.Step.{next}
+use Rattle.plant_model.specs.declared.choice.Move.{Move}
+use Rattle.plant_model.proofs.Membership.{all-in}
+use Rattle.plant_model.proofs.OfChoices.{in-range}
+use Rattle.plant_model.proofs.OfPorts.{port-of-move}
 use Rattle.step_core.specs.Parts.{is_present, parts_from, parts_of, shown, shown_in}
-use Rattle.step_core.specs.Plant.{PlantDefinition, of_atom}
-use Rattle.step_core.specs.Rules.{fault_of}
-use Rattle.step_core.specs.Step.{next}
 use Rattle.step_core.specs.Sure.{IsSure, has_move, left_by, went_on}
-use Rattle.step_core.specs.declared.choice.Move.{Move}
-use Rattle.step_core.proofs.Membership.{all-in}
-use Rattle.step_core.proofs.OfChoices.{in-range}
-use Rattle.step_core.proofs.OfPorts.{port-of-move}
 use Rattle.step_core.proofs.OfSure.{sure-choice-of}
 use Rattle.step_core.proofs.SureAllowed.{goes-on, leaves-behind, sure-allowed}
 

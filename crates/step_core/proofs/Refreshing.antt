@@ -7,14 +7,14 @@ use Rattle.std.proofs.lemmas.List.{length-set, get_or-set_same, get_or-set_other
 use Rattle.std.proofs.lemmas.Option.{same_Some, slice_get-get_or, slice_get_past, slice_get_within, get_or_from_slice_get}
 use Rattle.petri_atom.specs.Local.{Local, Row, is_in}
 use Rattle.petri_atom.specs.Definition.{AtomDefinition, Fits, fired, offered_set}
-use Rattle.step_core.specs.Choice.{ChoiceDefinition}
-use Rattle.step_core.specs.Fitting.{AllFit}
+use Rattle.plant_model.specs.Choice.{ChoiceDefinition}
+use Rattle.plant_model.specs.Fitting.{AllFit}
+use Rattle.plant_model.specs.Plant.{PlantDefinition}
+use Rattle.plant_model.specs.Step.{next, transfer, moved_by, stepped}
+use Rattle.plant_model.specs.declared.choice.Move.{Move}
+use Rattle.plant_model.proofs.Judging.{some_state}
+use Rattle.plant_model.proofs.Stepping.{length-stepped, stepped-at}
 use Rattle.step_core.specs.EnabledTransitions.{AreOffered, AreOfferedBut}
-use Rattle.step_core.specs.Plant.{PlantDefinition}
-use Rattle.step_core.specs.Step.{next, transfer, moved_by, stepped}
-use Rattle.step_core.specs.declared.choice.Move.{Move}
-use Rattle.step_core.proofs.Judging.{some_state}
-use Rattle.step_core.proofs.Stepping.{length-stepped, stepped-at}
 
 -- an atom that no move is of keeps its state
 still : (atoms : List AtomDefinition) (moves : List Move) (d : ℕ → Row) (n : ℕ) (s : Local) → find (λ m. m.atom == n) moves ≡ None → stepped atoms moves d n s ≡ s

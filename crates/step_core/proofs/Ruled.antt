@@ -8,10 +8,10 @@ use Rattle.std.proofs.lemmas.Bool.{cases_Bool, false≢true, eqb-true}
 use Rattle.petri_atom.specs.Definition.{AtomDefinition}
 use Rattle.petri_atom.specs.Local.{Local}
 use Rattle.connector_tree.specs.declared.tree.Port.{Port}
-use Rattle.step_core.specs.Choice.{Interaction, is_possible, is_possible_at, moves_of, combinations}
-use Rattle.step_core.specs.Plant.{WireDefinition}
-use Rattle.step_core.specs.Dependents.{at_port, has_row, AreOnPorts, IsOnEmpty}
-use Rattle.step_core.proofs.Combinations.{length-rows}
+use Rattle.plant_model.specs.Choice.{Interaction, is_possible, is_possible_at, moves_of, combinations}
+use Rattle.plant_model.specs.Plant.{WireDefinition}
+use Rattle.plant_model.specs.Dependents.{at_port, has_row, AreOnPorts, IsOnEmpty}
+use Rattle.plant_model.proofs.Combinations.{length-rows}
 use Rattle.step_core.proofs.Offering.{not-possible}
 
 module _ (atoms : List AtomDefinition) (states : List Local) (p : Port) (own : p.port < 32) (none : moves_of atoms states p ≡ []) where

@@ -12,18 +12,19 @@ use Rattle.connector_tree.specs.Tree.{leaves}
 use Rattle.connector_tree.specs.declared.tree.Port.{Port}
 use Rattle.priority_filter.proofs.Counting.{below-more}
 use Rattle.priority_filter.specs.declared.seen.At.{At}
-use Rattle.step_core.specs.Choice.{ChoiceDefinition, Interaction, IsAllowed, by_atom, interaction_by, is_marked_at, is_offered_port, is_possible, is_possible_at, named, passes_guards, plant_interactions}
-use Rattle.step_core.specs.Exports.{guards_hold}
-use Rattle.step_core.specs.Laws.{IsOnTop, IsSurelyOnTop}
+use Rattle.plant_model.specs.Choice.{ChoiceDefinition, Interaction, IsAllowed, by_atom, interaction_by, is_marked_at, is_offered_port, is_possible, is_possible_at, named, passes_guards, plant_interactions}
+use Rattle.plant_model.specs.Exports.{guards_hold}
+use Rattle.plant_model.specs.Laws.{IsOnTop}
+use Rattle.plant_model.specs.Plant.{PlantDefinition, WireDefinition}
+use Rattle.plant_model.specs.Step.{delivered_by, next, nothing_delivered, stepped, stepped_from, transfer}
+use Rattle.plant_model.specs.declared.choice.Move.{Move}
+use Rattle.plant_model.proofs.Membership.{all-in, entry-in}
+use Rattle.plant_model.proofs.OfChoices.{allowed-of}
+use Rattle.plant_model.proofs.OfInteractions.{of-wire, to-by_atom}
+use Rattle.step_core.specs.Laws.{IsSurelyOnTop}
 use Rattle.step_core.specs.Parts.{is_present, may_be_marked_in, parts_from, parts_of, shown, shown_in}
-use Rattle.step_core.specs.Plant.{PlantDefinition, WireDefinition}
-use Rattle.step_core.specs.Step.{delivered_by, next, nothing_delivered, stepped, stepped_from, transfer}
 use Rattle.step_core.specs.Sure.{IsSure, has_move, is_ruled_out, is_whole, left_by, left_from, may_come, moved_parts, went_on}
-use Rattle.step_core.specs.declared.choice.Move.{Move}
 use Rattle.step_core.proofs.Alike.{delivered-alike, guards-alike, moves-alike, offered-alike, ports-alike, to-chosen}
-use Rattle.step_core.proofs.Membership.{all-in, entry-in}
-use Rattle.step_core.proofs.OfChoices.{allowed-of}
-use Rattle.step_core.proofs.OfInteractions.{of-wire, to-by_atom}
 use Rattle.step_core.proofs.OfParts.{some-fails}
 use Rattle.step_core.proofs.OfSure.{sure-choice-of}
 

@@ -8,14 +8,14 @@ use Rattle.connector_tree.specs.Tree.{no_child, child, leaf}
 use Rattle.priority_filter.specs.Decided.{is_below, is_overruled, order_fault}
 use Rattle.priority_filter.specs.declared.rule.Side.TheVariants.{Whole}
 use Rattle.priority_filter.specs.declared.rule.Rule.TheVariants.{Under, Maximal}
-use Rattle.step_core.specs.Choice.{ChoiceDefinition, choices, plant_interactions}
+use Rattle.plant_model.specs.Choice.{ChoiceDefinition, choices, plant_interactions}
+use Rattle.plant_model.specs.Plant.{PlantDefinition}
+use Rattle.plant_model.specs.Rules.{fault_of}
+use Rattle.plant_model.specs.declared.wire.Export.{Export}
+use Rattle.plant_model.proofs.CountRows as counted
+use Rattle.plant_model.proofs.RunRows.{atom_of, call, choice, counts, first_export, holds, send, sent, state, stays_with, tick, ticked, wire}
 use Rattle.step_core.specs.Parts.{parts_of}
-use Rattle.step_core.specs.Plant.{PlantDefinition}
-use Rattle.step_core.specs.Rules.{fault_of}
 use Rattle.step_core.specs.Sure.{is_open_at, left_by, may_come, sure_choices, went_on}
-use Rattle.step_core.specs.declared.wire.Export.{Export}
-use Rattle.step_core.proofs.CountRows as counted
-use Rattle.step_core.proofs.RunRows.{atom_of, call, choice, counts, first_export, holds, send, sent, state, stays_with, tick, ticked, wire}
 
 -- the sample with a third atom O, which always offers its port, `connector other O.o`, and `prio other < send`, with these guards of
 -- send

@@ -7,10 +7,10 @@ use Rattle.std.proofs.lemmas.Bool.{cases_Bool}
 use Rattle.std.proofs.lemmas.List.{length-append}
 use Rattle.petri_atom.specs.Definition.{AtomDefinition}
 use Rattle.petri_atom.specs.Local.{Local}
-use Rattle.step_core.specs.Plant.{PlantDefinition}
-use Rattle.step_core.specs.Choice.{Interaction, active_in, named, is_possible_at, is_allowed_at, choices_of, choices_among, flat_from}
+use Rattle.plant_model.specs.Plant.{PlantDefinition}
+use Rattle.plant_model.specs.Choice.{Interaction, active_in, named, is_possible_at, is_allowed_at, choices_of, choices_among, flat_from}
+use Rattle.plant_model.specs.Ways.{ways_at}
 use Rattle.step_core.specs.ChoicesIn.{choices_in, choices_where}
-use Rattle.step_core.specs.Ways.{ways_at}
 use Rattle.priority_filter.specs.Decided.{is_overruled}
 use Rattle.step_core.proofs.Counted.{possible-first}
 

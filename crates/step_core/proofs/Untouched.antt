@@ -12,21 +12,16 @@ use Rattle.petri_atom.specs.Expression.{Tree, is_true, value_of}
 use Rattle.petri_atom.specs.Definition.{AtomDefinition, exported_value}
 use Rattle.connector_tree.specs.Tree.{leaves}
 use Rattle.connector_tree.specs.declared.tree.Port.{Port}
-use Rattle.step_core.specs.Choice.{Interaction, passes_guards, is_possible, is_possible_at, moves_of, combinations, choices_of}
-use Rattle.step_core.specs.Exports.{value_at, exported_at, clause_applies, guards_hold}
-use Rattle.step_core.specs.Plant.{WireDefinition, PlantDefinition}
-use Rattle.step_core.specs.Dependents.{row_of_guards, at_port, is_noted, is_in_row, is_read_by, AreDependents}
-use Rattle.step_core.specs.Ways.{ways_at}
-use Rattle.step_core.specs.declared.wire.Export.{Export}
+use Rattle.plant_model.specs.Choice.{Interaction, passes_guards, is_possible, is_possible_at, moves_of, combinations, choices_of}
+use Rattle.plant_model.specs.Exports.{value_at, exported_at, clause_applies, guards_hold}
+use Rattle.plant_model.specs.Plant.{WireDefinition, PlantDefinition}
+use Rattle.plant_model.specs.Dependents.{row_of_guards, at_port, is_noted, is_in_row, is_read_by, AreDependents}
+use Rattle.plant_model.specs.Ways.{ways_at}
+use Rattle.plant_model.specs.declared.wire.Export.{Export}
 use Rattle.std.proofs.lemmas.List.{length-map}
-use Rattle.step_core.proofs.Combinations.{length-rows}
+use Rattle.plant_model.proofs.Combinations.{length-rows}
+use Rattle.plant_model.proofs.Touched.{in-row}
 use Rattle.step_core.proofs.Offering.{possible-told, not-possible}
-use Rattle.step_core.proofs.Touched.{in-row}
-
--- what an empty list becomes
-pub none-mapped : {X Y : Type 0} (f : X → Y) (xs : List X) → length xs ≡ 0 → map f xs ≡ []
-none-mapped f [] none = refl
-none-mapped f (x ∷ xs) none = absurd (omega arith)
 
 -- an atom that a guard of an interaction reads, where it reads none of some atoms, is none of these
 not-found : (rows : List (FinSet nat_cmp)) (n : ℕ) (atoms : List ℕ) (k : ℕ) → is_in_row rows n (row_of_guards k) ≡ true → is_read_by rows atoms n ≡ false → is_in atoms k ≡ false

@@ -8,8 +8,8 @@ use Rattle.std.proofs.lemmas.Nat.{and_le_l}
 use Rattle.std.proofs.lemmas.Nat.Bits.{bit_at-zero, bit_at_clear_same, bit_at_clear_other, bit_at-trailing_zeros}
 use Rattle.priority_filter.specs.Members.{has_bit}
 use Rattle.priority_filter.proofs.Words.{bit-and, bit-not, rest-less}
+use Rattle.plant_model.proofs.Noting.{IsRightTo, IsRightBut}
 use Rattle.step_core.specs.Words.{in_word, IsRightIn}
-use Rattle.step_core.proofs.Noting.{IsRightTo, IsRightBut}
 
 module _ (place left : ℕ) (some : 0 < left) (small : left < 2 ^ 64) where
   abbrev lowest : ℕ

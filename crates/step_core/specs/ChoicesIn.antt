@@ -5,8 +5,8 @@ use Rattle.petri_atom.specs.Definition.{AtomDefinition}
 use Rattle.priority_filter.specs.Active.{active}
 use Rattle.priority_filter.specs.Decided.{is_overruled}
 use Rattle.priority_filter.specs.declared.seen.At.{At}
-use Rattle.step_core.specs.Plant.{WireDefinition, PlantDefinition}
-use Rattle.step_core.specs.Choice.{Interaction, ChoiceDefinition, choices_of, flat_from, is_possible_at, named}
+use Rattle.plant_model.specs.Plant.{WireDefinition, PlantDefinition}
+use Rattle.plant_model.specs.Choice.{Interaction, ChoiceDefinition, choices_of, flat_from, is_possible_at, named}
 
 -- the choices of the interaction with a number: none where the set does not hold it
 abbrev pub choices_where : List AtomDefinition → List Local → (ℕ → Bool) → ℕ → Interaction → List ChoiceDefinition

@@ -1,8 +1,8 @@
 -- What a plant that runs while atoms are away shows: its system and the present parts of its state.
 use Rattle.std.specs.Prelude.{List, Option}
 use Rattle.petri_atom.specs.Local.{Local}
+use Rattle.plant_model.specs.declared.system.System.{System}
 use Rattle.step_core.specs.declared.dispatcher.Dispatcher.{Dispatcher}
-use Rattle.step_core.specs.declared.system.System.{System}
 
 -- the system that runs
 abbrev pub system_of : Dispatcher → System

@@ -2,9 +2,9 @@
 use Rattle.std.specs.Prelude.{◌≡◌, ◌≤◌, ℕ, true, List, length, slice_get, slice_index_or, Option, Some, None}
 use Rattle.petri_atom.specs.Local.{Local, has}
 use Rattle.petri_atom.specs.Definition.{AtomDefinition, Fits}
-use Rattle.step_core.specs.Plant.{PlantDefinition}
+use Rattle.plant_model.specs.Plant.{PlantDefinition}
+use Rattle.plant_model.specs.declared.limits.TheConstants.{MAX_ATOMS}
 use Rattle.step_core.specs.Parts.{nothing_shown}
-use Rattle.step_core.specs.declared.limits.TheConstants.{MAX_ATOMS}
 
 -- what parts are kept as: the set of the atoms that are away, and a local state for each atom, of which one that is away shows nothing
 pub record ArePartsKept (away : ℕ) (states : List Local) : Type 0 where

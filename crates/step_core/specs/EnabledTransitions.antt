@@ -1,8 +1,11 @@
 -- The offered transitions of all atoms of a plant, each judged once.
-use Rattle.std.specs.Prelude.{◌≡◌, ◌≤◌, ℕ, false, List, [], Some, length, slice_get, slice_index_or}
+use Rattle.std.specs.Prelude.{◌≡◌, ◌≤◌, ◌<◌, ◌*◌, ℕ, true, false, List, [], Some, length, slice_get, slice_index_or}
+use Rattle.std.specs.Ordering.{nat_cmp}
+use Rattle.std.specs.FinSet.{FinSet, contains}
 use Rattle.petri_atom.specs.Local.{Local, is_in}
 use Rattle.petri_atom.specs.Definition.{AtomDefinition, enabled, offered_set}
 use Rattle.petri_atom.specs.declared.parts.TheConstants.{MAX_TRANSITIONS}
+use Rattle.plant_model.specs.Dependents.{is_noted, row_of_port}
 
 -- the sets hold the offered transitions of each atom, by the atoms' numbers
 abbrev pub AreOffered : List AtomDefinition → List Local → List ℕ → Type 0
@@ -24,3 +27,8 @@ pub record AreCounted (atoms : List AtomDefinition) (sets : List ℕ) (counts : 
   pub past_ports : (n : ℕ) (a : AtomDefinition) (port : ℕ) → slice_get atoms n ≡ Some a → length a.ports ≤ port → count_at counts n port ≡ 0
   pub past_atoms : (n port : ℕ) → length atoms ≤ n → count_at counts n port ≡ 0
   pub few : (n port : ℕ) → count_at counts n port ≤ MAX_TRANSITIONS
+
+-- at each port of an interaction of the first words that is not in the set the same number is kept as before
+abbrev pub AreTold : List (FinSet nat_cmp) → ℕ → List (List ℕ) → List (List ℕ) → FinSet nat_cmp → Type 0
+AreTold rows words old new touched =
+    (n atom port : ℕ) → n < 64 * words → is_noted rows n (row_of_port atom port) ≡ true → contains touched n ≡ false → count_at new atom port ≡ count_at old atom port

@@ -1,13 +1,13 @@
 -- The jobs of a choice.
 use Rattle.std.specs.Prelude.{◌≡◌, ℕ, List, Option, Some, map, length, slice_get, slice_index}
 use Rattle.petri_atom.specs.Local.{Local}
-use Rattle.step_core.specs.Choice.{ChoiceDefinition}
+use Rattle.plant_model.specs.Choice.{ChoiceDefinition}
+use Rattle.plant_model.specs.Plant.{PlantDefinition}
+use Rattle.plant_model.specs.Step.{transfer}
+use Rattle.plant_model.specs.declared.choice.Move.{Move}
 use Rattle.step_core.specs.Job.{JobDefinition, job_of}
 use Rattle.step_core.specs.Parts.{shown_in}
-use Rattle.step_core.specs.Plant.{PlantDefinition}
 use Rattle.step_core.specs.Queue.{IsFreeFrom, items_in}
-use Rattle.step_core.specs.Step.{transfer}
-use Rattle.step_core.specs.declared.choice.Move.{Move}
 use Rattle.step_core.specs.declared.jobs.Jobs.{Jobs}
 
 -- the jobs that are there, in their order

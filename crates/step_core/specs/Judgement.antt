@@ -2,13 +2,13 @@
 use Rattle.std.specs.Prelude.{◌≡◌, ℕ, false, List, length, slice_get}
 use Rattle.std.specs.FinSet.{contains}
 use Rattle.petri_atom.specs.Local.{Local, is_in}
-use Rattle.step_core.specs.Choice.{Interaction, choices_among, is_marked_at}
+use Rattle.plant_model.specs.Choice.{Interaction, choices_among, is_marked_at}
+use Rattle.plant_model.specs.Plant.{PlantDefinition}
+use Rattle.plant_model.specs.Sights.{AreSeen}
+use Rattle.plant_model.specs.Ways.{AreWays}
 use Rattle.step_core.specs.EnabledTransitions.{AreOffered, AreCounted}
-use Rattle.step_core.specs.Plant.{PlantDefinition}
 use Rattle.step_core.specs.ChoicesIn.{AreAllPossible}
 use Rattle.step_core.specs.Possible.{ArePossible, AreAllowed}
-use Rattle.step_core.specs.Sights.{AreSeen}
-use Rattle.step_core.specs.Ways.{AreWays}
 use Rattle.step_core.specs.declared.judgement.Judgement.{Judgement}
 
 -- it is that of a state of a plant, by the plant's interactions

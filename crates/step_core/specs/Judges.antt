@@ -2,11 +2,11 @@
 use Rattle.std.specs.Prelude.{List, map}
 use Rattle.petri_atom.specs.Atom.{definition_of}
 use Rattle.petri_atom.specs.Definition.{AtomDefinition}
-use Rattle.step_core.specs.Choice.{Interaction}
-use Rattle.step_core.specs.Interaction.{interaction_of}
-use Rattle.step_core.specs.Made.{plant_by}
-use Rattle.step_core.specs.Plant.{PlantDefinition, WireDefinition}
-use Rattle.step_core.specs.Wire.{wire_of}
+use Rattle.plant_model.specs.Choice.{Interaction}
+use Rattle.plant_model.specs.Interaction.{interaction_of}
+use Rattle.plant_model.specs.Made.{plant_by}
+use Rattle.plant_model.specs.Plant.{PlantDefinition, WireDefinition}
+use Rattle.plant_model.specs.Wire.{wire_of}
 use Rattle.step_core.specs.declared.priority_judge.PriorityJudge.{PriorityJudge}
 use Rattle.step_core.specs.declared.possible.InteractionJudge.{InteractionJudge}
 

@@ -5,7 +5,7 @@ use Rattle.petri_atom.specs.Local.{Local, has}
 use Rattle.priority_filter.specs.Active.{active}
 use Rattle.priority_filter.specs.declared.rule.Rule.{Rule}
 use Rattle.priority_filter.specs.declared.seen.At.{At}
-use Rattle.step_core.specs.Plant.{PlantDefinition}
+use Rattle.plant_model.specs.Plant.{PlantDefinition}
 
 -- the parts of a state are the local states of the atoms that are present, and nothing of those that are away
 abbrev pub parts_from : (ℕ → Bool) → ℕ → List Local → List (Option Local)

@@ -4,8 +4,8 @@ use Rattle.std.specs.Ordering.{nat_cmp}
 use Rattle.std.specs.FinSet.{FinSet, contains}
 use Rattle.petri_atom.specs.Local.{Local}
 use Rattle.petri_atom.specs.Definition.{AtomDefinition}
-use Rattle.step_core.specs.Plant.{WireDefinition, PlantDefinition}
-use Rattle.step_core.specs.Choice.{Interaction, is_possible_at, is_allowed_at}
+use Rattle.plant_model.specs.Plant.{WireDefinition, PlantDefinition}
+use Rattle.plant_model.specs.Choice.{Interaction, is_possible_at, is_allowed_at}
 
 -- the set holds the numbers of the interactions that are possible, and no other
 abbrev pub ArePossible : List AtomDefinition → List WireDefinition → List Local → List Interaction → FinSet nat_cmp → Type 0

@@ -1,10 +1,10 @@
 -- What a plant that runs shows: its system and its present state.
 use Rattle.std.specs.Prelude.{List}
 use Rattle.petri_atom.specs.Local.{Local}
-use Rattle.step_core.specs.Plant.{PlantDefinition}
-use Rattle.step_core.specs.System.{plant_of}
+use Rattle.plant_model.specs.Plant.{PlantDefinition}
+use Rattle.plant_model.specs.System.{plant_of}
+use Rattle.plant_model.specs.declared.system.System.{System}
 use Rattle.step_core.specs.declared.stepper.Stepper.{Stepper}
-use Rattle.step_core.specs.declared.system.System.{System}
 
 -- the system that runs
 abbrev pub system_in : Stepper → System

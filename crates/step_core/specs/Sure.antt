@@ -5,11 +5,11 @@ use Rattle.std.specs.Option.{option_map_or}
 use Rattle.petri_atom.specs.Local.{Local, Row}
 use Rattle.petri_atom.specs.Definition.{AtomDefinition}
 use Rattle.priority_filter.specs.Decided.{is_overruled}
-use Rattle.step_core.specs.Plant.{PlantDefinition, WireDefinition}
+use Rattle.plant_model.specs.Plant.{PlantDefinition, WireDefinition}
+use Rattle.plant_model.specs.Choice.{ChoiceDefinition, Interaction, choices_of, flat_from, is_offered_port, is_possible, named, passes_guards, plant_interactions}
+use Rattle.plant_model.specs.Step.{stepped, transfer}
+use Rattle.plant_model.specs.declared.choice.Move.{Move}
 use Rattle.step_core.specs.Parts.{is_present, may_count_in, shown_in}
-use Rattle.step_core.specs.Choice.{ChoiceDefinition, Interaction, choices_of, flat_from, is_offered_port, is_possible, named, passes_guards, plant_interactions}
-use Rattle.step_core.specs.Step.{stepped, transfer}
-use Rattle.step_core.specs.declared.choice.Move.{Move}
 
 -- ---- interactions
 

@@ -4,14 +4,14 @@ use Rattle.std.specs.Ordering.{nat_cmp}
 use Rattle.std.specs.FinSet.{FinSet, contains}
 use Rattle.petri_atom.specs.Local.{Local, is_in}
 use Rattle.petri_atom.specs.Definition.{AtomDefinition}
-use Rattle.step_core.specs.Choice.{Interaction}
+use Rattle.plant_model.specs.Choice.{Interaction}
+use Rattle.plant_model.specs.Plant.{PlantDefinition}
+use Rattle.plant_model.specs.Sights.{AreSeen}
+use Rattle.plant_model.specs.Ways.{AreWays}
 use Rattle.step_core.specs.EnabledTransitions.{AreOffered, AreCounted}
 use Rattle.step_core.specs.Parts.{is_present, may_be_marked_in, shown_in}
-use Rattle.step_core.specs.Plant.{PlantDefinition}
 use Rattle.step_core.specs.Possible.{ArePossible}
-use Rattle.step_core.specs.Sights.{AreSeen}
 use Rattle.step_core.specs.Sure.{is_open_at, is_sure_at, sure_among}
-use Rattle.step_core.specs.Ways.{AreWays}
 use Rattle.step_core.specs.declared.sure.SureJudgement.{SureJudgement}
 
 -- the set holds the numbers of the interactions that are open, and no other

@@ -3,29 +3,26 @@ ghost use Rattle.std.specs.Prelude.{◌≡◌, ◌<◌, [], false, None, Some, I
 ghost use Rattle.std.specs.Option.{option_map_or};
 ghost use Rattle.petri_atom.specs.Definition.{AtomDefinition, Fits};
 ghost use Rattle.petri_atom.specs.Local.{Local};
-ghost use Rattle.step_core.specs.Chosen.{choice_of};
-ghost use Rattle.step_core.specs.Delivery.{IsDelivered};
+ghost use Rattle.plant_model.specs.Chosen.{choice_of};
+ghost use Rattle.plant_model.specs.Delivery.{IsDelivered};
+ghost use Rattle.plant_model.specs.Fitting.{IsOf, AllFit};
+ghost use Rattle.plant_model.specs.Interaction.{interaction_of};
+ghost use Rattle.plant_model.specs.Step.{transfer};
+ghost use Rattle.plant_model.specs.System.{plant_of};
 ghost use Rattle.step_core.specs.Dispatching.{AllPresentFit, ArePartsOf, state_at};
-ghost use Rattle.step_core.specs.Fitting.{IsOf, AllFit};
-ghost use Rattle.step_core.specs.Interaction.{interaction_of};
 ghost use Rattle.step_core.specs.Parts.{shown_in};
-ghost use Rattle.step_core.specs.Step.{transfer};
 ghost use Rattle.step_core.specs.Sure.{IsSure, left_by, sure_choices, went_on};
 ghost use Rattle.step_core.specs.SureJudgement.{IsSureJudgement};
-ghost use Rattle.step_core.specs.System.{plant_of};
 
-use crate::choice::{Choice, atoms_of};
 use crate::jobs::Jobs;
 use crate::laws::sure_choices_stand_in_order;
 use crate::leaving::leave;
-use crate::limits::MAX_ATOMS;
 use crate::parts::PlantParts;
 use crate::places::find;
-use crate::state::PlantState;
-use crate::sure::SureJudgement;
-use crate::system::System;
+use crate::sure::{SureJudgement, count_sure_among, judge_sure, judge_sure_again, nth_sure_among};
 use connector_tree::MAX_LEAVES;
 use petri_atom::{AtomState, Delivered};
+use plant_model::{Choice, MAX_ATOMS, PlantState, System, atoms_of};
 
 /// A plant that runs while some of its atoms are away: a system, the parts of its present state, in which the state of each atom that
 /// is present fits it, and what is sure.
@@ -54,7 +51,7 @@ impl<'s> Dispatcher<'s> {
         ensures parts { parts_in result ≡ map Some states }
     {
         system.keeps_its_rules();
-        let judgement = system.judge_sure(&states);
+        let judgement = judge_sure(system, &states);
         Dispatcher {
             system,
             parts: PlantParts::all(states),
@@ -100,7 +97,7 @@ impl<'s> Dispatcher<'s> {
     pub fn count_sure(&self) -> u128
         ensures { result ≡ length (sure_choices (plant_of (system_of self.now)) (parts_in self.now)) }
     {
-        self.system.count_sure_among(&self.parts, &self.judgement)
+        count_sure_among(self.system, &self.parts, &self.judgement)
     }
 
     /// The sure choice with this place, from 0, in the order of the choices.
@@ -109,8 +106,7 @@ impl<'s> Dispatcher<'s> {
         ensures entry { slice_get (sure_choices (plant_of (system_of self.now)) (parts_in self.now)) place ≡ Some (choice_of result) }
         ensures sure { IsSure (plant_of (system_of self.now)) (parts_in self.now) (choice_of result) }
     {
-        self.system
-            .nth_sure_among(&self.parts, &self.judgement, place)
+        nth_sure_among(self.system, &self.parts, &self.judgement, place)
     }
 
     /// The place of the choice in the list of the sure choices, if it is one of them.
@@ -134,8 +130,7 @@ impl<'s> Dispatcher<'s> {
         let moves = choice.moves.as_slice();
         let atoms = atoms_of(moves);
         let changed = &atoms[..moves.len()];
-        self.system
-            .judge_sure_again(&self.parts, changed, &[], &mut self.judgement);
+        judge_sure_again(self.system, &self.parts, changed, &[], &mut self.judgement);
     }
 
     /// Begins the sure choice: its participants leave, and for each there is a job, in the order of the moves. A job has the atom's
@@ -151,8 +146,13 @@ impl<'s> Dispatcher<'s> {
         let moves = choice.moves.as_slice();
         let atoms = atoms_of(moves);
         let changed = &atoms[..moves.len()];
-        self.system
-            .judge_sure_again(&self.parts, changed, changed, &mut self.judgement);
+        judge_sure_again(
+            self.system,
+            &self.parts,
+            changed,
+            changed,
+            &mut self.judgement,
+        );
     }
 
     /// Puts a state of the atom in its place: it is away, and is then back.
@@ -163,7 +163,12 @@ impl<'s> Dispatcher<'s> {
         ensures parts { parts_in self.new ≡ slice_set (parts_in self.old) atom (Some state) }
     {
         self.parts.put(atom, state);
-        self.system
-            .judge_sure_again(&self.parts, &[atom], &[atom], &mut self.judgement);
+        judge_sure_again(
+            self.system,
+            &self.parts,
+            &[atom],
+            &[atom],
+            &mut self.judgement,
+        );
     }
 }

@@ -4,18 +4,16 @@ ghost use Rattle.std.specs.FinSet.{contains};
 ghost use Rattle.petri_atom.specs.Atom.{definition_of};
 ghost use Rattle.petri_atom.specs.Local.{Local};
 ghost use Rattle.petri_atom.specs.Definition.{AtomDefinition, offered_set};
-ghost use Rattle.step_core.specs.EnabledTransitions.{count_at, AreOffered, AreOfferedBut, AreCounted};
-ghost use Rattle.step_core.specs.Dependents.{row_of_guards, row_of_port, is_in_row, is_read_by, AreTold};
+ghost use Rattle.plant_model.specs.Dependents.{row_of_guards, row_of_port, is_in_row, is_read_by};
+ghost use Rattle.plant_model.specs.declared.limits.TheConstants.{MAX_ATOMS};
 ghost use Rattle.petri_atom.specs.declared.parts.TheConstants.{MAX_PORTS};
 ghost use Rattle.priority_filter.specs.declared.interaction_set.TheConstants.{ROW_WORDS};
-ghost use Rattle.step_core.specs.declared.limits.TheConstants.{MAX_ATOMS};
-ghost use Rattle.step_core.specs.declared.dependents.TheConstants.{ATOM_ROWS};
+ghost use Rattle.plant_model.specs.declared.dependents.TheConstants.{ATOM_ROWS};
+ghost use Rattle.step_core.specs.EnabledTransitions.{count_at, AreOffered, AreOfferedBut, AreCounted, AreTold};
 
-use crate::dependents::{ATOM_ROWS, guard_row, port_row};
-use crate::limits::MAX_ATOMS;
-use crate::state::PlantState;
 use connector_tree::Port;
 use petri_atom::{Atom, MAX_PORTS, TransitionSet};
+use plant_model::{ATOM_ROWS, MAX_ATOMS, PlantState, guard_row, port_row};
 use priority_filter::InteractionSet;
 
 /// What the atoms of a plant offer, by their numbers: the set of the offered transitions, and how many of them each port has.

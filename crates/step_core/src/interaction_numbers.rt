@@ -1,7 +1,7 @@
 //! The numbers of all interactions, as a set.
 ghost use Rattle.std.specs.Prelude.{◌≡◌, ℕ, ◌≤◌, ◌<◌, true};
 ghost use Rattle.std.specs.FinSet.{contains};
-ghost use Rattle.step_core.specs.declared.limits.TheConstants.{MAX_INTERACTIONS};
+ghost use Rattle.plant_model.specs.declared.limits.TheConstants.{MAX_INTERACTIONS};
 
 use priority_filter::InteractionSet;
 

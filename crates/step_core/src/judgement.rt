@@ -2,7 +2,7 @@
 ghost use Rattle.std.specs.Prelude.{◌≡◌, ℕ, slice_index_or};
 
 use crate::enabled_transitions::EnabledTransitions;
-use crate::limits::MAX_INTERACTIONS;
+use plant_model::MAX_INTERACTIONS;
 use priority_filter::{InteractionSet, SEEN_ATOMS, Seen};
 
 /// What a state of a plant offers: what each atom offers, the possible interactions, for each of these how many choices it has

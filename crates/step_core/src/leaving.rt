@@ -1,18 +1,15 @@
 //! How the participants of a choice leave: each with its state in a job.
 ghost use Rattle.std.specs.Prelude.{◌≡◌, []};
-ghost use Rattle.step_core.specs.Chosen.{choice_of};
+ghost use Rattle.plant_model.specs.Chosen.{choice_of};
+ghost use Rattle.plant_model.specs.System.{plant_of};
 ghost use Rattle.step_core.specs.Dispatching.{AllPresentFit, ArePartsOf};
 ghost use Rattle.step_core.specs.Jobs.{AreJobsOf, jobs_of};
 ghost use Rattle.step_core.specs.Sure.{IsSure, left_by};
-ghost use Rattle.step_core.specs.System.{plant_of};
 
-use crate::choice::Choice;
 use crate::job::Job;
 use crate::jobs::Jobs;
-use crate::limits::MAX_ATOMS;
 use crate::parts::PlantParts;
-use crate::system::System;
-use crate::transfers::no_deliveries;
+use plant_model::{Choice, MAX_ATOMS, System, no_deliveries};
 
 /// Takes the states of a sure choice's participants out of the parts, each into a job with what the choice delivers to it on the
 /// values from before, and with its count of these.

@@ -3,18 +3,18 @@ ghost use Rattle.std.specs.Prelude.{◌≡◌, ◌||◌, ℕ, ◌<◌, ◌≤◌
 ghost use Rattle.std.specs.FinSet.{contains};
 ghost use Rattle.std.specs.List.{list_all};
 ghost use Rattle.petri_atom.specs.Atom.{definition_of};
-ghost use Rattle.step_core.specs.Choice.{is_offered_port};
-ghost use Rattle.step_core.specs.Interaction.{interaction_of};
+ghost use Rattle.plant_model.specs.Choice.{is_offered_port};
+ghost use Rattle.plant_model.specs.Interaction.{interaction_of};
+ghost use Rattle.plant_model.specs.declared.limits.TheConstants.{MAX_INTERACTIONS};
 ghost use Rattle.step_core.specs.Parts.{is_present, shown_in};
 ghost use Rattle.step_core.specs.Sure.{is_open, is_open_at};
-ghost use Rattle.step_core.specs.Words.{in_word, IsRightIn};
 ghost use Rattle.priority_filter.specs.declared.interaction_set.TheConstants.{ROW_WORDS};
-ghost use Rattle.step_core.specs.declared.limits.TheConstants.{MAX_INTERACTIONS};
+ghost use Rattle.step_core.specs.Words.{in_word, IsRightIn};
 
-use crate::interaction::Interaction;
 use crate::parts::PlantParts;
 use crate::possible::InteractionJudge;
 use connector_tree::Port;
+use plant_model::Interaction;
 use priority_filter::InteractionSet;
 
 /// The parts of a state, with the offered transitions of what they show.

@@ -2,19 +2,17 @@
 ghost use Rattle.std.specs.Prelude.{◌≡◌, ◌<◌, ◌≤◌, true, false, Some, None, map, length, option_map, slice_get, slice_set, is_none, is_some};
 ghost use Rattle.std.specs.List.{list_all};
 ghost use Rattle.std.specs.Option.{option_map_or};
-ghost use Rattle.step_core.specs.Chosen.{choice_of};
-ghost use Rattle.step_core.specs.Delivery.{IsDelivered};
+ghost use Rattle.plant_model.specs.Chosen.{choice_of};
+ghost use Rattle.plant_model.specs.Delivery.{IsDelivered};
+ghost use Rattle.plant_model.specs.Step.{transfer};
+ghost use Rattle.plant_model.specs.declared.limits.TheConstants.{MAX_ATOMS};
 ghost use Rattle.step_core.specs.Dispatching.{AllPresentFit, ArePartsOf, state_at};
 ghost use Rattle.step_core.specs.Parts.{is_present, shown_in};
-ghost use Rattle.step_core.specs.Step.{transfer};
 ghost use Rattle.step_core.specs.Sure.{IsSure, went_on};
-ghost use Rattle.step_core.specs.declared.limits.TheConstants.{MAX_ATOMS};
 
-use crate::choice::Choice;
-use crate::state::PlantState;
-use crate::system::System;
 use connector_tree::MAX_LEAVES;
 use petri_atom::{AtomState, Delivered};
+use plant_model::{Choice, PlantState, System};
 use std::marker::Model;
 
 /// The states of a plant's atoms, of which some are away: of each that is present its state, and nothing of one that is away. In a
@@ -42,7 +40,7 @@ impl Model for PlantParts {
 }
 
 impl PlantParts {
-    ghost use Rattle.step_core.specs.System.{plant_of};
+    ghost use Rattle.plant_model.specs.System.{plant_of};
 
     /// All atoms are present, in these states.
     pub fn all(states: PlantState) -> Self

@@ -1,12 +1,12 @@
 //! The place of a choice among choices that stand in their order.
 ghost use Rattle.std.specs.Prelude.{◌≡◌, ◌<◌, ◌≤◌, ℕ, AllPairs, Contains, List, None, Some, IfSome, length, map, slice_get};
-ghost use Rattle.step_core.specs.Choice.{ChoiceDefinition};
-ghost use Rattle.step_core.specs.Chosen.{choice_of};
-ghost use Rattle.step_core.specs.Laws.{IsBefore, comes_before, order_key};
+ghost use Rattle.plant_model.specs.Choice.{ChoiceDefinition};
+ghost use Rattle.plant_model.specs.Chosen.{choice_of};
+ghost use Rattle.plant_model.specs.Laws.{IsBefore, comes_before, order_key};
 
-use crate::choice::{Choice, Move};
 use crate::dispatcher::Dispatcher;
 use crate::stepper::Stepper;
+use plant_model::{Choice, Move};
 
 /// Choices that are counted, and found by their places: those of a plant that runs, as it stands.
 pub trait Listed {
@@ -24,7 +24,7 @@ pub trait Listed {
 }
 
 impl<'s> Listed for Stepper<'s> {
-    ghost use Rattle.step_core.specs.Choice.{choices};
+    ghost use Rattle.plant_model.specs.Choice.{choices};
     ghost use Rattle.step_core.specs.Running.{plant_in, states_in};
 
     ghost listed = { λ run. choices (plant_in run) (states_in run) };
@@ -39,9 +39,9 @@ impl<'s> Listed for Stepper<'s> {
 }
 
 impl<'s> Listed for Dispatcher<'s> {
+    ghost use Rattle.plant_model.specs.System.{plant_of};
     ghost use Rattle.step_core.specs.Dispatcher.{parts_in, system_of};
     ghost use Rattle.step_core.specs.Sure.{sure_choices};
-    ghost use Rattle.step_core.specs.System.{plant_of};
 
     ghost listed = { λ run. sure_choices (plant_of (system_of run)) (parts_in run) };
 

@@ -5,31 +5,28 @@ ghost use Rattle.std.specs.FinSet.{contains};
 ghost use Rattle.petri_atom.specs.Atom.{definition_of};
 ghost use Rattle.petri_atom.specs.declared.parts.TheConstants.{MAX_TRANSITIONS};
 ghost use Rattle.connector_tree.specs.declared.tree.TheConstants.{MAX_LEAVES};
-ghost use Rattle.step_core.specs.Choice.{is_offered_port, passes_guards, is_possible_at, move_of, moves_of, combinations};
-ghost use Rattle.step_core.specs.Interaction.{interaction_of};
+ghost use Rattle.plant_model.specs.Choice.{is_offered_port, passes_guards, is_possible_at, move_of, moves_of, combinations};
+ghost use Rattle.plant_model.specs.Interaction.{interaction_of};
+ghost use Rattle.plant_model.specs.BoundExpressions.{AreGuarding};
+ghost use Rattle.plant_model.specs.Ways.{IsWays, AreWays, AreWaysBut, IsSame, each_fits_word, ways_at};
+ghost use Rattle.plant_model.specs.Dependents.{at_port, is_in_row, AreOnPorts, IsOnEmpty};
+ghost use Rattle.plant_model.specs.Wire.{wire_of};
+ghost use Rattle.plant_model.specs.declared.choice.Move.{Move};
+ghost use Rattle.plant_model.specs.declared.limits.TheConstants.{MAX_INTERACTIONS, PORTS_IN_A_WORD};
 ghost use Rattle.step_core.specs.Possible.{ArePossible, ArePossibleBut};
-ghost use Rattle.step_core.specs.BoundExpressions.{AreGuarding};
-ghost use Rattle.step_core.specs.Ways.{IsWays, AreWays, AreWaysBut, IsSame, each_fits_word, ways_at};
-ghost use Rattle.step_core.specs.Dependents.{at_port, is_in_row, AreOnPorts, IsOnEmpty};
-ghost use Rattle.step_core.specs.Words.{in_word, IsRightIn};
-ghost use Rattle.step_core.specs.Wire.{wire_of};
-ghost use Rattle.step_core.specs.EnabledTransitions.{AreOffered, AreCounted};
 ghost use Rattle.priority_filter.specs.Members.{has_bit};
 ghost use Rattle.petri_atom.specs.declared.parts.TheConstants.{MAX_PORTS};
 ghost use Rattle.priority_filter.specs.declared.interaction_set.TheConstants.{ROW_WORDS};
-ghost use Rattle.step_core.specs.declared.choice.Move.{Move};
-ghost use Rattle.step_core.specs.declared.limits.TheConstants.{MAX_INTERACTIONS, PORTS_IN_A_WORD};
+ghost use Rattle.step_core.specs.Words.{in_word, IsRightIn};
+ghost use Rattle.step_core.specs.EnabledTransitions.{AreOffered, AreCounted};
 
-use crate::bound_expressions::BoundExpressions;
-use crate::choice::{Move, Moves};
-use crate::dependents::port_row;
 use crate::enabled_transitions::EnabledTransitions;
-use crate::interaction::Interaction;
-use crate::limits::{MAX_INTERACTIONS, PORTS_IN_A_WORD};
-use crate::state::PlantState;
-use crate::wire::Wire;
 use connector_tree::Port;
 use petri_atom::{Atom, MAX_PORTS};
+use plant_model::{
+    BoundExpressions, Interaction, MAX_INTERACTIONS, Move, Moves, PORTS_IN_A_WORD, PlantState,
+    Wire, port_row,
+};
 use priority_filter::InteractionSet;
 
 /// A global state with the offered transitions of its atoms.

@@ -3,19 +3,18 @@
 ghost use Rattle.std.specs.Prelude.{◌≡◌, ◌≤◌, ◌<◌, ◌+◌, ◌*◌, ◌/◌, ◌%◌, ◌^◌, ℕ, map, length};
 ghost use Rattle.std.specs.FinSet.{contains, empty};
 ghost use Rattle.petri_atom.specs.Atom.{definition_of};
-ghost use Rattle.step_core.specs.Choice.{named};
-ghost use Rattle.step_core.specs.Interaction.{interaction_of};
+ghost use Rattle.plant_model.specs.Choice.{named};
+ghost use Rattle.plant_model.specs.Interaction.{interaction_of};
+ghost use Rattle.plant_model.specs.Ways.{AreWays, each_fits_word};
+ghost use Rattle.plant_model.specs.Wire.{wire_of};
+ghost use Rattle.plant_model.specs.declared.limits.TheConstants.{MAX_INTERACTIONS};
 ghost use Rattle.step_core.specs.ChoicesIn.{AreAllPossible, choices_in, choices_in_below, is_kept_at};
-ghost use Rattle.step_core.specs.Possible.{ArePossible};
-ghost use Rattle.step_core.specs.Ways.{AreWays, each_fits_word};
-ghost use Rattle.step_core.specs.Wire.{wire_of};
 ghost use Rattle.priority_filter.specs.Active.{may_be_marked};
 ghost use Rattle.priority_filter.specs.declared.interaction_set.TheConstants.{ROW_WORDS};
-ghost use Rattle.step_core.specs.declared.limits.TheConstants.{MAX_INTERACTIONS};
+ghost use Rattle.step_core.specs.Possible.{ArePossible};
 
-use crate::interaction::Interaction;
-use crate::limits::MAX_INTERACTIONS;
 use crate::possible::InteractionJudge;
+use plant_model::{Interaction, MAX_INTERACTIONS};
 use priority_filter::{InteractionSet, Order, SEEN_ATOMS, Seen};
 
 /// A judged state with its possible interactions, the order of the priority rules, and what is seen of the atoms for their

@@ -1,14 +1,13 @@
 //! What is seen of a plant's atoms, for the conditions of priority rules: seen once, and again after a step.
-ghost use Rattle.std.specs.Prelude.{◌≡◌, ◌≢◌, ◌<◌, ◌≤◌, Bool, true, false, length};
+ghost use Rattle.std.specs.Prelude.{◌≡◌, ◌≢◌, ◌<◌, ◌≤◌, Bool, false};
 ghost use Rattle.priority_filter.specs.Active.{AskAlike, may_be_marked};
-ghost use Rattle.priority_filter.specs.Members.{has_bit};
 ghost use Rattle.priority_filter.specs.declared.seen.At.{At};
 ghost use Rattle.priority_filter.specs.declared.seen.TheConstants.{SEEN_ATOMS};
-ghost use Rattle.step_core.specs.Choice.{is_marked_at};
-ghost use Rattle.step_core.specs.Sights.{AreSeen, AreSeenBut, says};
+ghost use Rattle.plant_model.specs.Choice.{is_marked_at};
+ghost use Rattle.plant_model.specs.Sights.{AreSeen, AreSeenBut, says};
 
 use crate::parts::PlantParts;
-use crate::state::PlantState;
+use plant_model::PlantState;
 use priority_filter::{At, Order, SEEN_ATOMS, Seen};
 
 /// States of atoms of which is seen which places are marked, as far as that is known.
@@ -42,46 +41,6 @@ impl Sights for PlantParts {
             }
         } else {
             self.shown().sight_of(atom)
-        }
-    }
-}
-
-impl PlantState {
-    /// What is seen of each atom that a row can show: all of it.
-    pub fn seen(&self) -> [Seen; SEEN_ATOMS]
-        ensures shown { (at : At) → at.atom < SEEN_ATOMS → may_be_marked result at ≡ is_marked_at self.now at }
-        ensures all { length self.now ≤ SEEN_ATOMS → (at : At) → may_be_marked result at ≡ is_marked_at self.now at }
-    {
-        let unmarked = Seen {
-            known: true,
-            places: 0,
-        };
-        let mut seen = [unmarked; SEEN_ATOMS];
-        for atom in 0..SEEN_ATOMS {
-            seen[atom] = self.sight_of(atom as u16);
-        }
-        seen
-    }
-
-    /// Whether the place is marked; none is of an atom that is not there.
-    pub fn is_marked(&self, at: At) -> bool
-        ensures { result ≡ is_marked_at self.now at }
-    {
-        self.sight_of(at.atom).may_have(at.place)
-    }
-
-    /// What is seen of one atom: its marking, and of one that is not there that no place is marked.
-    fn sight_of(&self, atom: u16) -> Seen
-        ensures known { result.known ≡ true }
-        ensures places { (at : At) → at.atom ≡ atom → has_bit result.places at.place ≡ is_marked_at self.now at }
-    {
-        let places = match self.states.get(usize::from(atom)) {
-            Some(state) => state.places(),
-            None => 0,
-        };
-        Seen {
-            known: true,
-            places,
         }
     }
 }

@@ -1,24 +1,23 @@
 //! A plant that runs: its present state, with what that state offers, judged once.
 ghost use Rattle.std.specs.Prelude.{◌≡◌, ◌↔◌, ◌<◌, None, Some, IfOk, IfSome, map, length, slice_get, slice_set};
 ghost use Rattle.petri_atom.specs.Definition.{AtomDefinition, Fits};
-ghost use Rattle.step_core.specs.Choice.{choices, IsAllowed, IsStuck};
-ghost use Rattle.step_core.specs.Chosen.{choice_of};
-ghost use Rattle.step_core.specs.Delivery.{IsDelivered};
-ghost use Rattle.step_core.specs.Fitting.{IsOf, AllFit};
-ghost use Rattle.step_core.specs.Interaction.{interaction_of};
+ghost use Rattle.plant_model.specs.Choice.{choices, IsAllowed, IsStuck};
+ghost use Rattle.plant_model.specs.Chosen.{choice_of};
+ghost use Rattle.plant_model.specs.Delivery.{IsDelivered};
+ghost use Rattle.plant_model.specs.Fitting.{IsOf, AllFit};
+ghost use Rattle.plant_model.specs.Interaction.{interaction_of};
+ghost use Rattle.plant_model.specs.Step.{initial_states, next, transfer};
+ghost use Rattle.plant_model.specs.System.{plant_of};
 ghost use Rattle.step_core.specs.Judgement.{IsJudgement};
-ghost use Rattle.step_core.specs.Step.{initial_states, next, transfer};
-ghost use Rattle.step_core.specs.System.{plant_of};
 
-use crate::choice::Choice;
+use crate::choices::{judge, judge_again, nth_among};
+use crate::firing::step;
 use crate::judgement::Judgement;
-use crate::laws::choices_stand_in_order;
 use crate::places::find;
-use crate::state::PlantState;
-use crate::system::System;
-use crate::transfers::no_deliveries;
 use connector_tree::MAX_LEAVES;
 use petri_atom::{AtomState, Delivered};
+use plant_model::laws::choices_stand_in_order;
+use plant_model::{Choice, PlantState, System, no_deliveries};
 use std::alloc::{AllocError, Global};
 
 /// A plant that runs: a system, its present state, in which each atom's state fits it, and what that state offers: transitions,
@@ -62,7 +61,7 @@ impl<'s> Stepper<'s> {
         ensures plant { plant_in result ≡ plant_of system.now }
         ensures states { states_in result ≡ states }
     {
-        let judgement = system.judge(&states);
+        let judgement = judge(system, &states);
         Stepper {
             system,
             states,
@@ -107,8 +106,7 @@ impl<'s> Stepper<'s> {
         ensures states { states_in self.new ≡ slice_set (states_in self.old) atom state }
     {
         self.states.set(atom, state);
-        self.system
-            .judge_again(&self.states, &[atom], &mut self.judgement);
+        judge_again(self.system, &self.states, &[atom], &mut self.judgement);
     }
 
     /// How many choices the present state has; none exactly if no interaction is possible.
@@ -125,7 +123,7 @@ impl<'s> Stepper<'s> {
         ensures entry { slice_get (choices (plant_in self.now) (states_in self.now)) place ≡ Some (choice_of result) }
         ensures allowed { IsAllowed (plant_in self.now) (states_in self.now) (choice_of result) }
     {
-        self.system.nth_among(&self.states, &self.judgement, place)
+        nth_among(self.system, &self.states, &self.judgement, place)
     }
 
     /// The place of the choice in the list of the present state's choices, if it is one of them.
@@ -146,7 +144,8 @@ impl<'s> Stepper<'s> {
         ensures next { states_in self.new ≡ next (plant_in self.old) (states_in self.old) (choice_of choice.now) }
         ensures fits { AllFit (plant_in self.new) (states_in self.new) }
     {
-        self.system.step(
+        step(
+            self.system,
             &mut self.states,
             &mut self.judgement,
             choice,
@@ -163,7 +162,12 @@ impl<'s> Stepper<'s> {
         ensures fits { AllFit (plant_in self.new) (states_in self.new) }
         ensures delivered { IsDelivered choice.now.moves (transfer (plant_in self.old) (states_in self.old) (choice_of choice.now)) delivered.new }
     {
-        self.system
-            .step(&mut self.states, &mut self.judgement, choice, delivered);
+        step(
+            self.system,
+            &mut self.states,
+            &mut self.judgement,
+            choice,
+            delivered,
+        );
     }
 }

@@ -4,16 +4,16 @@ use Rattle.std.specs.Prelude.{Option, Some, None, slice_get, slice_index}
 use Rattle.std.proofs.lemmas.Option.{none-some, same_Some, slice_get_within}
 use Rattle.petri_atom.specs.Definition.{AtomDefinition}
 use Rattle.petri_atom.specs.Local.{Local}
-use Rattle.step_core.specs.Choice.{ChoiceDefinition}
+use Rattle.plant_model.specs.Choice.{ChoiceDefinition}
+use Rattle.plant_model.specs.Plant.{PlantDefinition}
+use Rattle.plant_model.specs.Rules.{fault_of}
+use Rattle.plant_model.specs.Step.{transfer}
+use Rattle.plant_model.specs.declared.choice.Move.{Move}
+use Rattle.plant_model.proofs.Membership.{entry-in}
 use Rattle.step_core.specs.Job.{JobDefinition}
 use Rattle.step_core.specs.Jobs.{AreJobsOf, IsJobOf}
 use Rattle.step_core.specs.Parts.{shown_in}
-use Rattle.step_core.specs.Plant.{PlantDefinition}
-use Rattle.step_core.specs.Rules.{fault_of}
-use Rattle.step_core.specs.Step.{transfer}
 use Rattle.step_core.specs.Sure.{IsSure}
-use Rattle.step_core.specs.declared.choice.Move.{Move}
-use Rattle.step_core.proofs.Membership.{entry-in}
 use Rattle.step_executor.specs.Outstanding.{AreKept, job_by, jobs_after, put_all, whole_of}
 use Rattle.step_executor.proofs.Going.{delivers, job-at, participant-state}
 use Rattle.step_executor.proofs.OneByOne.{past-of-none, put-behind}

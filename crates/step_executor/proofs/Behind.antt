@@ -6,12 +6,12 @@ use Rattle.std.proofs.lemmas.List.{get_or_past}
 use Rattle.std.proofs.lemmas.Option.{none-some}
 use Rattle.std.proofs.Math.Bool.{or-false, or-true, or_assoc}
 use Rattle.petri_atom.specs.Local.{Local}
-use Rattle.step_core.specs.Choice.{ChoiceDefinition}
+use Rattle.plant_model.specs.Choice.{ChoiceDefinition}
+use Rattle.plant_model.specs.Plant.{PlantDefinition}
+use Rattle.plant_model.specs.declared.choice.Move.{Move}
+use Rattle.plant_model.proofs.Membership.{here, later}
 use Rattle.step_core.specs.Job.{JobDefinition}
-use Rattle.step_core.specs.Plant.{PlantDefinition}
 use Rattle.step_core.specs.Sure.{has_move}
-use Rattle.step_core.specs.declared.choice.Move.{Move}
-use Rattle.step_core.proofs.Membership.{here, later}
 use Rattle.step_executor.specs.Outstanding.{is_out, job_by, jobs_after}
 
 -- a job that is put at a number is there, where there is such a place, and at no other

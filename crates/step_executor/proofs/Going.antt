@@ -8,21 +8,21 @@ use Rattle.std.proofs.lemmas.List.{get_or_past}
 use Rattle.std.proofs.lemmas.Option.{none-some, same_Some, slice_get_within, slice_get-get_or, unwrap_or-slice_get}
 use Rattle.petri_atom.specs.Local.{Local}
 use Rattle.petri_atom.specs.Definition.{AtomDefinition, Fits, fired, is_well_formed}
-use Rattle.step_core.specs.Choice.{ChoiceDefinition, IsAllowed}
-use Rattle.step_core.specs.Fitting.{AllFit, IsOf}
+use Rattle.plant_model.specs.Choice.{ChoiceDefinition, IsAllowed}
+use Rattle.plant_model.specs.Fitting.{AllFit, IsOf}
+use Rattle.plant_model.specs.Plant.{PlantDefinition, of_atom}
+use Rattle.plant_model.specs.Rules.{fault_of}
+use Rattle.plant_model.specs.Step.{next, transfer}
+use Rattle.plant_model.specs.declared.choice.Move.{Move}
+use Rattle.plant_model.proofs.ByAtom.{first-of-atom, moves-on, none-of, stays}
+use Rattle.plant_model.proofs.OnRuns.{fold-fits}
+use Rattle.plant_model.proofs.ValueRows.{set-here, set-other}
+use Rattle.plant_model.proofs.Stepping.{length-stepped}
 use Rattle.step_core.specs.Job.{JobDefinition, worked}
 use Rattle.step_core.specs.Jobs.{IsJobOf}
 use Rattle.step_core.specs.Parts.{nothing_shown, parts_of, shown_in}
-use Rattle.step_core.specs.Plant.{PlantDefinition, of_atom}
-use Rattle.step_core.specs.Rules.{fault_of}
-use Rattle.step_core.specs.Step.{next, transfer}
 use Rattle.step_core.specs.Sure.{IsSure, has_move, left_by, went_on}
-use Rattle.step_core.specs.declared.choice.Move.{Move}
-use Rattle.step_core.proofs.ByAtom.{first-of-atom, moves-on, none-of, stays}
-use Rattle.step_core.proofs.OnRuns.{fold-fits}
-use Rattle.step_core.proofs.PartsKept.{set-here, set-other}
 use Rattle.step_core.proofs.Present.{participant}
-use Rattle.step_core.proofs.Stepping.{length-stepped}
 use Rattle.step_core.proofs.SureAllowed.{delivered-same, goes-on, leaves-behind, sure-allowed}
 use Rattle.step_executor.specs.Outstanding.{AreCommitted, AreKept, committed_by, ended_at, filled, is_out, is_part_away, job_by, jobs_after, parts_without, whole_of}
 use Rattle.step_executor.proofs.Behind.{from-behind, length-behind, out-behind}

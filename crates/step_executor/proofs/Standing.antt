@@ -5,18 +5,18 @@ use Rattle.std.specs.List.{list_all}
 use Rattle.std.proofs.lemmas.List.{map-set}
 use Rattle.petri_atom.specs.Definition.{is_well_formed}
 use Rattle.petri_atom.specs.Local.{Local}
-use Rattle.step_core.specs.Choice.{ChoiceDefinition}
+use Rattle.plant_model.specs.Choice.{ChoiceDefinition}
+use Rattle.plant_model.specs.Fitting.{AllFit, IsOf}
+use Rattle.plant_model.specs.Rules.{fault_of}
+use Rattle.plant_model.specs.Step.{next, transfer}
+use Rattle.plant_model.specs.declared.choice.Move.{Move}
+use Rattle.plant_model.proofs.OnRuns.{fold-fits}
 use Rattle.step_core.specs.Dispatcher.{parts_in}
-use Rattle.step_core.specs.Fitting.{AllFit, IsOf}
 use Rattle.step_core.specs.Job.{JobDefinition, job_of}
 use Rattle.step_core.specs.Jobs.{AreJobsOf}
 use Rattle.step_core.specs.Parts.{shown_in}
-use Rattle.step_core.specs.Rules.{fault_of}
-use Rattle.step_core.specs.Step.{next, transfer}
 use Rattle.step_core.specs.Sure.{IsSure, left_by, went_on}
-use Rattle.step_core.specs.declared.choice.Move.{Move}
 use Rattle.step_core.specs.declared.job.Job.{Job}
-use Rattle.step_core.proofs.OnRuns.{fold-fits}
 use Rattle.step_executor.specs.Executing.{committed_in, jobs_in, plant_in, states_in}
 use Rattle.step_executor.specs.Outstanding.{committed_by, ended_at, is_part_away, jobs_after, kept_in, parts_without, put_all, whole_of}
 use Rattle.step_executor.specs.declared.executor.Executor.{Executor}

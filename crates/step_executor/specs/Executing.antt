@@ -1,11 +1,11 @@
 -- What a plant that runs while atoms are away shows: its system, its whole state, and the jobs that its atoms have.
 use Rattle.std.specs.Prelude.{List, Option}
 use Rattle.petri_atom.specs.Local.{Local}
+use Rattle.plant_model.specs.Plant.{PlantDefinition}
+use Rattle.plant_model.specs.System.{plant_of}
+use Rattle.plant_model.specs.declared.system.System.{System}
 use Rattle.step_core.specs.Dispatcher.{parts_in, system_of}
 use Rattle.step_core.specs.Job.{JobDefinition}
-use Rattle.step_core.specs.Plant.{PlantDefinition}
-use Rattle.step_core.specs.System.{plant_of}
-use Rattle.step_core.specs.declared.system.System.{System}
 use Rattle.step_executor.specs.Outstanding.{committed_by, kept_in, whole_of}
 use Rattle.step_executor.specs.declared.executor.Executor.{Executor}
 

@@ -2,12 +2,12 @@
 use Rattle.std.specs.Prelude.{◌≡◌, ℕ, suc, Bool, true, false, List, [], ◌∷◌, length, map, slice_get, slice_set, slice_index, slice_index_or, Option, Some, None, is_none, is_some, option_map, unwrap_or}
 use Rattle.std.specs.Option.{option_map_or}
 use Rattle.petri_atom.specs.Local.{Local}
-use Rattle.step_core.specs.Choice.{ChoiceDefinition}
+use Rattle.plant_model.specs.Choice.{ChoiceDefinition}
+use Rattle.plant_model.specs.Plant.{PlantDefinition, of_atom}
+use Rattle.plant_model.specs.Step.{transfer}
+use Rattle.plant_model.specs.declared.choice.Move.{Move}
 use Rattle.step_core.specs.Job.{JobDefinition, job_of, worked}
 use Rattle.step_core.specs.Parts.{nothing_shown, parts_of}
-use Rattle.step_core.specs.Plant.{PlantDefinition, of_atom}
-use Rattle.step_core.specs.Step.{transfer}
-use Rattle.step_core.specs.declared.choice.Move.{Move}
 use Rattle.step_core.specs.declared.job.Job.{Job}
 
 -- the jobs as they are kept, by the atoms' numbers

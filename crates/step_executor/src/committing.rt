@@ -1,12 +1,13 @@
 //! The committed state, as it is kept.
 ghost use Rattle.std.specs.Prelude.{◌≡◌, ◌<◌, ◌≤◌, Some, None, IfOk, length, option_map, slice_get, slice_set, if◌then◌else◌};
-ghost use Rattle.step_core.specs.Fitting.{IsOf};
-ghost use Rattle.step_core.specs.System.{plant_of};
+ghost use Rattle.plant_model.specs.Fitting.{IsOf};
+ghost use Rattle.plant_model.specs.System.{plant_of};
 ghost use Rattle.step_executor.specs.Outstanding.{is_part_away};
 
 use petri_atom::AtomState;
+use plant_model::{PlantState, System};
 use std::alloc::{AllocError, Global};
-use step_core::{PlantParts, PlantState, System};
+use step_core::PlantParts;
 
 /// A second copy of a state of the system's plant.
 pub(crate) fn copied(

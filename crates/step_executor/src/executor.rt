@@ -3,23 +3,24 @@ ghost use Rattle.std.specs.Prelude.{◌≡◌, ◌≢◌, ◌<◌, [], None, Som
 ghost use Rattle.std.specs.List.{list_any};
 ghost use Rattle.connector_tree.specs.declared.tree.TheConstants.{MAX_LEAVES};
 ghost use Rattle.petri_atom.specs.Definition.{AtomDefinition, Fits};
-ghost use Rattle.step_core.specs.Chosen.{choice_of};
-ghost use Rattle.step_core.specs.Delivery.{IsDelivered};
+ghost use Rattle.plant_model.specs.Chosen.{choice_of};
+ghost use Rattle.plant_model.specs.Delivery.{IsDelivered};
+ghost use Rattle.plant_model.specs.Fitting.{IsOf, AllFit};
+ghost use Rattle.plant_model.specs.Step.{next, transfer};
+ghost use Rattle.plant_model.specs.System.{plant_of};
 ghost use Rattle.step_core.specs.Dispatcher.{parts_in, system_of};
-ghost use Rattle.step_core.specs.Fitting.{IsOf, AllFit};
 ghost use Rattle.step_core.specs.Job.{job_done, job_of};
 ghost use Rattle.step_core.specs.Jobs.{AreJobsOf, jobs_of};
-ghost use Rattle.step_core.specs.Step.{next, transfer};
 ghost use Rattle.step_core.specs.Sure.{IsSure, sure_choices};
-ghost use Rattle.step_core.specs.System.{plant_of};
 ghost use Rattle.step_executor.specs.Outstanding.{AreCommitted, AreKept, is_out, jobs_after, kept_in, parts_without, whole_of};
 
 use crate::committing::{commit_back, copied, copy_parts};
 use crate::keeping::keep_jobs;
 use connector_tree::MAX_LEAVES;
 use petri_atom::{AtomState, Delivered};
+use plant_model::{Choice, MAX_ATOMS, PlantState, System};
 use std::alloc::{AllocError, Global};
-use step_core::{Choice, Dispatcher, Done, Job, Jobs, MAX_ATOMS, PlantParts, PlantState, System};
+use step_core::{Dispatcher, Done, Job, Jobs, PlantParts};
 
 /// A plant that runs while atoms are away: a [`Dispatcher`], and of each atom that is away a copy of the job that it was given. Beside its
 /// present state it has a committed one, which is the present state at the last commit. Only making it takes memory.

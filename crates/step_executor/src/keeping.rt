@@ -1,14 +1,15 @@
 //! How the jobs of a choice are kept.
 ghost use Rattle.std.specs.Prelude.{◌≡◌, ◌<◌, ◌≤◌, ℕ, Some, length, slice_get};
 ghost use Rattle.connector_tree.specs.declared.tree.TheConstants.{MAX_LEAVES};
+ghost use Rattle.plant_model.specs.declared.choice.Move.{Move};
 ghost use Rattle.step_core.specs.Job.{JobDefinition};
 ghost use Rattle.step_core.specs.Jobs.{jobs_of};
-ghost use Rattle.step_core.specs.declared.choice.Move.{Move};
 ghost use Rattle.step_executor.specs.Outstanding.{kept_in, put_all};
 
 use connector_tree::MAX_LEAVES;
 use petri_atom::Delivered;
-use step_core::{Job, Jobs, Move};
+use plant_model::Move;
+use step_core::{Job, Jobs};
 
 /// Keeps a copy of the job of each move, at the number of its atom, and writes what is delivered at the places of the moves.
 pub(crate) fn keep_jobs<'s>(

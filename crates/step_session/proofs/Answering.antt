@@ -5,7 +5,7 @@ use Rattle.std.specs.Io.BufRead.{DropsThrough, drop_through}
 use Rattle.std.specs.Io.KnownBytes.{Appends, Keeps}
 use Rattle.std.proofs.KnownBytes.{Appends-kept, Appends-nil, Appends-trans}
 use Rattle.plant_words.specs.Lines.{lines_of}
-use Rattle.step_core.specs.Plant.{PlantDefinition}
+use Rattle.plant_model.specs.Plant.{PlantDefinition}
 use Rattle.step_session.specs.Answers.{answer_text, savings_of}
 use Rattle.step_session.specs.Command.{CommandDefinition, command_in, ends}
 use Rattle.step_session.specs.Session.{SessionDefinition}

@@ -5,11 +5,11 @@ use Rattle.std.specs.Option.{option_map_or}
 use Rattle.std.proofs.lemmas.List.{length-append, length_push, take-append-drop, take_more}
 use Rattle.std.proofs.lemmas.Option.{slice_get_within}
 use Rattle.petri_atom.specs.Local.{Local}
-use Rattle.step_core.specs.Plant.{PlantDefinition}
-use Rattle.step_core.specs.Choice.{ChoiceDefinition, choices}
-use Rattle.step_core.specs.Runs.{IsRun, fold}
-use Rattle.step_core.specs.Step.{initial_states, next}
-use Rattle.step_core.proofs.Membership.{entry-in}
+use Rattle.plant_model.specs.Plant.{PlantDefinition}
+use Rattle.plant_model.specs.Choice.{ChoiceDefinition, choices}
+use Rattle.plant_model.specs.Runs.{IsRun, fold}
+use Rattle.plant_model.specs.Step.{initial_states, next}
+use Rattle.plant_model.proofs.Membership.{entry-in}
 use Rattle.step_session.specs.Fired.{IsThere, choices_fired, states_after}
 
 -- the entry of a list at a place within it

@@ -5,7 +5,7 @@ use Rattle.std.specs.Io.KnownBytes.{Appends}
 use Rattle.std.proofs.KnownBytes.{Appends-nil, Appends-trans}
 use Rattle.std.proofs.lemmas.Bool.{false≢true}
 use Rattle.std.proofs.lemmas.List.{map-append}
-use Rattle.step_core.specs.Plant.{PlantDefinition}
+use Rattle.plant_model.specs.Plant.{PlantDefinition}
 use Rattle.step_session.specs.Answers.{answer_text, savings_of, session_after}
 use Rattle.step_session.specs.Command.{CommandDefinition, shows, fires, takes_back, fires_random, tells, tells_of, saves_to, helps, quits, mistaken, ends}
 use Rattle.step_session.specs.Saved.{AreSaved, Saving}

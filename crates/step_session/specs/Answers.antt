@@ -2,15 +2,15 @@
 use Rattle.std.specs.Prelude.{ℕ, ◌+◌, ◌-◌, Bool, ◌==◌, nat_lt, if◌then◌else◌, List, [], ◌∷◌, ◌++◌, length, take, codes, decimal}
 use Rattle.std.specs.Option.{option_map_or}
 use Rattle.petri_atom.specs.Local.{Local}
-use Rattle.step_core.specs.Plant.{PlantDefinition}
-use Rattle.step_core.specs.Choice.{choices}
+use Rattle.plant_model.specs.Plant.{PlantDefinition}
+use Rattle.plant_model.specs.Choice.{choices}
 use Rattle.text_io.specs.Numbered.{numbered}
 use Rattle.run_text.specs.Choices.{choice_text, choices_text}
 use Rattle.run_text.specs.Line.{states_text}
 use Rattle.blocked_text.specs.Blocked.{connector_text, why_text}
 use Rattle.shown_fault.specs.Shown.{shown}
 use Rattle.step_session.specs.Command.{CommandDefinition, shows, fires, takes_back, fires_random, tells, tells_of, saves_to, helps, quits, mistaken, command_in}
-use Rattle.step_core.specs.Lookup.{connector_named}
+use Rattle.plant_model.specs.Lookup.{connector_named}
 use Rattle.step_session.specs.Fired.{choices_fired}
 use Rattle.step_session.specs.Help.{help_text}
 use Rattle.step_session.specs.Mistakes.{mistake_text, quoted_text}

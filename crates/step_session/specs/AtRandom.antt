@@ -1,7 +1,7 @@
 -- What firing random choices does to a session.
 use Rattle.std.specs.Prelude.{◌≡◌, ℕ, ◌%◌, ◌<◌, Bool, true, false, List, [], ◌∷◌, Option}
 use Rattle.std.specs.Io.KnownBytes.{Appends}
-use Rattle.step_core.specs.Plant.{PlantDefinition}
+use Rattle.plant_model.specs.Plant.{PlantDefinition}
 use Rattle.run_text.specs.Picks.{pick_at, shifted}
 use Rattle.step_session.specs.Answers.{choice_count, random_session, fired_more, firing_lines}
 use Rattle.step_session.specs.Random.{random_places}

@@ -2,10 +2,10 @@
 use Rattle.std.specs.Prelude.{◌≡◌, ℕ, List, [], ◌∷◌, length, slice_get}
 use Rattle.std.specs.Option.{option_map_or}
 use Rattle.petri_atom.specs.Local.{Local}
-use Rattle.step_core.specs.Plant.{PlantDefinition}
-use Rattle.step_core.specs.Choice.{ChoiceDefinition, choices}
-use Rattle.step_core.specs.Runs.{fold}
-use Rattle.step_core.specs.Step.{initial_states, next}
+use Rattle.plant_model.specs.Plant.{PlantDefinition}
+use Rattle.plant_model.specs.Choice.{ChoiceDefinition, choices}
+use Rattle.plant_model.specs.Runs.{fold}
+use Rattle.plant_model.specs.Step.{initial_states, next}
 
 -- the choices at places, fired one after another from a state on: each is the entry at its place among the choices of the state before it; a place without an entry ends them
 abbrev pub choices_fired : PlantDefinition → List Local → List ℕ → List ChoiceDefinition

@@ -1,6 +1,6 @@
 -- What is saved of a session.
 use Rattle.std.specs.Prelude.{◌≡◌, ℕ, Bool, List, [], ◌∷◌, flat_map}
-use Rattle.step_core.specs.Plant.{PlantDefinition}
+use Rattle.plant_model.specs.Plant.{PlantDefinition}
 use Rattle.run_text.specs.Steps.{saved_line}
 use Rattle.step_session.specs.Session.{SessionDefinition, fired_in}
 

@@ -1,9 +1,9 @@
 -- What a session keeps, and where its plant stands.
 use Rattle.std.specs.Prelude.{ℕ, List, []}
 use Rattle.petri_atom.specs.Local.{Local}
-use Rattle.step_core.specs.Plant.{PlantDefinition}
-use Rattle.step_core.specs.Choice.{ChoiceDefinition}
-use Rattle.step_core.specs.Step.{initial_states}
+use Rattle.plant_model.specs.Plant.{PlantDefinition}
+use Rattle.plant_model.specs.Choice.{ChoiceDefinition}
+use Rattle.plant_model.specs.Step.{initial_states}
 use Rattle.run_text.specs.Picks.{seeded}
 use Rattle.step_session.specs.Fired.{choices_fired, states_after}
 use Rattle.step_session.specs.declared.session.TheConstants.{SEED}

@@ -1,5 +1,5 @@
 -- What is seen of a session as it is kept.
-use Rattle.step_core.specs.Plant.{PlantDefinition}
+use Rattle.plant_model.specs.Plant.{PlantDefinition}
 use Rattle.step_core.specs.Running.{plant_in}
 use Rattle.step_session.specs.Session.{SessionDefinition}
 use Rattle.step_session.specs.declared.session.Session.{Session}

@@ -1,7 +1,7 @@
 -- The transcript of a session: what it prints, and what it has saved.
 use Rattle.std.specs.Prelude.{◌≡◌, ℕ, Bool, false, if◌then◌else◌, List, [], ◌∷◌, ◌++◌, length, drop, codes, Option}
 use Rattle.std.specs.Io.KnownBytes.{Appends}
-use Rattle.step_core.specs.Plant.{PlantDefinition}
+use Rattle.plant_model.specs.Plant.{PlantDefinition}
 use Rattle.shown_fault.specs.Shown.{shown}
 use Rattle.step_session.specs.Answers.{answer_text, save_text, savings_of, session_after, standing_text}
 use Rattle.step_session.specs.Command.{CommandDefinition, command_in, ends}

@@ -5,11 +5,12 @@ ghost use Rattle.step_session.specs.Fired.{IsThere, states_after};
 
 use crate::fault::StepFault;
 use crate::random::{next_state, pick_of};
+use plant_model::System;
 use run_text::{print_choice, print_choices, print_saved_line, print_states};
 use std::alloc::{AllocError, Global};
 use std::io::Write;
 use std::mem;
-use step_core::{Stepper, System};
+use step_core::Stepper;
 use text_io::end_line;
 
 /// The seed of the generator of random picks.

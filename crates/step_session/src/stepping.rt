@@ -14,10 +14,10 @@ use crate::saver::Saver;
 use crate::session::Session;
 use arrayvec::ArrayVec;
 use blocked_text::Reasons;
+use plant_model::System;
 use plant_words::Lines;
 use std::alloc::Global;
 use std::io::{BufRead, Write};
-use step_core::System;
 use text_io::{WriteFault, print_text, read_line};
 
 /// Lets an engineer step the plant of the system by hand: prints where it stands, and then answers each line of the input until one asks to quit,

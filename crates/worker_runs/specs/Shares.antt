@@ -1,6 +1,6 @@
 -- Whose events a worker asks.
 use Rattle.std.specs.Prelude.{◌≡◌, ℕ, List, []}
-use Rattle.step_core.specs.Plant.{PlantDefinition}
+use Rattle.plant_model.specs.Plant.{PlantDefinition}
 use Rattle.plant_core.specs.View.{View}
 use Rattle.plant_core.specs.declared.events.Event.{Event}
 use Rattle.engine_host.specs.declared.entry.Entry.{Entry}

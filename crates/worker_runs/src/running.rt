@@ -2,7 +2,7 @@
 ghost use Rattle.std.specs.Prelude.{◌≡◌, ◌≤◌, true, IfErr, IfOk, Err};
 ghost use Rattle.disk_model.specs.DiskState.{DiskState};
 ghost use Rattle.engine_host.specs.declared.opening.TheConstants.{MOST_SEATS};
-ghost use Rattle.step_core.specs.System.{digest_of, plant_of};
+ghost use Rattle.plant_model.specs.System.{digest_of, plant_of};
 ghost use Rattle.plant_core.specs.View.{View};
 ghost use Rattle.image_commands.specs.Runs.{fault_on};
 ghost use Rattle.image_commands.specs.declared.refusal.ImageRefusal.{ImageRefusal};
@@ -18,13 +18,13 @@ use disk_model::Disk;
 use engine_host::{Closed, name};
 use image_commands::{ImageEnding, booted};
 use plant_core::Event;
+use plant_model::System;
 use script_lines::print_standing;
 use std::alloc::Global;
 use std::io::Write;
 use std::marker::Brand;
 use std::sync::Wait;
 use std::thread::Threads;
-use step_core::System;
 use text_io::hand_on;
 
 /// Boots the plant of the system from the device, after any stop, and has so many workers ask the events of it, each in a thread where one can be

@@ -7,10 +7,10 @@ use super::runs::{
 };
 use disk_model::{MemDisk, Tear};
 use plant_core::Front;
+use plant_model::System;
 use recovery::{FormatFault, format};
 use std::alloc::Global;
 use std::test::Fail;
-use step_core::System;
 
 /// The device of a run that is formatted again, stopped at the `k`-th write or sync of that.
 fn formatted_again(alloc: Global, system: &System, k: u64, tear: Tear) -> Result<MemDisk, Fail> {

@@ -3,9 +3,10 @@ use super::common::{OpaqueDisk, sample};
 use super::runs::{new_device, settled, try_boot, value_of};
 use disk_model::{MemDisk, Tear};
 use plant_core::{BackRefused, Plant, Refused};
+use plant_model::System;
 use std::alloc::Global;
 use std::test::Fail;
-use step_core::{Done, Jobs, System, work};
+use step_core::{Done, Jobs, work};
 
 /// The plant that the device is booted to.
 fn booted<'s>(

@@ -4,13 +4,13 @@ ghost use Rattle.disk_model.specs.DiskState.{size_of};
 ghost use Rattle.disk_model.specs.MemDisk.{state_of};
 
 use disk_model::{CELL, Disk, DiskFault, MemDisk, Tear};
+use plant_model::System;
 use plant_text::plant_of_text;
 use record_codec::ring::device_cells;
 use record_codec::{LEAST_RING, MOST_RING};
 use recovery::format;
 use std::alloc::Global;
 use std::test::Fail;
-use step_core::System;
 
 /// A counts, and B takes what A has counted.
 pub(super) const SAMPLE: &[u8] =

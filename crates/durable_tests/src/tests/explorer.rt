@@ -1,17 +1,18 @@
 //! Runs that are stopped at each write and sync, and devices that are judged. Numbers of writes and syncs are worked out by hand.
 ghost use Rattle.std.specs.Prelude.{IfOk, map};
 ghost use Rattle.crash_explorer.specs.Judging.{IsRunOf};
-ghost use Rattle.step_core.specs.Chosen.{choice_of};
-ghost use Rattle.step_core.specs.System.{plant_of};
+ghost use Rattle.plant_model.specs.Chosen.{choice_of};
+ghost use Rattle.plant_model.specs.System.{plant_of};
 
 use super::common::{SAMPLE, plant, sample};
 use super::runs::{ASK_A, FIRE_0, FIRE_1, FLUSH, PUT_A, TWO_AND_TWO, whole_run};
 use crash_explorer::{Cut, Explorer, Found, Stage, Trial, explore, judge};
 use disk_model::Tear;
 use plant_core::Event;
+use plant_model::{Choice, System};
 use std::alloc::Global;
 use std::test::Fail;
-use step_core::{Choice, Stepper, System};
+use step_core::Stepper;
 
 /// A plant with guards, transfers, a broadcast and rules, of which each state has another list of choices.
 const RULED: &[u8] =

@@ -6,9 +6,9 @@ use super::runs::{
 };
 use disk_model::{MemDisk, Tear};
 use plant_core::{Event, Front, Happened, Plant, Refused};
+use plant_model::System;
 use std::alloc::Global;
 use std::test::Fail;
-use step_core::System;
 
 /// Tick, send, tick, send, all of it acknowledged, A saved after all of them, and one event more of each kind.
 const A_SAVED_AND_ON: [Event; 11] = [

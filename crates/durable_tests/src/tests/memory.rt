@@ -11,11 +11,11 @@ use crash_explorer::{ExploreFault, Report, explore};
 use disk_model::{BODY, CELL, Cells, Disk, MemDisk};
 use plant_core::{Event, Hands, Happened, Plant, drive};
 use plant_image::ImageFault;
+use plant_model::System;
 use plant_text::{Fault, read_plant};
 use recovery::{BootFault, FormatFault, boot, format};
 use std::alloc::Global;
 use std::test::Fail;
-use step_core::System;
 
 /// The bytes of the sample's device with a ring of 8.
 const BYTES: usize = 15_360;

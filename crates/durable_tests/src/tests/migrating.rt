@@ -3,10 +3,10 @@ use super::common::{OpaqueDisk, TEARS, formatted, put, sample};
 use super::runs::{Shown, booted_to, settled, wanted_at};
 use disk_model::{Disk, FIRST_CELL, MemDisk, Tear};
 use plant_core::Front;
+use plant_model::System;
 use recovery::{BootFault, MigrateFault, MigrateRefused, migrate};
 use std::alloc::Global;
 use std::test::Fail;
-use step_core::System;
 
 // The gates and fields of the full cells of an image of the first layout, after tick, send, tick and send of the sample and a save of A.
 const IDENTITY: [u8; 45] = [

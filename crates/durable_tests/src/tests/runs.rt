@@ -3,10 +3,11 @@ use super::common::{OpaqueDisk, formatted};
 use disk_model::{MemDisk, Tear};
 use plant_core::{Event, Front, Hands, Happened, Plant, Refused, drive};
 use plant_image::ImageFault;
+use plant_model::System;
 use recovery::{BootFault, boot};
 use std::alloc::Global;
 use std::test::Fail;
-use step_core::{Stepper, System};
+use step_core::Stepper;
 
 /// How many writes and syncs the devices keep.
 pub(super) const ROOM: usize = 512;

@@ -3,10 +3,10 @@ use super::common::{OpaqueDisk, sample};
 use super::runs::{FIRE_0, new_device, try_boot, whole_run};
 use petri_atom::AtomState;
 use plant_core::{Event, Plant, PutRefused, Refused};
+use plant_model::System;
 use snapshot_writer::{Parcel, encode};
 use std::alloc::Global;
 use std::test::Fail;
-use step_core::System;
 
 /// Why the last event is refused, and how many calls of the device are made.
 fn asked(alloc: Global, system: &System, events: &[Event]) -> Result<(Option<Refused>, u64), Fail> {

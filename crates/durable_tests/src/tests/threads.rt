@@ -3,11 +3,11 @@ use super::common::{OpaqueDisk, formatted, sample};
 use super::runs::{try_boot, value_of};
 use disk_model::Disk;
 use plant_core::Plant;
+use plant_model::System;
 use std::alloc::Global;
 use std::sync::{Mutex, Wait};
 use std::test::Fail;
 use std::thread::{Threads, join};
-use step_core::System;
 
 /// How often each thread fires and flushes.
 const ROUNDS: u64 = 20;

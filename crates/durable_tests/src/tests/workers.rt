@@ -7,13 +7,13 @@ use super::runs::{A_SAVED, Shown, settled, value_of, whole_run};
 use disk_model::CELL;
 use plant_core::{Event, Plant};
 use plant_image::ImageFault;
+use plant_model::System;
 use recovery::{BootFault, BootRefused, MOST_WORKERS, Quiet, Turn, boot, boot_par};
 use std::alloc::Global;
 use std::sync::atomic::{AtomicBool, Ordering};
 use std::test::Fail;
 use std::thread;
 use std::thread::Threads;
-use step_core::System;
 
 /// How often a worker looks for the other.
 const TURNS: u64 = 1_000_000;

@@ -1,14 +1,15 @@
 //! What the program never asks of a plant and its states.
 ghost use Rattle.std.specs.Prelude.{◌<◌, length};
-ghost use Rattle.step_core.specs.Choice.{IsAllowed};
-ghost use Rattle.step_core.specs.Chosen.{choice_of};
-ghost use Rattle.step_core.specs.Fitting.{IsOf};
+ghost use Rattle.plant_model.specs.Choice.{IsAllowed};
+ghost use Rattle.plant_model.specs.Chosen.{choice_of};
+ghost use Rattle.plant_model.specs.Fitting.{IsOf};
+ghost use Rattle.plant_model.specs.System.{plant_of};
 ghost use Rattle.step_core.specs.Running.{plant_in, states_in};
-ghost use Rattle.step_core.specs.System.{plant_of};
 
+use plant_model::{Choice, PlantState, System};
 use plant_text::plant_of_text;
 use std::test::Fail;
-use step_core::{Choice, PlantState, Stepper, System};
+use step_core::{Stepper, count_allowed, nth_allowed};
 
 /// Two choices: of A alone, and of A with B.
 const BROADCAST: &[u8] =
@@ -18,9 +19,9 @@ const BROADCAST: &[u8] =
 fn second_choice(system: &System, states: &PlantState) -> Option<(u128, u16)>
     requires { IsOf (plant_of system.now) states.now }
 {
-    let count = system.count_allowed(states);
+    let count = count_allowed(system, states);
     if 1 < count {
-        Some((count, system.nth_allowed(states, 1).mask))
+        Some((count, nth_allowed(system, states, 1).mask))
     } else {
         None
     }

@@ -1,9 +1,10 @@
 //! What is sure while atoms are away, and the jobs of those that leave, on plants worked out by hand.
 use connector_tree::MAX_LEAVES;
 use petri_atom::{AtomState, Delivered};
+use plant_model::{MAX_ATOMS, PlantState};
 use plant_text::plant_of_text;
 use std::test::Fail;
-use step_core::{Dispatcher, Done, Job, Jobs, MAX_ATOMS, PlantState, work};
+use step_core::{Dispatcher, Done, Job, Jobs, work};
 
 /// The connectors of the first sure choices, in their order.
 fn sure(run: &Dispatcher<'_>) -> [Option<u16>; 3] {

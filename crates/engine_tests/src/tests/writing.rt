@@ -1,12 +1,13 @@
 //! Printing to a writer that fails.
 use plant_drawing::{ALL_ATOMS, Filling, draw_to};
+use plant_model::System;
 use plant_text::plant_of_text;
 use run_text::{TraceFault, trace_as};
 use std::alloc::Global;
 use std::io;
 use std::io::{ErrorKind, Write};
 use std::test::Fail;
-use step_core::{Stepper, System};
+use step_core::Stepper;
 use text_io::Format;
 
 /// How many bytes a page has room for.

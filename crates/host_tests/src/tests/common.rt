@@ -6,12 +6,12 @@ use bare_disk::BareDisk;
 use disk_model::{CELL, Disk};
 use engine_host::Gate;
 use plant_core::Plant;
+use plant_model::System;
 use record_codec::ring::device_cells;
 use record_codec::{LEAST_RING, MOST_RING};
 use recovery::{boot, format};
 use std::alloc::Global;
 use std::test::Fail;
-use step_core::System;
 
 /// A counts, and B takes what A has counted.
 pub(super) const SAMPLE: &[u8] =

@@ -7,6 +7,7 @@ use bare_disk::BareDisk;
 use disk_model::Disk;
 use engine_host::{Closed, Gate, Host, Named, Naming, Seat, name, open};
 use plant_core::Plant;
+use plant_model::System;
 use plant_text::plant_of_text;
 use std::alloc::Global;
 use std::marker::Brand;
@@ -15,7 +16,6 @@ use std::sync::Wait;
 use std::sync::atomic::{AtomicBool, Ordering};
 use std::test::*;
 use std::thread::{Threads, join, yield_now};
-use step_core::System;
 
 /// How often a thread looks for another before it gives up.
 const TURNS: u32 = 1_000_000;

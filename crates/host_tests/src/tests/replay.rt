@@ -1,12 +1,13 @@
 //! What all threads were answered, replayed as one run.
-ghost use Rattle.step_core.specs.Fitting.{IsOf};
-ghost use Rattle.step_core.specs.System.{plant_of};
+ghost use Rattle.plant_model.specs.Fitting.{IsOf};
+ghost use Rattle.plant_model.specs.System.{plant_of};
 
 use super::told::Fire;
 use disk_model::Disk;
 use plant_core::Plant;
+use plant_model::{PlantState, System};
 use std::alloc::{AllocError, Global};
-use step_core::{PlantState, System};
+use step_core::{count_allowed, nth_allowed};
 
 /// Whether the fires, in the order of their numbers, are one run of the plant from its first state, which leads to what the plant shows.
 pub(super) fn is_one_run<D: Disk>(
@@ -32,11 +33,11 @@ fn is_next(system: &System, states: &mut PlantState, fire: &Fire) -> bool
     requires { IsOf (plant_of system.now) states.old }
     ensures { IsOf (plant_of system.now) states.new }
 {
-    let count = system.count_allowed(states);
+    let count = count_allowed(system, states);
     if count == 0 {
         return false;
     }
-    let choice = system.nth_allowed(states, u128::from(fire.pick) % count);
+    let choice = nth_allowed(system, states, u128::from(fire.pick) % count);
     system.next(states, &choice);
     choice.same(&fire.fired.choice)
 }

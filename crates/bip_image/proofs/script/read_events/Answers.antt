@@ -2,7 +2,7 @@
 use Rattle.std.proofs.Common.{◌≡◌, ◌∙◌, sym, ap}
 use Rattle.std.specs.Prelude.{Ok}
 use Rattle.std.proofs.lemmas.Result.{err_from_is_err_and}
-use Rattle.step_core.specs.System.{plant_of}
+use Rattle.plant_model.specs.System.{plant_of}
 use Rattle.script_lines.specs.Script.{script_meaning}
 use Rattle.plant_tasks.proofs.Printing.{of_known}
 use Rattle.bip_image.proofs.script.read_events.Goals as goal

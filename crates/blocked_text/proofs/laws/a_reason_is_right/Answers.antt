@@ -1,5 +1,5 @@
 use Rattle.blocked_text.proofs.Reasoning.{none-of, right}
-use Rattle.step_core.specs.Choice.{plant_interactions}
+use Rattle.plant_model.specs.Choice.{plant_interactions}
 use Rattle.blocked_text.proofs.laws.a_reason_is_right.Goals as goal
 
 pub returns : goal.returns

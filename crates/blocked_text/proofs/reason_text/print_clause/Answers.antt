@@ -1,9 +1,9 @@
 use Rattle.std.proofs.Common.{subst, OnOk}
 use Rattle.std.specs.Prelude.{slice_get}
 use Rattle.std.specs.Io.KnownBytes.{Appends}
-use Rattle.step_core.specs.Plant.{WireDefinition}
-use Rattle.step_core.specs.System.{plant_of}
-use Rattle.step_core.specs.Wire.{wire_of}
+use Rattle.plant_model.specs.Plant.{WireDefinition}
+use Rattle.plant_model.specs.System.{plant_of}
+use Rattle.plant_model.specs.Wire.{wire_of}
 use Rattle.blocked_text.specs.ReasonText.{clause_text}
 use Rattle.blocked_text.proofs.Entries.{made-at, made-past, printed-entry, printed-no-entry}
 use Rattle.blocked_text.proofs.Small.{small-guards}

@@ -3,9 +3,9 @@ use Rattle.std.specs.Prelude.{slice_get}
 use Rattle.petri_atom.specs.Atom.{definition_of}
 use Rattle.petri_atom.specs.Expression.{tree_of}
 use Rattle.connector_tree.specs.Tree.{leaves}
-use Rattle.step_core.specs.Exports.{value_at}
-use Rattle.step_core.specs.Rules.{is_same_export}
-use Rattle.step_core.specs.Wire.{wire_of}
+use Rattle.plant_model.specs.Exports.{value_at}
+use Rattle.plant_model.specs.Rules.{is_same_export}
+use Rattle.plant_model.specs.Wire.{wire_of}
 use Rattle.part_text.specs.Export.{export_name}
 use Rattle.blocked_text.specs.Zero.{zero_text}
 use Rattle.blocked_text.proofs.Entries.{made-at, made-past, printed-entry, printed-no-entry}

@@ -1,7 +1,7 @@
 use Rattle.std.specs.Prelude.{slice_get}
-use Rattle.step_core.specs.Choice.{plant_interactions}
-use Rattle.step_core.specs.Interaction.{interaction_of}
-use Rattle.step_core.specs.System.{plant_of}
+use Rattle.plant_model.specs.Choice.{plant_interactions}
+use Rattle.plant_model.specs.Interaction.{interaction_of}
+use Rattle.plant_model.specs.System.{plant_of}
 use Rattle.blocked_text.specs.Way.{way_text}
 use Rattle.blocked_text.proofs.Entries.{made-at, made-past, printed-entry, printed-no-entry}
 use Rattle.blocked_text.proofs.reason_text.print_way_to.Goals as goal

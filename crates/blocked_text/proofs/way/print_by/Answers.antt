@@ -1,9 +1,9 @@
 use Rattle.std.proofs.Common.{◌≡◌, ◌∙◌, sym, ap, subst, codes, None, OnOk}
 use Rattle.std.specs.Option.{option_map_or}
 use Rattle.std.specs.Io.KnownBytes.{Appends}
-use Rattle.step_core.specs.Choice.{is_marked_at, named}
-use Rattle.step_core.specs.Interaction.{interaction_of}
-use Rattle.step_core.specs.System.{plant_of}
+use Rattle.plant_model.specs.Choice.{is_marked_at, named}
+use Rattle.plant_model.specs.Interaction.{interaction_of}
+use Rattle.plant_model.specs.System.{plant_of}
 use Rattle.blocked_text.specs.Way.{first_rule, rule_with_line}
 use Rattle.blocked_text.proofs.way.print_by.Goals as goal
 

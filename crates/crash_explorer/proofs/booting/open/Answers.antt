@@ -7,8 +7,8 @@ use Rattle.disk_model.specs.declared.memory.MemDisk.{MemDisk}
 use Rattle.plant_image.specs.Faults.{fault_of}
 use Rattle.recovery.specs.Booting.{IsBootFault}
 use Rattle.recovery.specs.declared.fault.BootFault.{BootFault}
-use Rattle.step_core.specs.Plant.{PlantDefinition}
-use Rattle.step_core.specs.System.{digest_of, plant_of}
+use Rattle.plant_model.specs.Plant.{PlantDefinition}
+use Rattle.plant_model.specs.System.{digest_of, plant_of}
 use Rattle.crash_explorer.proofs.Judged.{wrong-of-fault}
 use Rattle.crash_explorer.proofs.booting.open.Goals as goal
 

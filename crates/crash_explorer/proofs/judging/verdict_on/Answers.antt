@@ -9,10 +9,10 @@ use Rattle.plant_image.specs.Faults.{fault_of}
 use Rattle.plant_image.specs.Reading.{IsStanding}
 use Rattle.plant_image.specs.declared.fault.ImageFault.{ImageFault}
 use Rattle.plant_image.specs.declared.standing.Standing.{Standing}
-use Rattle.step_core.specs.Choice.{ChoiceDefinition}
-use Rattle.step_core.specs.Chosen.{choice_of}
-use Rattle.step_core.specs.Plant.{PlantDefinition}
-use Rattle.step_core.specs.System.{digest_of, plant_of}
+use Rattle.plant_model.specs.Choice.{ChoiceDefinition}
+use Rattle.plant_model.specs.Chosen.{choice_of}
+use Rattle.plant_model.specs.Plant.{PlantDefinition}
+use Rattle.plant_model.specs.System.{digest_of, plant_of}
 use Rattle.crash_explorer.proofs.Fronts.{asks-none}
 use Rattle.crash_explorer.proofs.Judged.{judged, wrong-of-fault}
 use Rattle.crash_explorer.proofs.judging.verdict_on.Goals as goal

@@ -10,11 +10,11 @@ use Rattle.disk_model.specs.declared.memory.MemDisk.{MemDisk}
 use Rattle.plant_core.specs.Events.{all_fired}
 use Rattle.plant_core.specs.Plants.{definition_of, device_of, text_digest, view_of}
 use Rattle.plant_core.specs.View.{View}
-use Rattle.step_core.specs.Choice.{ChoiceDefinition}
-use Rattle.step_core.specs.Chosen.{choice_of}
-use Rattle.step_core.specs.Plant.{PlantDefinition}
-use Rattle.step_core.specs.System.{digest_of, plant_of}
-use Rattle.step_core.specs.declared.choice.Choice.{Choice}
+use Rattle.plant_model.specs.Choice.{ChoiceDefinition}
+use Rattle.plant_model.specs.Chosen.{choice_of}
+use Rattle.plant_model.specs.Plant.{PlantDefinition}
+use Rattle.plant_model.specs.System.{digest_of, plant_of}
+use Rattle.plant_model.specs.declared.choice.Choice.{Choice}
 use Rattle.crash_explorer.specs.Judging.{IsRight, IsRightStop}
 use Rattle.crash_explorer.specs.Running.{IsLived, acked_in, device_in, fired_in, is_formatting, tail_in}
 use Rattle.crash_explorer.specs.Verdicts.{IsFound, IsVerdict}

@@ -7,11 +7,11 @@ use Rattle.disk_model.specs.DiskState.{DiskState, size_of}
 use Rattle.disk_model.specs.MemDisk.{state_of}
 use Rattle.plant_core.specs.Plants.{device_of, text_digest, view_of}
 use Rattle.plant_image.specs.Contents.{contents_of, last_number}
-use Rattle.step_core.specs.Choice.{ChoiceDefinition}
-use Rattle.step_core.specs.Chosen.{choice_of}
-use Rattle.step_core.specs.Plant.{PlantDefinition}
-use Rattle.step_core.specs.System.{digest_of, plant_of}
-use Rattle.step_core.specs.declared.choice.Choice.{Choice}
+use Rattle.plant_model.specs.Choice.{ChoiceDefinition}
+use Rattle.plant_model.specs.Chosen.{choice_of}
+use Rattle.plant_model.specs.Plant.{PlantDefinition}
+use Rattle.plant_model.specs.System.{digest_of, plant_of}
+use Rattle.plant_model.specs.declared.choice.Choice.{Choice}
 use Rattle.crash_explorer.specs.Judging.{IsRunOf}
 use Rattle.crash_explorer.specs.Outcomes.{IsNext, IsNextOf}
 use Rattle.crash_explorer.specs.Running.{IsAt, is_formatting}

@@ -1,5 +1,5 @@
 use Rattle.std.proofs.Common.{◌≡◌, ◌++◌, map, take}
-use Rattle.step_core.specs.Chosen.{choice_of}
+use Rattle.plant_model.specs.Chosen.{choice_of}
 use Rattle.plant_core.specs.Events.{all_fired}
 use Rattle.crash_explorer.proofs.running.fired_behind.Given as goal
 

@@ -7,8 +7,8 @@ use Rattle.disk_model.specs.MemDisk.{fresh, state_of}
 use Rattle.disk_model.specs.Moments.{leaves_now}
 use Rattle.disk_model.specs.declared.memory.MemDisk.{MemDisk}
 use Rattle.recovery.specs.Formatting.{IsFormatting, formatted_size}
-use Rattle.step_core.specs.Plant.{PlantDefinition}
-use Rattle.step_core.specs.System.{digest_of, plant_of}
+use Rattle.plant_model.specs.Plant.{PlantDefinition}
+use Rattle.plant_model.specs.System.{digest_of, plant_of}
 use Rattle.crash_explorer.specs.Running.{device_in}
 use Rattle.crash_explorer.specs.declared.running.Ended.{Ended}
 use Rattle.crash_explorer.specs.declared.running.Stage.TheVariants.{Formatting}

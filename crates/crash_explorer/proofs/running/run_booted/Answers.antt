@@ -13,9 +13,9 @@ use Rattle.plant_core.specs.Plants.{definition_of, device_of, text_digest, view_
 use Rattle.plant_core.specs.Stops.{StandsForFront}
 use Rattle.plant_core.specs.View.{View}
 use Rattle.plant_core.specs.declared.events.Happened.{Happened}
-use Rattle.step_core.specs.Choice.{ChoiceDefinition}
-use Rattle.step_core.specs.Chosen.{choice_of}
-use Rattle.step_core.specs.Plant.{PlantDefinition}
+use Rattle.plant_model.specs.Choice.{ChoiceDefinition}
+use Rattle.plant_model.specs.Chosen.{choice_of}
+use Rattle.plant_model.specs.Plant.{PlantDefinition}
 use Rattle.crash_explorer.specs.Judging.{IsRight, IsRunOf}
 use Rattle.crash_explorer.proofs.Stopped.{is-run, running-right, within}
 use Rattle.crash_explorer.proofs.running.run_booted.Goals as goal

@@ -7,10 +7,10 @@ use Rattle.disk_model.specs.Moments.{leaves_now, seen_may}
 use Rattle.plant_core.specs.Plants.{text_digest, view_of}
 use Rattle.plant_core.specs.View.{View}
 use Rattle.recovery.specs.Booting.{IsBooting}
-use Rattle.step_core.specs.Chosen.{choice_of}
-use Rattle.step_core.specs.Plant.{PlantDefinition}
-use Rattle.step_core.specs.System.{digest_of, plant_of}
-use Rattle.step_core.specs.declared.choice.Choice.{Choice}
+use Rattle.plant_model.specs.Chosen.{choice_of}
+use Rattle.plant_model.specs.Plant.{PlantDefinition}
+use Rattle.plant_model.specs.System.{digest_of, plant_of}
+use Rattle.plant_model.specs.declared.choice.Choice.{Choice}
 use Rattle.crash_explorer.specs.Running.{IsAt, IsFirstBoot, IsLived, device_in, fired_in}
 use Rattle.crash_explorer.specs.declared.running.Ended.{Ended}
 use Rattle.crash_explorer.specs.declared.running.Stage.TheVariants.{Booting}

@@ -1,11 +1,11 @@
 use Rattle.std.proofs.Common.{◌+◌, List, sym, ◌∙◌, ap, subst, drop, map}
 use Rattle.petri_atom.specs.Local.{Local}
-use Rattle.step_core.specs.Choice.{ChoiceDefinition, IsAllowed}
-use Rattle.step_core.specs.Chosen.{choice_of}
-use Rattle.step_core.specs.Plant.{PlantDefinition}
+use Rattle.plant_model.specs.Choice.{ChoiceDefinition, IsAllowed}
+use Rattle.plant_model.specs.Chosen.{choice_of}
+use Rattle.plant_model.specs.Plant.{PlantDefinition}
+use Rattle.plant_model.specs.Runs.{IsRun, fold}
+use Rattle.plant_model.specs.Step.{next}
 use Rattle.step_core.specs.Running.{plant_in, states_in}
-use Rattle.step_core.specs.Runs.{IsRun, fold}
-use Rattle.step_core.specs.Step.{next}
 use Rattle.crash_explorer.proofs.Fronts.{left-at, run-at}
 use Rattle.crash_explorer.proofs.states.fire_all.Goals as goal
 

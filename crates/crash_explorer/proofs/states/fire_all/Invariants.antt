@@ -1,7 +1,7 @@
 use Rattle.std.proofs.Common.{◌≡◌, drop, map}
-use Rattle.step_core.specs.Chosen.{choice_of}
+use Rattle.plant_model.specs.Chosen.{choice_of}
+use Rattle.plant_model.specs.Runs.{IsRun, fold}
 use Rattle.step_core.specs.Running.{plant_in, states_in}
-use Rattle.step_core.specs.Runs.{IsRun, fold}
 use Rattle.crash_explorer.proofs.states.fire_all.Given as goal
 
 abbrev pub invariant-loop-choice : goal.invariant-loop-choice

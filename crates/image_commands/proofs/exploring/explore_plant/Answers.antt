@@ -4,7 +4,7 @@ use Rattle.std.specs.Io.KnownBytes.{Appends}
 use Rattle.std.proofs.KnownBytes.{Appends-kept, Appends-nil, Appends-trans}
 use Rattle.std.proofs.lemmas.List.{length-append}
 use Rattle.std.proofs.lemmas.List.Sums.{sum_by_push}
-use Rattle.step_core.specs.System.{digest_of, plant_of}
+use Rattle.plant_model.specs.System.{digest_of, plant_of}
 use Rattle.std.specs.Prelude.{MatchOption, Option}
 use Rattle.crash_explorer.specs.Exploring.{IsNextTrial, IsWholeRun, trials_left}
 use Rattle.crash_explorer.specs.declared.explorer.Explorer.{Explorer}

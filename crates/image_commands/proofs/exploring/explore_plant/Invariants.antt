@@ -1,7 +1,7 @@
 use Rattle.std.proofs.Common.{◌≡◌, ◌+◌, ◌*◌, ◌≤◌, List, length}
 use Rattle.std.specs.Prelude.{flat_map, sum_by}
 use Rattle.std.specs.Io.KnownBytes.{Appends}
-use Rattle.step_core.specs.System.{digest_of, plant_of}
+use Rattle.plant_model.specs.System.{digest_of, plant_of}
 use Rattle.crash_explorer.specs.Exploring.{IsExplorerOf, stops_of, trials_left}
 use Rattle.crash_explorer.specs.declared.explorer.Trial.{Trial}
 use Rattle.image_commands.specs.Trials.{AreTrialsFrom, listed_line, wrong_of}

@@ -1,7 +1,7 @@
 -- The plant that was booted from the new device is at the number that was brought over, and is let go as it was booted.
 use Rattle.std.proofs.Common.{◌∙◌, subst, ℕ}
 use Rattle.std.specs.Io.KnownBytes.{Appends}
-use Rattle.step_core.specs.System.{plant_of}
+use Rattle.plant_model.specs.System.{plant_of}
 use Rattle.plant_core.specs.Plants.{view_of}
 use Rattle.image_commands.specs.Migrations.{held_by_old, migrated_line}
 use Rattle.image_commands.proofs.Appending.{appended_and_kept}

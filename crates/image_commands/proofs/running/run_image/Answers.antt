@@ -1,6 +1,6 @@
 -- The plant that was booted is the one that was run, from empty hands.
 use Rattle.std.proofs.Common.{◌∙◌, Bool, subst}
-use Rattle.step_core.specs.System.{digest_of, plant_of}
+use Rattle.plant_model.specs.System.{digest_of, plant_of}
 use Rattle.plant_core.specs.Handed.{hands_of}
 use Rattle.plant_core.specs.Plants.{device_of, view_of}
 use Rattle.image_commands.specs.Runs.{IsRunOn}

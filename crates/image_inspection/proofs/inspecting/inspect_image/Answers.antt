@@ -5,7 +5,7 @@ use Rattle.std.proofs.lemmas.Result.{err_from_is_err_and}
 use Rattle.disk_model.specs.Cells.{Cell}
 use Rattle.disk_model.specs.DiskState.{DiskState, Reads}
 use Rattle.disk_model.specs.Reading.{reads_then}
-use Rattle.step_core.specs.declared.system.System.{System}
+use Rattle.plant_model.specs.declared.system.System.{System}
 use Rattle.image_inspection.specs.Endings.{is_disk}
 use Rattle.image_inspection.specs.Inspected.{inspected_cells}
 use Rattle.image_inspection.specs.Lines.{inspection_text}

@@ -3,7 +3,7 @@ use Rattle.std.specs.Prelude.{option_copied}
 use Rattle.std.specs.Io.KnownBytes.{Appends}
 use Rattle.plant_image.specs.Contents.{Contents, last_number}
 use Rattle.plant_image.specs.Reading.{contents_in}
-use Rattle.step_core.specs.declared.system.System.{System}
+use Rattle.plant_model.specs.declared.system.System.{System}
 use Rattle.image_inspection.specs.Holding.{missing}
 use Rattle.image_inspection.proofs.Printed.{doubtful-is, lines-are, lines-printed}
 use Rattle.image_inspection.proofs.inspecting.print_contents.Goals as goal

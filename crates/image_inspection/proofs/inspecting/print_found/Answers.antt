@@ -2,7 +2,7 @@ use Rattle.std.proofs.Common.{◌∙◌, ap, subst, List, ℕ, Option}
 use Rattle.std.specs.Prelude.{option_copied}
 use Rattle.std.specs.Io.KnownBytes.{Appends}
 use Rattle.plant_image.specs.Reading.{contents_in}
-use Rattle.step_core.specs.declared.system.System.{System}
+use Rattle.plant_model.specs.declared.system.System.{System}
 use Rattle.image_inspection.specs.Inspected.{atoms_told}
 use Rattle.image_inspection.proofs.Printed.{all-printed, text-is, verdict-is}
 use Rattle.image_inspection.proofs.inspecting.print_found.Goals as goal

@@ -1,7 +1,7 @@
 use Rattle.std.proofs.Common.{◌≡◌, subst, ℕ, List, length}
 use Rattle.std.specs.Io.KnownBytes.{Appends}
 use Rattle.std.proofs.KnownBytes.{Appends-trans}
-use Rattle.step_core.specs.System.{plant_of, digest_of}
+use Rattle.plant_model.specs.System.{plant_of, digest_of}
 use Rattle.text_io.specs.Printing.{Prints}
 use Rattle.text_io.proofs.Leading.{printed-last}
 use Rattle.image_inspection.specs.Reasons.{plant_words}

@@ -4,7 +4,7 @@ use Rattle.std.proofs.lemmas.List.{get_or_default, length-map}
 use Rattle.petri_atom.specs.Atom.{definition_of}
 use Rattle.petri_atom.specs.Definition.{AtomDefinition}
 use Rattle.record_codec.specs.Saved.{SavedFields}
-use Rattle.step_core.specs.System.{plant_of}
+use Rattle.plant_model.specs.System.{plant_of}
 use Rattle.plant_image.specs.Contents.{unsaved}
 use Rattle.plant_image.specs.Faults.{is_of_atom}
 use Rattle.plant_image.proofs.FirstFault.{mapped_at}

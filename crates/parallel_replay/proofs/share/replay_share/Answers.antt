@@ -1,6 +1,6 @@
 use Rattle.std.proofs.Common.{◌+◌, ◌∷◌, [], ℕ, None, sym, ◌∙◌, ap, subst, length, get_or}
 use Rattle.std.proofs.lemmas.List.{length-append}
-use Rattle.step_core.specs.System.{plant_of}
+use Rattle.plant_model.specs.System.{plant_of}
 use Rattle.plant_image.specs.Reading.{contents_in}
 use Rattle.parallel_replay.specs.Shares.{IsPlaced}
 use Rattle.parallel_replay.proofs.Placing.{one_more}

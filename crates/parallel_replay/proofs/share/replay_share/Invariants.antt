@@ -1,7 +1,7 @@
 use Rattle.std.proofs.Common.{◌≡◌, ◌<◌, ◌%◌, ℕ, length, get_or, None, Some, vec_capacity}
 use Rattle.std.specs.Prelude.{slice_get}
 use Rattle.petri_atom.specs.Definition.{AtomDefinition}
-use Rattle.step_core.specs.System.{plant_of}
+use Rattle.plant_model.specs.System.{plant_of}
 use Rattle.plant_image.specs.Reading.{contents_in}
 use Rattle.parallel_replay.specs.Shares.{IsPlaced}
 use Rattle.parallel_replay.proofs.share.replay_share.Given as goal

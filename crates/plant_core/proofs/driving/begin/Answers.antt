@@ -1,7 +1,7 @@
 use Rattle.std.proofs.Common.{◌<◌, get_or, length, arith}
 use Rattle.std.proofs.lemmas.Option.{slice_get-get_or, slice_get_within}
+use Rattle.plant_model.proofs.Stepping.{no_move}
 use Rattle.step_core.specs.Jobs.{jobs_of}
-use Rattle.step_core.proofs.Stepping.{no_move}
 use Rattle.plant_core.specs.Plants.{definition_of}
 use Rattle.plant_core.proofs.driving.begin.Goals as goal
 

@@ -7,7 +7,7 @@ use Rattle.plant_core.specs.Events.{AreHandsAfter, IsEvent, IsHandedIn}
 use Rattle.plant_core.specs.Driven.{IsDriven}
 use Rattle.plant_core.specs.Handed.{hands_of}
 use Rattle.plant_core.specs.Hands.{AreHandsFor}
-use Rattle.step_core.specs.Plant.{PlantDefinition}
+use Rattle.plant_model.specs.Plant.{PlantDefinition}
 use Rattle.plant_core.specs.Plants.{definition_of, device_of, text_digest, view_of}
 use Rattle.plant_core.specs.Stops.{StandsForFront}
 use Rattle.plant_core.specs.declared.events.Event.{Event}

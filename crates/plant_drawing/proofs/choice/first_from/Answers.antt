@@ -1,5 +1,5 @@
 use Rattle.std.proofs.Common.{arith}
-use Rattle.step_core.specs.Chosen.{choice_of}
+use Rattle.plant_model.specs.Chosen.{choice_of}
 use Rattle.step_core.specs.Running.{plant_in, states_in}
 use Rattle.plant_drawing.proofs.Ordered.{earlier-up-to, later-from}
 use Rattle.plant_drawing.proofs.choice.first_from.Goals as goal

@@ -1,6 +1,6 @@
 -- The place that is sought is between the two ends, which come closer.
 use Rattle.std.proofs.Common.{◌-◌}
-use Rattle.step_core.specs.Choice.{choices}
+use Rattle.plant_model.specs.Choice.{choices}
 use Rattle.step_core.specs.Running.{plant_in, states_in}
 use Rattle.plant_drawing.specs.Place.{IsBetween}
 use Rattle.plant_drawing.proofs.choice.first_from.Given as goal

@@ -1,6 +1,6 @@
 use Rattle.std.proofs.Common.{◌==◌, ◌∙◌, ap, arith}
 use Rattle.std.proofs.lemmas.Bool.{le-ltb}
-use Rattle.step_core.specs.Chosen.{choice_of}
+use Rattle.plant_model.specs.Chosen.{choice_of}
 use Rattle.step_core.specs.Running.{plant_in, states_in}
 use Rattle.plant_drawing.proofs.Ordered.{known_by_first, known_past}
 use Rattle.plant_drawing.proofs.choice.has_choice.Goals as goal

@@ -3,7 +3,7 @@ use Rattle.std.proofs.Common.{map, take}
 use Rattle.std.specs.Prelude.{flat_map}
 use Rattle.std.specs.Io.KnownBytes.{Appends}
 use Rattle.petri_atom.specs.Atom.{definition_of}
-use Rattle.step_core.specs.Wire.{transfer_of}
+use Rattle.plant_model.specs.Wire.{transfer_of}
 use Rattle.connector_tree.specs.Tree as connectors
 use Rattle.plant_drawing.specs.Connector.{transfer_line}
 use Rattle.plant_drawing.proofs.clauses.print_transfers.Given as goal

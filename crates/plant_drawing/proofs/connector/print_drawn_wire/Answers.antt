@@ -1,9 +1,9 @@
 use Rattle.std.proofs.Common.{◌≡◌, ◌∙◌, [], ap, subst, map, cond, OnOk}
 use Rattle.std.specs.Io.KnownBytes.{Appends}
 use Rattle.petri_atom.specs.Atom.{definition_of}
-use Rattle.step_core.specs.Plant.{PlantDefinition}
+use Rattle.plant_model.specs.Plant.{PlantDefinition}
+use Rattle.plant_model.specs.Wire.{wire_of}
 use Rattle.step_core.specs.Running.{plant_in, states_in}
-use Rattle.step_core.specs.Wire.{wire_of}
 use Rattle.plant_drawing.specs.Connector.{connector_lines}
 use Rattle.plant_drawing.specs.Drawn.{is_coloured}
 use Rattle.plant_drawing.proofs.connector.print_drawn_wire.Goals as goal

@@ -1,5 +1,5 @@
 use Rattle.std.proofs.Common.{arith}
-use Rattle.step_core.specs.Wire.{wire_of}
+use Rattle.plant_model.specs.Wire.{wire_of}
 use Rattle.plant_drawing.specs.Outline.{connector_outline}
 use Rattle.plant_drawing.proofs.Listing.{leads-mapped}
 use Rattle.plant_drawing.proofs.outline.print_wires.Goals as goal

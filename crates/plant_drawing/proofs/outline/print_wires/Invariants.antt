@@ -1,6 +1,6 @@
 -- The connectors from this number on are left.
 use Rattle.std.proofs.Common.{drop, map}
-use Rattle.step_core.specs.Wire.{wire_of}
+use Rattle.plant_model.specs.Wire.{wire_of}
 use Rattle.text_io.specs.Numbered.{numbered}
 use Rattle.text_io.proofs.Leading.{Leads}
 use Rattle.plant_drawing.specs.Outline.{connector_outline}

@@ -1,6 +1,6 @@
 use Rattle.std.proofs.Common.{◌≡◌, ◌∙◌, ap, map, arith}
 use Rattle.petri_atom.specs.Atom.{definition_of}
-use Rattle.step_core.specs.Plant.{PlantDefinition}
+use Rattle.plant_model.specs.Plant.{PlantDefinition}
 use Rattle.step_core.specs.Running.{plant_in, states_in}
 use Rattle.plant_drawing.specs.Drawing.{drawn_atom}
 use Rattle.plant_drawing.proofs.Listing.{leads-known}

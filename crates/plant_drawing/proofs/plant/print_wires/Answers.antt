@@ -1,7 +1,7 @@
 use Rattle.std.proofs.Common.{◌≡◌, ◌∙◌, ap, map, arith}
-use Rattle.step_core.specs.Plant.{PlantDefinition}
+use Rattle.plant_model.specs.Plant.{PlantDefinition}
+use Rattle.plant_model.specs.Wire.{wire_of}
 use Rattle.step_core.specs.Running.{plant_in, states_in}
-use Rattle.step_core.specs.Wire.{wire_of}
 use Rattle.plant_drawing.specs.Connector.{drawn_connector}
 use Rattle.plant_drawing.specs.Drawn.{is_coloured}
 use Rattle.plant_drawing.proofs.Listing.{leads-known}

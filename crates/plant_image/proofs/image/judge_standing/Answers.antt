@@ -3,9 +3,9 @@ use Rattle.std.proofs.lemmas.Result.{err_from_is_err_and}
 use Rattle.petri_atom.specs.Atom.{definition_of}
 use Rattle.petri_atom.specs.Definition.{AtomDefinition}
 use Rattle.record_replay.specs.Records.{count_of}
-use Rattle.step_core.specs.Plant.{PlantDefinition}
-use Rattle.step_core.specs.Rules.{first_fault_in}
-use Rattle.step_core.specs.System.{plant_of}
+use Rattle.plant_model.specs.Plant.{PlantDefinition}
+use Rattle.plant_model.specs.Rules.{first_fault_in}
+use Rattle.plant_model.specs.System.{plant_of}
 use Rattle.plant_image.specs.Contents.{Contents, last_number}
 use Rattle.plant_image.specs.Faults.{fault_where, count_fault, replay_fault}
 use Rattle.plant_image.specs.Reading.{contents_in}

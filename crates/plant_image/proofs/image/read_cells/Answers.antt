@@ -12,9 +12,9 @@ use Rattle.petri_atom.specs.Definition.{AtomDefinition}
 use Rattle.record_codec.specs.Fired.{FiredFields}
 use Rattle.record_codec.specs.Ring.{base_cell}
 use Rattle.record_codec.specs.declared.layout.TheConstants.{LAST_NUMBER}
-use Rattle.step_core.specs.Plant.{PlantDefinition}
-use Rattle.step_core.specs.Rules.{first_fault_in}
-use Rattle.step_core.specs.System.{plant_of, digest_of}
+use Rattle.plant_model.specs.Plant.{PlantDefinition}
+use Rattle.plant_model.specs.Rules.{first_fault_in}
+use Rattle.plant_model.specs.System.{plant_of, digest_of}
 use Rattle.plant_image.specs.Contents.{contents_of, newest_held, ring_held, base_held, unsaved}
 use Rattle.plant_image.specs.Faults.{identity_fault, base_fault, atom_fault, is_of_atom, numbers_fault, records_fault}
 use Rattle.plant_image.proofs.WholeImage.{fourth_is, told_of_same, ring_is, records_judged, records_read, contents_read, in_range}

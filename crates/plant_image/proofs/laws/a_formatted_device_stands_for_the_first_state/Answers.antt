@@ -1,4 +1,4 @@
-use Rattle.step_core.specs.Step.{initial_states}
+use Rattle.plant_model.specs.Step.{initial_states}
 use Rattle.plant_image.specs.Standing.{first_counts}
 use Rattle.plant_image.proofs.FormattedImages.{first_has_room, held_stands}
 use Rattle.plant_image.proofs.laws.a_formatted_device_stands_for_the_first_state.Goals as goal

@@ -6,8 +6,8 @@ use Rattle.gated_journal.proofs.Fronts.{front}
 use Rattle.record_codec.specs.Fired.{FiredFields}
 use Rattle.record_codec.specs.Ring.{record_cell}
 use Rattle.record_codec.specs.declared.layout.TheConstants.{LAST_NUMBER}
-use Rattle.step_core.specs.Plant.{PlantDefinition}
-use Rattle.step_core.specs.System.{plant_of}
+use Rattle.plant_model.specs.Plant.{PlantDefinition}
+use Rattle.plant_model.specs.System.{plant_of}
 use Rattle.plant_image.specs.Faults.{numbers_fault, record_fault}
 use Rattle.plant_image.proofs.FirstFault.{told_first}
 use Rattle.plant_image.proofs.NumberFaults.{record_at, numbers_first, numbers_rest, numbers_end, live_first, live_ends}

@@ -3,7 +3,7 @@ use Rattle.std.specs.List.{range_with_len}
 use Rattle.gated_journal.specs.Live.{live_among}
 use Rattle.record_codec.specs.Ring.{record_cell}
 use Rattle.record_codec.specs.declared.layout.TheConstants.{LAST_NUMBER}
-use Rattle.step_core.specs.System.{plant_of}
+use Rattle.plant_model.specs.System.{plant_of}
 use Rattle.plant_image.specs.Faults.{numbers_fault}
 use Rattle.plant_image.proofs.records.read_records.Given as goal
 

@@ -4,7 +4,7 @@ use Rattle.std.proofs.lemmas.List.{length-map}
 use Rattle.petri_atom.specs.Atom.{definition_of}
 use Rattle.petri_atom.specs.Definition.{AtomDefinition}
 use Rattle.record_replay.specs.Records.{count_of}
-use Rattle.step_core.specs.Rules.{first_of, first_fault_in}
+use Rattle.plant_model.specs.Rules.{first_of, first_fault_in}
 use Rattle.plant_image.specs.Faults.{fault_where}
 use Rattle.plant_image.specs.declared.fault.ImageFault.{ImageFault}
 use Rattle.plant_image.specs.declared.fault.ImageFault.TheVariants.{Gap}

@@ -1,4 +1,4 @@
-use Rattle.step_core.specs.System.{plant_of}
+use Rattle.plant_model.specs.System.{plant_of}
 use Rattle.plant_image.specs.Reading.{contents_in}
 use Rattle.plant_image.proofs.SoFar.{SoFar}
 use Rattle.plant_image.proofs.replaying.replay_all.Given as goal

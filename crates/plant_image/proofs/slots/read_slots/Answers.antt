@@ -4,7 +4,7 @@ use Rattle.std.specs.List.{range_with_len}
 use Rattle.std.proofs.lemmas.List.FromFn.{map-range_with_len_more}
 use Rattle.record_codec.specs.Saved.{SavedFields}
 use Rattle.petri_atom.specs.Atom.{definition_of}
-use Rattle.step_core.specs.Rules.{first_of, first_fault_in}
+use Rattle.plant_model.specs.Rules.{first_of, first_fault_in}
 use Rattle.plant_image.specs.Contents.{newest_held}
 use Rattle.plant_image.specs.Faults.{atom_fault}
 use Rattle.plant_image.specs.declared.fault.ImageFault.{ImageFault}

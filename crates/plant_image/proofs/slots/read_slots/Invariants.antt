@@ -1,7 +1,7 @@
 use Rattle.std.proofs.Common.{◌≡◌, map, drop, length, vec_len, vec_capacity}
 use Rattle.std.specs.List.{range_with_len}
 use Rattle.petri_atom.specs.Atom.{definition_of}
-use Rattle.step_core.specs.Rules.{first_fault_in}
+use Rattle.plant_model.specs.Rules.{first_fault_in}
 use Rattle.plant_image.specs.Contents.{newest_held}
 use Rattle.plant_image.specs.Faults.{atom_fault}
 use Rattle.plant_image.proofs.slots.read_slots.Given as goal

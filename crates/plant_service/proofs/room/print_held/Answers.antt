@@ -4,7 +4,7 @@ use Rattle.std.proofs.KnownBytes.{Appends-nil}
 use Rattle.std.proofs.lemmas.List.{length-map}
 use Rattle.std.proofs.lemmas.Result.{on_ok_weaker}
 use Rattle.petri_atom.specs.Atom as atom
-use Rattle.step_core.specs.Plant.{PlantDefinition}
+use Rattle.plant_model.specs.Plant.{PlantDefinition}
 use Rattle.plant_core.specs.Plants.{definition_of, view_of}
 use Rattle.script_lines.specs.Atoms.{atom_name}
 use Rattle.plant_service.specs.Queries.{holders_text}

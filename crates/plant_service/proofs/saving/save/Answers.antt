@@ -1,6 +1,6 @@
 use Rattle.std.proofs.Common.{◌≡◌, ◌≢◌, ◌∙◌, ◌+◌, ◌≤◌, ◌||◌, ◌∷◌, [], ◌++◌, false, true, ap, sym, refl, subst, arith, List, ℕ, length}
 use Rattle.std.proofs.lemmas.List.{length-map}
-use Rattle.step_core.specs.Plant.{PlantDefinition}
+use Rattle.plant_model.specs.Plant.{PlantDefinition}
 use Rattle.petri_atom.specs.Atom as atom
 use Rattle.plant_core.specs.Handed.{hands_of}
 use Rattle.plant_core.specs.Hands.{AreHandsFor}

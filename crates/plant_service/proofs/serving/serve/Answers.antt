@@ -1,5 +1,5 @@
 use Rattle.std.proofs.Common.{◌≡◌, ◌∙◌, ap, sym, subst, List, ℕ, length, codes}
-use Rattle.step_core.specs.Plant.{PlantDefinition}
+use Rattle.plant_model.specs.Plant.{PlantDefinition}
 use Rattle.plant_core.specs.Handed.{hands_of}
 use Rattle.plant_core.specs.Hands.{empty_hands}
 use Rattle.plant_core.specs.Plants.{definition_of, device_of, text_digest, view_of}

@@ -1,10 +1,10 @@
 use Rattle.std.proofs.Common.{◌≡◌, ◌∙◌, ◌∷◌, [], ap, sym, refl, subst, true, false, List, ℕ, length, codes}
-use Rattle.step_core.specs.Plant.{PlantDefinition}
+use Rattle.plant_model.specs.Plant.{PlantDefinition}
 use Rattle.plant_words.specs.Lines.{lines_of}
 use Rattle.plant_core.specs.Handed.{hands_of}
 use Rattle.plant_core.specs.Hands.{AreHandsFor}
 use Rattle.plant_core.specs.Plants.{definition_of, device_of, text_digest, view_of}
-use Rattle.step_core.specs.Fitting.{IsOf}
+use Rattle.plant_model.specs.Fitting.{IsOf}
 use Rattle.plant_service.specs.Command.{command_in, ends}
 use Rattle.plant_service.specs.Serving.{HasBeenDriven, IsAnsweredAs}
 use Rattle.plant_service.proofs.Driving.{answer-drives, answered-as-by, driven-by, driven-more, leads-of, none-driven}

@@ -4,7 +4,7 @@ use Rattle.std.specs.Prelude.{IfSome}
 use Rattle.plant_core.specs.Handed.{hands_of}
 use Rattle.plant_core.specs.Hands.{AreHandsFor}
 use Rattle.plant_core.specs.Plants.{definition_of, device_of, text_digest, view_of}
-use Rattle.step_core.specs.Fitting.{IsOf}
+use Rattle.plant_model.specs.Fitting.{IsOf}
 use Rattle.plant_service.specs.Serving.{HasBeenDriven}
 use Rattle.plant_service.proofs.Lines.{IsServedSoFar}
 use Rattle.plant_service.proofs.serving.serve_lines.Given as goal

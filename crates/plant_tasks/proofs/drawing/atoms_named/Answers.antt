@@ -1,6 +1,6 @@
 -- What is found of the atoms as they are kept is found of the plant's.
 use Rattle.std.proofs.Common.{◌∙◌, sym}
-use Rattle.step_core.specs.System.{plant_of}
+use Rattle.plant_model.specs.System.{plant_of}
 use Rattle.plant_tasks.proofs.Naming.{set_mapped, unknown_mapped}
 use Rattle.plant_tasks.proofs.drawing.atoms_named.Goals as goal
 

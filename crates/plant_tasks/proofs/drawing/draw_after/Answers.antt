@@ -3,7 +3,7 @@ use Rattle.std.proofs.Common.{ap, subst, sym}
 use Rattle.std.specs.Prelude.{IfSome}
 use Rattle.std.specs.Io.KnownBytes.{Appends}
 use Rattle.std.specs.Option.{option_copied}
-use Rattle.step_core.specs.System.{plant_of}
+use Rattle.plant_model.specs.System.{plant_of}
 use Rattle.plant_drawing.specs.declared.filling.Filling.TheVariants.{ByChoice}
 use Rattle.plant_tasks.specs.Drawn.{drawn_in, drawn_part}
 use Rattle.plant_tasks.specs.Ending.{OnDone}

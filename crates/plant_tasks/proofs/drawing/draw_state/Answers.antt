@@ -1,6 +1,6 @@
 -- The plant after the picks is in the state that is drawn.
+use Rattle.plant_model.specs.System.{plant_of}
 use Rattle.step_core.specs.Running.{plant_in, states_in}
-use Rattle.step_core.specs.System.{plant_of}
 use Rattle.plant_tasks.proofs.DrawnAfter.{drawn_in_state}
 use Rattle.plant_tasks.proofs.drawing.draw_state.Goals as goal
 

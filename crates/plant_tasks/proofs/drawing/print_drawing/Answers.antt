@@ -2,7 +2,7 @@
 use Rattle.std.proofs.Common.{◌∙◌, ap, sym, subst, map}
 use Rattle.std.specs.Io.KnownBytes.{Appends}
 use Rattle.std.specs.Prelude.{IfSome}
-use Rattle.step_core.specs.System.{plant_of}
+use Rattle.plant_model.specs.System.{plant_of}
 use Rattle.plant_tasks.specs.Drawn.{drawn_atoms, drawn_of, drawn_part}
 use Rattle.plant_tasks.specs.Ending.{OnDone}
 use Rattle.plant_tasks.proofs.drawing.print_drawing.Goals as goal

@@ -1,7 +1,7 @@
 -- The text that was read is what the reader gave.
 use Rattle.std.proofs.Common.{◌≡◌, ◌∙◌, sym, ap}
 use Rattle.std.specs.Prelude.{Ok}
-use Rattle.step_core.specs.System.{plant_of}
+use Rattle.plant_model.specs.System.{plant_of}
 use Rattle.plant_text.specs.Text.{text_of}
 use Rattle.plant_text.specs.Meaning.{meaning}
 use Rattle.plant_tasks.proofs.Printing.{of_known}

@@ -1,6 +1,6 @@
 use Rattle.std.proofs.Common.{ap, sym, ◌∙◌}
 use Rattle.sha2.specs.Sha256.{sha256}
-use Rattle.step_core.specs.System.{plant_of}
+use Rattle.plant_model.specs.System.{plant_of}
 use Rattle.plant_text.specs.Meaning.{meaning}
 use Rattle.plant_text.proofs.OnePlant.{one_meaning}
 use Rattle.plant_text.proofs.laws.equal_texts_are_read_as_one_plant.Goals as goal

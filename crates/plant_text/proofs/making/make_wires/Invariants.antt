@@ -1,5 +1,5 @@
 use Rattle.std.proofs.Common.{◌≡◌, map}
-use Rattle.step_core.specs.Wire.{wire_of}
+use Rattle.plant_model.specs.Wire.{wire_of}
 use Rattle.plant_text.specs.Parts.{wire_defined}
 use Rattle.plant_text.proofs.making.make_wires.Given as goal
 

@@ -1,7 +1,7 @@
 use Rattle.std.proofs.Common.{◌≡◌, refl}
 use Rattle.priority_filter.specs.declared.fault.OrderFault.{OrderFault}
-use Rattle.step_core.specs.declared.fault.SystemFault.{SystemFault}
-use Rattle.step_core.specs.declared.fault.SystemFault.TheVariants as system
+use Rattle.plant_model.specs.declared.fault.SystemFault.{SystemFault}
+use Rattle.plant_model.specs.declared.fault.SystemFault.TheVariants as system
 use Rattle.plant_text.specs.Fault.{of_system}
 use Rattle.plant_text.specs.declared.fault.Fault.TheVariants.{Limit}
 use Rattle.plant_text.proofs.making.system_fault.Goals as goal

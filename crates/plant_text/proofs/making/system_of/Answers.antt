@@ -1,6 +1,6 @@
 use Rattle.std.proofs.Common.{◌∙◌, ap}
 use Rattle.std.proofs.lemmas.Result.{IfOk-from_err}
-use Rattle.step_core.specs.Made.{plant_by}
+use Rattle.plant_model.specs.Made.{plant_by}
 use Rattle.plant_text.specs.Parts.{plant_drafted}
 use Rattle.plant_text.specs.Text.{text_of}
 use Rattle.plant_text.proofs.Exits.{found_without_memory}

@@ -1,11 +1,11 @@
 use Rattle.std.proofs.Common.{◌≡◌, ℕ, List, subst, Ok}
 use Rattle.std.specs.Prelude.{IfOk}
 use Rattle.std.proofs.lemmas.Result.{IfOk-weaker}
-use Rattle.step_core.specs.System.{plant_of}
+use Rattle.plant_model.specs.System.{plant_of}
 use Rattle.plant_text.specs.Meaning.{meaning}
 use Rattle.plant_text.specs.Text.{text_of}
 use Rattle.plant_text.proofs.OnePlant.{one_meaning}
-use Rattle.step_core.specs.declared.system.System.{System}
+use Rattle.plant_model.specs.declared.system.System.{System}
 use Rattle.plant_text.specs.Draft.{drafted}
 use Rattle.plant_text.proofs.Meant.{system_meant, system_refused, lines_refused}
 use Rattle.plant_text.proofs.read.plant_of_text.Goals as goal

@@ -1,7 +1,7 @@
 use Rattle.std.proofs.Common.{◌≡◌, ap, arith, ◌+◌, length, drop, map}
 use Rattle.std.proofs.lemmas.List.{at_drop_all}
 use Rattle.std.specs.Prelude.{nat_le}
-use Rattle.step_core.specs.declared.limits.TheConstants.{MAX_INTERACTIONS}
+use Rattle.plant_model.specs.declared.limits.TheConstants.{MAX_INTERACTIONS}
 use Rattle.plant_text.specs.Interactions.{interactions_of}
 use Rattle.plant_text.specs.Parts.{wire_listed}
 use Rattle.plant_text.proofs.Counts.{count_of, count_is}

@@ -1,6 +1,6 @@
 use Rattle.std.proofs.Common.{arith}
 use Rattle.petri_atom.specs.Atom.{definition_of}
-use Rattle.step_core.specs.System.{plant_of}
+use Rattle.plant_model.specs.System.{plant_of}
 use Rattle.plant_warnings.specs.Atoms.{atom_warnings}
 use Rattle.plant_warnings.specs.Report.{line_in}
 use Rattle.plant_warnings.proofs.Warned.{leads-warned_as}

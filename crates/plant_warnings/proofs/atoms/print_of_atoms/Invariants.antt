@@ -2,7 +2,7 @@
 use Rattle.std.proofs.Common.{drop, map}
 use Rattle.std.specs.Prelude.{flat_map}
 use Rattle.petri_atom.specs.Atom.{definition_of}
-use Rattle.step_core.specs.System.{plant_of}
+use Rattle.plant_model.specs.System.{plant_of}
 use Rattle.text_io.specs.Numbered.{numbered}
 use Rattle.text_io.proofs.Leading.{Leads}
 use Rattle.plant_warnings.specs.Atoms.{atom_warnings}

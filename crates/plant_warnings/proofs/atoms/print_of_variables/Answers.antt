@@ -1,7 +1,7 @@
 use Rattle.std.proofs.Common.{◌<◌, length, pos, [], subst}
 use Rattle.std.specs.Prelude.{flat_map}
 use Rattle.petri_atom.specs.Atom.{definition_of}
-use Rattle.step_core.specs.System.{plant_of}
+use Rattle.plant_model.specs.System.{plant_of}
 use Rattle.text_io.specs.Numbered.{numbered}
 use Rattle.plant_warnings.specs.Atoms.{variable_warnings}
 use Rattle.plant_warnings.specs.Report.{line_in}

@@ -3,7 +3,7 @@ use Rattle.std.specs.Prelude.{flat_map}
 use Rattle.std.specs.Io.KnownBytes.{Appends}
 use Rattle.petri_atom.specs.Expression.{tree_of}
 use Rattle.text_io.specs.Numbered.{numbered}
-use Rattle.step_core.specs.Wire.{wire_of}
+use Rattle.plant_model.specs.Wire.{wire_of}
 use Rattle.plant_warnings.specs.Connectors.{connector_warnings, guard_warnings}
 use Rattle.plant_warnings.specs.Report.{line_in}
 use Rattle.plant_warnings.proofs.Warned.{leads-warned_as}

@@ -1,7 +1,7 @@
 -- The connectors from this number on are left.
 use Rattle.std.proofs.Common.{drop, map}
 use Rattle.std.specs.Prelude.{flat_map}
-use Rattle.step_core.specs.Wire.{wire_of}
+use Rattle.plant_model.specs.Wire.{wire_of}
 use Rattle.text_io.specs.Numbered.{numbered}
 use Rattle.text_io.proofs.Leading.{Leads}
 use Rattle.plant_warnings.specs.Connectors.{connector_warnings}

@@ -1,5 +1,5 @@
 use Rattle.std.proofs.Common.{◌∙◌, sym, arith}
-use Rattle.step_core.specs.Wire.{wire_of}
+use Rattle.plant_model.specs.Wire.{wire_of}
 use Rattle.plant_warnings.specs.Ports.{has_leaf}
 use Rattle.plant_warnings.proofs.Leaves.{few-leaves_at}
 use Rattle.plant_warnings.proofs.Mapped.{any-now, any-later}

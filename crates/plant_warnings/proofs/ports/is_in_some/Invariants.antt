@@ -1,7 +1,7 @@
 -- The connectors from this one on decide.
 use Rattle.std.proofs.Common.{◌≡◌, drop, map}
 use Rattle.std.specs.List.{list_any}
-use Rattle.step_core.specs.Wire.{wire_of}
+use Rattle.plant_model.specs.Wire.{wire_of}
 use Rattle.plant_warnings.specs.Ports.{has_leaf}
 use Rattle.plant_warnings.proofs.ports.is_in_some.Given as goal
 

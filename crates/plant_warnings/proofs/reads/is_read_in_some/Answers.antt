@@ -1,6 +1,6 @@
 use Rattle.std.proofs.Common.{◌∙◌, sym, arith}
 use Rattle.petri_atom.specs.Atom.{definition_of}
-use Rattle.step_core.specs.Wire.{wire_of}
+use Rattle.plant_model.specs.Wire.{wire_of}
 use Rattle.plant_warnings.specs.Reads.{is_read_in}
 use Rattle.plant_warnings.proofs.Leaves.{few-leaves_at}
 use Rattle.plant_warnings.proofs.Mapped.{any-now, any-later}

@@ -2,7 +2,7 @@
 use Rattle.std.proofs.Common.{◌≡◌, drop, map}
 use Rattle.std.specs.List.{list_any}
 use Rattle.petri_atom.specs.Atom.{definition_of}
-use Rattle.step_core.specs.Wire.{wire_of}
+use Rattle.plant_model.specs.Wire.{wire_of}
 use Rattle.plant_warnings.specs.Reads.{is_read_in}
 use Rattle.plant_warnings.proofs.reads.is_read_in_some.Given as goal
 

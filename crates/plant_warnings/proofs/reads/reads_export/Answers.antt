@@ -1,6 +1,6 @@
 use Rattle.std.proofs.Common.{ap, map}
 use Rattle.petri_atom.specs.Expression.{tree_of}
-use Rattle.step_core.specs.Wire.{transfer_of}
+use Rattle.plant_model.specs.Wire.{transfer_of}
 use Rattle.plant_warnings.specs.Reads.{has_export}
 use Rattle.plant_warnings.proofs.Mapped.{any_seen, either}
 use Rattle.plant_warnings.proofs.reads.reads_export.Goals as goal

@@ -1,5 +1,5 @@
 use Rattle.std.proofs.Common.{arith}
-use Rattle.step_core.specs.System.{plant_of}
+use Rattle.plant_model.specs.System.{plant_of}
 use Rattle.plant_warnings.specs.Report.{line_in}
 use Rattle.plant_warnings.specs.Rules.{rule_warnings}
 use Rattle.plant_warnings.proofs.Warned.{leads-warned_at}

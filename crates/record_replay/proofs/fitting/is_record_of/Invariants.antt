@@ -1,7 +1,7 @@
 use Rattle.std.proofs.Common.{◌≡◌, drop, map}
 use Rattle.std.specs.List.{list_any}
 use Rattle.petri_atom.specs.Atom.{definition_of}
-use Rattle.step_core.specs.Interaction.{interaction_of}
+use Rattle.plant_model.specs.Interaction.{interaction_of}
 use Rattle.record_replay.specs.OfPlant.{is_of_interaction}
 use Rattle.record_replay.proofs.fitting.is_record_of.Given as goal
 

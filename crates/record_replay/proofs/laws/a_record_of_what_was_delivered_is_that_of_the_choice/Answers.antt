@@ -1,5 +1,5 @@
 use Rattle.std.proofs.Common.{ap}
-use Rattle.step_core.specs.Step.{transfer}
+use Rattle.plant_model.specs.Step.{transfer}
 use Rattle.record_replay.proofs.RecordEntries.{told-all}
 use Rattle.record_replay.proofs.laws.a_record_of_what_was_delivered_is_that_of_the_choice.Goals as goal
 

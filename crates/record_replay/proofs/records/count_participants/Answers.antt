@@ -1,8 +1,8 @@
 use Rattle.std.proofs.Common.{◌≡◌, ◌+◌, ◌<◌, sym, ◌∙◌, ap, subst, arith, length, get_or, set, length-set, Contains}
 use Rattle.std.specs.List.Sorted.{IsStrictlyIncreasing}
 use Rattle.std.proofs.lemmas.List.Elements.{Contains-get_or}
-use Rattle.step_core.specs.Laws.{atoms_of}
-use Rattle.step_core.specs.declared.choice.Move.{Move}
+use Rattle.plant_model.specs.Laws.{atoms_of}
+use Rattle.plant_model.specs.declared.choice.Move.{Move}
 use Rattle.record_replay.specs.Records.{count_of}
 use Rattle.record_replay.proofs.Counting.{counted-next, counted-none, counted-yet}
 use Rattle.record_replay.proofs.records.count_participants.Goals as goal

@@ -2,7 +2,7 @@ use Rattle.std.proofs.Common.{◌≡◌, ◌<◌, ◌≤◌, ℕ, List, sym, ◌
 use Rattle.petri_atom.specs.Local.{Row}
 use Rattle.record_codec.specs.Entry.{IsEntry}
 use Rattle.record_codec.specs.Fired.{IsFired}
-use Rattle.step_core.specs.declared.choice.Move.{Move}
+use Rattle.plant_model.specs.declared.choice.Move.{Move}
 use Rattle.record_replay.specs.Records.{entries_delivered, entry_by}
 use Rattle.record_replay.proofs.RecordEntries.{told-in-range, told-more, told-whole}
 use Rattle.record_replay.proofs.records.record_of.Goals as goal

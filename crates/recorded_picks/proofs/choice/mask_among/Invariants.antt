@@ -1,6 +1,6 @@
 use Rattle.std.proofs.Common.{◌≡◌, drop, map}
 use Rattle.petri_atom.specs.Atom.{definition_of}
-use Rattle.step_core.specs.Interaction.{interaction_of}
+use Rattle.plant_model.specs.Interaction.{interaction_of}
 use Rattle.recorded_picks.specs.Choices.{mask_among}
 use Rattle.recorded_picks.proofs.choice.mask_among.Given as goal
 

@@ -1,6 +1,6 @@
 use Rattle.std.proofs.Common.{◌≡◌, sym, ◌∙◌}
 use Rattle.std.specs.Prelude.{Err, Some}
-use Rattle.step_core.specs.System.{plant_of}
+use Rattle.plant_model.specs.System.{plant_of}
 use Rattle.recorded_picks.specs.Choices.{choice_in, moves_read}
 use Rattle.recorded_picks.specs.Moves.{moves_in}
 use Rattle.recorded_picks.specs.Names.{connector_named}

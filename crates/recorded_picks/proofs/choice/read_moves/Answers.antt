@@ -1,5 +1,5 @@
 use Rattle.std.proofs.Common.{sym, ◌∙◌}
-use Rattle.step_core.specs.System.{plant_of}
+use Rattle.plant_model.specs.System.{plant_of}
 use Rattle.recorded_picks.proofs.Reading.{read-more}
 use Rattle.recorded_picks.proofs.choice.read_moves.Goals as goal
 

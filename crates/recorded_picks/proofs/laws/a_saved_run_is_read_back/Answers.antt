@@ -1,4 +1,4 @@
-use Rattle.step_core.specs.Step.{initial_states}
+use Rattle.plant_model.specs.Step.{initial_states}
 use Rattle.run_text.specs.Runs.{chosen}
 use Rattle.recorded_picks.proofs.ReadBack.{file-read, line-read}
 use Rattle.recorded_picks.proofs.RunAgain.{chosen-again, chosen-allowed, none-refused}

@@ -1,5 +1,5 @@
 use Rattle.std.proofs.Common.{arith}
-use Rattle.step_core.specs.Step.{initial_states}
+use Rattle.plant_model.specs.Step.{initial_states}
 use Rattle.recorded_picks.proofs.ReadBack.{file-read}
 use Rattle.recorded_picks.proofs.RunAgain.{run-again, run-allowed}
 use Rattle.recorded_picks.proofs.laws.any_saved_run_is_read_back.Goals as goal

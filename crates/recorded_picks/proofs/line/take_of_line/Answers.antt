@@ -2,7 +2,7 @@ use Rattle.std.proofs.Common.{◌≡◌, sym, ◌∙◌, ap, take}
 use Rattle.std.specs.Prelude.{Some, option_map}
 use Rattle.std.proofs.lemmas.List.{take_min}
 use Rattle.plant_words.specs.Words.{words_of}
-use Rattle.step_core.specs.System.{plant_of}
+use Rattle.plant_model.specs.System.{plant_of}
 use Rattle.run_text.specs.Picks.{take_of}
 use Rattle.recorded_picks.specs.Lines.{take_in}
 use Rattle.recorded_picks.specs.declared.kept_line.TheConstants.{MAX_PICK_LINE}

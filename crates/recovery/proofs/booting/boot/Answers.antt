@@ -1,5 +1,5 @@
 use Rattle.std.proofs.lemmas.Result.{err_from_is_err_and}
-use Rattle.step_core.specs.System.{plant_of, digest_of}
+use Rattle.plant_model.specs.System.{plant_of, digest_of}
 use Rattle.recovery.proofs.PartlyLoaded.{judged_items}
 use Rattle.recovery.proofs.booting.boot.Goals as goal
 

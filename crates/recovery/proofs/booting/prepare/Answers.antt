@@ -8,10 +8,10 @@ use Rattle.disk_model.specs.Moments.{seen_after}
 use Rattle.gated_journal.specs.Stops.{HasCleaned, IsReady}
 use Rattle.gated_journal.specs.declared.ring.Ring.{Ring}
 use Rattle.record_replay.specs.Records.{count_of}
-use Rattle.step_core.specs.Plant.{PlantDefinition}
-use Rattle.step_core.specs.System.{plant_of, digest_of}
-use Rattle.step_core.specs.declared.system.System.{System}
-use Rattle.step_core.specs.declared.limits.TheConstants.{MAX_ATOMS}
+use Rattle.plant_model.specs.Plant.{PlantDefinition}
+use Rattle.plant_model.specs.System.{plant_of, digest_of}
+use Rattle.plant_model.specs.declared.system.System.{System}
+use Rattle.plant_model.specs.declared.limits.TheConstants.{MAX_ATOMS}
 use Rattle.plant_image.specs.Contents.{contents_of, ring_in}
 use Rattle.plant_image.specs.Reading.{contents_in}
 use Rattle.plant_image.specs.declared.standing.Standing.{Standing}

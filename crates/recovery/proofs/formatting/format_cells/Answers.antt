@@ -7,9 +7,9 @@ use Rattle.petri_atom.specs.declared.atom.Atom.{Atom}
 use Rattle.disk_model.specs.declared.cells.TheConstants.{BODY}
 use Rattle.disk_model.specs.DiskState.{DiskState}
 use Rattle.disk_model.specs.Cells.{Leaves}
-use Rattle.step_core.specs.Plant.{PlantDefinition}
-use Rattle.step_core.specs.System.{digest_of, plant_of}
-use Rattle.step_core.specs.declared.limits.TheConstants.{MAX_ATOMS}
+use Rattle.plant_model.specs.Plant.{PlantDefinition}
+use Rattle.plant_model.specs.System.{digest_of, plant_of}
+use Rattle.plant_model.specs.declared.limits.TheConstants.{MAX_ATOMS}
 use Rattle.plant_image.specs.Standing.{HasRoom, first_counts}
 use Rattle.plant_image.proofs.FormattedImages.{first_has_room}
 use Rattle.recovery.specs.Writing.{HasWritten, IsWriting}

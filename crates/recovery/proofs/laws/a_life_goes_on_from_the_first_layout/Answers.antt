@@ -1,7 +1,7 @@
 use Rattle.std.proofs.Common.{length}
 use Rattle.disk_model.specs.DiskState.{size_of}
-use Rattle.step_core.specs.Runs.{fold}
-use Rattle.step_core.specs.Step.{initial_states}
+use Rattle.plant_model.specs.Runs.{fold}
+use Rattle.plant_model.specs.Step.{initial_states}
 use Rattle.recovery.proofs.Lifetimes.{brought-stands, front-runs, front-stands, life-holds}
 use Rattle.recovery.proofs.laws.a_life_goes_on_from_the_first_layout.Goals as goal
 

@@ -1,8 +1,8 @@
 use Rattle.std.proofs.Common.{ℕ, arith, subst}
 use Rattle.plant_image.specs.Standing.{StandsFor}
-use Rattle.step_core.specs.Runs.{fold}
+use Rattle.plant_model.specs.Runs.{fold}
 use Rattle.recovery.specs.Lifetimes.{all_kept}
-use Rattle.step_core.specs.Step.{initial_states}
+use Rattle.plant_model.specs.Step.{initial_states}
 use Rattle.recovery.proofs.Lifetimes.{life-holds, life-runs, life-stands}
 use Rattle.recovery.proofs.laws.lifetimes.Goals as goal
 

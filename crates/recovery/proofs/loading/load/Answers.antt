@@ -7,7 +7,7 @@ use Rattle.disk_model.specs.Moments.{seen_length}
 use Rattle.petri_atom.specs.Atom.{definition_of}
 use Rattle.record_codec.specs.Ring.{device_cells}
 use Rattle.record_codec.specs.declared.layout.TheConstants.{MOST_RING}
-use Rattle.step_core.specs.System.{plant_of}
+use Rattle.plant_model.specs.System.{plant_of}
 use Rattle.plant_image.specs.Faults.{cell_bytes}
 use Rattle.recovery.proofs.PartlyLoaded.{taken}
 use Rattle.recovery.proofs.loading.load.Goals as goal

@@ -2,8 +2,8 @@ use Rattle.std.proofs.Common.{false, length, sym, ◌∙◌, ap}
 use Rattle.std.proofs.lemmas.Result.{err_from_is_err_and}
 use Rattle.disk_model.specs.DiskState.{DiskState, Reads}
 use Rattle.disk_model.specs.Reading.{reads_then}
-use Rattle.step_core.specs.Plant.{PlantDefinition}
-use Rattle.step_core.specs.System.{plant_of}
+use Rattle.plant_model.specs.Plant.{PlantDefinition}
+use Rattle.plant_model.specs.System.{plant_of}
 use Rattle.recovery.proofs.PartlyLoaded.{loaded_before, most}
 use Rattle.recovery.proofs.loading.load_all.Goals as goal
 

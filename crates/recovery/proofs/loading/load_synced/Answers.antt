@@ -1,5 +1,5 @@
 use Rattle.std.proofs.lemmas.Result.{IfOk-weaker}
-use Rattle.step_core.specs.System.{plant_of}
+use Rattle.plant_model.specs.System.{plant_of}
 use Rattle.recovery.specs.Loading.{WasLoaded}
 use Rattle.recovery.proofs.PartlyLoaded.{loaded_then, synced_err, synced_ok}
 use Rattle.recovery.proofs.loading.load_synced.Goals as goal

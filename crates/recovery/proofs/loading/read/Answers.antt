@@ -3,8 +3,8 @@ use Rattle.std.proofs.lemmas.Result.{err_from_is_err_and}
 use Rattle.disk_model.specs.Cells.{Cell, cells_in, seen_cells}
 use Rattle.disk_model.specs.DiskState.{DiskState, size_of}
 use Rattle.disk_model.specs.Moments.{seen_length}
-use Rattle.step_core.specs.Plant.{PlantDefinition}
-use Rattle.step_core.specs.System.{plant_of, digest_of}
+use Rattle.plant_model.specs.Plant.{PlantDefinition}
+use Rattle.plant_model.specs.System.{plant_of, digest_of}
 use Rattle.plant_image.specs.Faults.{fault_of}
 use Rattle.plant_image.specs.Reading.{IsStanding, IsFault}
 use Rattle.recovery.proofs.PartlyLoaded.{fault_judged, standing_judged}

@@ -3,9 +3,9 @@ use Rattle.disk_model.specs.Cells.{seen_cells}
 use Rattle.disk_model.specs.Counting.{up_to_one}
 use Rattle.disk_model.specs.DiskState.{Counts, CountsUpTo, DiskState, size_of}
 use Rattle.disk_model.specs.declared.cells.TheConstants.{FIRST_BODY}
-use Rattle.step_core.specs.Plant.{PlantDefinition}
-use Rattle.step_core.specs.System.{plant_of, digest_of}
-use Rattle.step_core.specs.declared.limits.TheConstants.{MAX_ATOMS}
+use Rattle.plant_model.specs.Plant.{PlantDefinition}
+use Rattle.plant_model.specs.System.{plant_of, digest_of}
+use Rattle.plant_model.specs.declared.limits.TheConstants.{MAX_ATOMS}
 use Rattle.plant_image.specs.declared.standing.Standing.{Standing}
 use Rattle.plant_image.specs.Contents.{last_number}
 use Rattle.plant_image.specs.Reading.{contents_in}

@@ -5,8 +5,8 @@ use Rattle.disk_model.specs.Cells.{Cell, MayBe, Settles, seen_cells}
 use Rattle.disk_model.specs.DiskState.{DiskState, Reads, size_of}
 use Rattle.disk_model.specs.Reading.{leaves_reading, reads_seen}
 use Rattle.disk_model.proofs.RunLemmas.{leaves_sync, settles, stage_start}
-use Rattle.step_core.specs.Plant.{PlantDefinition}
-use Rattle.step_core.specs.System.{plant_of, digest_of}
+use Rattle.plant_model.specs.Plant.{PlantDefinition}
+use Rattle.plant_model.specs.System.{plant_of, digest_of}
 use Rattle.plant_image.specs.Faults.{fault_of}
 use Rattle.recovery.specs.Booting.{IsBootFault, has_failed}
 use Rattle.recovery.specs.OldImage.{OldWasRead, old_fault_of, todays_cells, todays_size}

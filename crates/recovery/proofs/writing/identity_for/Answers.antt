@@ -1,6 +1,6 @@
 use Rattle.std.proofs.Common.{rules, sym, subst}
 use Rattle.record_codec.specs.Identity.{IsIdentity}
-use Rattle.step_core.specs.System.{plant_of}
+use Rattle.plant_model.specs.System.{plant_of}
 use Rattle.recovery.proofs.Ranges.{identity_in_range}
 use Rattle.recovery.proofs.writing.identity_for.Goals as goal
 

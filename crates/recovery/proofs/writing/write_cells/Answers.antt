@@ -9,8 +9,8 @@ use Rattle.disk_model.specs.Moments.{on_ok}
 use Rattle.record_codec.specs.Base.{base_bytes}
 use Rattle.record_codec.specs.Bytes.{padded}
 use Rattle.record_codec.specs.Identity.{IdentityFields, IsIdentity, identity_bytes}
-use Rattle.step_core.specs.Plant.{PlantDefinition}
-use Rattle.step_core.specs.System.{digest_of, plant_of}
+use Rattle.plant_model.specs.Plant.{PlantDefinition}
+use Rattle.plant_model.specs.System.{digest_of, plant_of}
 use Rattle.plant_image.specs.Standing.{identity_for}
 use Rattle.recovery.specs.Writing.{HasWritten, IsBlank, IsWriting}
 use Rattle.recovery.proofs.Ranges.{few_values}

@@ -1,5 +1,5 @@
 use Rattle.std.proofs.Common.{◌∙◌}
-use Rattle.step_core.specs.System.{digest_of, plant_of}
+use Rattle.plant_model.specs.System.{digest_of, plant_of}
 use Rattle.recovery.proofs.WrittenCells.{asked_leaves}
 use Rattle.recovery.proofs.writing.write_image.Goals as goal
 

@@ -2,7 +2,7 @@ use Rattle.std.proofs.Common.{[], arith, subst, sym}
 use Rattle.std.specs.Io.KnownBytes.{Appends}
 use Rattle.std.specs.Option.{option_map_or}
 use Rattle.petri_atom.specs.Atom.{definition_of}
-use Rattle.step_core.specs.System.{plant_of}
+use Rattle.plant_model.specs.System.{plant_of}
 use Rattle.run_states.specs.Changes.{atom_changes, changes_to}
 use Rattle.run_states.proofs.OfAtoms.{leads-atom}
 use Rattle.run_states.proofs.changes.print_changes.Goals as goal

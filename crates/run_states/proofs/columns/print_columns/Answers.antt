@@ -1,5 +1,5 @@
 use Rattle.std.proofs.Common.{arith}
-use Rattle.step_core.specs.System.{plant_of}
+use Rattle.plant_model.specs.System.{plant_of}
 use Rattle.run_states.specs.Columns.{atom_columns}
 use Rattle.run_states.proofs.OfAtoms.{leads-atom}
 use Rattle.run_states.proofs.columns.print_columns.Goals as goal

@@ -1,6 +1,6 @@
 use Rattle.std.proofs.Common.{arith, codes}
 use Rattle.std.proofs.KnownBytes.{Appends-trans}
-use Rattle.step_core.specs.System.{plant_of}
+use Rattle.plant_model.specs.System.{plant_of}
 use Rattle.run_states.specs.Objects.{atom_object}
 use Rattle.run_states.proofs.OfAtoms.{leads-atom-word}
 use Rattle.run_states.proofs.objects.print_objects.Goals as goal

@@ -1,5 +1,5 @@
 use Rattle.std.proofs.Common.{arith}
-use Rattle.step_core.specs.System.{plant_of}
+use Rattle.plant_model.specs.System.{plant_of}
 use Rattle.run_states.specs.Values.{atom_values}
 use Rattle.run_states.proofs.OfAtoms.{leads-atom}
 use Rattle.run_states.proofs.values.print_values.Goals as goal

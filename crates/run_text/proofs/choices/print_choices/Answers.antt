@@ -1,7 +1,7 @@
 use Rattle.std.proofs.Common.{◌≡◌, ◌-◌, ◌<◌, ◌∙◌, ◌++◌, ap, subst, arith, length, take, min}
 use Rattle.std.specs.Prelude.{OnOk}
 use Rattle.std.specs.Io.KnownBytes.{Appends}
-use Rattle.step_core.specs.System.{plant_of}
+use Rattle.plant_model.specs.System.{plant_of}
 use Rattle.run_text.specs.declared.choices.TheConstants.{MOST_LISTED}
 use Rattle.run_text.specs.Choices.{choice_text, choices_text, more_text}
 use Rattle.text_io.specs.Numbered.{numbered}

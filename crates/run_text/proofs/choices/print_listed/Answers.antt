@@ -4,8 +4,8 @@ use Rattle.std.specs.Io.KnownBytes.{Appends}
 use Rattle.std.proofs.KnownBytes.{Appends-trans}
 use Rattle.std.proofs.lemmas.List.{get_or-take, length-take-le}
 use Rattle.std.proofs.lemmas.Option.{get_or_from_slice_get}
-use Rattle.step_core.specs.Chosen.{choice_of}
-use Rattle.step_core.specs.System.{plant_of}
+use Rattle.plant_model.specs.Chosen.{choice_of}
+use Rattle.plant_model.specs.System.{plant_of}
 use Rattle.run_text.specs.Choices.{choice_text}
 use Rattle.text_io.proofs.Leading.{leads-element}
 use Rattle.run_text.proofs.choices.print_listed.Goals as goal

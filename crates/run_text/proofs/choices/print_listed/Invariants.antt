@@ -1,7 +1,7 @@
 -- The choices from this place on are left.
 use Rattle.std.proofs.Common.{◌-◌, ◌≤◌, drop}
 use Rattle.std.specs.Prelude.{take}
-use Rattle.step_core.specs.System.{plant_of}
+use Rattle.plant_model.specs.System.{plant_of}
 use Rattle.run_text.specs.Choices.{choice_text}
 use Rattle.text_io.specs.Numbered.{numbered}
 use Rattle.text_io.proofs.Leading.{Leads}

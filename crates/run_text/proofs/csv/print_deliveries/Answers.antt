@@ -1,5 +1,5 @@
 use Rattle.std.proofs.Common.{◌+◌, ◌<◌, [], codes, sym, subst, arith, drop, get_or, length}
-use Rattle.step_core.specs.System.{plant_of}
+use Rattle.plant_model.specs.System.{plant_of}
 use Rattle.text_io.specs.Numbered.{numbered}
 use Rattle.text_io.proofs.Leading.{Leads}
 use Rattle.run_text.specs.Csv.{participant_words}

@@ -1,6 +1,6 @@
 -- What the participants from this place on got is left.
 use Rattle.std.proofs.Common.{[], drop, get_or}
-use Rattle.step_core.specs.System.{plant_of}
+use Rattle.plant_model.specs.System.{plant_of}
 use Rattle.text_io.specs.Numbered.{numbered}
 use Rattle.text_io.specs.declared.format.Format.TheVariants.{Csv}
 use Rattle.text_io.proofs.Leading.{Leads}

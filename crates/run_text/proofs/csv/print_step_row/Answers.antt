@@ -2,9 +2,9 @@ use Rattle.std.proofs.Common.{◌∙◌, ◌++◌, ap, subst, codes, decimal, ma
 use Rattle.std.specs.Prelude.{OnOk}
 use Rattle.std.specs.Io.KnownBytes.{Appends}
 use Rattle.std.proofs.KnownBytes.{Appends-trans}
-use Rattle.step_core.specs.Chosen.{choice_of}
-use Rattle.step_core.specs.System.{plant_of}
-use Rattle.step_core.specs.Plant.{wire_name}
+use Rattle.plant_model.specs.Chosen.{choice_of}
+use Rattle.plant_model.specs.System.{plant_of}
+use Rattle.plant_model.specs.Plant.{wire_name}
 use Rattle.text_io.proofs.Leading.{printed-last}
 use Rattle.run_text.specs.Line.{participant}
 use Rattle.run_text.specs.ByRows.{words_by_rows}

@@ -2,8 +2,8 @@ use Rattle.std.proofs.Common.{◌≡◌, ◌∙◌, ◌++◌, ap, subst, codes, 
 use Rattle.std.specs.Prelude.{OnOk, flat_map}
 use Rattle.std.specs.Io.KnownBytes.{Appends}
 use Rattle.petri_atom.specs.Atom.{definition_of}
-use Rattle.step_core.specs.System.{plant_of}
-use Rattle.step_core.specs.Plant.{wire_name}
+use Rattle.plant_model.specs.System.{plant_of}
+use Rattle.plant_model.specs.Plant.{wire_name}
 use Rattle.text_io.proofs.Leading.{printed-last}
 use Rattle.run_text.specs.Line.{participant}
 use Rattle.run_text.specs.Word.{separated_after}

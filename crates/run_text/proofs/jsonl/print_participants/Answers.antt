@@ -1,7 +1,7 @@
 use Rattle.std.proofs.Common.{◌<◌, [], ◌∷◌, ◌++◌, codes, sym, subst, arith, get_or, length, append-nil}
 use Rattle.std.specs.Io.KnownBytes.{Appends}
 use Rattle.std.proofs.KnownBytes.{Appends-trans}
-use Rattle.step_core.specs.System.{plant_of}
+use Rattle.plant_model.specs.System.{plant_of}
 use Rattle.run_text.specs.Jsonl.{move_object}
 use Rattle.run_text.proofs.ByRows.{leads-move, no_move}
 use Rattle.run_text.proofs.jsonl.print_participants.Goals as goal

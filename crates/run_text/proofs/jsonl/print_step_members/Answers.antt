@@ -1,9 +1,9 @@
 use Rattle.std.proofs.Common.{◌++◌, ap, subst, codes, decimal}
 use Rattle.std.specs.Io.KnownBytes.{Appends}
 use Rattle.std.proofs.KnownBytes.{Appends-trans}
-use Rattle.step_core.specs.Chosen.{choice_of}
-use Rattle.step_core.specs.System.{plant_of}
-use Rattle.step_core.specs.Plant.{wire_name}
+use Rattle.plant_model.specs.Chosen.{choice_of}
+use Rattle.plant_model.specs.System.{plant_of}
+use Rattle.plant_model.specs.Plant.{wire_name}
 use Rattle.text_io.proofs.Leading.{printed-last}
 use Rattle.run_text.specs.ByRows.{objects_by_rows}
 use Rattle.run_text.specs.Word.{quoted, separated_by}

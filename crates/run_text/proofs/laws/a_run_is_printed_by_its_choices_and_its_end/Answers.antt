@@ -1,4 +1,4 @@
-use Rattle.step_core.specs.Step.{initial_states}
+use Rattle.plant_model.specs.Step.{initial_states}
 use Rattle.run_text.proofs.Chosen.{chosen-runs, few-where-stuck, told-ended, told-refused, told-stuck}
 use Rattle.run_text.proofs.laws.a_run_is_printed_by_its_choices_and_its_end.Goals as goal
 

@@ -1,5 +1,5 @@
 use Rattle.std.proofs.Common.{arith}
-use Rattle.step_core.specs.Step.{initial_states}
+use Rattle.plant_model.specs.Step.{initial_states}
 use Rattle.run_text.proofs.Takes.{counted-not-refused}
 use Rattle.run_text.proofs.laws.counted_picks_are_not_refused.Goals as goal
 

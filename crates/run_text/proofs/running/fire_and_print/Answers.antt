@@ -1,9 +1,9 @@
 use Rattle.std.proofs.Common.{◌≡◌, ◌∙◌, ap, sym, subst}
-use Rattle.step_core.specs.Chosen.{choice_of}
-use Rattle.step_core.specs.Delivery.{IsDelivered}
-use Rattle.step_core.specs.Fitting.{IsOf}
+use Rattle.plant_model.specs.Chosen.{choice_of}
+use Rattle.plant_model.specs.Delivery.{IsDelivered}
+use Rattle.plant_model.specs.Fitting.{IsOf}
+use Rattle.plant_model.specs.Step.{next, transfer}
 use Rattle.step_core.specs.Running.{plant_in, states_in}
-use Rattle.step_core.specs.Step.{next, transfer}
 use Rattle.run_text.proofs.running.fire_and_print.Goals as goal
 
 pub tell_fired-requires : goal.tell_fired-requires

@@ -1,6 +1,6 @@
 use Rattle.std.proofs.Common.{◌≡◌, ◌+◌, ◌∙◌, List, [], refl, sym, subst}
 use Rattle.std.specs.Prelude.{None, Some}
-use Rattle.step_core.specs.Chosen.{choice_of}
+use Rattle.plant_model.specs.Chosen.{choice_of}
 use Rattle.step_core.specs.Running.{plant_in, states_in}
 use Rattle.run_text.specs.Picks.{Gives, PickDefinition, take_of}
 use Rattle.run_text.proofs.GoingOn.{IsPast, Stand, goes-behind, if-known, past-refused, past-stuck, past-the-last, told-all, printed-last}

@@ -2,10 +2,10 @@ use Rattle.std.proofs.Common.{◌≡◌, List, sym, subst}
 use Rattle.std.specs.Prelude.{IfSome}
 use Rattle.std.specs.Io.KnownBytes.{Appends}
 use Rattle.petri_atom.specs.Local.{Local}
-use Rattle.step_core.specs.Plant.{PlantDefinition}
+use Rattle.plant_model.specs.Plant.{PlantDefinition}
+use Rattle.plant_model.specs.Step.{initial_states}
+use Rattle.plant_model.specs.System.{plant_of}
 use Rattle.step_core.specs.Running.{plant_in, states_in}
-use Rattle.step_core.specs.Step.{initial_states}
-use Rattle.step_core.specs.System.{plant_of}
 use Rattle.run_text.specs.Ran.{IfRan, OnRan}
 use Rattle.run_text.specs.Runs.{refusal_in}
 use Rattle.run_text.specs.Steps.{printed_from, saved_from}

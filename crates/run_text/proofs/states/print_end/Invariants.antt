@@ -1,6 +1,6 @@
 -- The atoms from this number on are left.
 use Rattle.std.proofs.Common.{drop}
-use Rattle.step_core.specs.System.{plant_of}
+use Rattle.plant_model.specs.System.{plant_of}
 use Rattle.text_io.specs.Numbered.{numbered}
 use Rattle.text_io.proofs.Leading.{Leads}
 use Rattle.run_text.specs.Format.{atom_text, end_text}

@@ -1,6 +1,6 @@
 use Rattle.std.proofs.Common.{◌∙◌}
-use Rattle.step_core.specs.Choice.{choices}
-use Rattle.step_core.specs.Chosen.{choice_of}
+use Rattle.plant_model.specs.Choice.{choices}
+use Rattle.plant_model.specs.Chosen.{choice_of}
 use Rattle.step_core.specs.Running.{plant_in, states_in}
 use Rattle.run_text.proofs.Among.{told-by-place}
 use Rattle.run_text.proofs.taking.is_among_choices.Goals as goal

@@ -1,8 +1,8 @@
 use Rattle.std.proofs.Common.{◌≡◌, ◌^◌, ◌<◌, ◌∙◌, ap, arith, length, subst, sym}
 use Rattle.std.specs.Prelude.{Some}
 use Rattle.std.proofs.lemmas.Option.{none-some}
-use Rattle.step_core.specs.Step.{initial_states}
-use Rattle.step_core.specs.System.{plant_of}
+use Rattle.plant_model.specs.Step.{initial_states}
+use Rattle.plant_model.specs.System.{plant_of}
 use Rattle.run_text.specs.Ran.{IfRan}
 use Rattle.run_text.specs.Runs.{refusal_of}
 use Rattle.run_text.proofs.Takes.{counted-not-refused}

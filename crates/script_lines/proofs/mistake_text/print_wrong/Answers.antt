@@ -3,10 +3,10 @@ use Rattle.std.specs.Prelude.{OnOk}
 use Rattle.std.specs.Io.KnownBytes.{Appends}
 use Rattle.petri_atom.specs.Atom.{definition_of}
 use Rattle.petri_atom.specs.Definition.{AtomDefinition}
-use Rattle.step_core.specs.Plant.{WireDefinition}
-use Rattle.step_core.specs.System.{plant_of}
-use Rattle.step_core.specs.Wire.{wire_of}
-use Rattle.step_core.proofs.Initial.{map-map}
+use Rattle.plant_model.specs.Plant.{WireDefinition}
+use Rattle.plant_model.specs.System.{plant_of}
+use Rattle.plant_model.specs.Wire.{wire_of}
+use Rattle.plant_model.proofs.Initial.{map-map}
 use Rattle.text_io.proofs.Leading.{printed-last}
 use Rattle.recorded_picks.specs.Names.{atom_names, connector_names}
 use Rattle.script_lines.specs.Mistakes.{listed_names, unknown_text, wrong_text}

@@ -2,7 +2,7 @@
 use Rattle.std.proofs.Common.{◌≡◌, ◌+◌, ◌≤◌, length}
 use Rattle.std.specs.Prelude.{is_none}
 use Rattle.std.specs.List.{position_or_len}
-use Rattle.step_core.specs.System.{plant_of}
+use Rattle.plant_model.specs.System.{plant_of}
 use Rattle.recorded_picks.specs.Moves.{move_in}
 use Rattle.script_lines.specs.Mistakes.{wrong_move_in}
 use Rattle.script_lines.proofs.mistake_text.wrong_move_in.Given as goal

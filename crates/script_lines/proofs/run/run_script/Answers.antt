@@ -2,9 +2,9 @@ use Rattle.std.proofs.Common.{◌≡◌, ◌∙◌, ◌<◌, ◌||◌, ◌∷◌
 use Rattle.std.specs.Io.KnownBytes.{Appends}
 use Rattle.std.proofs.KnownBytes.{Appends-nil}
 use Rattle.std.proofs.lemmas.List.{take_more}
-use Rattle.step_core.specs.Plant.{PlantDefinition}
-use Rattle.step_core.specs.Runs.{fold}
-use Rattle.step_core.proofs.OnRuns.{run-folds}
+use Rattle.plant_model.specs.Plant.{PlantDefinition}
+use Rattle.plant_model.specs.Runs.{fold}
+use Rattle.plant_model.proofs.OnRuns.{run-folds}
 use Rattle.plant_core.specs.Handed.{hands_of}
 use Rattle.plant_core.specs.Hands.{AreHandsFor}
 use Rattle.plant_core.specs.Plants.{definition_of, device_of, text_digest, view_of}

@@ -1,6 +1,6 @@
 use Rattle.std.proofs.Common.{◌≡◌, ◌∙◌, ◌+◌, ◌≤◌, ap, sym, subst, arith, cond, [], ◌∷◌, ◌++◌, length, append-nil, Err}
 use Rattle.std.specs.Prelude.{IfOk}
-use Rattle.step_core.specs.System.{plant_of}
+use Rattle.plant_model.specs.System.{plant_of}
 use Rattle.text_io.specs.declared.reading.TheConstants.{MAX_TEXT}
 use Rattle.script_lines.specs.Script.{asked_by_line, is_mistaken}
 use Rattle.script_lines.proofs.Lines.{kept_more, line_left, meant_behind}

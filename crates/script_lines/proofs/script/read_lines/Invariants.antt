@@ -1,7 +1,7 @@
 -- What is left to read means, after events that were kept where there was memory for them, what the script means; and the number of each
 -- line fits.
 use Rattle.std.proofs.Common.{◌≡◌, ◌+◌, ◌≤◌, List, length, IfOk}
-use Rattle.step_core.specs.System.{plant_of}
+use Rattle.plant_model.specs.System.{plant_of}
 use Rattle.text_io.specs.declared.reading.TheConstants.{MAX_TEXT}
 use Rattle.plant_core.specs.declared.events.Event.{Event}
 use Rattle.script_lines.specs.Script.{script_meaning}

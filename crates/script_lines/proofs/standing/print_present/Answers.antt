@@ -3,7 +3,7 @@ use Rattle.std.specs.Option.{option_map_or}
 use Rattle.std.specs.Io.KnownBytes.{Appends}
 use Rattle.std.proofs.lemmas.List.{get_or-map, length-map}
 use Rattle.petri_atom.specs.Atom.{definition_of}
-use Rattle.step_core.specs.System.{plant_of}
+use Rattle.plant_model.specs.System.{plant_of}
 use Rattle.plant_core.specs.Plants.{view_of}
 use Rattle.text_io.proofs.Leading.{leads-element}
 use Rattle.run_text.specs.Line.{state_line, state_text, states_text}

@@ -1,8 +1,8 @@
 use Rattle.std.proofs.Common.{◌≡◌, ◌<◌, ◌*◌, ◌||◌, ◌∙◌, ℕ, ap, sym, arith, ⊎_elim, get_or, length}
 use Rattle.std.proofs.lemmas.Bool.{cases_eq, false≢true}
 use Rattle.std.specs.FinSet.{contains}
-use Rattle.step_core.specs.Dependents.{row_of_port, is_in_row}
-use Rattle.step_core.proofs.Touched.{out-before, out-of-row}
+use Rattle.plant_model.specs.Dependents.{row_of_port, is_in_row}
+use Rattle.plant_model.proofs.Touched.{out-before, out-of-row}
 use Rattle.step_core.proofs.enabled_transitions.touch_ports.Goals as goal
 use Rattle.step_core.proofs.enabled_transitions.touch_ports.Goals.{then-before-port, else-before-port}
 

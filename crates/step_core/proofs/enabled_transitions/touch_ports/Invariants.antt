@@ -1,6 +1,6 @@
 use Rattle.std.proofs.Common.{◌≡◌, ◌*◌, ◌<◌, ℕ, true, false, get_or}
 use Rattle.std.specs.FinSet.{contains}
-use Rattle.step_core.specs.Dependents.{row_of_port, is_in_row}
+use Rattle.plant_model.specs.Dependents.{row_of_port, is_in_row}
 use Rattle.step_core.proofs.enabled_transitions.touch_ports.Given as goal
 
 abbrev pub invariant-loop-port : goal.invariant-loop-port

@@ -1,6 +1,6 @@
 use Rattle.std.proofs.Common.{◌∙◌, ap, arith}
 use Rattle.std.specs.FinSet.{contains}
-use Rattle.step_core.proofs.Noting.{all-more}
+use Rattle.plant_model.proofs.Noting.{all-more}
 use Rattle.step_core.proofs.interaction_numbers.numbers_below.Goals as goal
 
 pub loop-number-preserved : goal.loop-number-preserved

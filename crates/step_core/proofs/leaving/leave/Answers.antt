@@ -5,23 +5,23 @@ use Rattle.std.proofs.lemmas.Option.{none-some, slice_get_within, get_or_from_sl
 use Rattle.petri_atom.specs.Atom.{definition_of}
 use Rattle.petri_atom.specs.Local.{Local}
 use Rattle.petri_atom.specs.declared.atom.Atom.{Atom}
-use Rattle.step_core.specs.Choice.{ChoiceDefinition}
-use Rattle.step_core.specs.Chosen.{choice_of}
+use Rattle.plant_model.specs.Choice.{ChoiceDefinition}
+use Rattle.plant_model.specs.Chosen.{choice_of}
+use Rattle.plant_model.specs.Step.{transfer}
+use Rattle.plant_model.specs.System.{plant_of}
+use Rattle.plant_model.specs.declared.choice.Move.{Move}
+use Rattle.plant_model.specs.declared.system.System.{System}
+use Rattle.plant_model.proofs.Judging.{atom-at}
+use Rattle.plant_model.proofs.OwnAtoms.{are-apart}
+use Rattle.plant_model.proofs.Stepping.{no_move}
 use Rattle.step_core.specs.Job.{job_of}
 use Rattle.step_core.specs.Jobs.{AreJobsOf, IsJobOf, jobs_of}
 use Rattle.step_core.specs.Parts.{shown_in}
 use Rattle.step_core.specs.Queue.{items_in}
-use Rattle.step_core.specs.Step.{transfer}
 use Rattle.step_core.specs.Sure.{IsSure, left_by}
-use Rattle.step_core.specs.System.{plant_of}
-use Rattle.step_core.specs.declared.choice.Move.{Move}
-use Rattle.step_core.specs.declared.system.System.{System}
-use Rattle.step_core.proofs.Judging.{atom-at}
-use Rattle.step_core.proofs.OwnAtoms.{are-apart}
 use Rattle.step_core.proofs.PartsLeft.{IsLeaving, first-of-atom, fits-taken, in-parts, in-plant, move-there, none-left, offers, one-job, one-left, present, there, was}
 use Rattle.step_core.proofs.Present.{sure-shown}
 use Rattle.step_core.proofs.Queued.{all-empty, no-jobs}
-use Rattle.step_core.proofs.Stepping.{no_move}
 use Rattle.step_core.proofs.leaving.leave.Goals as goal
 
 pub deliver-requires-clause-apart : goal.deliver-requires-clause-apart

@@ -1,8 +1,8 @@
 use Rattle.std.proofs.Common.{◌≡◌, take}
-use Rattle.step_core.specs.Chosen.{choice_of}
+use Rattle.plant_model.specs.Chosen.{choice_of}
+use Rattle.plant_model.specs.System.{plant_of}
 use Rattle.step_core.specs.Jobs.{AreJobsOf, IsRoomFrom, jobs_of}
 use Rattle.step_core.specs.Sure.{left_by}
-use Rattle.step_core.specs.System.{plant_of}
 use Rattle.step_core.proofs.leaving.leave.Given as goal
 
 -- the atoms of the moves so far have left, each with its job

@@ -1,6 +1,6 @@
 use Rattle.std.proofs.Common.{ap, sym, ◌∙◌}
 use Rattle.std.specs.FinSet.{contains}
-use Rattle.step_core.proofs.Noting.{put-here, put-other}
+use Rattle.plant_model.proofs.Noting.{put-here, put-other}
 use Rattle.step_core.proofs.opening.put.Goals as goal
 
 pub returns-then-is_in-clause-here : goal.returns-then-is_in-clause-here

@@ -1,5 +1,5 @@
 use Rattle.std.proofs.Common.{◌∙◌, sym, arith}
-use Rattle.step_core.specs.Chosen.{choice_of}
+use Rattle.plant_model.specs.Chosen.{choice_of}
 use Rattle.step_core.proofs.PlacesInOrder.{after-earlier, not-after}
 use Rattle.step_core.proofs.places.place_of.Goals as goal
 

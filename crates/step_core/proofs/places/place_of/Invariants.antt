@@ -1,6 +1,6 @@
 -- Where the choice stands, it is between the two ends, which come closer.
 use Rattle.std.proofs.Common.{◌≡◌, ℕ, ◌-◌, ◌≤◌, Some, length, slice_get}
-use Rattle.step_core.specs.Chosen.{choice_of}
+use Rattle.plant_model.specs.Chosen.{choice_of}
 use Rattle.step_core.proofs.places.place_of.Given as goal
 
 abbrev pub invariant-loop-low : goal.invariant-loop-low

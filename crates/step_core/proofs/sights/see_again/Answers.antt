@@ -2,8 +2,8 @@ use Rattle.std.proofs.Common.{ℕ, ◌+◌, drop, get_or, ap, ◌∙◌, subst}
 use Rattle.std.proofs.lemmas.Bool.{or_parts}
 use Rattle.std.proofs.lemmas.List.{drop_more, drop_all}
 use Rattle.petri_atom.specs.Local.{is_in}
-use Rattle.step_core.specs.Sights.{AreSeenBut}
-use Rattle.step_core.proofs.Sighted.{after-sight}
+use Rattle.plant_model.specs.Sights.{AreSeenBut}
+use Rattle.plant_model.proofs.Sighted.{after-sight}
 use Rattle.step_core.proofs.sights.see_again.Goals as goal
 
 pub returns-then-not-has_conditions-clause-seen : goal.returns-then-not-has_conditions-clause-seen

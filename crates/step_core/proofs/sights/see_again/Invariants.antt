@@ -1,6 +1,6 @@
 use Rattle.std.proofs.Common.{◌≡◌, false, drop}
 use Rattle.priority_filter.specs.Active.{AskAlike, may_be_marked}
-use Rattle.step_core.specs.Sights.{AreSeenBut}
+use Rattle.plant_model.specs.Sights.{AreSeenBut}
 use Rattle.step_core.proofs.sights.see_again.Given as goal
 
 -- all is right but what is seen of the changed atoms that are left

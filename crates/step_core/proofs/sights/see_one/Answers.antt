@@ -2,8 +2,8 @@ use Rattle.std.proofs.Common.{◌≡◌, ℕ, ◌<◌, false, not, ◌||◌, len
 use Rattle.std.proofs.lemmas.Bool.{cases_eq, eqb-true, not-false}
 use Rattle.priority_filter.specs.Members.{has_bit}
 use Rattle.priority_filter.specs.declared.seen.Seen.{Seen}
-use Rattle.step_core.specs.Sights.{says}
-use Rattle.step_core.proofs.Sighted.{seen-at, written-here, written-other, same-bit, same-known}
+use Rattle.plant_model.specs.Sights.{says}
+use Rattle.plant_model.proofs.Sighted.{seen-at, written-here, written-other, same-bit, same-known}
 use Rattle.step_core.proofs.sights.see_one.Goals as goal
 
 pub returns-else-before-now-clause-same : goal.returns-else-before-now-clause-same

@@ -1,7 +1,7 @@
 use Rattle.std.proofs.Common.{◌<◌, refl, ap, ◌∙◌, arith, ⊎_elim, length}
 use Rattle.std.proofs.lemmas.Bool.{cases_eq}
-use Rattle.step_core.specs.Dependents.{is_in_row}
-use Rattle.step_core.proofs.Touched.{out-before, out-of-row}
+use Rattle.plant_model.specs.Dependents.{is_in_row}
+use Rattle.plant_model.proofs.Touched.{out-before, out-of-row}
 use Rattle.step_core.proofs.sure.touch_rows.Goals as goal
 
 pub loop-row-preserved : goal.loop-row-preserved

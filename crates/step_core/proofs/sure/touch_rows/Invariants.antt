@@ -1,6 +1,6 @@
 use Rattle.std.proofs.Common.{◌≡◌, ◌*◌, ◌<◌, ◌≤◌, ℕ, false}
 use Rattle.std.specs.FinSet.{contains}
-use Rattle.step_core.specs.Dependents.{is_in_row}
+use Rattle.plant_model.specs.Dependents.{is_in_row}
 use Rattle.step_core.proofs.sure.touch_rows.Given as goal
 
 -- what the rows so far have is in, and what was

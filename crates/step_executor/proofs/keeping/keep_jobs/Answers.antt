@@ -3,10 +3,10 @@ use Rattle.std.specs.Prelude.{Option, Some, None, option_map, slice_get}
 use Rattle.std.proofs.lemmas.Bool.{cases_eq}
 use Rattle.std.proofs.lemmas.List.{drop_all, map-set}
 use Rattle.std.proofs.lemmas.Option.{none-some, same_Some, slice_get-get_or, slice_get_within}
+use Rattle.plant_model.proofs.ValueRows.{set-here, set-other}
+use Rattle.plant_model.proofs.Stepping.{no_move}
 use Rattle.step_core.specs.Job.{JobDefinition, job_of}
 use Rattle.step_core.specs.Jobs.{jobs_of}
-use Rattle.step_core.proofs.PartsKept.{set-here, set-other}
-use Rattle.step_core.proofs.Stepping.{no_move}
 use Rattle.step_executor.specs.Outstanding.{kept_in, put_all}
 use Rattle.step_executor.proofs.OneByOne.{past-of-none, put-next}
 use Rattle.step_executor.proofs.keeping.keep_jobs.Goals as goal

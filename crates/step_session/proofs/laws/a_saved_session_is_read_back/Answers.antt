@@ -1,4 +1,4 @@
-use Rattle.step_core.specs.Step.{initial_states}
+use Rattle.plant_model.specs.Step.{initial_states}
 use Rattle.step_session.specs.Answers.{session_by_lines}
 use Rattle.step_session.specs.Session.{fired_in, states_at}
 use Rattle.step_session.proofs.Firing.{fired-runs}

@@ -1,5 +1,5 @@
 use Rattle.std.proofs.Common.{refl}
-use Rattle.step_core.specs.Step.{initial_states}
+use Rattle.plant_model.specs.Step.{initial_states}
 use Rattle.step_session.specs.Answers.{session_by_lines}
 use Rattle.step_session.specs.Session.{first_session}
 use Rattle.step_session.proofs.Firing.{fired-runs}

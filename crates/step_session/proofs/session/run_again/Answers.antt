@@ -1,7 +1,7 @@
 use Rattle.std.proofs.Common.{◌∙◌, ◌<◌, arith, length}
-use Rattle.step_core.specs.Chosen.{choice_of}
+use Rattle.plant_model.specs.Chosen.{choice_of}
+use Rattle.plant_model.specs.System.{plant_of}
 use Rattle.step_core.specs.Running.{plant_in, states_in}
-use Rattle.step_core.specs.System.{plant_of}
 use Rattle.step_session.proofs.Firing.{place-within, stands-next}
 use Rattle.step_session.proofs.session.run_again.Goals as goal
 

@@ -1,7 +1,7 @@
 -- The plant stands after the choices at the places so far.
 use Rattle.std.proofs.Common.{◌≡◌, take}
+use Rattle.plant_model.specs.System.{plant_of}
 use Rattle.step_core.specs.Running.{plant_in, states_in}
-use Rattle.step_core.specs.System.{plant_of}
 use Rattle.step_session.specs.Fired.{states_after}
 use Rattle.step_session.proofs.session.run_again.Given as goal
 

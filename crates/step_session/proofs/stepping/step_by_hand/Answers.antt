@@ -3,7 +3,7 @@ use Rattle.std.specs.Io.KnownBytes.{Appends}
 use Rattle.std.proofs.lemmas.Option.{IfSome_then}
 use Rattle.std.proofs.lemmas.Result.{on_ok_weaker}
 use Rattle.plant_words.specs.Lines.{lines_of}
-use Rattle.step_core.specs.System.{plant_of}
+use Rattle.plant_model.specs.System.{plant_of}
 use Rattle.step_session.specs.Answers.{standing_text}
 use Rattle.step_session.specs.SessionOf.{session_of}
 use Rattle.step_session.specs.Session.{first_session}

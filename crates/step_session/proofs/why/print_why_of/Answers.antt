@@ -3,8 +3,8 @@ use Rattle.std.specs.Prelude.{None, OnOk}
 use Rattle.std.specs.Option.{option_map_or}
 use Rattle.std.specs.Io.KnownBytes.{Appends}
 use Rattle.blocked_text.specs.Blocked.{connector_text}
+use Rattle.plant_model.specs.Lookup.{connector_named}
 use Rattle.step_core.specs.Running.{plant_in, states_in}
-use Rattle.step_core.specs.Lookup.{connector_named}
 use Rattle.step_session.specs.Mistakes.{quoted_text}
 use Rattle.step_session.proofs.why.print_why_of.Goals as goal
 

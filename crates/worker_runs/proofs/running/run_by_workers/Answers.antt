@@ -1,6 +1,6 @@
 -- The plant that was booted is the one whose events were shared out.
 use Rattle.std.proofs.Common.{◌∙◌, sym}
-use Rattle.step_core.specs.System.{digest_of, plant_of}
+use Rattle.plant_model.specs.System.{digest_of, plant_of}
 use Rattle.plant_core.specs.Plants.{definition_of, device_of, text_digest, view_of}
 use Rattle.worker_runs.proofs.Standing.{run-by, stands-so}
 use Rattle.worker_runs.proofs.running.run_by_workers.Goals as goal

@@ -1,5 +1,5 @@
 use Rattle.std.proofs.Common.{ap, ◌∙◌}
-use Rattle.step_core.specs.Choice.{plant_interactions}
+use Rattle.plant_model.specs.Choice.{plant_interactions}
 use Rattle.blocked_text.specs.Asked.{plant_asked}
 use Rattle.blocked_text.specs.Reason.{first_over_by}
 use Rattle.blocked_text.proofs.Counting.{seen-counts}

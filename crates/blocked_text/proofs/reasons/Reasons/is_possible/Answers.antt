@@ -1,6 +1,6 @@
 use Rattle.std.proofs.Common.{◌≡◌, ◌∙◌, ap, sym, true, false, ◌&&◌}
 use Rattle.std.specs.Prelude.{is_none}
-use Rattle.step_core.specs.Interaction.{interaction_of}
+use Rattle.plant_model.specs.Interaction.{interaction_of}
 use Rattle.blocked_text.specs.Asked.{plant_asked}
 use Rattle.blocked_text.specs.Reason.{first_idle, zero_of}
 use Rattle.blocked_text.proofs.Finding.{none-by}

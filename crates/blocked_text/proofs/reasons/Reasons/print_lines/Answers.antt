@@ -1,8 +1,8 @@
 use Rattle.std.proofs.Common.{◌≡◌, sym, refl, arith}
 use Rattle.std.specs.Prelude.{Some, slice_get}
 use Rattle.std.proofs.lemmas.Option.{get_or_from_slice_get, slice_get_within}
-use Rattle.step_core.specs.Choice.{plant_interactions}
-use Rattle.step_core.specs.Interaction.{interaction_of}
+use Rattle.plant_model.specs.Choice.{plant_interactions}
+use Rattle.plant_model.specs.Interaction.{interaction_of}
 use Rattle.text_io.proofs.Leading.{leads-element}
 use Rattle.blocked_text.specs.Asked.{plant_asked}
 use Rattle.blocked_text.specs.Blocked.{line_of}

@@ -1,6 +1,6 @@
 -- The interactions from this number on are left.
 use Rattle.std.proofs.Common.{drop}
-use Rattle.step_core.specs.Choice.{plant_interactions}
+use Rattle.plant_model.specs.Choice.{plant_interactions}
 use Rattle.text_io.specs.Numbered.{numbered}
 use Rattle.text_io.proofs.Leading.{Leads}
 use Rattle.blocked_text.specs.Asked.{plant_asked}

@@ -3,8 +3,8 @@ use Rattle.std.specs.Prelude.{None}
 use Rattle.std.specs.Option.{option_map_or}
 use Rattle.petri_atom.specs.Expression.{tree_of}
 use Rattle.connector_tree.specs.Tree as connectors
-use Rattle.step_core.specs.Plant.{WireDefinition}
-use Rattle.step_core.specs.Wire.{wire_of}
+use Rattle.plant_model.specs.Plant.{WireDefinition}
+use Rattle.plant_model.specs.Wire.{wire_of}
 use Rattle.blocked_text.specs.Asked.{plant_asked}
 use Rattle.blocked_text.specs.Reason.{first_zero}
 use Rattle.blocked_text.proofs.Entries.{made-at, made-past}

@@ -4,7 +4,7 @@ use Rattle.std.specs.Result.{is_ok}
 use Rattle.std.proofs.lemmas.Bool.{and_from, and_parts, le-leb}
 use Rattle.std.proofs.lemmas.List.{map-append}
 use Rattle.petri_atom.specs.Expression.{tree_of, all_variables}
-use Rattle.step_core.specs.declared.limits.TheConstants.{MAX_GUARDS}
+use Rattle.plant_model.specs.declared.limits.TheConstants.{MAX_GUARDS}
 use Rattle.plant_words.specs.Reading.{check}
 use Rattle.plant_words.specs.declared.line_fault.LineFault.TheVariants.{Limit, Memory}
 use Rattle.plant_words.proofs.Early.{check_takes_none, found_before, found_after, found_last}

@@ -1,7 +1,7 @@
 use Rattle.std.proofs.Common.{◌≡◌, map, subst, List, IfOk, IfErr, Ok}
 use Rattle.plant_words.specs.LineFaults.{IsFaultOf, IsLast}
-use Rattle.step_core.specs.Wire.{transfer_of}
-use Rattle.step_core.specs.declared.wire.Transfer.{Transfer}
+use Rattle.plant_model.specs.Wire.{transfer_of}
+use Rattle.plant_model.specs.declared.wire.Transfer.{Transfer}
 use Rattle.connector_lines.specs.Draft.{drafted}
 use Rattle.connector_lines.specs.Rows.{Named, named_on, transfer_in}
 use Rattle.connector_lines.proofs.draft.WireDraft.read_transfer.Goals as goal

@@ -2,8 +2,8 @@ use Rattle.std.proofs.Common.{rules, ◌≡◌, ℕ, List, None, ◌∙◌, ap, 
 use Rattle.disk_model.specs.MemDisk.{changes_of}
 use Rattle.disk_model.specs.declared.memory.MemDisk.{MemDisk}
 use Rattle.recovery.specs.Formatting.{formatted_size}
-use Rattle.step_core.specs.Plant.{PlantDefinition}
-use Rattle.step_core.specs.System.{digest_of, plant_of}
+use Rattle.plant_model.specs.Plant.{PlantDefinition}
+use Rattle.plant_model.specs.System.{digest_of, plant_of}
 use Rattle.crash_explorer.specs.Judging.{IsRightStop}
 use Rattle.crash_explorer.specs.Running.{IsMadeUntil, acked_in, device_in, fired_in, is_formatting, tail_in}
 use Rattle.crash_explorer.specs.Watching.{IsWhole}

@@ -8,9 +8,9 @@ use Rattle.disk_model.specs.Recording.{byte_left}
 use Rattle.disk_model.specs.Moments.{left_may}
 use Rattle.disk_model.specs.declared.memory.MemDisk.{MemDisk}
 use Rattle.recovery.specs.Formatting.{formatted_size}
-use Rattle.step_core.specs.Chosen.{choice_of}
-use Rattle.step_core.specs.Plant.{PlantDefinition}
-use Rattle.step_core.specs.System.{digest_of, plant_of}
+use Rattle.plant_model.specs.Chosen.{choice_of}
+use Rattle.plant_model.specs.Plant.{PlantDefinition}
+use Rattle.plant_model.specs.System.{digest_of, plant_of}
 use Rattle.crash_explorer.specs.Outcomes.{IsNextOf, IsOutcome}
 use Rattle.crash_explorer.specs.Running.{device_in, fired_in, is_formatting}
 use Rattle.crash_explorer.specs.Watching.{IsStoppedAt}

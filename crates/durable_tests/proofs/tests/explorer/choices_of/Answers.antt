@@ -1,14 +1,14 @@
 use Rattle.std.proofs.Common.{◌≡◌, List, [], ◌∷◌, ◌++◌, map, refl, sym, ◌∙◌, ap, subst}
 use Rattle.std.proofs.lemmas.List.{map-append}
 use Rattle.petri_atom.specs.Local.{Local}
-use Rattle.step_core.specs.Choice.{ChoiceDefinition, IsAllowed}
-use Rattle.step_core.specs.Chosen.{choice_of}
-use Rattle.step_core.specs.Plant.{PlantDefinition}
+use Rattle.plant_model.specs.Choice.{ChoiceDefinition, IsAllowed}
+use Rattle.plant_model.specs.Chosen.{choice_of}
+use Rattle.plant_model.specs.Plant.{PlantDefinition}
+use Rattle.plant_model.specs.Runs.{IsRun}
+use Rattle.plant_model.specs.Step.{initial_states, next}
+use Rattle.plant_model.specs.System.{plant_of}
+use Rattle.plant_model.proofs.OnRuns.{run-folds, runs-join}
 use Rattle.step_core.specs.Running.{states_in}
-use Rattle.step_core.specs.Runs.{IsRun}
-use Rattle.step_core.specs.Step.{initial_states, next}
-use Rattle.step_core.specs.System.{plant_of}
-use Rattle.step_core.proofs.OnRuns.{run-folds, runs-join}
 use Rattle.durable_tests.proofs.tests.explorer.choices_of.Goals as goal
 
 pub loop-pick-preserved : goal.loop-pick-preserved

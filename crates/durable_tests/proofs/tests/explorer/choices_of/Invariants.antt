@@ -1,9 +1,9 @@
 use Rattle.std.proofs.Common.{◌≡◌, map}
-use Rattle.step_core.specs.Chosen.{choice_of}
+use Rattle.plant_model.specs.Chosen.{choice_of}
+use Rattle.plant_model.specs.Runs.{IsRun}
+use Rattle.plant_model.specs.Step.{initial_states}
+use Rattle.plant_model.specs.System.{plant_of}
 use Rattle.step_core.specs.Running.{plant_in, states_in}
-use Rattle.step_core.specs.Runs.{IsRun}
-use Rattle.step_core.specs.Step.{initial_states}
-use Rattle.step_core.specs.System.{plant_of}
 use Rattle.durable_tests.proofs.tests.explorer.choices_of.Given as goal
 
 abbrev pub invariant-loop-pick : goal.invariant-loop-pick

@@ -1,6 +1,6 @@
 use Rattle.std.proofs.Common.{◌++◌, ◌∷◌, [], ap, ◌∙◌, subst, arith}
+use Rattle.plant_model.specs.Plant.{PlantDefinition}
 use Rattle.step_core.specs.Job.{job_done}
-use Rattle.step_core.specs.Plant.{PlantDefinition}
 use Rattle.disk_model.specs.DiskState.{DiskState}
 use Rattle.plant_core.specs.Backs.{refusal_in}
 use Rattle.plant_core.specs.Events.{IsEvent, IsReturned}

@@ -3,7 +3,7 @@ use Rattle.disk_model.specs.DiskState.{DiskState}
 use Rattle.plant_core.specs.Plants.{definition_of, view_of}
 use Rattle.plant_core.specs.Events.{fired_by}
 use Rattle.plant_core.specs.declared.events.Happened.TheVariants.{FireChoice}
-use Rattle.step_core.specs.declared.choice.Choice.{Choice}
+use Rattle.plant_model.specs.declared.choice.Choice.{Choice}
 use Rattle.engine_host.specs.Held.{Held, held_by}
 use Rattle.engine_host.specs.History.{entry}
 use Rattle.engine_host.specs.Views.{front_in, is_used_up}

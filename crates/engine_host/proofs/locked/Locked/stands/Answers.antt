@@ -2,8 +2,8 @@ use Rattle.std.proofs.Common.{◌≡◌, ◌+◌, List, true, false, subst}
 use Rattle.disk_model.specs.Cells.{Cell, MayBe}
 use Rattle.disk_model.specs.DiskState.{size_of}
 use Rattle.disk_model.specs.declared.cells.TheConstants.{BODY}
-use Rattle.step_core.specs.Plant.{PlantDefinition}
-use Rattle.step_core.specs.Runs.{IsRun}
+use Rattle.plant_model.specs.Plant.{PlantDefinition}
+use Rattle.plant_model.specs.Runs.{IsRun}
 use Rattle.plant_core.specs.Plants.{definition_of}
 use Rattle.plant_core.specs.Stops.{StandsForAcked, StandsForFront}
 use Rattle.engine_host.specs.Held.{Held, held_by}

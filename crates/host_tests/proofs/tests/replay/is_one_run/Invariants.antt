@@ -1,6 +1,6 @@
 use Rattle.std.proofs.Common.{◌≡◌}
-use Rattle.step_core.specs.Fitting.{IsOf}
-use Rattle.step_core.specs.System.{plant_of}
+use Rattle.plant_model.specs.Fitting.{IsOf}
+use Rattle.plant_model.specs.System.{plant_of}
 use Rattle.host_tests.proofs.tests.replay.is_one_run.Given as goal
 
 -- there is a state for each atom

@@ -1,9 +1,11 @@
-use Rattle.std.proofs.Common.{◌≡◌, ℕ, ◌∙◌, ap, sym, arith, subst, List, [], length, map}
+use Rattle.std.proofs.Common.{◌≡◌, ℕ, ◌∙◌, ap, sym, arith, subst, true, List, [], length, map}
+use Rattle.std.specs.List.{list_all}
 use Rattle.std.specs.Prelude.{Option, Some, None}
 use Rattle.std.proofs.lemmas.List.{length-map}
 use Rattle.std.proofs.lemmas.Option.{same_Some, none-some}
 use Rattle.petri_atom.specs.Definition.{IsFaultOf, fault_of}
 use Rattle.petri_atom.specs.Groups.{AreGroupsOf, unguarded_set}
+use Rattle.petri_atom.specs.StraightCode.{AreCodesOf, is_codable_transition}
 use Rattle.petri_atom.specs.Parts.{definition_by, port_of, sets_below}
 use Rattle.petri_atom.specs.Transition.{transition_of}
 use Rattle.petri_atom.specs.declared.fault.AtomFault.{AtomFault}
@@ -11,6 +13,7 @@ use Rattle.petri_atom.specs.declared.parts.Place.{Place}
 use Rattle.petri_atom.specs.declared.parts.Variable.{Variable}
 use Rattle.petri_atom.specs.declared.parts.Port.{Port}
 use Rattle.petri_atom.specs.declared.transition.Transition.{Transition}
+use Rattle.petri_atom.proofs.Coded.{codable-when-formed}
 use Rattle.petri_atom.proofs.Fitting.{formed-when-sound, few_ports, few_transitions}
 use Rattle.petri_atom.proofs.atom.Atom.new.Goals as goal
 
@@ -76,3 +79,13 @@ invariant_of-result-clause-grouped c =
 pub invariant_of-result-clause-unguarded_bits : goal.invariant_of-result-clause-unguarded_bits
 invariant_of-result-clause-unguarded_bits c =
     c.mask_of_unguarded-unguarded.ensures ∙ ap (λ ts. unguarded_set (map transition_of ts)) c.deref-7.ensures.value
+
+pub codes_of-requires : goal.codes_of-requires
+codes_of-requires c =
+    let a = definition_by c.args.name c.args.places.items c.args.variables.items c.args.ports.items c.args.transitions.items in
+    let found : c.fault_of.result ≡ fault_of a = of_lent c.args.name _ _ _ _ _ _ _ _ _ c.fault_of.ensures c.deref.ensures.value c.deref-2.ensures.value c.deref-3.ensures.value c.deref-4.ensures.value in
+    subst (λ ts. list_all is_codable_transition (map transition_of ts) ≡ true) (sym c.deref-8.ensures.value) (codable-when-formed a (formed-when-sound a (sym found ∙ c.in_default.is)))
+
+pub invariant_of-result-clause-coded : goal.invariant_of-result-clause-coded
+invariant_of-result-clause-coded c =
+    subst (λ ts. AreCodesOf c.in_ok-codes.codes.items (map transition_of ts)) c.deref-8.ensures.value c.in_ok-codes.ensures

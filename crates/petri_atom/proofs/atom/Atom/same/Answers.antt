@@ -1,4 +1,4 @@
-use Rattle.std.proofs.Common.{◌≡◌, ℕ, List, ◌∙◌, ap}
+use Rattle.std.proofs.Common.{ℕ, List, ap}
 use Rattle.std.proofs.lemmas.Bool.Decides.{Decides-and, Decides-like, Decides-at}
 use Rattle.petri_atom.specs.Definition.{AtomDefinition, PortDefinition, TransitionDefinition}
 use Rattle.petri_atom.specs.Same.{is_same_place, is_same_variable, is_same_port}

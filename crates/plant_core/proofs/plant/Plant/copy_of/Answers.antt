@@ -2,11 +2,11 @@ use Rattle.std.proofs.Common.{◌≡◌, ◌≤◌, ℕ, length, subst, sym, tru
 use Rattle.std.specs.Prelude.{slice_index_or}
 use Rattle.std.specs.List.{list_all}
 use Rattle.petri_atom.specs.Definition.{is_well_formed}
-use Rattle.step_core.specs.Plant.{PlantDefinition}
+use Rattle.plant_model.specs.Plant.{PlantDefinition}
 use Rattle.step_executor.proofs.Standing.{states-many}
 use Rattle.step_executor.specs.Executing.{plant_in}
-use Rattle.step_core.specs.declared.limits.TheConstants.{MAX_ATOMS}
-use Rattle.step_core.proofs.Membership.{all-in, entry-in}
+use Rattle.plant_model.specs.declared.limits.TheConstants.{MAX_ATOMS}
+use Rattle.plant_model.proofs.Membership.{all-in, entry-in}
 use Rattle.plant_image.proofs.ByAtoms.{element_at}
 use Rattle.plant_core.specs.Plants.{view_of}
 use Rattle.plant_core.proofs.Firing.{count-so-far}

@@ -11,14 +11,14 @@ use Rattle.gated_journal.specs.declared.ring.Ring.{Ring}
 use Rattle.plant_image.specs.Contents.{Contents, contents_of}
 use Rattle.record_replay.specs.Records.{records_of}
 use Rattle.record_replay.proofs.OnRuns.{length-records}
-use Rattle.step_core.specs.Chosen.{choice_of}
-use Rattle.step_core.specs.Rules.{fault_of}
-use Rattle.step_core.specs.Runs.{fold}
+use Rattle.plant_model.specs.Chosen.{choice_of}
+use Rattle.plant_model.specs.Rules.{fault_of}
+use Rattle.plant_model.specs.Runs.{fold}
 use Rattle.std.specs.Result.{is_ok}
 use Rattle.step_executor.proofs.Standing.{states-many}
 use Rattle.step_executor.specs.Executing.{committed_in, jobs_in, plant_in, states_in, system_in}
-use Rattle.step_core.specs.System.{digest_of, plant_of}
-use Rattle.step_core.specs.declared.system.System.{System}
+use Rattle.plant_model.specs.System.{digest_of, plant_of}
+use Rattle.plant_model.specs.declared.system.System.{System}
 use Rattle.plant_core.specs.Invariant.{AreMarked, AreNextSlots, AreOnTheWay, FitsTogether, IsAtRest, IsFrontOf, IsJournalOf}
 use Rattle.plant_core.specs.Marks.{marks_of}
 use Rattle.plant_core.specs.Plants.{view_of}

@@ -4,19 +4,19 @@ use Rattle.std.proofs.lemmas.List.{take-append-le}
 use Rattle.petri_atom.specs.Definition.{is_well_formed}
 use Rattle.record_codec.specs.Fired.{FiredFields, IsFired, fired_in}
 use Rattle.record_replay.specs.Records.{record_by, record_delivered}
-use Rattle.step_core.specs.Chosen.{choice_of}
-use Rattle.step_core.specs.Laws.{IsInRange}
-use Rattle.step_core.specs.Plant.{PlantDefinition}
-use Rattle.step_core.specs.Step.{transfer}
+use Rattle.plant_model.specs.Chosen.{choice_of}
+use Rattle.plant_model.specs.Laws.{IsInRange}
+use Rattle.plant_model.specs.Plant.{PlantDefinition}
+use Rattle.plant_model.specs.Step.{transfer}
 use Rattle.step_executor.specs.Outstanding.{is_out, jobs_after}
-use Rattle.step_core.specs.Rules.{fault_of}
+use Rattle.plant_model.specs.Rules.{fault_of}
 use Rattle.disk_model.specs.Cells.{seen_cells}
 use Rattle.disk_model.specs.DiskState.{size_of}
 use Rattle.disk_model.specs.declared.cells.TheConstants.{BODY}
 use Rattle.step_executor.specs.Executing.{committed_in, jobs_in, plant_in, states_in, system_in}
-use Rattle.step_core.specs.System.{digest_of, plant_of}
-use Rattle.step_core.specs.declared.limits.TheConstants.{MAX_ATOMS}
-use Rattle.step_core.specs.declared.system.System.{System}
+use Rattle.plant_model.specs.System.{digest_of, plant_of}
+use Rattle.plant_model.specs.declared.limits.TheConstants.{MAX_ATOMS}
+use Rattle.plant_model.specs.declared.system.System.{System}
 use Rattle.plant_core.specs.Invariant.{AreMarked, AreNextSlots, AreOnTheWay, FitsTogether, IsAtRest, IsFrontOf, IsJournalOf}
 use Rattle.plant_core.specs.Marks.{mark_of}
 use Rattle.plant_core.specs.Plants.{view_of}

@@ -8,8 +8,8 @@ use Rattle.record_codec.specs.Saved.{SavedFields}
 use Rattle.record_replay.specs.Records.{count_of}
 use Rattle.step_executor.proofs.Standing.{states-many}
 use Rattle.step_executor.specs.Executing.{committed_in, jobs_in, plant_in, states_in, system_in}
-use Rattle.step_core.specs.System.{digest_of}
-use Rattle.step_core.specs.declared.limits.TheConstants.{MAX_ATOMS}
+use Rattle.plant_model.specs.System.{digest_of}
+use Rattle.plant_model.specs.declared.limits.TheConstants.{MAX_ATOMS}
 use Rattle.plant_core.specs.Invariant.{FitsTogether, IsAtRest}
 use Rattle.plant_core.specs.Snapshots.{held_at}
 use Rattle.plant_core.specs.View.{view_by}

@@ -8,7 +8,7 @@ use Rattle.record_codec.specs.Saved.{SavedFields}
 use Rattle.snapshot_writer.specs.Slots.{other_slot}
 use Rattle.snapshot_writer.specs.Storing.{IsStored}
 use Rattle.step_executor.specs.Executing.{committed_in, jobs_in, plant_in, states_in, system_in}
-use Rattle.step_core.specs.System.{digest_of}
+use Rattle.plant_model.specs.System.{digest_of}
 use Rattle.plant_core.specs.Events.{IsTaken}
 use Rattle.plant_core.specs.Invariant.{AreMarked, AreNextSlots, AreOnTheWay, FitsTogether, IsAtRest}
 use Rattle.plant_core.specs.Plants.{view_of}

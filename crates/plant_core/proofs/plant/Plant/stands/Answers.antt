@@ -1,5 +1,5 @@
 use Rattle.step_executor.specs.Executing.{committed_in, plant_in, system_in}
-use Rattle.step_core.specs.System.{digest_of}
+use Rattle.plant_model.specs.System.{digest_of}
 use Rattle.plant_core.proofs.AtRest.{stands-now}
 use Rattle.plant_core.proofs.plant.Plant.stands.Goals as goal
 

@@ -1,5 +1,5 @@
 use Rattle.step_executor.specs.Executing.{plant_in, system_in}
-use Rattle.step_core.specs.System.{digest_of}
+use Rattle.plant_model.specs.System.{digest_of}
 use Rattle.disk_model.specs.DiskState.{size_of}
 use Rattle.plant_core.specs.Plants.{view_of}
 use Rattle.plant_core.proofs.AtRest.{of-front}

@@ -1,6 +1,6 @@
 use Rattle.std.proofs.Common.{sym, subst}
 use Rattle.step_executor.specs.Executing.{plant_in}
-use Rattle.step_core.specs.Runs.{IsRun}
+use Rattle.plant_model.specs.Runs.{IsRun}
 use Rattle.plant_core.specs.Plants.{view_of}
 use Rattle.plant_core.proofs.Chosen.{run-from}
 use Rattle.plant_core.proofs.plant.Plant.tail_is_a_run.Goals as goal

@@ -9,7 +9,7 @@ use Rattle.gated_journal.specs.Rings.{cells_of_ring}
 use Rattle.gated_journal.specs.Stops.{HasMoved, IsMovedOrNot, moved}
 use Rattle.gated_journal.specs.declared.ring.Ring.{Ring}
 use Rattle.step_executor.specs.Executing.{committed_in, jobs_in, plant_in, states_in, system_in}
-use Rattle.step_core.specs.System.{digest_of}
+use Rattle.plant_model.specs.System.{digest_of}
 use Rattle.trimmer.specs.Covered.{MarkFields}
 use Rattle.plant_core.specs.Invariant.{AreMarked, AreOnTheWay, FitsTogether, IsAtRest, IsJournalOf}
 use Rattle.plant_core.specs.Plants.{view_of}

@@ -3,7 +3,7 @@ use Rattle.std.proofs.lemmas.Result.{IfOk-from_err}
 use Rattle.atom_lines.specs.Draft.{drafted as atom_drafted}
 use Rattle.plant_words.specs.Reading.{at_end}
 use Rattle.petri_atom.specs.Definition.{AtomDefinition}
-use Rattle.step_core.specs.declared.limits.TheConstants.{MAX_ATOMS}
+use Rattle.plant_model.specs.declared.limits.TheConstants.{MAX_ATOMS}
 use Rattle.plant_text.specs.Draft.{drafted}
 use Rattle.plant_text.specs.Fault.{of_line}
 use Rattle.plant_text.specs.Names.{atom_number}

@@ -3,7 +3,7 @@ use Rattle.std.proofs.lemmas.Result.{IfOk-from_err}
 use Rattle.connector_tree.specs.Tokens.{tokens_of}
 use Rattle.connector_tree.specs.Tree.{tree_of}
 use Rattle.connector_lines.specs.Trees.{tree_in}
-use Rattle.step_core.specs.declared.limits.TheConstants.{MAX_WIRES}
+use Rattle.plant_model.specs.declared.limits.TheConstants.{MAX_WIRES}
 use Rattle.plant_text.specs.Draft.{drafted}
 use Rattle.plant_text.specs.Fault.{of_line}
 use Rattle.plant_text.specs.Names.{wire_number, port_named}

@@ -1,7 +1,7 @@
 use Rattle.std.proofs.Common.{◌≡◌, ◌∙◌, ◌≤◌, ◌-◌, sym, ap, subst, map, ℕ, List, Ok}
 use Rattle.std.proofs.lemmas.List.{length-set}
 use Rattle.std.proofs.lemmas.Result.{err_from_is_err_and}
-use Rattle.step_core.specs.declared.limits.TheConstants.{MAX_WIRES}
+use Rattle.plant_model.specs.declared.limits.TheConstants.{MAX_WIRES}
 use Rattle.atom_lines.specs.Draft.{drafted}
 use Rattle.atom_lines.specs.declared.draft.AtomDraft.{AtomDraft}
 use Rattle.plant_text.specs.Fault.{of_line}

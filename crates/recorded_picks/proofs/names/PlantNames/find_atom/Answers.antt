@@ -1,7 +1,7 @@
 use Rattle.std.proofs.Common.{◌∙◌}
 use Rattle.petri_atom.specs.Name.{is_same_text}
 use Rattle.plant_words.proofs.Positions.{position_of_mapped}
-use Rattle.step_core.specs.System.{plant_of}
+use Rattle.plant_model.specs.System.{plant_of}
 use Rattle.recorded_picks.proofs.names.PlantNames.find_atom.Goals as goal
 
 pub returns-in-None : goal.returns-in-None

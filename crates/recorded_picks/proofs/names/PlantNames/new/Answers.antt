@@ -1,9 +1,9 @@
 use Rattle.std.proofs.Common.{◌≡◌, sym, ◌∙◌, subst}
 use Rattle.petri_atom.specs.Atom.{definition_of}
 use Rattle.petri_atom.specs.Definition.{AtomDefinition}
-use Rattle.step_core.specs.Plant.{WireDefinition}
-use Rattle.step_core.specs.System.{plant_of}
-use Rattle.step_core.specs.Wire.{wire_of}
+use Rattle.plant_model.specs.Plant.{WireDefinition}
+use Rattle.plant_model.specs.System.{plant_of}
+use Rattle.plant_model.specs.Wire.{wire_of}
 use Rattle.recorded_picks.specs.Names.{AreApart, atom_names, connector_names}
 use Rattle.recorded_picks.proofs.Apart.{atoms-apart, connectors-apart, names-kept}
 use Rattle.recorded_picks.proofs.names.PlantNames.new.Goals as goal

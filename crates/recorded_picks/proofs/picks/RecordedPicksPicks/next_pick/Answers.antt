@@ -1,6 +1,6 @@
 use Rattle.std.proofs.Common.{◌≡◌, ◌+◌, refl, sym, ◌∙◌, ap, [], ◌∷◌, None, Some}
 use Rattle.plant_words.specs.Lines.{lines_of}
-use Rattle.step_core.specs.System.{plant_of}
+use Rattle.plant_model.specs.System.{plant_of}
 use Rattle.run_text.specs.declared.pick.Pick.{Pick}
 use Rattle.recorded_picks.proofs.Lefts.{ended, given, given-before, kept-on, passed, picks_behind}
 use Rattle.recorded_picks.proofs.picks.RecordedPicksPicks.next_pick.Goals as goal

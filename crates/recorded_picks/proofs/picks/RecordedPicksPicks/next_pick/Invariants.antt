@@ -1,5 +1,5 @@
 use Rattle.std.proofs.Common.{◌-◌}
-use Rattle.step_core.specs.System.{plant_of}
+use Rattle.plant_model.specs.System.{plant_of}
 use Rattle.recorded_picks.proofs.Lefts.{AreKept, picks_behind}
 use Rattle.recorded_picks.proofs.picks.RecordedPicksPicks.next_pick.Given as goal
 

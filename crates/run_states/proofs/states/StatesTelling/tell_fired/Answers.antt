@@ -1,10 +1,10 @@
 use Rattle.std.proofs.Common.{◌≡◌, ◌∙◌, ap, subst, sym}
 use Rattle.std.specs.Prelude.{OnOk}
 use Rattle.std.specs.Io.KnownBytes.{Appends}
-use Rattle.step_core.specs.Chosen.{choice_of}
+use Rattle.plant_model.specs.Chosen.{choice_of}
+use Rattle.plant_model.specs.Step.{next}
+use Rattle.plant_model.specs.System.{plant_of}
 use Rattle.step_core.specs.Running.{plant_in}
-use Rattle.step_core.specs.Step.{next}
-use Rattle.step_core.specs.System.{plant_of}
 use Rattle.text_io.proofs.Leading.{printed-last}
 use Rattle.run_states.specs.States.{fired_begin, present_part}
 use Rattle.run_states.specs.ByRows.{begin_by_rows}

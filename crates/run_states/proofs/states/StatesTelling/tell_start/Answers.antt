@@ -1,8 +1,8 @@
 use Rattle.std.proofs.Common.{◌≡◌, ◌∙◌, ap, subst}
 use Rattle.std.specs.Prelude.{OnOk}
 use Rattle.std.specs.Io.KnownBytes.{Appends}
+use Rattle.plant_model.specs.System.{plant_of}
 use Rattle.step_core.specs.Running.{plant_in, states_in}
-use Rattle.step_core.specs.System.{plant_of}
 use Rattle.text_io.proofs.Leading.{printed-last}
 use Rattle.run_states.specs.States.{head_line, start_lines}
 use Rattle.run_states.proofs.states.StatesTelling.tell_start.Goals as goal

@@ -1,11 +1,11 @@
 use Rattle.std.proofs.Common.{◌≡◌, ◌∙◌, ap, sym, subst}
 use Rattle.std.specs.Io.KnownBytes.{Appends}
 use Rattle.std.proofs.KnownBytes.{Appends-trans}
-use Rattle.step_core.specs.Chosen.{choice_of}
-use Rattle.step_core.specs.Fitting.{IsOf}
+use Rattle.plant_model.specs.Chosen.{choice_of}
+use Rattle.plant_model.specs.Fitting.{IsOf}
+use Rattle.plant_model.specs.Step.{next}
+use Rattle.plant_model.specs.System.{plant_of}
 use Rattle.step_core.specs.Running.{plant_in}
-use Rattle.step_core.specs.Step.{next}
-use Rattle.step_core.specs.System.{plant_of}
 use Rattle.run_states.specs.Changes.{changes_of}
 use Rattle.run_states.specs.Waves.{time_line}
 use Rattle.run_states.proofs.waves.WavesTelling.tell_fired.Goals as goal

@@ -1,8 +1,8 @@
 use Rattle.std.proofs.Common.{◌≡◌, ◌∙◌, ap, subst}
 use Rattle.std.specs.Io.KnownBytes.{Appends}
-use Rattle.step_core.specs.Chosen.{choice_of}
+use Rattle.plant_model.specs.Chosen.{choice_of}
+use Rattle.plant_model.specs.System.{plant_of}
 use Rattle.step_core.specs.Running.{plant_in}
-use Rattle.step_core.specs.System.{plant_of}
 use Rattle.text_io.proofs.Leading.{printed-last}
 use Rattle.run_text.specs.Format.{step_text}
 use Rattle.run_text.specs.ByRows.{step_by_rows}

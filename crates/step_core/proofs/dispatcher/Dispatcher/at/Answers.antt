@@ -1,9 +1,9 @@
 use Rattle.std.proofs.Common.{◌∙◌, ap, sym, subst, length}
 use Rattle.std.specs.Prelude.{Some}
 use Rattle.std.proofs.lemmas.List.{length-map}
+use Rattle.plant_model.specs.System.{interactions_in, plant_of}
 use Rattle.step_core.specs.Dispatching.{AllPresentFit}
 use Rattle.step_core.specs.SureJudgement.{IsSureJudgement}
-use Rattle.step_core.specs.System.{interactions_in, plant_of}
 use Rattle.step_core.proofs.Presence.{all-fit}
 use Rattle.step_core.proofs.dispatcher.Dispatcher.at.Goals as goal
 

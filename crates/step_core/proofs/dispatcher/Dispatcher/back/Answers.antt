@@ -3,8 +3,8 @@ use Rattle.std.specs.Prelude.{None, Some, is_none, slice_get}
 use Rattle.std.specs.Option.{option_map_or}
 use Rattle.std.proofs.lemmas.List.{length-set}
 use Rattle.std.proofs.lemmas.Option.{slice_get_within}
+use Rattle.plant_model.specs.System.{plant_of}
 use Rattle.step_core.specs.Dispatching.{AllPresentFit}
-use Rattle.step_core.specs.System.{plant_of}
 use Rattle.step_core.proofs.Presence.{one-comes-fit, others-kept}
 use Rattle.step_core.proofs.dispatcher.Dispatcher.back.Goals as goal
 

@@ -2,9 +2,9 @@ use Rattle.std.proofs.Common.{◌≡◌, ◌∙◌, ap, sym, subst, map, take, l
 use Rattle.std.specs.Prelude.{is_none, slice_get}
 use Rattle.std.specs.Option.{option_map_or}
 use Rattle.petri_atom.specs.Local.{is_in}
-use Rattle.step_core.specs.Chosen.{choice_of}
+use Rattle.plant_model.specs.Chosen.{choice_of}
+use Rattle.plant_model.specs.System.{plant_of}
 use Rattle.step_core.specs.Dispatching.{AllPresentFit}
-use Rattle.step_core.specs.System.{plant_of}
 use Rattle.step_core.proofs.PartsLeft.{left-fits, left-stays, length-left}
 use Rattle.step_core.proofs.Presence.{no-move}
 use Rattle.step_core.proofs.dispatcher.Dispatcher.begin.Goals as goal

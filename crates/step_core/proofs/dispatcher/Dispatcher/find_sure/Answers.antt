@@ -1,4 +1,4 @@
-use Rattle.step_core.specs.System.{plant_of}
+use Rattle.plant_model.specs.System.{plant_of}
 use Rattle.step_core.specs.Dispatcher.{parts_in, system_of}
 use Rattle.step_core.proofs.dispatcher.Dispatcher.find_sure.Goals as goal
 

@@ -1,10 +1,10 @@
 use Rattle.std.proofs.Common.{◌≡◌, ◌∙◌, ap, sym, map, take, length}
 use Rattle.std.specs.Prelude.{slice_get}
 use Rattle.petri_atom.specs.Local.{is_in}
-use Rattle.step_core.specs.Chosen.{choice_of}
+use Rattle.plant_model.specs.Chosen.{choice_of}
+use Rattle.plant_model.specs.Step.{transfer}
+use Rattle.plant_model.specs.System.{plant_of}
 use Rattle.step_core.specs.Parts.{is_present, shown_in}
-use Rattle.step_core.specs.Step.{transfer}
-use Rattle.step_core.specs.System.{plant_of}
 use Rattle.step_core.proofs.FiringOfParts.{length-moved, part-stays, presence-stays}
 use Rattle.step_core.proofs.Refreshing.{of-no-move}
 use Rattle.step_core.proofs.dispatcher.Dispatcher.fire_telling.Goals as goal

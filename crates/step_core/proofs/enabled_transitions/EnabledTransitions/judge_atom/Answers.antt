@@ -7,11 +7,11 @@ use Rattle.std.proofs.lemmas.List.{length-map, get_or_default}
 use Rattle.std.proofs.lemmas.Option.{same_Some, slice_get_past, slice_get_read, none-some}
 use Rattle.petri_atom.specs.Atom.{definition_of}
 use Rattle.petri_atom.specs.Definition.{offered_set}
+use Rattle.plant_model.specs.Dependents.{row_of_port, row_of_guards, is_in_row}
+use Rattle.plant_model.proofs.Judging.{atom-there}
+use Rattle.plant_model.proofs.Touched.{in-row, out-before, out-of-row}
 use Rattle.step_core.specs.EnabledTransitions.{count_at}
-use Rattle.step_core.specs.Dependents.{row_of_port, row_of_guards, is_in_row}
-use Rattle.step_core.proofs.Judging.{atom-there}
 use Rattle.step_core.proofs.Recounted.{count-here, count-there, recounted}
-use Rattle.step_core.proofs.Touched.{in-row, out-before, out-of-row}
 use Rattle.step_core.proofs.enabled_transitions.EnabledTransitions.judge_atom.Goals as goal
 
 -- what is not the negation of a truth is true

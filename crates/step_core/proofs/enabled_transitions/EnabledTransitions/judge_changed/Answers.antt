@@ -1,9 +1,9 @@
 use Rattle.std.proofs.Common.{◌+◌, ◌∙◌, subst, map, drop, get_or}
 use Rattle.std.proofs.lemmas.List.{drop_more}
 use Rattle.petri_atom.specs.Atom.{definition_of}
+use Rattle.plant_model.proofs.Touched.{read-next}
 use Rattle.step_core.specs.EnabledTransitions.{AreOfferedBut}
 use Rattle.step_core.proofs.Refreshing.{after-one}
-use Rattle.step_core.proofs.Touched.{read-next}
 use Rattle.step_core.proofs.enabled_transitions.EnabledTransitions.judge_changed.Goals as goal
 
 pub loop-number-preserved : goal.loop-number-preserved

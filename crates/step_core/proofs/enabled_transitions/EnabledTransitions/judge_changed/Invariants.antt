@@ -1,8 +1,8 @@
 use Rattle.std.proofs.Common.{◌≡◌, ◌<◌, ◌*◌, ℕ, false, map, drop, take}
 use Rattle.std.specs.FinSet.{contains}
 use Rattle.petri_atom.specs.Atom.{definition_of}
-use Rattle.step_core.specs.EnabledTransitions.{AreOfferedBut, AreCounted}
-use Rattle.step_core.specs.Dependents.{is_read_by, AreTold}
+use Rattle.plant_model.specs.Dependents.{is_read_by}
+use Rattle.step_core.specs.EnabledTransitions.{AreOfferedBut, AreCounted, AreTold}
 use Rattle.step_core.proofs.enabled_transitions.EnabledTransitions.judge_changed.Given as goal
 
 abbrev pub invariant-loop-number : goal.invariant-loop-number

@@ -6,7 +6,7 @@ use Rattle.std.proofs.lemmas.Option.{same_Some, slice_get_within, slice_get_read
 use Rattle.petri_atom.specs.Atom.{definition_of}
 use Rattle.petri_atom.specs.Definition.{AtomDefinition, enabled, offered_set}
 use Rattle.petri_atom.specs.Local.{Local}
-use Rattle.step_core.proofs.Judging.{atom-there}
+use Rattle.plant_model.proofs.Judging.{atom-there}
 use Rattle.step_core.proofs.Recounted.{no-counts, set-here, set-there, count-there, its-ports, its-past, all-few}
 use Rattle.step_core.proofs.enabled_transitions.EnabledTransitions.of.Goals as goal
 

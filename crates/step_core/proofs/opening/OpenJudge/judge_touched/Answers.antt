@@ -2,9 +2,9 @@ use Rattle.std.proofs.Common.{◌≡◌, ◌*◌, ◌∙◌, ℕ, Bool, arith, m
 use Rattle.std.specs.FinSet.{contains}
 use Rattle.std.proofs.lemmas.Bool.{or_parts}
 use Rattle.petri_atom.specs.Atom.{definition_of}
-use Rattle.step_core.specs.Interaction.{interaction_of}
+use Rattle.plant_model.specs.Interaction.{interaction_of}
+use Rattle.plant_model.proofs.Noting.{right-all}
 use Rattle.step_core.specs.Sure.{is_open_at}
-use Rattle.step_core.proofs.Noting.{right-all}
 use Rattle.step_core.proofs.WordByWord.{word-but, word-next}
 use Rattle.step_core.proofs.opening.OpenJudge.judge_touched.Goals as goal
 

@@ -1,9 +1,9 @@
 use Rattle.std.proofs.Common.{◌≡◌, ◌*◌, ℕ, Bool, false, map, length}
 use Rattle.std.specs.FinSet.{contains}
 use Rattle.petri_atom.specs.Atom.{definition_of}
-use Rattle.step_core.specs.Interaction.{interaction_of}
+use Rattle.plant_model.specs.Interaction.{interaction_of}
+use Rattle.plant_model.proofs.Noting.{IsRightBut, IsRightTo}
 use Rattle.step_core.specs.Sure.{is_open_at}
-use Rattle.step_core.proofs.Noting.{IsRightBut, IsRightTo}
 use Rattle.step_core.proofs.opening.OpenJudge.judge_touched.Given as goal
 
 -- the interactions of the words so far are judged, and the others are right but those that are to be judged

@@ -4,7 +4,7 @@ use Rattle.std.specs.FinSet.{contains}
 use Rattle.std.proofs.lemmas.Bool.{or_parts, cases_eq, false≢true}
 use Rattle.petri_atom.specs.Atom.{definition_of}
 use Rattle.priority_filter.proofs.Words.{rest-less}
-use Rattle.step_core.specs.Interaction.{interaction_of}
+use Rattle.plant_model.specs.Interaction.{interaction_of}
 use Rattle.step_core.specs.Sure.{is_open_at}
 use Rattle.step_core.specs.Words.{in_word}
 use Rattle.step_core.proofs.WordByWord.{lowest-inside, rest-inside, others-inside, none-inside}

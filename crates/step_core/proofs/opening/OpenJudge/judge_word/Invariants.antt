@@ -1,7 +1,7 @@
 use Rattle.std.proofs.Common.{◌≡◌, ℕ, true, false, map}
 use Rattle.std.specs.FinSet.{contains}
 use Rattle.petri_atom.specs.Atom.{definition_of}
-use Rattle.step_core.specs.Interaction.{interaction_of}
+use Rattle.plant_model.specs.Interaction.{interaction_of}
 use Rattle.step_core.specs.Sure.{is_open_at}
 use Rattle.step_core.specs.Words.{in_word}
 use Rattle.step_core.proofs.opening.OpenJudge.judge_word.Given as goal

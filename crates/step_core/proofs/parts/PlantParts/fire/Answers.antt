@@ -1,14 +1,14 @@
 use Rattle.std.proofs.Common.{◌∙◌, ap, sym, subst, length}
 use Rattle.std.specs.Prelude.{Some}
 use Rattle.petri_atom.specs.Local.{has}
-use Rattle.step_core.specs.Chosen.{choice_of}
+use Rattle.plant_model.specs.Chosen.{choice_of}
+use Rattle.plant_model.specs.Step.{transfer}
+use Rattle.plant_model.specs.System.{plant_of}
+use Rattle.plant_model.proofs.RulesKept.{well_formed}
 use Rattle.step_core.specs.Dispatching.{AllPresentFit, ArePartsKept}
 use Rattle.step_core.specs.Parts.{parts_of, shown_in}
-use Rattle.step_core.specs.Step.{transfer}
 use Rattle.step_core.specs.Sure.{IsSure, went_on}
-use Rattle.step_core.specs.System.{plant_of}
 use Rattle.step_core.proofs.FiringOfParts.{fired-fit, fired-kept}
-use Rattle.step_core.proofs.RulesKept.{well_formed}
 use Rattle.step_core.proofs.PartsKept.{length-parts, shows}
 use Rattle.step_core.proofs.SureAllowed.{goes-on, sure-allowed}
 use Rattle.step_core.proofs.parts.PlantParts.fire.Goals as goal

@@ -3,8 +3,8 @@ use Rattle.std.specs.Prelude.{Some, slice_get}
 use Rattle.std.proofs.lemmas.List.{append_assoc, length-append}
 use Rattle.petri_atom.specs.Atom.{definition_of}
 use Rattle.connector_tree.specs.declared.tree.Port.{Port}
-use Rattle.step_core.specs.Choice.{moves_of, combinations}
-use Rattle.step_core.proofs.Combinations.{count-positive, below-positive, first-within, later-within, below-is, row-by-first, length-later}
+use Rattle.plant_model.specs.Choice.{moves_of, combinations}
+use Rattle.plant_model.proofs.Combinations.{count-positive, below-positive, first-within, later-within, below-is, row-by-first, length-later}
 use Rattle.step_core.proofs.possible.InteractionJudge.+push_row.Goals as goal
 
 pub split_place-split-requires : goal.split_place-split-requires

@@ -1,7 +1,7 @@
 use Rattle.std.proofs.Common.{◌≤◌, ◌*◌, ◌^◌, map, length, take, drop, ◌-◌, arith, le_trans, pow_mono}
 use Rattle.petri_atom.specs.Atom.{definition_of}
-use Rattle.step_core.specs.Choice.{moves_of}
-use Rattle.step_core.proofs.Combinations.{product-bound, length-later, count-by-first}
+use Rattle.plant_model.specs.Choice.{moves_of}
+use Rattle.plant_model.proofs.Combinations.{product-bound, length-later, count-by-first}
 use Rattle.step_core.proofs.possible.InteractionJudge.+row_count.Goals as goal
 
 -- at most 7 bits for each of 9 ports

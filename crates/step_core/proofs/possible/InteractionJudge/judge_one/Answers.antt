@@ -7,15 +7,15 @@ use Rattle.std.proofs.lemmas.List.{length-map, get_or-set_same}
 use Rattle.std.proofs.lemmas.Option.{slice_get-map, slice_get_read, slice_get_past}
 use Rattle.petri_atom.specs.Atom.{definition_of}
 use Rattle.connector_tree.specs.declared.tree.Port.{Port}
-use Rattle.step_core.specs.Choice.{is_possible, is_possible_at, moves_of, combinations, choices_of, passes_guards}
-use Rattle.step_core.specs.Interaction.{interaction_of}
+use Rattle.plant_model.specs.Choice.{is_possible, is_possible_at, moves_of, combinations, choices_of, passes_guards}
+use Rattle.plant_model.specs.Interaction.{interaction_of}
+use Rattle.plant_model.specs.Ways.{fits_word, fits_word_at, ways_at}
+use Rattle.plant_model.specs.declared.interaction.Interaction.{Interaction}
+use Rattle.plant_model.specs.declared.limits.TheConstants.{PORTS_IN_A_WORD}
+use Rattle.plant_model.specs.Wire.{wire_of}
+use Rattle.plant_model.proofs.Noting.{put-here, put-other}
 use Rattle.step_core.specs.Judges.{judged_atoms, judged_wires}
-use Rattle.step_core.specs.Ways.{fits_word, fits_word_at, ways_at}
-use Rattle.step_core.specs.declared.interaction.Interaction.{Interaction}
-use Rattle.step_core.specs.declared.limits.TheConstants.{PORTS_IN_A_WORD}
 use Rattle.step_core.specs.declared.possible.InteractionJudge.{InteractionJudge}
-use Rattle.step_core.specs.Wire.{wire_of}
-use Rattle.step_core.proofs.Noting.{put-here, put-other}
 use Rattle.step_core.proofs.Offering.{possible-told, not-possible}
 use Rattle.step_core.proofs.Ruled.{on-empty}
 use Rattle.step_core.proofs.possible.InteractionJudge.judge_one.Goals as goal

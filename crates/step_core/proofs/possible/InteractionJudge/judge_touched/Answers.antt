@@ -1,10 +1,10 @@
 use Rattle.std.proofs.Common.{◌≡◌, ◌∙◌, ℕ, Bool, map, length, get_or}
 use Rattle.std.specs.FinSet.{contains}
 use Rattle.std.proofs.lemmas.Bool.{or_parts}
-use Rattle.step_core.specs.Choice.{is_possible_at}
-use Rattle.step_core.specs.Interaction.{interaction_of}
+use Rattle.plant_model.specs.Choice.{is_possible_at}
+use Rattle.plant_model.specs.Interaction.{interaction_of}
+use Rattle.plant_model.specs.Ways.{IsWays}
 use Rattle.step_core.specs.Judges.{judged_atoms, judged_wires}
-use Rattle.step_core.specs.Ways.{IsWays}
 use Rattle.step_core.proofs.WordByWord.{word-but, word-next}
 use Rattle.step_core.proofs.possible.InteractionJudge.judge_touched.Goals as goal
 

@@ -1,10 +1,10 @@
 use Rattle.std.proofs.Common.{◌≡◌, ◌<◌, ◌*◌, ℕ, false, map, get_or}
 use Rattle.std.specs.FinSet.{contains}
-use Rattle.step_core.specs.Choice.{is_possible_at}
-use Rattle.step_core.specs.Interaction.{interaction_of}
+use Rattle.plant_model.specs.Choice.{is_possible_at}
+use Rattle.plant_model.specs.Interaction.{interaction_of}
+use Rattle.plant_model.specs.Ways.{IsWays, AreWaysBut, IsSame}
 use Rattle.step_core.specs.Judges.{judged_atoms, judged_wires}
 use Rattle.step_core.specs.Possible.{ArePossibleBut}
-use Rattle.step_core.specs.Ways.{IsWays, AreWaysBut, IsSame}
 use Rattle.step_core.proofs.possible.InteractionJudge.judge_touched.Given as goal
 
 abbrev pub invariant-loop-place : goal.invariant-loop-place

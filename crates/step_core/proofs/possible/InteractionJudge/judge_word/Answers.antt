@@ -4,10 +4,10 @@ use Rattle.std.specs.FinSet.{contains}
 use Rattle.std.proofs.lemmas.Bool.{or_parts, cases_eq, cases_Bool, false≢true, eqb-true, ne_eqb}
 use Rattle.petri_atom.specs.Atom.{definition_of}
 use Rattle.priority_filter.specs.Members.{has_bit}
-use Rattle.step_core.specs.Choice.{is_possible_at}
-use Rattle.step_core.specs.Interaction.{interaction_of}
-use Rattle.step_core.specs.Ways.{IsWays}
-use Rattle.step_core.specs.Wire.{wire_of}
+use Rattle.plant_model.specs.Choice.{is_possible_at}
+use Rattle.plant_model.specs.Interaction.{interaction_of}
+use Rattle.plant_model.specs.Ways.{IsWays}
+use Rattle.plant_model.specs.Wire.{wire_of}
 use Rattle.step_core.specs.Words.{in_word}
 use Rattle.step_core.proofs.WordByWord.{lowest-inside, rest-inside, fewer-inside, fewer-less, judged-next, right-next, none-inside, taken-out, stays-in}
 use Rattle.step_core.proofs.possible.InteractionJudge.judge_word.Goals as goal

@@ -1,10 +1,10 @@
 use Rattle.std.proofs.Common.{◌≡◌, ℕ, ◌&&◌, not, true, false, map, get_or}
 use Rattle.std.specs.FinSet.{contains}
 use Rattle.petri_atom.specs.Atom.{definition_of}
-use Rattle.step_core.specs.Choice.{is_possible_at}
-use Rattle.step_core.specs.Interaction.{interaction_of}
-use Rattle.step_core.specs.Ways.{IsWays}
-use Rattle.step_core.specs.Wire.{wire_of}
+use Rattle.plant_model.specs.Choice.{is_possible_at}
+use Rattle.plant_model.specs.Interaction.{interaction_of}
+use Rattle.plant_model.specs.Ways.{IsWays}
+use Rattle.plant_model.specs.Wire.{wire_of}
 use Rattle.step_core.specs.Words.{in_word}
 use Rattle.step_core.proofs.possible.InteractionJudge.judge_word.Given as goal
 

@@ -2,8 +2,8 @@ use Rattle.std.proofs.Common.{◌≡◌, ◌+◌, ◌*◌, ◌-◌, ◌++◌, �
 use Rattle.std.proofs.lemmas.List.{length-append, map-append, take_all, take-append-drop}
 use Rattle.petri_atom.specs.Atom.{definition_of}
 use Rattle.connector_tree.specs.declared.tree.Port.{Port}
-use Rattle.step_core.specs.Choice.{moves_of, combinations}
-use Rattle.step_core.proofs.Combinations.{length-combinations-append, parts-bound}
+use Rattle.plant_model.specs.Choice.{moves_of, combinations}
+use Rattle.plant_model.proofs.Combinations.{length-combinations-append, parts-bound}
 use Rattle.step_core.proofs.possible.InteractionJudge.long_row_count.Goals as goal
 
 -- the ports in two parts are the ports

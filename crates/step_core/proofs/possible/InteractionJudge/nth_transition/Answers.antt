@@ -3,8 +3,8 @@ use Rattle.std.specs.Prelude.{None, option_map, slice_get}
 use Rattle.std.proofs.lemmas.Option.{slice_get-map}
 use Rattle.petri_atom.specs.Atom.{definition_of}
 use Rattle.petri_atom.specs.Definition.{enabled}
-use Rattle.step_core.specs.Choice.{move_of}
-use Rattle.step_core.proofs.Judging.{atom-there, of_atom-there, of_atom-past}
+use Rattle.plant_model.specs.Choice.{move_of}
+use Rattle.plant_model.proofs.Judging.{atom-there, of_atom-there, of_atom-past}
 use Rattle.step_core.proofs.possible.InteractionJudge.nth_transition.Goals as goal
 
 pub returns-in-Some : goal.returns-in-Some

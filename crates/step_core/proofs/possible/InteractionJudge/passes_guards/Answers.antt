@@ -4,10 +4,10 @@ use Rattle.std.specs.List.{list_all}
 use Rattle.std.specs.Option.{option_map_or}
 use Rattle.std.proofs.lemmas.Option.{slice_get_read, slice_get_past}
 use Rattle.connector_tree.specs.Tree.{leaves}
-use Rattle.step_core.specs.BoundExpressions.{clause_of, clause_holds}
-use Rattle.step_core.specs.Choice.{Interaction, passes_guards}
-use Rattle.step_core.specs.Exports.{guards_hold}
-use Rattle.step_core.specs.Interaction.{interaction_of}
+use Rattle.plant_model.specs.BoundExpressions.{clause_of, clause_holds}
+use Rattle.plant_model.specs.Choice.{Interaction, passes_guards}
+use Rattle.plant_model.specs.Exports.{guards_hold}
+use Rattle.plant_model.specs.Interaction.{interaction_of}
 use Rattle.step_core.specs.Judges.{judged_atoms, judged_wires}
 use Rattle.step_core.specs.declared.possible.InteractionJudge.{InteractionJudge}
 use Rattle.step_core.proofs.possible.InteractionJudge.passes_guards.Goals as goal

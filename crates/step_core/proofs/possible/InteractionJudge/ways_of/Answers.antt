@@ -4,8 +4,8 @@ use Rattle.std.specs.Option.{option_map_or}
 use Rattle.std.proofs.lemmas.List.{length-map}
 use Rattle.std.proofs.lemmas.Option.{slice_get-map, slice_get-get_or}
 use Rattle.petri_atom.specs.Atom.{definition_of}
-use Rattle.step_core.specs.Choice.{moves_of, combinations, choices_of}
-use Rattle.step_core.specs.Interaction.{interaction_of}
+use Rattle.plant_model.specs.Choice.{moves_of, combinations, choices_of}
+use Rattle.plant_model.specs.Interaction.{interaction_of}
 use Rattle.step_core.proofs.FittingWords.{fits-at}
 use Rattle.step_core.proofs.possible.InteractionJudge.ways_of.Goals as goal
 

@@ -2,8 +2,8 @@ use Rattle.std.proofs.Common.{◌+◌, ◌*◌, ◌∙◌, ap, sym, arith, map}
 use Rattle.std.specs.FinSet.{contains}
 use Rattle.std.proofs.lemmas.List.{length-map}
 use Rattle.petri_atom.specs.Atom.{definition_of}
-use Rattle.step_core.specs.Interaction.{interaction_of}
-use Rattle.step_core.specs.Wire.{wire_of}
+use Rattle.plant_model.specs.Interaction.{interaction_of}
+use Rattle.plant_model.specs.Wire.{wire_of}
 use Rattle.step_core.proofs.Counted.{none-past, count-all}
 use Rattle.step_core.proofs.priority_judge.PriorityJudge.count_choices.Goals as goal
 

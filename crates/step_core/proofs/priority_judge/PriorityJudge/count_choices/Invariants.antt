@@ -1,7 +1,7 @@
 use Rattle.std.proofs.Common.{◌≡◌, ◌≤◌, ◌*◌, ◌^◌, map, length}
 use Rattle.std.specs.FinSet.{contains}
 use Rattle.petri_atom.specs.Atom.{definition_of}
-use Rattle.step_core.specs.Interaction.{interaction_of}
+use Rattle.plant_model.specs.Interaction.{interaction_of}
 use Rattle.step_core.specs.ChoicesIn.{choices_in_below}
 use Rattle.step_core.proofs.priority_judge.PriorityJudge.count_choices.Given as goal
 

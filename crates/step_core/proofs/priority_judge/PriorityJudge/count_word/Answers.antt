@@ -4,10 +4,10 @@ use Rattle.std.specs.Int.{trailing_zeros}
 use Rattle.std.proofs.lemmas.List.{length-map}
 use Rattle.priority_filter.specs.declared.interaction_set.InteractionSet.{InteractionSet}
 use Rattle.priority_filter.proofs.Words.{rest-less}
+use Rattle.plant_model.specs.Interaction.{interaction_of}
+use Rattle.plant_model.specs.Ways.{ways_at}
 use Rattle.step_core.specs.ChoicesIn.{AreAllPossible}
-use Rattle.step_core.specs.Interaction.{interaction_of}
 use Rattle.step_core.specs.Judges.{judged_interactions, judged_plant}
-use Rattle.step_core.specs.Ways.{ways_at}
 use Rattle.step_core.specs.declared.priority_judge.PriorityJudge.{PriorityJudge}
 use Rattle.step_core.proofs.Counted.{count_below, count-skips, count-adds}
 use Rattle.step_core.proofs.LowestKept.{IsLeft, IsLowest, all-left, lowest, none-more}

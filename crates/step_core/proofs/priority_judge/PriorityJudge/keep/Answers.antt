@@ -1,8 +1,8 @@
 use Rattle.std.proofs.Common.{◌∙◌, sym, map}
 use Rattle.std.specs.FinSet.{contains}
 use Rattle.priority_filter.specs.Active.{may_be_marked}
-use Rattle.step_core.specs.Interaction.{interaction_of}
-use Rattle.step_core.specs.Made.{plant_by}
+use Rattle.plant_model.specs.Interaction.{interaction_of}
+use Rattle.plant_model.specs.Made.{plant_by}
 use Rattle.step_core.proofs.Counted.{kept-possible}
 use Rattle.step_core.proofs.priority_judge.PriorityJudge.keep.Goals as goal
 

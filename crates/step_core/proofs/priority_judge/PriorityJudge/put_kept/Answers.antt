@@ -5,9 +5,9 @@ use Rattle.std.proofs.lemmas.Bool.{cases_lt}
 use Rattle.std.proofs.lemmas.List.{length-map}
 use Rattle.priority_filter.specs.Active.{active, may_be_marked}
 use Rattle.priority_filter.specs.Decided.{is_overruled}
-use Rattle.step_core.specs.Choice.{is_possible_at}
-use Rattle.step_core.specs.Interaction.{interaction_of}
-use Rattle.step_core.specs.Made.{plant_by}
+use Rattle.plant_model.specs.Choice.{is_possible_at}
+use Rattle.plant_model.specs.Interaction.{interaction_of}
+use Rattle.plant_model.specs.Made.{plant_by}
 use Rattle.step_core.proofs.Counted.{not-kept, possible-past}
 use Rattle.step_core.proofs.priority_judge.PriorityJudge.put_kept.Goals as goal
 

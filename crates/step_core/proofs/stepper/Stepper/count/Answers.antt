@@ -1,7 +1,7 @@
 use Rattle.std.proofs.Common.{◌∙◌, ap, length}
-use Rattle.step_core.specs.Choice.{choices_among}
-use Rattle.step_core.specs.System.{plant_of}
-use Rattle.step_core.proofs.NoDeadlock.{none-where-stuck}
+use Rattle.plant_model.specs.Choice.{choices_among}
+use Rattle.plant_model.specs.System.{plant_of}
+use Rattle.plant_model.proofs.NoDeadlock.{none-where-stuck}
 use Rattle.step_core.proofs.stepper.Stepper.count.Goals as goal
 
 pub returns-clause-count : goal.returns-clause-count

@@ -1,6 +1,6 @@
 use Rattle.std.proofs.Common.{subst}
-use Rattle.step_core.specs.Fitting.{AllFit}
-use Rattle.step_core.specs.System.{plant_of}
+use Rattle.plant_model.specs.Fitting.{AllFit}
+use Rattle.plant_model.specs.System.{plant_of}
 use Rattle.step_core.proofs.stepper.Stepper.first.Goals as goal
 
 pub returns-clause-fits : goal.returns-clause-fits

@@ -1,8 +1,8 @@
 use Rattle.std.proofs.Common.{◌∙◌, ap, sym, subst, length}
 use Rattle.std.proofs.lemmas.List.{length-set}
 use Rattle.std.specs.Prelude.{slice_get}
-use Rattle.step_core.specs.Fitting.{AllFit}
-use Rattle.step_core.specs.System.{plant_of}
+use Rattle.plant_model.specs.Fitting.{AllFit}
+use Rattle.plant_model.specs.System.{plant_of}
 use Rattle.step_core.proofs.Refreshing.{others-stay, one-set-fits}
 use Rattle.step_core.proofs.stepper.Stepper.set.Goals as goal
 

@@ -5,14 +5,14 @@ use Rattle.std.proofs.lemmas.Bool.{false≢true}
 use Rattle.std.proofs.lemmas.List.{length-map, length-replicate}
 use Rattle.std.proofs.lemmas.Option.{none-some, slice_get-map}
 use Rattle.petri_atom.specs.Local.{Local}
+use Rattle.plant_model.specs.Fitting.{AllFit}
+use Rattle.plant_model.specs.Plant.{PlantDefinition}
+use Rattle.plant_model.specs.System.{plant_of}
+use Rattle.plant_model.specs.declared.system.System.{System}
 use Rattle.step_core.specs.Dispatcher.{parts_in, system_of}
-use Rattle.step_core.specs.Fitting.{AllFit}
 use Rattle.step_core.specs.Job.{JobDefinition, job_of}
 use Rattle.step_core.specs.Parts.{nothing_shown}
-use Rattle.step_core.specs.Plant.{PlantDefinition}
-use Rattle.step_core.specs.System.{plant_of}
 use Rattle.step_core.specs.declared.job.Job.{Job}
-use Rattle.step_core.specs.declared.system.System.{System}
 use Rattle.step_executor.specs.Outstanding.{AreCommitted, AreKept, committed_by, ended_at, filled, is_out, is_part_away, kept_in, whole_of}
 use Rattle.step_executor.proofs.executor.Executor.at.Goals as goal
 

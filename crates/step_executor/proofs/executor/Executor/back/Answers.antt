@@ -1,11 +1,11 @@
 use Rattle.std.proofs.Common.{◌≡◌, ℕ, sym, ◌∙◌, ap, subst, get_or, set}
 use Rattle.std.specs.Prelude.{Some, None, slice_get}
 use Rattle.petri_atom.specs.Definition.{Fits}
+use Rattle.plant_model.specs.Fitting.{AllFit}
+use Rattle.plant_model.specs.System.{plant_of}
+use Rattle.plant_model.specs.declared.system.System.{System}
 use Rattle.step_core.specs.Dispatcher.{parts_in}
-use Rattle.step_core.specs.Fitting.{AllFit}
 use Rattle.step_core.specs.Job.{JobDefinition, job_done, worked}
-use Rattle.step_core.specs.System.{plant_of}
-use Rattle.step_core.specs.declared.system.System.{System}
 use Rattle.step_executor.specs.Executing.{jobs_in, plant_in, states_in}
 use Rattle.step_executor.specs.Outstanding.{AreCommitted, AreKept, committed_by, kept_in, whole_of}
 use Rattle.step_executor.proofs.Going.{back-committed, back-kept, back-noted, back-whole, was-away, whole-out}

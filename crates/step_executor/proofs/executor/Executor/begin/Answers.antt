@@ -4,15 +4,15 @@ use Rattle.std.specs.List.{list_all}
 use Rattle.std.proofs.lemmas.List.{length-map}
 use Rattle.std.proofs.lemmas.Option.{slice_get_within}
 use Rattle.petri_atom.specs.Definition.{is_well_formed}
-use Rattle.step_core.specs.Chosen.{choice_of}
+use Rattle.plant_model.specs.Chosen.{choice_of}
+use Rattle.plant_model.specs.Fitting.{AllFit}
+use Rattle.plant_model.specs.Rules.{fault_of}
+use Rattle.plant_model.specs.System.{plant_of}
+use Rattle.plant_model.specs.declared.system.System.{System}
+use Rattle.plant_model.proofs.Membership.{entry-in}
 use Rattle.step_core.specs.Dispatcher.{parts_in}
-use Rattle.step_core.specs.Fitting.{AllFit}
 use Rattle.step_core.specs.Job.{job_of}
 use Rattle.step_core.specs.Jobs.{AreJobsOf, jobs_of}
-use Rattle.step_core.specs.Rules.{fault_of}
-use Rattle.step_core.specs.System.{plant_of}
-use Rattle.step_core.specs.declared.system.System.{System}
-use Rattle.step_core.proofs.Membership.{entry-in}
 use Rattle.step_executor.specs.Executing.{jobs_in, plant_in}
 use Rattle.step_executor.specs.Outstanding.{AreCommitted, AreKept, kept_in, whole_of}
 use Rattle.step_executor.proofs.Begun.{told-are}

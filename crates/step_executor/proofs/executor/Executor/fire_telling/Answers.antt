@@ -2,11 +2,11 @@ use Rattle.std.proofs.Common.{◌≡◌, sym, ◌∙◌, ap, subst, true}
 use Rattle.std.specs.Prelude.{Some}
 use Rattle.std.specs.List.{list_all}
 use Rattle.petri_atom.specs.Definition.{is_well_formed}
-use Rattle.step_core.specs.Chosen.{choice_of}
+use Rattle.plant_model.specs.Chosen.{choice_of}
+use Rattle.plant_model.specs.Fitting.{AllFit}
+use Rattle.plant_model.specs.System.{plant_of}
+use Rattle.plant_model.specs.declared.system.System.{System}
 use Rattle.step_core.specs.Dispatcher.{parts_in}
-use Rattle.step_core.specs.Fitting.{AllFit}
-use Rattle.step_core.specs.System.{plant_of}
-use Rattle.step_core.specs.declared.system.System.{System}
 use Rattle.step_executor.specs.Executing.{jobs_in, plant_in}
 use Rattle.step_executor.specs.Outstanding.{AreCommitted, AreKept, whole_of}
 use Rattle.step_executor.proofs.Going.{fired-kept}

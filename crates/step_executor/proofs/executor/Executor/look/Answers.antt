@@ -1,9 +1,9 @@
 use Rattle.std.proofs.Common.{◌≡◌, ℕ, sym, ◌∙◌, ap, get_or}
 use Rattle.std.specs.Prelude.{Option, Some, None, option_map, slice_get}
+use Rattle.plant_model.specs.Plant.{PlantDefinition}
+use Rattle.plant_model.specs.System.{plant_of}
 use Rattle.step_core.specs.Dispatcher.{parts_in, system_of}
 use Rattle.step_core.specs.Job.{job_of}
-use Rattle.step_core.specs.Plant.{PlantDefinition}
-use Rattle.step_core.specs.System.{plant_of}
 use Rattle.step_executor.specs.Outstanding.{kept_in}
 use Rattle.step_executor.proofs.Going.{whole-out, whole-there}
 use Rattle.step_executor.proofs.executor.Executor.look.Goals as goal

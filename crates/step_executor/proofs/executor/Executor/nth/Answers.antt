@@ -1,6 +1,6 @@
 use Rattle.std.proofs.Common.{◌<◌, sym, ◌∙◌, ap, subst, length}
 use Rattle.std.specs.Prelude.{slice_get}
-use Rattle.step_core.specs.Chosen.{choice_of}
+use Rattle.plant_model.specs.Chosen.{choice_of}
 use Rattle.step_core.specs.Sure.{IsSure, sure_choices}
 use Rattle.step_executor.specs.Executing.{plant_in}
 use Rattle.step_executor.proofs.Standing.{parts-known}

@@ -2,7 +2,7 @@ use Rattle.std.proofs.Common.{◌≡◌, ◌∙◌, ◌∷◌, ◌++◌, [], ap,
 use Rattle.std.specs.Prelude.{OnOk, nat_lt}
 use Rattle.std.specs.Io.KnownBytes.{Appends}
 use Rattle.std.proofs.lemmas.Bool.{lt-ltb}
-use Rattle.step_core.specs.Choice.{choices}
+use Rattle.plant_model.specs.Choice.{choices}
 use Rattle.text_io.proofs.Leading.{printed-last}
 use Rattle.step_session.specs.Answers.{choice_count, fire_text, fired_more, firing_lines, no_choice_text, standing_text}
 use Rattle.step_session.specs.SessionOf.{plant_stepped, session_of}

@@ -3,10 +3,10 @@ use Rattle.std.specs.Prelude.{Some, flat_map, slice_get}
 use Rattle.std.specs.Io.KnownBytes.{Appends}
 use Rattle.std.proofs.KnownBytes.{Appends-trans}
 use Rattle.std.proofs.lemmas.Grind.{flat_map-append}
-use Rattle.step_core.specs.Choice.{choices}
-use Rattle.step_core.specs.Chosen.{choice_of}
+use Rattle.plant_model.specs.Choice.{choices}
+use Rattle.plant_model.specs.Chosen.{choice_of}
+use Rattle.plant_model.specs.Step.{initial_states}
 use Rattle.step_core.specs.Running.{plant_in, states_in}
-use Rattle.step_core.specs.Step.{initial_states}
 use Rattle.step_session.specs.Fired.{choices_fired}
 use Rattle.step_session.specs.SessionOf.{plant_stepped}
 use Rattle.run_text.specs.Steps.{saved_line}

@@ -2,8 +2,8 @@
 use Rattle.std.proofs.Common.{◌≡◌, take}
 use Rattle.std.specs.Prelude.{flat_map}
 use Rattle.std.specs.Io.KnownBytes.{Appends}
+use Rattle.plant_model.specs.Step.{initial_states}
 use Rattle.step_core.specs.Running.{plant_in, states_in}
-use Rattle.step_core.specs.Step.{initial_states}
 use Rattle.step_session.specs.Fired.{choices_fired, states_after}
 use Rattle.step_session.specs.SessionOf.{plant_stepped}
 use Rattle.run_text.specs.Steps.{saved_line}

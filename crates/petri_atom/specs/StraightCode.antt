@@ -1,0 +1,97 @@
+use Rattle.std.specs.Prelude.{◌≡◌, ℕ, suc, ◌≤◌, ◌<◌, ℤ, Bool, ◌&&◌, List, [], ◌∷◌, length, max, if◌then◌else◌, ◌==◌, nat_le, slice_get, slice_set, Some}
+use Rattle.std.specs.List.{list_all}
+use Rattle.petri_atom.specs.Expression.{Tree, number, variable, negation, operation, operated, value_of, word_count, has_variables_below}
+use Rattle.petri_atom.specs.Definition.{TransitionDefinition, UpdateDefinition}
+use Rattle.petri_atom.specs.Local.{value_in}
+use Rattle.petri_atom.specs.declared.code.Code.{Code}
+use Rattle.petri_atom.specs.declared.code.Operand.{Operand}
+use Rattle.petri_atom.specs.declared.code.Step.{Step}
+use Rattle.petri_atom.specs.declared.code.TheConstants.{ROW, ZERO}
+use Rattle.petri_atom.specs.declared.parts.TheConstants.{MAX_WORDS}
+use Rattle.petri_atom.specs.declared.state.TheConstants.{MAX_VARIABLES}
+use Rattle.petri_atom.specs.declared.transition_code.Change.{Change}
+use Rattle.petri_atom.specs.declared.transition_code.TransitionCode.{TransitionCode}
+
+-- ---- straight code
+
+-- an operand in a row of cells: its number, if it stands with the cell that holds 0, and else what its cell holds
+abbrev pub operand_in : List ℤ → Operand → ℤ
+operand_in row o = if o.cell == ZERO then o.number else value_in row o.cell
+
+-- what a step makes of a row
+abbrev pub made_in : List ℤ → Step → ℤ
+made_in row s = operated s.operator (operand_in row s.left) (operand_in row s.right)
+
+-- a row after steps, each of which puts what it makes into its cell
+abbrev pub run_in : List Step → List ℤ → List ℤ
+run_in [] row = row
+run_in (s ∷ ss) row = run_in ss (slice_set row s.to (made_in row s))
+
+-- how many temporary cells two operands take that take so many. The one that takes more is judged first, so that one cell more is taken only if
+-- both take as many
+abbrev pub temporaries_of_two : ℕ → ℕ → ℕ
+temporaries_of_two m n = if m == n then suc m else max m n
+
+-- how many temporary cells the value of an expression takes, its own with them; a number or a variable takes none
+abbrev pub temporaries : {V : Type 0} → Tree V → ℕ
+temporaries (number n) = 0
+temporaries (variable v) = 0
+temporaries (negation e) = max (temporaries e) 1
+temporaries (operation op e f) = temporaries_of_two (temporaries e) (temporaries f)
+
+-- behind the steps that were there, those that were added and one step more make the value of an expression, and change no cell before a number
+pub record IsMadeAfter (before after : List Step) (last : Step) (tree : Tree ℕ) (free : ℕ) : Type 0 where
+  pub value : (row : List ℤ) → length row ≡ ROW → made_in (run_in after row) last ≡ value_of (value_in (run_in before row)) tree
+  pub others : (row : List ℤ) (k : ℕ) → k < free → value_in (run_in after row) k ≡ value_in (run_in before row) k
+
+-- the same of an operand in place of the one step more; it stands in no cell past the number
+pub record IsOperandAfter (before after : List Step) (operand : Operand) (tree : Tree ℕ) (free : ℕ) : Type 0 where
+  pub value : (row : List ℤ) → length row ≡ ROW → operand_in (run_in after row) operand ≡ value_of (value_in (run_in before row)) tree
+  pub others : (row : List ℤ) (k : ℕ) → k < free → value_in (run_in after row) k ≡ value_in (run_in before row) k
+  pub cell : operand.cell ≤ free
+
+-- the same of two operands at once
+pub record AreOperandsAfter (before after : List Step) (left right : Operand) (e f : Tree ℕ) (free : ℕ) : Type 0 where
+  pub left_value : (row : List ℤ) → length row ≡ ROW → operand_in (run_in after row) left ≡ value_of (value_in (run_in before row)) e
+  pub right_value : (row : List ℤ) → length row ≡ ROW → operand_in (run_in after row) right ≡ value_of (value_in (run_in before row)) f
+  pub others : (row : List ℤ) (k : ℕ) → k < free → value_in (run_in after row) k ≡ value_in (run_in before row) k
+
+-- an expression that code is made of: it is within the limit of words, over variables that an atom may have
+abbrev pub is_codable : Tree ℕ → Bool
+is_codable e = nat_le (word_count e) MAX_WORDS && has_variables_below MAX_VARIABLES e
+
+-- code gives the value of an expression, in each row that has the variables' values in their cells
+abbrev pub IsCodeOf : Code → Tree ℕ → Type 0
+IsCodeOf code tree =
+    (row : List ℤ) → length row ≡ ROW → made_in (run_in code.steps.items row) code.last ≡ value_of (value_in row) tree
+
+-- ---- transitions
+
+-- the expressions of an update and of a transition are so
+abbrev pub is_codable_update : UpdateDefinition → Bool
+is_codable_update u = is_codable u.value
+
+abbrev pub is_codable_transition : TransitionDefinition → Bool
+is_codable_transition t = is_codable t.guard && list_all is_codable_update t.updates
+
+-- what stands at the same number in two lists of one length is related
+abbrev pub EachOf : {X Y : Type 0} → (X → Y → Type 0) → List X → List Y → Type 0
+EachOf {X} {Y} related xs ys =
+    (length xs ≡ length ys) ×
+    ((n : ℕ) (x : X) (y : Y) → slice_get xs n ≡ Some x → slice_get ys n ≡ Some y → related x y)
+
+-- a change is an update: it has the same variable, and the code of its expression
+abbrev pub IsChangeOf : Change → UpdateDefinition → Type 0
+IsChangeOf change u = (change.variable ≡ u.variable) × IsCodeOf change.value u.value
+
+-- changes are updates, one by one
+abbrev pub AreChangesOf : List Change → List UpdateDefinition → Type 0
+AreChangesOf changes us = EachOf IsChangeOf changes us
+
+-- the code of a transition is that of its guard and of its updates
+abbrev pub IsTransitionCode : TransitionCode → TransitionDefinition → Type 0
+IsTransitionCode code t = IsCodeOf code.guard t.guard × AreChangesOf code.changes.items t.updates
+
+-- codes are those of transitions, one by one
+abbrev pub AreCodesOf : List TransitionCode → List TransitionDefinition → Type 0
+AreCodesOf codes ts = EachOf IsTransitionCode codes ts

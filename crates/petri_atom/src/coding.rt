@@ -1,0 +1,149 @@
+//! How the straight code of an expression is made.
+ghost use Rattle.std.specs.Prelude.{◌≡◌, ◌≢◌, ◌≤◌, ◌<◌, ◌+◌, IsTrue, IfOk, length};
+ghost use Rattle.petri_atom.specs.StraightCode.{AreOperandsAfter, IsMadeAfter, IsOperandAfter, temporaries, temporaries_of_two};
+ghost use Rattle.petri_atom.specs.Expression.{has_variables_below, tree_of, word_count};
+ghost use Rattle.petri_atom.specs.declared.code.TheConstants.{ROW, TEMPORARY, ZERO};
+ghost use Rattle.petri_atom.specs.declared.parts.TheConstants.{MAX_WORDS};
+ghost use Rattle.petri_atom.specs.declared.state.TheConstants.{MAX_VARIABLES};
+
+use crate::code::{Operand, Step};
+use crate::expression::{Expression, Operator};
+use std::alloc::AllocError;
+
+/// How many temporary cells the value of an expression takes, its own with them.
+fn temporaries(expression: &Expression<u8>) -> u8
+    requires { word_count (tree_of expression.now) ≤ MAX_WORDS }
+    ensures { result ≡ temporaries (tree_of expression.now) }
+{
+    match expression {
+        Expression::Number(_) => 0,
+        Expression::Variable(_) => 0,
+        Expression::Not(operand) => temporaries(operand).max(1),
+        Expression::Apply(_, left, right) => {
+            let left = temporaries(left);
+            let right = temporaries(right);
+            if left == right {
+                left + 1
+            } else {
+                left.max(right)
+            }
+        }
+    }
+}
+
+/// Adds the steps for all of an expression but its value, and gives the one that makes the value, for the cell `to`. They change no cell
+/// before the temporary cell `free`.
+#[cycle(push)]
+pub(crate) fn last_step(
+    steps: &mut Vec<Step>,
+    expression: &Expression<u8>,
+    to: u8,
+    free: u8,
+) -> Result<Step, AllocError>
+    requires small { word_count (tree_of expression.now) ≤ MAX_WORDS }
+    requires known { IsTrue (has_variables_below MAX_VARIABLES (tree_of expression.now)) }
+    requires temporary { TEMPORARY ≤ free }
+    requires room { free + temporaries (tree_of expression.now) < ROW }
+    requires to { to < ROW }
+    requires kept { to ≢ ZERO }
+    ensures made { IfOk result (λ step. IsMadeAfter steps.old.items steps.new.items step (tree_of expression.now) free) }
+    ensures to { IfOk result (λ step. step.to ≡ to) }
+    ensures more { IfOk result (λ _. length steps.old.items ≤ length steps.new.items) }
+    ensures left { IfOk result (λ step. length steps.new.items ≡ 0 → step.left.cell < TEMPORARY) }
+    ensures right { IfOk result (λ step. length steps.new.items ≡ 0 → step.right.cell < TEMPORARY) }
+{
+    match expression {
+        Expression::Number(number) => {
+            let number = Operand::number(*number);
+            Ok(Step {
+                operator: Operator::Max,
+                left: number,
+                right: number,
+                to,
+            })
+        }
+        Expression::Variable(variable) => {
+            let variable = Operand::cell(*variable);
+            Ok(Step {
+                operator: Operator::Max,
+                left: variable,
+                right: variable,
+                to,
+            })
+        }
+        Expression::Not(operand) => {
+            let operand = push_operand(steps, operand, free)?;
+            Ok(Step {
+                operator: Operator::Equal,
+                left: operand,
+                right: Operand::number(0),
+                to,
+            })
+        }
+        Expression::Apply(operator, left, right) => {
+            let (left, right) = push_operands(steps, left, right, free)?;
+            Ok(Step {
+                operator: *operator,
+                left,
+                right,
+                to,
+            })
+        }
+    }
+}
+
+/// The two operands of an operator. The one that takes more temporary cells is judged first, since one cell is taken beside the other.
+#[cycle(push)]
+fn push_operands(
+    steps: &mut Vec<Step>,
+    left: &Expression<u8>,
+    right: &Expression<u8>,
+    free: u8,
+) -> Result<(Operand, Operand), AllocError>
+    requires small { 1 + word_count (tree_of left.now) + word_count (tree_of right.now) ≤ MAX_WORDS }
+    requires known_left { IsTrue (has_variables_below MAX_VARIABLES (tree_of left.now)) }
+    requires known_right { IsTrue (has_variables_below MAX_VARIABLES (tree_of right.now)) }
+    requires temporary { TEMPORARY ≤ free }
+    requires room { free + temporaries_of_two (temporaries (tree_of left.now)) (temporaries (tree_of right.now)) < ROW }
+    ensures more { IfOk result (λ _. length steps.old.items ≤ length steps.new.items) }
+    ensures operands { IfOk result (λ both. AreOperandsAfter steps.old.items steps.new.items both.0 both.1 (tree_of left.now) (tree_of right.now) free) }
+    ensures left { IfOk result (λ both. length steps.new.items ≡ 0 → both.0.cell < TEMPORARY) }
+    ensures right { IfOk result (λ both. length steps.new.items ≡ 0 → both.1.cell < TEMPORARY) }
+{
+    if temporaries(left) < temporaries(right) {
+        let second = push_operand(steps, right, free)?;
+        let first = push_operand(steps, left, free + 1)?;
+        Ok((first, second))
+    } else {
+        let first = push_operand(steps, left, free)?;
+        let second = push_operand(steps, right, free + 1)?;
+        Ok((first, second))
+    }
+}
+
+/// The operand that an expression is: a number, a variable's cell, or the temporary cell `free`, into which the added steps put its
+/// value.
+#[cycle(push)]
+fn push_operand(
+    steps: &mut Vec<Step>,
+    expression: &Expression<u8>,
+    free: u8,
+) -> Result<Operand, AllocError>
+    requires small { word_count (tree_of expression.now) ≤ MAX_WORDS }
+    requires known { IsTrue (has_variables_below MAX_VARIABLES (tree_of expression.now)) }
+    requires temporary { TEMPORARY ≤ free }
+    requires room { free + temporaries (tree_of expression.now) < ROW }
+    ensures more { IfOk result (λ _. length steps.old.items ≤ length steps.new.items) }
+    ensures operand { IfOk result (λ operand. IsOperandAfter steps.old.items steps.new.items operand (tree_of expression.now) free) }
+    ensures plain { IfOk result (λ operand. length steps.new.items ≡ 0 → operand.cell < TEMPORARY) }
+{
+    match expression {
+        Expression::Number(number) => Ok(Operand::number(*number)),
+        Expression::Variable(variable) => Ok(Operand::cell(*variable)),
+        _ => {
+            let step = last_step(steps, expression, free, free)?;
+            steps.push(step)?;
+            Ok(Operand::cell(free))
+        }
+    }
+}

@@ -1,0 +1,33 @@
+mod Ports
+pub mod Judging
+pub mod Combinations
+pub mod FirstFault
+mod Found
+mod RuleFaults
+pub mod TreeRules
+pub mod RulesKept
+pub mod ValueRows
+mod Resolving
+mod Guarding
+mod Delivering
+pub mod Stepping
+pub mod OwnAtoms
+mod FiringOfAll
+pub mod Initial
+mod Rows
+mod StepRows
+pub mod Noting
+pub mod NoDeadlock
+pub mod Touched
+pub mod Sighted
+pub mod Membership
+pub mod OfPorts
+pub mod OfInteractions
+pub mod OfChoices
+pub mod ByAtom
+pub mod PastExports
+pub mod OnRuns
+pub mod InOrder
+pub mod RunRows
+pub mod CountRows
+pub mod Crossing

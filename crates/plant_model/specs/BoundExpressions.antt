@@ -1,0 +1,133 @@
+-- Guard clauses and transfers with their variables found: each by its atom and its number there, and the leaves that it names as a set.
+use Rattle.std.specs.Prelude.{◌≡◌, ℕ, ℤ, pos, ◌^◌, ◌<◌, Bool, true, false, not, ◌&&◌, ◌||◌, ◌==◌, nat_lt, bit_and, bit_or, if◌then◌else◌, List, map, find, slice_get, Option, None, option_map}
+use Rattle.std.specs.List.{list_all, range_with_len}
+use Rattle.std.specs.Option.{option_map_or}
+use Rattle.petri_atom.specs.Expression.{Tree, tree_of, number, variable, negation, operation, is_true, value_of}
+use Rattle.petri_atom.specs.Local.{Local, Row, value_in}
+use Rattle.petri_atom.specs.Definition.{AtomDefinition, exports_of}
+use Rattle.petri_atom.specs.declared.state.TheConstants.{MAX_EXPORTS}
+use Rattle.connector_tree.specs.Tree.{leaves}
+use Rattle.connector_tree.specs.declared.tree.Port.{Port}
+use Rattle.plant_model.specs.Plant.{TransferDefinition, WireDefinition}
+use Rattle.plant_model.specs.Exports.{guards_hold}
+use Rattle.plant_model.specs.Step.{delivered_by, nothing_delivered}
+use Rattle.plant_model.specs.declared.bound_expressions.AtomVariable.{AtomVariable}
+use Rattle.plant_model.specs.declared.bound_expressions.Clause.{Clause}
+use Rattle.plant_model.specs.declared.bound_expressions.Delivery.{Delivery}
+use Rattle.plant_model.specs.declared.bound_expressions.BoundExpressions.{BoundExpressions}
+use Rattle.plant_model.specs.declared.wire.Export.{Export}
+
+-- the value of an atom's variable in a global state; 0 where there is no such atom or variable
+abbrev pub value_there : List Local → AtomVariable → ℤ
+value_there states v = option_map_or (λ s. value_in s.values v.variable) (slice_get states v.atom) (pos 0)
+
+-- the variable that a port exports, if there is one
+abbrev pub variable_of_port : List AtomDefinition → Port → ℕ → Option AtomVariable
+variable_of_port atoms p export =
+    option_map_or (λ a. option_map (λ v. record { atom = p.atom; variable = v }) (slice_get (exports_of a p.port) export)) (slice_get atoms p.atom) None
+
+-- the variable that a leaf exports, if there is one
+abbrev pub variable_of : List AtomDefinition → List Port → Export → Option AtomVariable
+variable_of atoms ports e = option_map_or (λ p. variable_of_port atoms p e.export) (slice_get ports e.leaf) None
+
+-- an expression over exported variables as one over the variables themselves; one that is not there is 0
+abbrev pub found : List AtomDefinition → List Port → Tree Export → Tree AtomVariable
+found atoms ports (number n) = number n
+found atoms ports (variable e) = option_map_or variable (variable_of atoms ports e) (number (pos 0))
+found atoms ports (negation e) = negation (found atoms ports e)
+found atoms ports (operation op e f) = operation op (found atoms ports e) (found atoms ports f)
+
+-- a leaf as a set; one that no mask has room for as bit 16
+abbrev pub leaf_bit : ℕ → ℕ
+leaf_bit leaf = if nat_lt leaf 16 then 2 ^ leaf else 2 ^ 16
+
+-- the leaves that an expression names, as a set
+abbrev pub leaves_in : Tree Export → ℕ
+leaves_in (number n) = 0
+leaves_in (variable e) = leaf_bit e.leaf
+leaves_in (negation e) = leaves_in e
+leaves_in (operation op e f) = bit_or (leaves_in e) (leaves_in f)
+
+-- each of the leaves takes part
+abbrev pub has_all : ℕ → ℕ → Bool
+has_all mask leaves = bit_and mask leaves == leaves
+
+-- a guard clause: the leaves that it names, and what it says
+pub record ClauseDefinition : Type 0 where
+  pub leaves : ℕ
+  pub value : Tree AtomVariable
+
+-- a transfer: the leaves that it names, its target's among them, the atom of the target's leaf, the target's place among what that exports, and the value
+pub record DeliveryDefinition : Type 0 where
+  pub leaves : ℕ
+  pub atom : Option ℕ
+  pub export : ℕ
+  pub value : Tree AtomVariable
+
+-- what is found of a wire
+pub record ResolvedDefinition : Type 0 where
+  pub clauses : List ClauseDefinition
+  pub deliveries : List DeliveryDefinition
+
+-- a clause as it is kept
+abbrev pub clause_of : Clause → ClauseDefinition
+clause_of c = record { leaves = c.leaves; value = tree_of c.value }
+
+-- a transfer as it is kept
+abbrev pub delivery_of : Delivery → DeliveryDefinition
+delivery_of d = record { leaves = d.leaves; atom = d.atom; export = d.export; value = tree_of d.value }
+
+-- both of a wire as they are kept
+abbrev pub bound_of : BoundExpressions → ResolvedDefinition
+bound_of r = record { clauses = map clause_of r.clauses.items; deliveries = map delivery_of r.deliveries.items }
+
+-- what is found of a clause
+abbrev pub clause_by : List AtomDefinition → List Port → Tree Export → ClauseDefinition
+clause_by atoms ports clause = record { leaves = leaves_in clause; value = found atoms ports clause }
+
+-- what is found of a transfer
+abbrev pub delivery_by : List AtomDefinition → List Port → TransferDefinition → DeliveryDefinition
+delivery_by atoms ports t = record {
+  leaves = bit_or (leaf_bit t.target.leaf) (leaves_in t.value);
+  atom = option_map (λ p. p.atom) (slice_get ports t.target.leaf);
+  export = t.target.export;
+  value = found atoms ports t.value;
+}
+
+-- what is found of a wire among these atoms
+abbrev pub bound_by : List AtomDefinition → WireDefinition → ResolvedDefinition
+bound_by atoms w = record {
+  clauses = map (clause_by atoms (leaves w.connector)) w.guards;
+  deliveries = map (delivery_by atoms (leaves w.connector)) w.transfers;
+}
+
+-- a clause does not apply, or is not 0 in a global state
+abbrev pub clause_holds : List Local → ℕ → ClauseDefinition → Bool
+clause_holds states mask c = not (has_all mask c.leaves) || is_true (value_of (value_there states) c.value)
+
+-- the delivery is to this exported variable of this atom
+abbrev pub is_for : ℕ → ℕ → DeliveryDefinition → Bool
+is_for atom export d = d.export == export && option_map_or (λ a. a == atom) d.atom false
+
+-- the value that an exported variable of an atom gets, if one of the deliveries that apply is to it
+abbrev pub value_for : List Local → List DeliveryDefinition → ℕ → ℕ → ℕ → Option ℤ
+value_for states deliveries mask atom export =
+    option_map (λ d. value_of (value_there states) d.value) (find (λ d. has_all mask d.leaves && is_for atom export d) deliveries)
+
+-- what the deliveries that apply give to an atom
+abbrev pub given_for : List Local → List DeliveryDefinition → ℕ → ℕ → Row
+given_for states deliveries mask atom = map (value_for states deliveries mask atom) (range_with_len 0 MAX_EXPORTS)
+
+-- what is found of wires says of guards, in each global state and of each mask, what the wires say
+abbrev pub AreGuarding : List AtomDefinition → List WireDefinition → List BoundExpressions → Type 0
+AreGuarding atoms wires all =
+    (states : List Local) (mask n : ℕ) → mask < 2 ^ 16 →
+    option_map_or (λ r. list_all (clause_holds states mask) (map clause_of r.clauses.items)) (slice_get all n) true ≡
+    option_map_or (λ w. guards_hold atoms states (leaves w.connector) mask w.guards) (slice_get wires n) true
+
+-- and so of what is delivered to each atom
+abbrev pub AreDelivering : List AtomDefinition → List WireDefinition → List BoundExpressions → Type 0
+AreDelivering atoms wires all =
+    (states : List Local) (mask n atom : ℕ) → mask < 2 ^ 16 →
+    option_map_or (λ r. given_for states (map delivery_of r.deliveries.items) mask atom) (slice_get all n) nothing_delivered ≡
+    option_map_or (λ w. delivered_by atoms states (leaves w.connector) w.transfers mask atom) (slice_get wires n) nothing_delivered

@@ -1,0 +1,71 @@
+//! What a plant is: its rules, its interactions, its states and its choices; what a choice delivers, and the state that it leaves.
+//!
+//! A [`System`] is a plant: atoms, wires, which are connectors with their guards and transfers, and priority rules. It keeps each rule of
+//! a plant by its type ([`System::new`] answers the first rule that is broken), and has all of its interactions at hand. Contracts read
+//! it by `plant_of`, as a `PlantDefinition` (`specs/Plant.antt`).
+//!
+//! A [`PlantState`] is a local state for each atom; contracts see it as that list. Which choices a state has is defined by
+//! `specs/Choice.antt`: the crate above judges it. [`System::transfer`] and [`System::next`] are what a choice delivers and what it
+//! leaves (`specs/Step.antt`). They take no memory.
+//!
+//! What a plant is:
+//! - `wire`: connectors with their names, guards and transfers. `limits`: how large a plant may be.
+//! - `system`: what a system keeps, how it is made, and what it lends. `rules`, `wire_rules`: the rules of a plant, as tests.
+//!   `fault`: which of them is broken.
+//! - `interaction`, `interactions`: the interactions of a connector, each with its ports in rising order of their atoms.
+//! - `lookup`: connectors and atoms by their names, and the interaction of a connector and some atoms.
+//! - `bound_expressions`: guard clauses and transfers with their variables found.
+//! - `dependents`: which interactions stand on a port, and whose guards read an atom, so that a step judges only those that it can
+//!   change.
+//!
+//! Its states and its choices:
+//! - `state`: a local state for each atom, and what is seen of it. `guards`: the values of variables, and whether guard clauses hold.
+//! - `choice`: a choice, and the moves that it makes. `transfers`: what a choice delivers. `firing`: the state that it leaves.
+//!
+//! `laws`: what the definitions say of one another: what interactions, choices, steps and runs are.
+//!
+//! The lemmas (`proofs/*.antt`), each named for what it is about:
+//! - Rules: `RuleFaults`, `TreeRules` (which fault is told, and what the early rules say of each wire), `RulesKept` (what a plant that
+//!   breaks no rule keeps).
+//! - Interactions: `Ports` (the ports of a mask), `OfInteractions` (what each is), `Noting`, `Touched` (the rows of those that depend
+//!   on an atom).
+//! - What is found of names: `FirstFault`, `Found` (the first of a list, as a walk finds it), `Resolving`, `Guarding`, `Delivering` (guards
+//!   and transfers with their variables found say what was written).
+//! - Choices: `Judging` (an atom and its state, by number), `Sighted` (what is seen of an atom), `Combinations`, `Membership`, `OfPorts`,
+//!   `OfChoices`, `OwnAtoms`, `InOrder` (what each choice is, and how they stand), `NoDeadlock` (priorities lose no choice).
+//! - What a choice leaves: `Initial`, `Stepping`, `FiringOfAll`, `ByAtom` (states, atom by atom), `PastExports` (nothing is delivered past
+//!   the exports), `OnRuns` (runs).
+//! - `Crossing`: what may go to another thread. `Rows`, `StepRows`, `RunRows`, `CountRows`, `ValueRows`: worked examples, computed.
+#![tactic(auto)]
+
+mod bound_expressions;
+mod choice;
+mod dependents;
+mod fault;
+mod firing;
+mod guards;
+mod interaction;
+mod interactions;
+pub mod laws;
+mod limits;
+mod lookup;
+mod rules;
+mod state;
+mod system;
+mod transfers;
+mod wire;
+mod wire_rules;
+
+pub use bound_expressions::BoundExpressions;
+pub use choice::{Choice, Move, Moves, atoms_of};
+pub use dependents::{ATOM_ROWS, guard_row, port_row};
+pub use fault::{SystemFault, WireFault};
+pub use interaction::Interaction;
+pub use interactions::connector_interactions;
+pub use limits::{
+    MAX_ATOMS, MAX_GUARDS, MAX_INTERACTIONS, MAX_RULES, MAX_TRANSFERS, MAX_WIRES, PORTS_IN_A_WORD,
+};
+pub use state::PlantState;
+pub use system::{System, names_of};
+pub use transfers::{no_deliveries, nothing_delivered};
+pub use wire::{Export, Transfer, Wire};

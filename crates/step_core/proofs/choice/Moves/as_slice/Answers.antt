@@ -1,4 +1,0 @@
-use Rattle.step_core.proofs.choice.Moves.as_slice.Goals as goal
-
-pub returns-clause-moves : goal.returns-clause-moves
-returns-clause-moves c = c.self.view_is

@@ -1,5 +1,0 @@
-use Rattle.step_core.proofs.OnRuns.{run-folds}
-use Rattle.step_core.proofs.laws.a_run_leads_to_its_fold.Goals as goal
-
-pub returns : goal.returns
-returns c = λ plant start end cs run. run-folds plant cs start end run

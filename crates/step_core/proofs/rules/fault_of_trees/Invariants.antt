@@ -1,8 +1,0 @@
-use Rattle.std.proofs.Common.{◌≡◌, map, drop}
-use Rattle.step_core.specs.Rules.{first_fault_in, tree_fault}
-use Rattle.step_core.specs.Wire.{wire_of}
-use Rattle.step_core.proofs.rules.fault_of_trees.Given as goal
-
-abbrev pub invariant-loop-number : goal.invariant-loop-number
-invariant-loop-number l =
-    first_fault_in tree_fault l.number (map wire_of (drop l.number l.wires)) ≡ first_fault_in tree_fault 0 (map wire_of l.wires)

@@ -1,8 +1,0 @@
-use Rattle.std.proofs.Common.{◌∙◌, ap, length}
-use Rattle.step_core.specs.Sure.{sure_among}
-use Rattle.step_core.specs.System.{plant_of}
-use Rattle.step_core.proofs.system.System.count_sure_among.Goals as goal
-
-pub returns : goal.returns
-returns c =
-    c.requires.total ∙ ap (λ all. length (sure_among (plant_of c.args.self.now) c.args.parts.now all)) c.args.self.now.listed
