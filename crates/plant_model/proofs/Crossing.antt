@@ -4,9 +4,13 @@ use denote.RattleType.{RattleType}
 use denote.Param.Send.{IsSend, IsSync, sendable}
 use Rattle.std.proofs.Crossing.{crosses}
 use Rattle.petri_atom.specs.contracts.atom.Atom as atom
+use Rattle.petri_atom.specs.contracts.code.Code as code
+use Rattle.petri_atom.specs.contracts.code.Step as step
 use Rattle.petri_atom.specs.contracts.expression.Expression as expression
 use Rattle.petri_atom.specs.contracts.transition.Transition as transition
 use Rattle.petri_atom.specs.contracts.transition.Update as update
+use Rattle.petri_atom.specs.contracts.transition_code.Change as change
+use Rattle.petri_atom.specs.contracts.transition_code.TransitionCode as transition_code
 use Rattle.petri_atom.proofs.expression.Expression.TheLaws.TheKnot as expressions
 use Rattle.priority_filter.proofs.order.Order.TheSendSync as order
 use Rattle.connector_tree.specs.contracts.tree.Connector as connector
@@ -28,8 +32,20 @@ Update-sync = search (Expression-sync, sendable, crosses) depth 20
 Transition-sync : IsSync (transition.the_field).row
 Transition-sync = search (Expression-sync, Update-sync, sendable, crosses) depth 20
 
+Step-sync : IsSync (step.the_field).row
+Step-sync = search (sendable, crosses) depth 20
+
+Code-sync : IsSync (code.the_field).row
+Code-sync = search (Step-sync, sendable, crosses) depth 20
+
+Change-sync : IsSync (change.the_field).row
+Change-sync = search (Code-sync, sendable, crosses) depth 20
+
+TransitionCode-sync : IsSync (transition_code.the_field).row
+TransitionCode-sync = search (Code-sync, Change-sync, sendable, crosses) depth 20
+
 pub Atom-sync : IsSync (atom.the_field).row
-Atom-sync = search (Transition-sync, sendable, crosses) depth 20
+Atom-sync = search (Transition-sync, TransitionCode-sync, sendable, crosses) depth 20
 
 Wire-sync : IsSync (wire.the_field).row
 Wire-sync = search (Expression-sync, Connector-sync, sendable, crosses) depth 20
@@ -54,8 +70,20 @@ Update-send = search (Expression-send, sendable, crosses) depth 20
 Transition-send : IsSend (transition.the_field).row
 Transition-send = search (Expression-send, Update-send, sendable, crosses) depth 20
 
+Step-send : IsSend (step.the_field).row
+Step-send = search (sendable, crosses) depth 20
+
+Code-send : IsSend (code.the_field).row
+Code-send = search (Step-send, sendable, crosses) depth 20
+
+Change-send : IsSend (change.the_field).row
+Change-send = search (Code-send, sendable, crosses) depth 20
+
+TransitionCode-send : IsSend (transition_code.the_field).row
+TransitionCode-send = search (Code-send, Change-send, sendable, crosses) depth 20
+
 Atom-send : IsSend (atom.the_field).row
-Atom-send = search (Transition-send, sendable, crosses) depth 20
+Atom-send = search (Transition-send, TransitionCode-send, sendable, crosses) depth 20
 
 Wire-send : IsSend (wire.the_field).row
 Wire-send = search (Expression-send, Connector-send, sendable, crosses) depth 20
