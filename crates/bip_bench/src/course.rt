@@ -44,8 +44,7 @@ fn fire_step(run: &mut Stepper<'_>, number: u64) -> bool
     if count == 0 {
         return false;
     }
-    let choice = run.nth(place_of(number, count));
-    run.fire(&choice);
+    run.fire_nth(place_of(number, count));
     true
 }
 

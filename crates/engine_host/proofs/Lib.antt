@@ -2,6 +2,5 @@ mod Events
 mod Histories
 mod Kept
 mod Telling
-pub mod Captured
 pub mod Crossing
 mod Working

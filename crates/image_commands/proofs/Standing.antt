@@ -1,22 +1,26 @@
 -- Whatever a stop leaves of a plant's device stands for what is acknowledged.
-use Rattle.std.proofs.Common.{◌≡◌, ◌∙◌, ap, sym, subst, ℕ, Bool, true, false, List, Option}
+use Rattle.std.proofs.Common.{◌≡◌, ◌∙◌, ◌++◌, ap, sym, subst, arith, codes, ℕ, Bool, true, false, List, Option}
 use Rattle.std.proofs.lemmas.List.{length-map}
 use Rattle.std.specs.Prelude.{◌+◌, length, map}
 use Rattle.disk_model.specs.DiskState.{DiskState, size_of}
 use Rattle.disk_model.specs.Cells.{seen_cells}
 use Rattle.disk_model.specs.declared.cells.TheConstants.{BODY}
 use Rattle.petri_atom.specs.Atom.{definition_of}
+use Rattle.petri_atom.specs.Local.{Local}
 use Rattle.petri_atom.specs.declared.atom.Atom.{Atom}
 use Rattle.plant_model.specs.Plant.{PlantDefinition}
-use Rattle.plant_image.specs.Contents.{contents_of, last_number}
+use Rattle.plant_image.specs.Contents.{Contents, contents_of, last_number, states_of}
 use Rattle.plant_image.specs.Standing.{StandsFor}
 use Rattle.plant_core.specs.Hands.{HandFields, empty_hands}
-use Rattle.plant_core.specs.View.{View}
+use Rattle.plant_core.specs.View.{View, fired_number}
 use Rattle.plant_core.specs.declared.events.Event.{Event}
 use Rattle.recovery.specs.Booting.{IsBooted}
+use Rattle.run_text.specs.Line.{states_text}
+use Rattle.script_lines.specs.Answers.{front_line, standing_text}
 use Rattle.script_lines.specs.Runs.{IsRunOf}
 use Rattle.script_lines.specs.Strict.{IsStrictRun}
 use Rattle.script_lines.specs.declared.strict.Stop.{Stop}
+use Rattle.image_commands.specs.Printed.{recovered_text}
 use Rattle.image_commands.specs.Runs.{HasRunOn, IsBootedFrom, IsRunOn, StandsAsRead, StandsForAllAcked}
 use Rattle.image_commands.specs.Strict.{HasRunStrictlyOn}
 use Rattle.plant_core.proofs.EventByEvent.{events-sound}
@@ -42,6 +46,17 @@ pub recovered_stands : (p q : PlantDefinition) (d e : List ℕ) (old mid new : D
 recovered_stands p q d e old mid new v same_plant same_digest same_device kept booted stands keeps =
     stands_as_read q e old new v (booted keeps)
     (stands_by_name p q d e mid new v same_plant same_digest same_device (stands (kept ∙ keeps) (booted keeps).broken))
+
+-- where a plant stands that was booted is what its image leads to
+pub booted-text : (plant : PlantDefinition) (digest : List ℕ) (old : DiskState) (v : View) → IsBooted plant digest (size_of old) (seen_cells (BODY + 1) old) v →
+    standing_text plant v ≡ recovered_text plant (seen_cells (BODY + 1) old)
+booted-text plant digest old v booted =
+    let held : Contents = contents_of (length plant.atoms) (seen_cells (BODY + 1) old) in
+    let fired : fired_number v ≡ last_number held = omega (arith, booted.number, ap length booted.tail) in
+    ap (λ (states : List Local). states_text plant states ++ front_line (record { fired = fired_number v; acked = v.number; base = v.base }) ++ codes "\n") (booted.present ∙ booted.acked) ∙
+    ap (λ (n : ℕ). states_text plant (states_of plant held) ++ front_line (record { fired = n; acked = v.number; base = v.base }) ++ codes "\n") fired ∙
+    ap (λ (n : ℕ). states_text plant (states_of plant held) ++ front_line (record { fired = last_number held; acked = n; base = v.base }) ++ codes "\n") booted.number ∙
+    ap (λ (n : ℕ). states_text plant (states_of plant held) ++ front_line (record { fired = last_number held; acked = last_number held; base = n }) ++ codes "\n") booted.base
 
 -- a run from the empty hands of a plant's atoms, with the same plant and text by other names
 pub ran_on : (r q : PlantDefinition) (d e : List ℕ) (old began image : DiskState) (events : List Event) (failed : Bool) (before after : View) (hands hands_after : HandFields)

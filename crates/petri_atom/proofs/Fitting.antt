@@ -30,7 +30,7 @@ length-delivered_to d j (v ∷ vs) values =
     length-delivered_to d (suc j) vs _ ∙ length-assigned (delivered_value d j) values v
 
 -- a number past a bound is in no list of numbers below it
-not_in : (bound : ℕ) (ks : List ℕ) (k : ℕ) → are_below bound ks ≡ true → bound ≤ k → is_in ks k ≡ false
+pub not_in : (bound : ℕ) (ks : List ℕ) (k : ℕ) → are_below bound ks ≡ true → bound ≤ k → is_in ks k ≡ false
 not_in bound ks k below past =
     false_from_ne_true (is_in ks k)
     (λ inside. false≢true (sym (le-ltb k bound past) ∙ list_all-at (λ j. ltb j bound) ks k below inside))
@@ -86,6 +86,14 @@ few_ports a formed =
     let once = and_parts (is_within_limits a && has_each_once a) (has_known_numbers a) known.0 in
     let limits = and_parts (is_within_limits a) (has_each_once a) once.0 in
     leb-true (length a.ports) 32 (and_parts _ _ (and_parts _ _ (and_parts _ _ (and_parts _ _ limits.0).0).0).0).1
+
+-- and the limit of variables
+pub few_variables : (a : AtomDefinition) → is_well_formed a ≡ true → length a.variables ≤ 16
+few_variables a formed =
+    let known = and_parts (is_within_limits a && has_each_once a && has_known_numbers a) (has_sources_and_targets a) formed in
+    let once = and_parts (is_within_limits a && has_each_once a) (has_known_numbers a) known.0 in
+    let limits = and_parts (is_within_limits a) (has_each_once a) once.0 in
+    leb-true (length a.variables) 16 (and_parts _ _ (and_parts _ _ (and_parts _ _ (and_parts _ _ (and_parts _ _ limits.0).0).0).0).0).1
 
 -- each number in the transitions of a well-formed atom is known
 pub known_numbers : (a : AtomDefinition) → is_well_formed a ≡ true → list_all (has_known_numbers_in (length a.ports) (length a.places) (length a.variables)) a.transitions ≡ true

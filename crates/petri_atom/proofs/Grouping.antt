@@ -1,6 +1,7 @@
 use Rattle.std.proofs.Common.{◌≡◌, ℕ, zero, suc, ◌+◌, ◌-◌, ◌*◌, ◌%◌, ◌^◌, ◌<◌, ◌≤◌, ℤ, Bool, true, false, not, ◌&&◌, ◌||◌, eqb, ltb, refl, sym, ◌∙◌, ap, arith, List, [], ◌∷◌, ◌++◌, length, map, set, get_or, take, Option, Some, None, ⊎_elim}
 use Rattle.std.specs.Prelude.{bit_and, bit_or, slice_get}
-use Rattle.std.specs.Int.{bit_not, w128, trailing_zeros}
+use mir.Val.{bits}
+use Rattle.std.specs.Int.{Width, bit_not, w128, trailing_zeros}
 use Rattle.std.specs.Int.Bits.{and_lt}
 use Rattle.std.specs.List.{list_any}
 use Rattle.std.specs.Option.{option_map, option_map_or}
@@ -10,7 +11,7 @@ use Rattle.std.proofs.lemmas.List.Folds.{list_any-append, list_any_more}
 use Rattle.std.proofs.Math.Pow.{pow_mono}
 use Rattle.std.proofs.lemmas.List.{take_all}
 use Rattle.std.proofs.lemmas.Nat.{or_lt, pow_pos}
-use Rattle.std.proofs.lemmas.Nat.Bits.{bit_at_set_same, bit_at_set_other, bit_at-pow_same, bit_at-pow_other}
+use Rattle.std.proofs.lemmas.Nat.Bits.{bit_at-pow_same, bit_at-pow_other}
 use Rattle.std.proofs.lemmas.Option.{slice_get-map, slice_get_past, slice_get_within}
 use Rattle.petri_atom.specs.Expression.{Tree, number, variable, negation, operation, is_true, is_true_number, value_of}
 use Rattle.petri_atom.specs.Local.{Local, has, set_below, all_marked, value_in}
@@ -21,7 +22,7 @@ use Rattle.petri_atom.specs.declared.groups.Group.{Group}
 use Rattle.petri_atom.specs.declared.transition.Transition.{Transition}
 use Rattle.petri_atom.proofs.Markings.{all_marked-word, is_blocked-word}
 use Rattle.petri_atom.proofs.Members.{lowest-below, there, others}
-use Rattle.petri_atom.proofs.Sets.{has-and, has-or, has-not, has-above, same_set, set_below-lt, has-set_below, set_below-is}
+use Rattle.petri_atom.proofs.Sets.{has-and, has-or, has-not, has-above, has-set, same_set, set_below-lt, has-set_below, set_below-is}
 
 -- ---- one transition
 
@@ -40,13 +41,7 @@ test_at test ts n t there =
 
 -- ---- one more number in a set
 
-pub has-more : (a n k : ℕ) → n < 128 → has (bit_or a (1 * 2 ^ n % 2 ^ 128)) k ≡ (has a k || eqb k n)
-has-more a n k below =
-    ⊎_elim (λ same. ap (has (bit_or a (1 * 2 ^ n % 2 ^ 128))) same ∙ ap (λ x. eqb x 1) (bit_at_set_same w128 a n below) ∙ sym (ap (λ b. has a k || b) (eq-eqb k n same) ∙ or-true (has a k)))
-    (λ other. ap (λ x. eqb x 1) (bit_at_set_other w128 a n below k other) ∙ sym (ap (λ b. has a k || b) (ne_eqb k n other) ∙ or-false (has a k)))
-    (cases_eq k n)
-
-has-one : (n k : ℕ) → has (2 ^ n) k ≡ eqb k n
+pub has-one : (n k : ℕ) → has (2 ^ n) k ≡ eqb k n
 has-one n k =
     ⊎_elim (λ same. ap (has (2 ^ n)) same ∙ ap (λ x. eqb x 1) (bit_at-pow_same n) ∙ sym (eq-eqb k n same))
     (λ other. ap (λ x. eqb x 1) (bit_at-pow_other n k other) ∙ sym (ne_eqb k n other)) (cases_eq k n)
@@ -83,7 +78,7 @@ pub movable-joined : (groups : List Group) (place number : ℕ) (d g : Group) (t
 movable-joined groups place one d g t m n within below same sources blocking more =
     let old = get_or groups place d in
     list_any-set (λ h. suits m h.sources h.blocking && has h.members n) groups place g d _ within
-    (ap (λ w. suits m w g.blocking && has g.members n) sources ∙ ap (λ w. suits m old.sources w && has g.members n) blocking ∙ ap (λ w. suits m old.sources old.blocking && has w n) more ∙ ap (λ b. suits m old.sources old.blocking && b) (has-more old.members one n below) ∙ and_more _ _ (has old.members n) (eqb n one) (suits-same old t m same))
+    (ap (λ w. suits m w g.blocking && has g.members n) sources ∙ ap (λ w. suits m old.sources w && has g.members n) blocking ∙ ap (λ w. suits m old.sources old.blocking && has w n) more ∙ ap (λ b. suits m old.sources old.blocking && b) (has-set w128 old.members one n below) ∙ and_more _ _ (has old.members n) (eqb n one) (suits-same old t m same))
 
 -- or else it makes one of its own
 pub movable-made : (groups : List Group) (number : ℕ) (g : Group) (t : Transition) (m n : ℕ) → asks_same g t ≡ true → g.members ≡ 2 ^ number → is_movable (groups ++ g ∷ []) m n ≡ (is_movable groups m n || suits m t.source_word t.blocking_word && eqb n number)
@@ -144,6 +139,11 @@ movable-all groups i set m past small so_far =
     set_below-is 128 set (is_movable groups m) small
     (λ k h. so_far k ∙ ap (λ gs. is_movable gs m k) (take_all i groups past))
 
+-- what groups and a marking that are read let move is what the groups and the marking themselves do
+pub as_read : (groups lent : List Group) (marking read movable : ℕ) → movable ≡ set_below 128 (is_movable lent read) → lent ≡ groups → read ≡ marking → movable ≡ set_below 128 (is_movable groups marking)
+as_read groups lent marking read movable moves same is =
+    moves ∙ ap (λ gs. set_below 128 (is_movable gs read)) same ∙ ap (λ m. set_below 128 (is_movable groups m)) is
+
 -- ---- the guards of a set, from its lowest number on
 
 -- a number that passes is added to those that did, one that fails is left out
@@ -158,35 +158,35 @@ failed false true left passes fails =
     and_right (left && false) passes (fails refl) ∙ sym (and_right left passes (fails refl))
 failed false false left passes fails = ap (λ b. b && passes) (and-true left)
 
-module _ (passes : ℕ → Bool) (set done left : ℕ) (some : 0 < left) (small : left < 2 ^ 128) (so_far : (n : ℕ) → (has done n || has left n && passes n) ≡ (has set n && passes n)) where
+module _ (width : Width) (passes : ℕ → Bool) (set done left : ℕ) (some : 0 < left) (small : left < 2 ^ bits width) (so_far : (n : ℕ) → (has done n || has left n && passes n) ≡ (has set n && passes n)) where
   abbrev lowest : ℕ
-  lowest = trailing_zeros w128 left
+  lowest = trailing_zeros width left
 
   abbrev rest : ℕ
   rest = bit_and left (left - 1)
 
-  pub passing-more : passes lowest ≡ true → (n : ℕ) → (has (bit_or done (1 * 2 ^ lowest % 2 ^ 128)) n || has rest n && passes n) ≡ (has set n && passes n)
+  pub passing-more : passes lowest ≡ true → (n : ℕ) → (has (bit_or done (1 * 2 ^ lowest % 2 ^ bits width)) n || has rest n && passes n) ≡ (has set n && passes n)
   passing-more holds n =
-      ap (λ b. b || has rest n && passes n) (has-more done lowest n (lowest-below left some small)) ∙
-      ap (λ b. (has done n || eqb n lowest) || b && passes n) (others left some small n) ∙
-      kept (has done n) (eqb n lowest) (has left n) (passes n) (λ same. ap (has left) (eqb-true n lowest same) ∙ there left some small) (λ same. ap passes (eqb-true n lowest same) ∙ holds) ∙
+      ap (λ b. b || has rest n && passes n) (has-set width done lowest n (lowest-below width left some small)) ∙
+      ap (λ b. (has done n || eqb n lowest) || b && passes n) (others width left some small n) ∙
+      kept (has done n) (eqb n lowest) (has left n) (passes n) (λ same. ap (has left) (eqb-true n lowest same) ∙ there width left some small) (λ same. ap passes (eqb-true n lowest same) ∙ holds) ∙
       so_far n
 
   pub passing-fewer : passes lowest ≡ false → (n : ℕ) → (has done n || has rest n && passes n) ≡ (has set n && passes n)
   passing-fewer fails n =
-      ap (λ b. has done n || b && passes n) (others left some small n) ∙
+      ap (λ b. has done n || b && passes n) (others width left some small n) ∙
       failed (has done n) (eqb n lowest) (has left n) (passes n) (λ same. ap passes (eqb-true n lowest same) ∙ fails) ∙
       so_far n
 
   -- what is left is left of the set
   pub rest-within : ((n : ℕ) → has left n ≡ true → has set n ≡ true) → (n : ℕ) → has rest n ≡ true → has set n ≡ true
   rest-within within n inside =
-      within n (and_parts (has left n) (not (eqb n lowest)) (sym (others left some small n) ∙ inside)).0
+      within n (and_parts (has left n) (not (eqb n lowest)) (sym (others width left some small n) ∙ inside)).0
 
 -- if none is left, those that did pass are all
-pub passing-all : (passes : ℕ → Bool) (set done left : ℕ) → left ≡ 0 → done < 2 ^ 128 → ((n : ℕ) → (has done n || has left n && passes n) ≡ (has set n && passes n)) → done ≡ set_below 128 (λ n. has set n && passes n)
-passing-all passes set done left none small so_far =
-    set_below-is 128 done (λ n. has set n && passes n) small
+pub passing-all : (n : ℕ) (passes : ℕ → Bool) (set done left : ℕ) → left ≡ 0 → done < 2 ^ n → ((k : ℕ) → (has done k || has left k && passes k) ≡ (has set k && passes k)) → done ≡ set_below n (λ k. has set k && passes k)
+passing-all n passes set done left none small so_far =
+    set_below-is n done (λ k. has set k && passes k) small
     (λ k h. sym (ap (λ b. has done k || b && passes k) (ap (λ w. has w k) none ∙ has-above 0 0 k (pow_pos 0) (omega arith)) ∙ or-false (has done k)) ∙ so_far k)
 
 -- ---- the offered transitions
@@ -203,7 +203,7 @@ movable-within ts m n movable =
     ⊎_elim (λ h. h) (λ past. absurd (false≢true (sym (ap (λ o. option_map_or (can_move m) o false) (slice_get_past ts n past)) ∙ movable))) (cases_lt n (length ts))
 
 -- a guard that is a number other than 0 is not 0
-unguarded-true : (guard : Tree ℕ) (at : ℕ → ℤ) → is_true_number guard ≡ true → is_true (value_of at guard) ≡ true
+pub unguarded-true : (guard : Tree ℕ) (at : ℕ → ℤ) → is_true_number guard ≡ true → is_true (value_of at guard) ≡ true
 unguarded-true (number n) at plain = plain
 unguarded-true (variable v) at plain = absurd (false≢true plain)
 unguarded-true (negation e) at plain = absurd (false≢true plain)

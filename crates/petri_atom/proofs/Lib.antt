@@ -9,8 +9,17 @@ mod Sameness
 mod Rows
 mod PortSets
 mod Members
+mod Halves
 mod Giving
 mod Grouping
+mod Effects
+mod Reading
+mod Telling
+mod Judging
+mod Few
+mod Settling
+mod Recounting
+mod Guards
 pub mod Positions
 mod Straight
 mod Coded

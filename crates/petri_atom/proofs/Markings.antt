@@ -40,14 +40,14 @@ list_all-at f (j ∷ ks) k all inside =
     ⊎_elim (λ same. ap f (sym (eqb-true j k same)) ∙ parts.0) (λ later. list_all-at f ks k parts.1 later)
     (or_cases (eqb j k) (is_in ks k) inside)
 
-list_all-from : (f : ℕ → Bool) (ks : List ℕ) → ((k : ℕ) → is_in ks k ≡ true → f k ≡ true) → list_all f ks ≡ true
+pub list_all-from : (f : ℕ → Bool) (ks : List ℕ) → ((k : ℕ) → is_in ks k ≡ true → f k ≡ true) → list_all f ks ≡ true
 list_all-from f [] each = refl
 list_all-from f (j ∷ ks) each =
     and_from (f j) (list_all f ks) (each j (or_left (eqb j j) (is_in ks j) (eq-eqb j j refl)))
     (list_all-from f ks (λ k inside. each k (or_right (eqb j k) (is_in ks k) inside)))
 
 -- none passes if each fails
-not-list_any : (f : ℕ → Bool) (ks : List ℕ) → not (list_any f ks) ≡ list_all (λ k. not (f k)) ks
+pub not-list_any : (f : ℕ → Bool) (ks : List ℕ) → not (list_any f ks) ≡ list_all (λ k. not (f k)) ks
 not-list_any f [] = refl
 not-list_any f (k ∷ ks) = elim (f k) as (λ b. not (b || list_any f ks) ≡ (not b && list_all (λ j. not (f j)) ks)) [ true ↦ refl | false ↦ not-list_any f ks ]
 

@@ -1,6 +1,7 @@
 use Rattle.std.proofs.Common.{◌≡◌, ℕ, zero, suc, ◌+◌, ◌-◌, ◌*◌, ◌/◌, ◌%◌, ◌^◌, ◌<◌, ◌≤◌, Bool, true, false, cond, not, ◌&&◌, eqb, refl, sym, ◌∙◌, ap, arith, List, [], ◌∷◌, length, filter, find, Some, None, ⊎_elim}
 use Rattle.std.specs.Prelude.{bit_and, slice_get}
-use Rattle.std.specs.Int.{w128, trailing_zeros}
+use mir.Val.{bits}
+use Rattle.std.specs.Int.{Width, trailing_zeros}
 use Rattle.std.specs.List.{range_with_len}
 use Rattle.std.proofs.Math.Bool.{and-true}
 use Rattle.std.proofs.lemmas.Bool.{cases_lt, cases_eq, eq-eqb, ne_eqb, and_right}
@@ -62,19 +63,19 @@ and_same : (b : Bool) → (b && b) ≡ b
 and_same true = refl
 and_same false = refl
 
--- a set of at most 128 numbers that is not empty has a lowest one, and the others are those of the word and the word less 1
-module _ (w : ℕ) (some : 0 < w) (small : w < 2 ^ 128) where
+-- a set in a word of any width that is not empty has a lowest one, and the others are those of the word and the word less 1
+module _ (width : Width) (w : ℕ) (some : 0 < w) (small : w < 2 ^ bits width) where
   abbrev t : ℕ
-  t = trailing_zeros w128 w
+  t = trailing_zeros width w
 
-  pub lowest-below : t < 128
-  lowest-below = (bit_at-trailing_zeros w128 w some small).0
+  pub lowest-below : t < bits width
+  lowest-below = (bit_at-trailing_zeros width w some small).0
 
   pub there : has w t ≡ true
-  there = ap (λ x. eqb x 1) (bit_at-trailing_zeros w128 w some small).1
+  there = ap (λ x. eqb x 1) (bit_at-trailing_zeros width w some small).1
 
-  before : (k : ℕ) → k < t → has w k ≡ false
-  before k h = ap (λ x. eqb x 1) ((bit_at-trailing_zeros w128 w some small).2 k h)
+  pub before : (k : ℕ) → k < t → has w k ≡ false
+  before k h = ap (λ x. eqb x 1) ((bit_at-trailing_zeros width w some small).2 k h)
 
   abbrev high : ℕ
   high = w / 2 ^ (t + 1)
@@ -140,12 +141,12 @@ module _ (w : ℕ) (some : 0 < w) (small : w < 2 ^ 128) where
       (λ past. ⊎_elim (λ same. rest-low k (omega arith) ∙ sym (ap (λ b. has w k && not b) (eq-eqb k t same) ∙ and_right (has w k) false refl)) (λ other. rest-high k (omega arith) ∙ sym (ap (λ b. has w k && not b) (ne_eqb k t other) ∙ and-true (has w k))) (cases_eq k t))
       (cases_lt k t)
 
-  numbers_below-first : numbers_below 128 w ≡ t ∷ numbers_below 128 rest
+  numbers_below-first : numbers_below (bits width) w ≡ t ∷ numbers_below (bits width) rest
   unfolding numbers_below
   numbers_below-first =
-      let r = 127 - t in
-      let first : 128 ≡ t + suc r = omega (arith, lowest-below) in
-      let second : 128 ≡ t + 1 + r = omega (arith, lowest-below) in
+      let r = bits width - 1 - t in
+      let first : bits width ≡ t + suc r = omega (arith, lowest-below) in
+      let second : bits width ≡ t + 1 + r = omega (arith, lowest-below) in
       let here : 0 + t ≡ t = omega arith in
       let next : 0 + (t + 1) ≡ t + 1 = omega arith in
       ap (λ n. filter (has w) (range_with_len 0 n)) first ∙ filter-skip (has w) 0 t (suc r) (λ k low high. before k (omega arith)) ∙
@@ -154,18 +155,18 @@ module _ (w : ℕ) (some : 0 < w) (small : w < 2 ^ 128) where
       ap (λ xs. t ∷ xs) (sym (ap (λ n. filter (has rest) (range_with_len 0 n)) second ∙ filter-skip (has rest) 0 (t + 1) r (λ k low high. rest-low k (omega arith)) ∙ ap (λ a. filter (has rest) (range_with_len a r)) next ∙ filter-agree (has rest) (has w) (t + 1) r (λ k low high. rest-high k (omega arith))))
 
   -- so the first number of the set is the lowest, and each later one is a number of the others
-  pub nth-first : slice_get (numbers_below 128 w) 0 ≡ Some t
+  pub nth-first : slice_get (numbers_below (bits width) w) 0 ≡ Some t
   nth-first = ap (λ xs. slice_get xs 0) numbers_below-first
 
-  pub nth-later : (k : ℕ) → slice_get (numbers_below 128 w) (suc k) ≡ slice_get (numbers_below 128 rest) k
+  pub nth-later : (k : ℕ) → slice_get (numbers_below (bits width) w) (suc k) ≡ slice_get (numbers_below (bits width) rest) k
   nth-later k = ap (λ xs. slice_get xs (suc k)) numbers_below-first
 
   -- and the first number that passes a test is the lowest if that does, and else the first of the others
-  pub find-lowest : (p : ℕ → Bool) → p t ≡ true → find p (numbers_below 128 w) ≡ Some t
-  find-lowest p passes = ap (find p) numbers_below-first ∙ ap (λ b. cond b (Some t) (find p (numbers_below 128 rest))) passes
+  pub find-lowest : (p : ℕ → Bool) → p t ≡ true → find p (numbers_below (bits width) w) ≡ Some t
+  find-lowest p passes = ap (find p) numbers_below-first ∙ ap (λ b. cond b (Some t) (find p (numbers_below (bits width) rest))) passes
 
-  pub find-others : (p : ℕ → Bool) → p t ≡ false → find p (numbers_below 128 w) ≡ find p (numbers_below 128 rest)
-  find-others p fails = ap (find p) numbers_below-first ∙ ap (λ b. cond b (Some t) (find p (numbers_below 128 rest))) fails
+  pub find-others : (p : ℕ → Bool) → p t ≡ false → find p (numbers_below (bits width) w) ≡ find p (numbers_below (bits width) rest)
+  find-others p fails = ap (find p) numbers_below-first ∙ ap (λ b. cond b (Some t) (find p (numbers_below (bits width) rest))) fails
 
 -- of a set of transitions, the numbers of a port are those of its transitions that pass the set's test
 pub numbers_below-of_port : (f : ℕ → Bool) (port : ℕ) (ts : List TransitionDefinition) → length ts ≤ 128 → numbers_below 128 (bit_and (set_below (length ts) f) (set_of_port port ts)) ≡ filter f (numbers_of port ts)

@@ -1,14 +1,14 @@
 use Rattle.std.proofs.Common.{◌≡◌, ℕ, zero, suc, ◌+◌, ◌*◌, ◌%◌, ◌^◌, ◌<◌, ◌≤◌, ◌≢◌, Bool, true, false, cond, not, ◌&&◌, ◌||◌, eqb, refl, sym, ◌∙◌, ap, arith, lit<, pow-suc, add-one, mod-eq_of_lt, subst, List, [], ◌∷◌, ◌++◌, ⊎_elim}
-use Rattle.std.specs.Prelude.{bit_and, bit_or}
+use Rattle.std.specs.Prelude.{bit_and, bit_or, bit_xor}
 use mir.Val.{bits}
 use Rattle.std.specs.Int.{Width, bit_not, w64, from_bool}
-use Rattle.std.proofs.lemmas.Bool.{cases_lt, cases_eq, or_left, or_right, eq-eqb, ne_eqb}
-use Rattle.std.proofs.Math.Bool.{or-false}
+use Rattle.std.proofs.lemmas.Bool.{cases_lt, cases_eq, or_left, or_right, eq-eqb, ne_eqb, and_left, and_right}
+use Rattle.std.proofs.Math.Bool.{or-false, or-true, and-true}
 use Rattle.std.proofs.lemmas.Bool.Decides.{nat_tests}
 use Rattle.std.proofs.lemmas.List.Folds.{list_any-append}
 use Rattle.std.proofs.lemmas.Nat.{or_lt, pow_pos, pow_below}
 use Rattle.std.proofs.Math.Nat.{sub_self}
-use Rattle.std.proofs.lemmas.Nat.Bits.{bit_at-lt, bit_at_cat_low, bit_at_cat_high, bit_at_above, bit_at_and, bit_at_or, bit_at_not, bit_at_set_same, bit_at_set_other, same_from_bits_below}
+use Rattle.std.proofs.lemmas.Nat.Bits.{bit_at-lt, bit_at_cat_low, bit_at_cat_high, bit_at_above, bit_at_and, bit_at_or, bit_at_xor, bit_at_not, bit_at_set_same, bit_at_set_other, same_from_bits, same_from_bits_below}
 use Rattle.petri_atom.specs.Local.{has, is_in, set_below}
 
 -- two bits that answer alike are the same
@@ -22,6 +22,13 @@ has-and a b k = grind (arith, nat_tests, bit_at_and a b k, bit_at-lt a k, bit_at
 pub has-or : (a b k : ℕ) → has (bit_or a b) k ≡ (has a k || has b k)
 has-or a b k = grind (arith, nat_tests, bit_at_or a b k, bit_at-lt a k, bit_at-lt b k)
 
+-- which is which of two sets a number is in alone
+abbrev pub differs : Bool → Bool → Bool
+differs a b = a && not b || not a && b
+
+pub has-xor : (a b k : ℕ) → has (bit_xor a b) k ≡ differs (has a k) (has b k)
+has-xor a b k = grind (arith, nat_tests, bit_at_xor a b k, bit_at-lt a k, bit_at-lt b k)
+
 pub has-not : (w : Width) (a k : ℕ) → a < 2 ^ bits w → k < bits w → has (bit_not w a) k ≡ not (has a k)
 has-not w a k p q = grind (arith, nat_tests, bit_at_not w a k p q, bit_at-lt a k)
 
@@ -29,10 +36,46 @@ has-not w a k p q = grind (arith, nat_tests, bit_at_not w a k p q, bit_at-lt a k
 pub has-above : (a n k : ℕ) → a < 2 ^ n → n ≤ k → has a k ≡ false
 has-above a n k p q = ap (λ x. eqb x 1) (bit_at_above a n k p q)
 
+-- the numbers of one word that are not in another
+pub has-minus : (w : Width) (a b k : ℕ) → a < 2 ^ bits w → b < 2 ^ bits w → has (bit_and a (bit_not w b)) k ≡ (has a k && not (has b k))
+has-minus w a b k small other =
+    has-and a (bit_not w b) k ∙
+    ⊎_elim (λ low. ap (λ x. has a k && x) (has-not w b k other low))
+    (λ past. let none : has a k ≡ false = has-above a (bits w) k small past in and_left _ _ none ∙ sym (and_left _ (not (has b k)) none))
+    (cases_lt k (bits w))
+
+-- one more number in a set, by a shift and an or in a word of any width
+pub has-set : (w : Width) (a n k : ℕ) → n < bits w → has (bit_or a (1 * 2 ^ n % 2 ^ bits w)) k ≡ (has a k || eqb k n)
+has-set w a n k below =
+    ⊎_elim (λ same. ap (has (bit_or a (1 * 2 ^ n % 2 ^ bits w))) same ∙ ap (λ x. eqb x 1) (bit_at_set_same w a n below) ∙ sym (ap (λ b. has a k || b) (eq-eqb k n same) ∙ or-true (has a k)))
+    (λ other. ap (λ x. eqb x 1) (bit_at_set_other w a n below k other) ∙ sym (ap (λ b. has a k || b) (ne_eqb k n other) ∙ or-false (has a k)))
+    (cases_eq k n)
+
+-- the same where a test says whether it is put there
+pub has-put : (w : Width) (a n k : ℕ) (b : Bool) → n < bits w → has (bit_or a (from_bool b * 2 ^ n % 2 ^ bits w)) k ≡ (has a k || eqb k n && b)
+has-put w a n k true below = has-set w a n k below ∙ ap (λ x. has a k || x) (sym (and-true (eqb k n)))
+has-put w a n k false below =
+    let nothing : 0 * 2 ^ n ≡ 0 = omega arith in
+    ap (λ x. has (bit_or a x) k) (ap (λ y. y % 2 ^ bits w) nothing ∙ mod-eq_of_lt (pow_pos (bits w))) ∙
+    has-or a 0 k ∙ ap (λ x. has a k || x) (has-above 0 0 k (pow_pos 0) (omega arith) ∙ sym (and_right (eqb k n) false refl))
+
+-- a set of that number alone, or of none
+pub has-bit : (w : Width) (n k : ℕ) (b : Bool) → n < bits w → has (from_bool b * 2 ^ n % 2 ^ bits w) k ≡ (eqb k n && b)
+has-bit w n k b below =
+    let none : has 0 k ≡ false = has-above 0 0 k (pow_pos 0) (omega arith) in
+    let word = from_bool b * 2 ^ n % 2 ^ bits w in
+    sym (ap (λ x. x || has word k) none) ∙ sym (has-or 0 word k) ∙ has-put w 0 n k b below ∙
+    ap (λ x. x || (eqb k n && b)) none
+
 -- two sets below n with the same numbers are the same
 pub same_set : (n a b : ℕ) → a < 2 ^ n → b < 2 ^ n → ((k : ℕ) → k < n → has a k ≡ has b k) → a ≡ b
 same_set n a b p q same =
     same_from_bits_below n a b p q (λ k h. same_bit _ _ (bit_at-lt a k) (bit_at-lt b k) (same k h))
+
+-- so are any two
+pub same_numbers : (a b : ℕ) → ((k : ℕ) → has a k ≡ has b k) → a ≡ b
+same_numbers a b same =
+    same_from_bits a b (λ k. same_bit _ _ (bit_at-lt a k) (bit_at-lt b k) (same k))
 
 -- a set of numbers below n is a number below 2 ^ n
 pub set_below-lt : (n : ℕ) (f : ℕ → Bool) → set_below n f < 2 ^ n
@@ -70,10 +113,22 @@ has-set_below (suc n) f k below =
     λ h. lower_number n (set_below n f) k (f n) h ∙ has-set_below n f k h in
     ⊎_elim lower (λ h. let e : n ≡ k = omega arith in here e) (cases_lt k n)
 
+-- and if none passes from n on, just those that pass
+pub has-passing : (n : ℕ) (f : ℕ → Bool) (k : ℕ) → (n ≤ k → f k ≡ false) → has (set_below n f) k ≡ f k
+has-passing n f k none =
+    ⊎_elim (has-set_below n f k) (λ past. has-above (set_below n f) n k (set_below-lt n f) past ∙ sym (none past))
+    (cases_lt k n)
+
 -- a set below n that has just the numbers that pass a test
 pub set_below-is : (n w : ℕ) (f : ℕ → Bool) → w < 2 ^ n → ((k : ℕ) → k < n → has w k ≡ f k) → w ≡ set_below n f
 set_below-is n w f small same =
     same_set n w (set_below n f) small (set_below-lt n f) (λ k h. same k h ∙ sym (has-set_below n f k h))
+
+-- a set that has no number from n on is a number below 2 ^ n
+pub fits-below : (n set : ℕ) → ((k : ℕ) → n ≤ k → has set k ≡ false) → set < 2 ^ n
+fits-below n set none =
+    let same : set ≡ set_below n (has set) = same_numbers _ _ (λ k. sym (has-passing n (has set) k (none k))) in
+    omega (arith, same, set_below-lt n (has set))
 
 -- the empty set
 pub set_below-zero : (f : ℕ → Bool) → 0 ≡ set_below 0 f

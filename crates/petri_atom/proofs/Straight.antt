@@ -1,18 +1,19 @@
 -- Straight code: how many temporary cells it takes, what steps leave as it was, and what they make.
-use Rattle.std.proofs.Common.{◌≡◌, ℕ, suc, ℤ, pos, ◌+◌, ◌-◌, replicate, take, get_or, ◌^◌, ◌<◌, ◌≤◌, max, Bool, true, false, cond, not, eqb, refl, sym, ap, ◌∙◌, subst, arith, List, [], ◌∷◌, ◌++◌, length, ⊎_elim}
-use Rattle.std.specs.Prelude.{◌≢◌, slice_set, if◌then◌else◌, IsTrue}
+use Rattle.std.proofs.Common.{◌≡◌, ℕ, suc, ℤ, pos, ◌+◌, ◌-◌, replicate, get_or, ◌^◌, ◌<◌, ◌≤◌, max, Bool, true, false, cond, not, eqb, refl, sym, ap, ◌∙◌, subst, arith, List, [], ◌∷◌, ◌++◌, length, ⊎_elim}
+use Rattle.std.specs.Prelude.{slice_set, if◌then◌else◌, IsTrue}
 use Rattle.std.specs.Ordering.{int_eq}
 use Rattle.std.proofs.Math.Bool.{not-not}
 use Rattle.std.proofs.Math.Nat.{pow-succ'}
 use Rattle.std.proofs.Math.Pow.{pow_mono}
-use Rattle.std.proofs.lemmas.Bool.{ne_eqb, cases_lt, and_parts, ltb-true}
+use Rattle.std.proofs.lemmas.Bool.{eq-eqb, ne_eqb, cases_lt, and_parts, ltb-true}
 use Rattle.std.proofs.lemmas.Bool.Decides.{eqb_tells}
-use Rattle.std.proofs.lemmas.List.{length-set, get_or-set_same, get_or-set_other, get_or-replicate, get_or_past, get_or-append_right, get_or-take, length-append}
+use Rattle.std.proofs.lemmas.List.{length-set, get_or-set_same, get_or-set_other, get_or-replicate, get_or_past, get_or-append_right, length-append}
 use Rattle.std.proofs.Math.ListN.{get_or-append}
 use Rattle.petri_atom.specs.Expression.{Tree, number, variable, negation, operation, operated, value_of, word_count, has_variables_below, truth, is_true}
 use Rattle.petri_atom.specs.Local.{value_in}
-use Rattle.petri_atom.specs.StraightCode.{temporaries, operand_in, made_in, run_in, IsMadeAfter, IsOperandAfter, AreOperandsAfter}
+use Rattle.petri_atom.specs.StraightCode.{temporaries, IsBelow, made, operand_in, made_in, run_in, IsMadeAfter, IsOperandAfter, AreOperandsAfter}
 use Rattle.petri_atom.specs.declared.code.Operand.{Operand}
+use Rattle.petri_atom.specs.declared.code.Operand.TheVariants.{Cell, Number}
 use Rattle.petri_atom.specs.declared.code.Step.{Step}
 use Rattle.petri_atom.specs.declared.expression.Operator.TheVariants.{Equal, Max}
 
@@ -90,7 +91,7 @@ value-same f g same (operation op a b) =
 
 -- ---- steps
 
-pub length-run_in : (steps : List Step) (row : List ℤ) → length (run_in steps row) ≡ length row
+length-run_in : (steps : List Step) (row : List ℤ) → length (run_in steps row) ≡ length row
 length-run_in [] row = refl
 length-run_in (s ∷ ss) row = length-run_in ss (slice_set row s.to (made_in row s)) ∙ length-set row s.to (made_in row s)
 
@@ -99,15 +100,10 @@ pub run_in-snoc : (steps : List Step) (s : Step) (row : List ℤ) → run_in (st
 run_in-snoc [] s row = refl
 run_in-snoc (t ∷ ts) s row = run_in-snoc ts s (slice_set row t.to (made_in row t))
 
--- an operand of a cell is what the cell holds
-pub operand-cell : (row : List ℤ) (o : Operand) → o.cell ≢ 16 → operand_in row o ≡ value_in row o.cell
-operand-cell row o other = ap (λ b. if b then o.number else value_in row o.cell) (ne_eqb o.cell 16 other)
-
-pub operand-number : (row : List ℤ) (o : Operand) → o.cell ≡ 16 → operand_in row o ≡ o.number
-operand-number row o at = ap (λ c. if eqb c 16 then o.number else value_in row c) at
-
-operand-same : (a b : List ℤ) (o : Operand) → value_in a o.cell ≡ value_in b o.cell → operand_in a o ≡ operand_in b o
-operand-same a b o same = ap (λ z. if eqb o.cell 16 then o.number else z) same
+-- an operand whose cell, if it is one, stands before a number is the same in rows that have the same before it
+operand-same : (bound : ℕ) (a b : List ℤ) (o : Operand) → IsBelow bound o → ((k : ℕ) → k < bound → value_in a k ≡ value_in b k) → operand_in a o ≡ operand_in b o
+operand-same bound a b (Cell cell) below same = same cell below
+operand-same bound a b (Number n) below same = refl
 
 either_same : {X : Type 0} (b : Bool) (x : X) → cond b x x ≡ x
 either_same true x = refl
@@ -124,16 +120,16 @@ equal-zero z = ap truth (sym (not-not (int_eq z (pos 0))))
 -- what a step makes in rows that have the same in all cells is the same
 pub made-same : (a b : List ℤ) (s : Step) → ((k : ℕ) → value_in a k ≡ value_in b k) → made_in a s ≡ made_in b s
 made-same a b s same =
-    ap (λ x. operated s.operator x (operand_in a s.right)) (operand-same a b s.left (same s.left.cell)) ∙
-    ap (operated s.operator (operand_in b s.left)) (operand-same a b s.right (same s.right.cell))
+    ap (λ x. made s.operation x (value_in a s.right) s.number) (same s.left) ∙
+    ap (λ x. made s.operation (value_in b s.left) x s.number) (same s.right)
 
 -- ---- expressions
 
 -- two operands, of which the second was judged behind the first, beside it
-module _ (before middle after : List Step) (p q : Operand) (e f : Tree ℕ) (free : ℕ) (first : IsOperandAfter before middle p e free) (second : IsOperandAfter middle after q f (free + 1)) (temporary : 17 ≤ free) (known : IsTrue (has_variables_below 16 f)) where
+module _ (before middle after : List Step) (p q : Operand) (e f : Tree ℕ) (free : ℕ) (first : IsOperandAfter before middle p e free) (second : IsOperandAfter middle after q f (free + 1)) (temporary : 16 ≤ free) (known : IsTrue (has_variables_below 16 f)) where
   first-stays : (row : List ℤ) → length row ≡ 24 → operand_in (run_in after row) p ≡ value_of (value_in (run_in before row)) e
   first-stays row long =
-      operand-same (run_in after row) (run_in middle row) p (second.others row p.cell (omega (arith, first.cell))) ∙ first.value row long
+      operand-same (free + 1) (run_in after row) (run_in middle row) p first.cell (second.others row) ∙ first.value row long
 
   second-comes : (row : List ℤ) → length row ≡ 24 → operand_in (run_in after row) q ≡ value_of (value_in (run_in before row)) f
   second-comes row long =
@@ -144,7 +140,7 @@ module _ (before middle after : List Step) (p q : Operand) (e f : Tree ℕ) (fre
   others-stay row k low = second.others row k (omega (arith, low)) ∙ first.others row k low
 
 -- two operands, the left one of which was judged first
-pub left-first : (before middle after : List Step) (p q : Operand) (e f : Tree ℕ) (free : ℕ) → IsOperandAfter before middle p e free → IsOperandAfter middle after q f (free + 1) → 17 ≤ free → IsTrue (has_variables_below 16 f) → AreOperandsAfter before after p q e f free
+pub left-first : (before middle after : List Step) (p q : Operand) (e f : Tree ℕ) (free : ℕ) → IsOperandAfter before middle p e free → IsOperandAfter middle after q f (free + 1) → 16 ≤ free → IsTrue (has_variables_below 16 f) → AreOperandsAfter before after p q e f free
 left-first before middle after p q e f free first second temporary known = record {
   left_value = first-stays before middle after p q e f free first second temporary known;
   right_value = second-comes before middle after p q e f free first second temporary known;
@@ -152,19 +148,17 @@ left-first before middle after p q e f free first second temporary known = recor
 }
 
 -- and the right one
-pub right-first : (before middle after : List Step) (p q : Operand) (e f : Tree ℕ) (free : ℕ) → IsOperandAfter before middle q f free → IsOperandAfter middle after p e (free + 1) → 17 ≤ free → IsTrue (has_variables_below 16 e) → AreOperandsAfter before after p q e f free
+pub right-first : (before middle after : List Step) (p q : Operand) (e f : Tree ℕ) (free : ℕ) → IsOperandAfter before middle q f free → IsOperandAfter middle after p e (free + 1) → 16 ≤ free → IsTrue (has_variables_below 16 e) → AreOperandsAfter before after p q e f free
 right-first before middle after p q e f free first second temporary known = record {
   left_value = second-comes before middle after q p f e free first second temporary known;
   right_value = first-stays before middle after q p f e free first second temporary known;
   others = others-stay before middle after q p f e free first second temporary known;
 }
 
--- the step that makes the value of an expression, for a cell, makes the operand that this cell is
-pub pushed : (before after : List Step) (s : Step) (o : Operand) (e : Tree ℕ) (free : ℕ) → IsMadeAfter before after s e free → s.to ≡ free → o.cell ≡ free → 17 ≤ free → free < 24 → IsOperandAfter before (after ++ s ∷ []) o e free
-pushed before after s o e free made to cell temporary room = record {
+-- the step that makes the value of an expression, for a cell, makes what this cell holds
+pub pushed : (before after : List Step) (s : Step) (e : Tree ℕ) (free : ℕ) → IsMadeAfter before after s e free → s.to ≡ free → free < 24 → IsOperandAfter before (after ++ s ∷ []) (Cell free) e free
+pushed before after s e free made to room = record {
   value = λ row long.
-      operand-cell (run_in (after ++ s ∷ []) row) o (λ zero. omega (arith, zero, cell, temporary)) ∙
-      ap (value_in (run_in (after ++ s ∷ []) row)) cell ∙
       ap (λ cells. value_in cells free) (run_in-snoc after s row) ∙
       ap (λ at. value_in (slice_set (run_in after row) at (made_in (run_in after row) s)) free) to ∙
       get_or-set_same (run_in after row) free (made_in (run_in after row) s) (pos 0) (omega (arith, room, length-run_in after row, long)) ∙
@@ -173,8 +167,36 @@ pushed before after s o e free made to cell temporary room = record {
       ap (λ cells. value_in cells k) (run_in-snoc after s row) ∙
       get_or-set_other (run_in after row) s.to k (made_in (run_in after row) s) (pos 0) (λ same. omega (arith, same, to, low)) ∙
       made.others row k low;
-  cell = omega (arith, cell);
+  cell = omega arith;
 }
+
+-- ---- code
+
+-- what code makes of a row where it is one step
+pub one-step : (steps : List Step) (last : Step) (row : List ℤ) → length steps ≡ 0 → (if eqb (length steps) 0 then made_in row last else value_in (run_in steps row) 16) ≡ made_in row last
+one-step steps last row none =
+    ap (λ b. if b then made_in row last else value_in (run_in steps row) 16) (eq-eqb (length steps) 0 none)
+
+-- and where it is several
+pub more-steps : (steps : List Step) (last : Step) (row : List ℤ) → 0 < length steps → (if eqb (length steps) 0 then made_in row last else value_in (run_in steps row) 16) ≡ value_in (run_in steps row) 16
+more-steps steps last row some =
+    ap (λ b. if b then made_in row last else value_in (run_in steps row) 16) (ne_eqb (length steps) 0 (λ none. omega (arith, none, some)))
+
+no_element : {X : Type 0} (xs : List X) → length xs ≡ 0 → [] ≡ xs
+no_element [] none = refl
+no_element (x ∷ xs) none = absurd (omega (arith, none))
+
+-- so the step that makes the value of an expression is its code, if no other step is added
+pub one-code : (steps : List Step) (last : Step) (e : Tree ℕ) → IsMadeAfter [] steps last e 16 → length steps ≡ 0 → (row : List ℤ) → length row ≡ 24 → (if eqb (length steps) 0 then made_in row last else value_in (run_in steps row) 16) ≡ value_of (value_in row) e
+one-code steps last e made none row long =
+    one-step steps last row none ∙ ap (λ ss. made_in (run_in ss row) last) (no_element steps none) ∙ made.value row long
+
+-- and else all of them are, with it
+pub more-code : (before steps : List Step) (last : Step) (e : Tree ℕ) → IsMadeAfter [] before last e 16 → last.to ≡ 16 → steps ≡ before ++ last ∷ [] → (row : List ℤ) → length row ≡ 24 → (if eqb (length steps) 0 then made_in row last else value_in (run_in steps row) 16) ≡ value_of (value_in row) e
+more-code before steps last e made to is row long =
+    let all : length steps ≡ length before + 1 = ap length is ∙ length-append before (last ∷ []) in
+    more-steps steps last row (omega (arith, all)) ∙ ap (λ ss. value_in (run_in ss row) 16) is ∙
+    (pushed [] before last e 16 made to (omega arith)).value row long
 
 -- ---- rows
 
@@ -195,11 +217,4 @@ pub cells-with : (variables : List ℤ) → length variables ≡ 16 → (k : ℕ
 cells-with variables long k = ⊎_elim
     (λ within. get_or-append variables (replicate 8 (pos 0)) (pos 0) k (omega (arith, within, long)))
     (λ past. get_or-append_right variables (replicate 8 (pos 0)) 16 k (pos 0) long past ∙ zeros (k - 16) ∙ sym (get_or_past variables k (pos 0) (omega (arith, past, long))))
-    (cases_lt k 16)
-
--- a row whose first cells are the variables' values, and all others 0, has in each cell what the values have there
-pub cells-first : (variables row : List ℤ) → length variables ≡ 16 → take 16 row ≡ variables → ((k : ℕ) → 16 ≤ k → value_in row k ≡ pos 0) → (k : ℕ) → value_in row k ≡ value_in variables k
-cells-first variables row long first none k = ⊎_elim
-    (λ within. sym (get_or-take 16 row k (pos 0) within) ∙ ap (λ vs. value_in vs k) first)
-    (λ past. none k past ∙ sym (get_or_past variables k (pos 0) (omega (arith, past, long))))
     (cases_lt k 16)

@@ -56,6 +56,20 @@ is_true_number (variable v) = false
 is_true_number (negation e) = false
 is_true_number (operation op e f) = false
 
+-- an expression without the `!` that stand before it
+abbrev pub bare : {V : Type 0} → Tree V → Tree V
+bare (number n) = number n
+bare (variable v) = variable v
+bare (negation e) = bare e
+bare (operation op e f) = operation op e f
+
+-- an odd number of them stands before it: it is true where it is false without them
+abbrev pub is_turned : {V : Type 0} → Tree V → Bool
+is_turned (number n) = false
+is_turned (variable v) = false
+is_turned (negation e) = not (is_turned e)
+is_turned (operation op e f) = false
+
 -- how many words an expression is written with
 abbrev pub word_count : {V : Type 0} → Tree V → ℕ
 word_count (number n) = 1

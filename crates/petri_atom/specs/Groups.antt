@@ -1,7 +1,7 @@
 use Rattle.std.specs.Prelude.{◌≡◌, ℕ, ◌^◌, ◌<◌, Bool, false, ◌&&◌, List, length, slice_get, bit_and, ◌==◌}
 use Rattle.std.specs.List.{list_any}
 use Rattle.std.specs.Option.{option_map_or}
-use Rattle.petri_atom.specs.Expression.{is_true, is_true_number, value_of}
+use Rattle.petri_atom.specs.Expression.{Tree, bare, is_same_tree, is_true, is_true_number, is_turned, value_of}
 use Rattle.petri_atom.specs.Local.{Local, has, set_below, value_in}
 use Rattle.petri_atom.specs.Definition.{TransitionDefinition, can_move}
 use Rattle.petri_atom.specs.declared.groups.Group.{Group}
@@ -25,6 +25,10 @@ is_movable groups marking n = list_any (λ g. suits marking g.sources g.blocking
 abbrev pub can_move_number : List TransitionDefinition → ℕ → ℕ → Bool
 can_move_number ts marking n = option_map_or (can_move marking) (slice_get ts n) false
 
+-- the transition with a number passes a test; none passes that is not there
+abbrev pub passes_number : (TransitionDefinition → Bool) → List TransitionDefinition → ℕ → Bool
+passes_number test ts n = option_map_or test (slice_get ts n) false
+
 -- by the groups a marking lets the transitions move that it lets move one by one
 abbrev pub AreGroupsOf : List Group → List TransitionDefinition → Type 0
 AreGroupsOf groups ts =
@@ -39,6 +43,26 @@ is_unguarded ts n = option_map_or (λ t. is_true_number t.guard) (slice_get ts n
 -- the set of those transitions
 abbrev pub unguarded_set : List TransitionDefinition → ℕ
 unguarded_set ts = set_below (length ts) (is_unguarded ts)
+
+-- the guard of the transition with a number has an odd number of `!` before it
+abbrev pub is_turned_number : List TransitionDefinition → ℕ → Bool
+is_turned_number ts n = passes_number (λ t. is_turned t.guard) ts n
+
+-- the set of those transitions
+abbrev pub turned_set : List TransitionDefinition → ℕ
+turned_set ts = set_below (length ts) (is_turned_number ts)
+
+-- the guard of the transition with a number is the same as another one, but for the `!` before both
+abbrev pub has_bare_guard : Tree ℕ → List TransitionDefinition → ℕ → Bool
+has_bare_guard guard ts n = passes_number (λ t. is_same_tree (bare guard) (bare t.guard)) ts n
+
+-- the set of those transitions
+abbrev pub alike_set : Tree ℕ → List TransitionDefinition → ℕ
+alike_set guard ts = set_below (length ts) (has_bare_guard guard ts)
+
+-- the guard of the transition with a number is not 0 without the `!` before it
+abbrev pub passes_bare : List TransitionDefinition → Local → ℕ → Bool
+passes_bare ts state n = passes_number (λ t. is_true (value_of (value_in state.values) (bare t.guard))) ts n
 
 -- the guard of the transition with a number is not 0
 abbrev pub passes_guard : List TransitionDefinition → Local → ℕ → Bool

@@ -9,6 +9,8 @@ pub mod Same
 pub mod SameTransition
 pub mod Groups
 pub mod StraightCode
+pub mod Behind
 pub mod Atom
 pub mod Fault
 pub mod Codes
+pub mod Settled

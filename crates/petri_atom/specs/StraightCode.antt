@@ -1,12 +1,17 @@
-use Rattle.std.specs.Prelude.{◌≡◌, ℕ, suc, ◌≤◌, ◌<◌, ℤ, Bool, ◌&&◌, List, [], ◌∷◌, length, max, if◌then◌else◌, ◌==◌, nat_le, slice_get, slice_set, Some}
+use Rattle.std.specs.Prelude.{◌≡◌, ℕ, suc, ◌+◌, ◌<◌, ℤ, Bool, ◌&&◌, List, [], ◌∷◌, length, max, if◌then◌else◌, ◌==◌, nat_le, slice_get, slice_set, Some}
 use Rattle.std.specs.List.{list_all}
-use Rattle.petri_atom.specs.Expression.{Tree, number, variable, negation, operation, operated, value_of, word_count, has_variables_below}
+use Rattle.petri_atom.specs.Expression.{Tree, number, variable, negation, operation, bare, operated, value_of, word_count, has_variables_below}
 use Rattle.petri_atom.specs.Definition.{TransitionDefinition, UpdateDefinition}
+use Rattle.petri_atom.specs.Groups.{alike_set}
 use Rattle.petri_atom.specs.Local.{value_in}
 use Rattle.petri_atom.specs.declared.code.Code.{Code}
 use Rattle.petri_atom.specs.declared.code.Operand.{Operand}
 use Rattle.petri_atom.specs.declared.code.Step.{Step}
-use Rattle.petri_atom.specs.declared.code.TheConstants.{ROW, ZERO}
+use Rattle.petri_atom.specs.declared.code.Operand.TheVariants.{Cell, Number}
+use Rattle.petri_atom.specs.declared.code.TheConstants.{ROW, TEMPORARY}
+use Rattle.petri_atom.specs.declared.expression.Operator.TheVariants.{Add, Subtract, Multiply, Min, Max, Less, LessOrEqual, Equal, NotEqual, And, Or}
+use Rattle.petri_atom.specs.declared.operation.Operation.{Operation}
+use Rattle.petri_atom.specs.declared.operation.Operation.TheVariants.{Constant, AddCells, SubtractCells, MultiplyCells, MinCells, MaxCells, LessCells, LessOrEqualCells, EqualCells, NotEqualCells, AndCells, OrCells, AddNumber, SubtractNumber, MultiplyNumber, MinNumber, MaxNumber, LessNumber, LessOrEqualNumber, EqualNumber, NotEqualNumber, AndNumber, OrNumber, NumberMinus, NumberLess, NumberLessOrEqual}
 use Rattle.petri_atom.specs.declared.parts.TheConstants.{MAX_WORDS}
 use Rattle.petri_atom.specs.declared.state.TheConstants.{MAX_VARIABLES}
 use Rattle.petri_atom.specs.declared.transition_code.Change.{Change}
@@ -14,13 +19,48 @@ use Rattle.petri_atom.specs.declared.transition_code.TransitionCode.{TransitionC
 
 -- ---- straight code
 
--- an operand in a row of cells: its number, if it stands with the cell that holds 0, and else what its cell holds
-abbrev pub operand_in : List ℤ → Operand → ℤ
-operand_in row o = if o.cell == ZERO then o.number else value_in row o.cell
+-- what an operation makes of what two cells hold and of a number
+abbrev pub made : Operation → ℤ → ℤ → ℤ → ℤ
+made Constant l r n = n
+made AddCells l r n = operated Add l r
+made SubtractCells l r n = operated Subtract l r
+made MultiplyCells l r n = operated Multiply l r
+made MinCells l r n = operated Min l r
+made MaxCells l r n = operated Max l r
+made LessCells l r n = operated Less l r
+made LessOrEqualCells l r n = operated LessOrEqual l r
+made EqualCells l r n = operated Equal l r
+made NotEqualCells l r n = operated NotEqual l r
+made AndCells l r n = operated And l r
+made OrCells l r n = operated Or l r
+made AddNumber l r n = operated Add l n
+made SubtractNumber l r n = operated Subtract l n
+made MultiplyNumber l r n = operated Multiply l n
+made MinNumber l r n = operated Min l n
+made MaxNumber l r n = operated Max l n
+made LessNumber l r n = operated Less l n
+made LessOrEqualNumber l r n = operated LessOrEqual l n
+made EqualNumber l r n = operated Equal l n
+made NotEqualNumber l r n = operated NotEqual l n
+made AndNumber l r n = operated And l n
+made OrNumber l r n = operated Or l n
+made NumberMinus l r n = operated Subtract n l
+made NumberLess l r n = operated Less n l
+made NumberLessOrEqual l r n = operated LessOrEqual n l
 
--- what a step makes of a row
+-- what a step makes of a row of cells
 abbrev pub made_in : List ℤ → Step → ℤ
-made_in row s = operated s.operator (operand_in row s.left) (operand_in row s.right)
+made_in row s = made s.operation (value_in row s.left) (value_in row s.right) s.number
+
+-- an operand in a row: what its cell holds, or its number
+abbrev pub operand_in : List ℤ → Operand → ℤ
+operand_in row (Cell cell) = value_in row cell
+operand_in row (Number n) = n
+
+-- the cell of an operand, if it is one, stands before a number
+abbrev pub IsBelow : ℕ → Operand → Type 0
+IsBelow bound (Cell cell) = cell < bound
+IsBelow bound (Number n) = Unit {0}
 
 -- a row after steps, each of which puts what it makes into its cell
 abbrev pub run_in : List Step → List ℤ → List ℤ
@@ -48,7 +88,7 @@ pub record IsMadeAfter (before after : List Step) (last : Step) (tree : Tree ℕ
 pub record IsOperandAfter (before after : List Step) (operand : Operand) (tree : Tree ℕ) (free : ℕ) : Type 0 where
   pub value : (row : List ℤ) → length row ≡ ROW → operand_in (run_in after row) operand ≡ value_of (value_in (run_in before row)) tree
   pub others : (row : List ℤ) (k : ℕ) → k < free → value_in (run_in after row) k ≡ value_in (run_in before row) k
-  pub cell : operand.cell ≤ free
+  pub cell : IsBelow (free + 1) operand
 
 -- the same of two operands at once
 pub record AreOperandsAfter (before after : List Step) (left right : Operand) (e f : Tree ℕ) (free : ℕ) : Type 0 where
@@ -60,10 +100,14 @@ pub record AreOperandsAfter (before after : List Step) (left right : Operand) (e
 abbrev pub is_codable : Tree ℕ → Bool
 is_codable e = nat_le (word_count e) MAX_WORDS && has_variables_below MAX_VARIABLES e
 
+-- what code makes of a row: what its one step makes, or what all its steps leave in the first temporary cell
+abbrev pub coded_in : Code → List ℤ → ℤ
+coded_in code row =
+    if length code.steps.items == 0 then made_in row code.last else value_in (run_in code.steps.items row) TEMPORARY
+
 -- code gives the value of an expression, in each row that has the variables' values in their cells
 abbrev pub IsCodeOf : Code → Tree ℕ → Type 0
-IsCodeOf code tree =
-    (row : List ℤ) → length row ≡ ROW → made_in (run_in code.steps.items row) code.last ≡ value_of (value_in row) tree
+IsCodeOf code tree = (row : List ℤ) → length row ≡ ROW → coded_in code row ≡ value_of (value_in row) tree
 
 -- ---- transitions
 
@@ -88,10 +132,12 @@ IsChangeOf change u = (change.variable ≡ u.variable) × IsCodeOf change.value 
 abbrev pub AreChangesOf : List Change → List UpdateDefinition → Type 0
 AreChangesOf changes us = EachOf IsChangeOf changes us
 
--- the code of a transition is that of its guard and of its updates
-abbrev pub IsTransitionCode : TransitionCode → TransitionDefinition → Type 0
-IsTransitionCode code t = IsCodeOf code.guard t.guard × AreChangesOf code.changes.items t.updates
+-- the code of one of some transitions is that of its guard, without the `!` before it, and of its updates; it has the set of all transitions
+-- whose guard is the same but for these
+abbrev pub IsTransitionCode : List TransitionDefinition → TransitionCode → TransitionDefinition → Type 0
+IsTransitionCode ts code t =
+    IsCodeOf code.guard (bare t.guard) × AreChangesOf code.changes.items t.updates × (code.alike ≡ alike_set t.guard ts)
 
 -- codes are those of transitions, one by one
 abbrev pub AreCodesOf : List TransitionCode → List TransitionDefinition → Type 0
-AreCodesOf codes ts = EachOf IsTransitionCode codes ts
+AreCodesOf codes ts = EachOf (IsTransitionCode ts) codes ts

@@ -3,10 +3,12 @@ ghost use Rattle.std.specs.Prelude.{◌≡◌, ◌≤◌, ◌↔◌, IsTrue, IfO
 ghost use Rattle.petri_atom.specs.Definition.{is_well_formed, fault_of, IsFaultOf};
 ghost use Rattle.petri_atom.specs.Parts.{port_of, definition_by, set_of_port, sets_below};
 ghost use Rattle.petri_atom.specs.StraightCode.{AreCodesOf};
-ghost use Rattle.petri_atom.specs.Groups.{AreGroupsOf, unguarded_set};
+ghost use Rattle.petri_atom.specs.Groups.{AreGroupsOf, turned_set, unguarded_set};
+ghost use Rattle.petri_atom.specs.Behind.{AreBehind};
 ghost use Rattle.petri_atom.specs.Transition.{transition_of};
 ghost use Rattle.petri_atom.specs.declared.parts.TheConstants.{MAX_PORTS, MAX_TRANSITIONS};
 
+use crate::behind::{Behind, all_behind};
 use crate::fault::AtomFault;
 use crate::groups::{Group, groups_of};
 use crate::marking::is_within;
@@ -25,23 +27,29 @@ use std::alloc::{AllocError, Global};
 /// an atom, so that what can be asked of it cannot fail. For each port it has the set of the port's transitions, so that what
 /// a set of transitions has of a port is one operation. Transitions that ask the same of a
 /// marking are a group, so that it is tested once for all of them; to find all that is offered, no guard that is a number other than 0 is looked at.
-/// Guards and updates are kept as straight code too, by which a step judges and runs them.
+/// Guards and updates are kept as straight code too, by which a step judges and runs them. Guards that are the same, or the same but for `!`
+/// before them, are judged once.
+/// For each transition it has what a firing of it can change, so that a step asks no more than that.
 #[derive(Drop)]
 pub struct Atom {
     name: Name,
     places: Vec<Place>,
     variables: Vec<Variable>,
     ports: Vec<Port>,
-    transitions: Vec<Transition>,
+    pub(crate) transitions: Vec<Transition>,
     masks: Vec<u128>,
     pub(crate) groups: Vec<Group>,
     pub(crate) unguarded: u128,
+    pub(crate) turned: u128,
     pub(crate) codes: Vec<TransitionCode>,
+    pub(crate) behind: Vec<Behind>,
     ghost well_formed: { IsTrue (is_well_formed (definition_by name places.items variables.items ports.items transitions.items)) },
     ghost masked: { masks.items ≡ sets_below (length ports.items) (map transition_of transitions.items) },
     ghost grouped: { AreGroupsOf groups.items (map transition_of transitions.items) },
     ghost unguarded_bits: { unguarded ≡ unguarded_set (map transition_of transitions.items) },
+    ghost turned_bits: { turned ≡ turned_set (map transition_of transitions.items) },
     ghost coded: { AreCodesOf codes.items (map transition_of transitions.items) },
+    ghost told: { AreBehind (map port_of ports.items) (map transition_of transitions.items) behind.items },
 }
 
 impl Atom {
@@ -67,7 +75,9 @@ impl Atom {
         let masks = masks_by_port(alloc, ports.len(), &transitions)?;
         let groups = groups_of(alloc, &transitions)?;
         let unguarded = mask_of_unguarded(&transitions);
+        let turned = mask_of_turned(&transitions);
         let codes = codes_of(alloc, &transitions)?;
+        let behind = all_behind(alloc, &ports, &transitions)?;
         Ok(Atom {
             name,
             places,
@@ -77,7 +87,9 @@ impl Atom {
             masks,
             groups,
             unguarded,
+            turned,
             codes,
+            behind,
         })
     }
 
@@ -255,6 +267,18 @@ fn mask_of_unguarded(transitions: &[Transition]) -> u128
     let mut mask = 0;
     for (number, transition) in transitions.iter().enumerate() {
         mask |= u128::from(transition.guard().is_true_number()) << number;
+    }
+    mask
+}
+
+/// The set of the transitions whose guard has an odd number of `!` before it.
+fn mask_of_turned(transitions: &[Transition]) -> u128
+    requires { length transitions.now ≤ MAX_TRANSITIONS }
+    ensures { result ≡ turned_set (map transition_of transitions.now) }
+{
+    let mut mask = 0;
+    for (number, transition) in transitions.iter().enumerate() {
+        mask |= u128::from(transition.guard().is_turned()) << number;
     }
     mask
 }

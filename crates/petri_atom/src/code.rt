@@ -1,114 +1,139 @@
 //! Expressions as straight code: steps over a row of cells, each of which applies one operator.
-ghost use Rattle.std.specs.Prelude.{◌≡◌, ◌≢◌, ◌≤◌, ◌<◌, ℕ, pos, length, slice_index_or, take};
+ghost use Rattle.std.specs.Prelude.{◌≡◌, ◌≢◌, ◌<◌, ℕ, ℤ, List, pos, length};
 ghost use Rattle.petri_atom.specs.declared.state.TheConstants.{MAX_VARIABLES};
-ghost use Rattle.petri_atom.specs.declared.code.TheConstants.{ROW, TEMPORARY, ZERO};
+ghost use Rattle.petri_atom.specs.declared.code.TheConstants.{ROW, TEMPORARY};
 
 use crate::coding::last_step;
 use crate::expression::{Expression, Operator};
+use crate::operation::Operation;
 use crate::state::{AtomState, MAX_VARIABLES};
 use std::alloc::{AllocError, Global};
 
-/// How many cells a row has: one for each variable that an atom may have, one that holds 0, and temporary ones.
+/// How many cells a row has: one for each variable that an atom may have, and temporary ones.
 pub(crate) const ROW: usize = 24;
-/// The cell that holds 0; the variables' cells stand before it.
-pub(crate) const ZERO: u8 = 16;
-/// The first temporary cell.
-pub(crate) const TEMPORARY: u8 = 17;
+/// The first temporary cell; the variables' cells stand before it.
+pub(crate) const TEMPORARY: u8 = 16;
 
 /// What an operator is applied to: what a cell holds, or a number.
-///
-/// A number stands with the cell that holds 0, and with every other cell stands no number but 0. So the sum of the two is the operand in
-/// both cases, and no step asks which it is.
-#[derive(Clone, Copy)]
-pub(crate) struct Operand {
-    cell: u8,
-    number: i64,
-    ghost here: { cell < ROW },
-    ghost one: { cell ≢ ZERO → number ≡ pos 0 },
+#[derive(Clone, Copy, Drop)]
+pub(crate) enum Operand {
+    Cell(u8),
+    Number(i64),
 }
 
-impl Operand {
-    ghost use Rattle.petri_atom.specs.Local.{value_in};
-    ghost use Rattle.petri_atom.specs.StraightCode.{operand_in};
-
-    /// The operand that is a number.
-    pub(crate) fn number(number: i64) -> Self
-        ensures cell { result.cell ≡ ZERO }
-        ensures number { result.number ≡ number }
-    {
-        Operand { cell: ZERO, number }
-    }
-
-    /// The operand that a cell holds.
-    pub(crate) fn cell(cell: u8) -> Self
-        requires here { cell < ROW }
-        requires other { cell ≢ ZERO }
-        ensures { result.cell ≡ cell }
-    {
-        Operand { cell, number: 0 }
-    }
-
-    /// The operand's value in a row.
-    fn value(&self, row: &[i64; ROW]) -> i64
-        requires { value_in row.now ZERO ≡ pos 0 }
-        ensures { result ≡ operand_in row.now self.now }
-    {
-        row[usize::from(self.cell)].wrapping_add(self.number)
-    }
-
-    /// The value of an operand that is a number or a variable.
-    fn value_among(&self, variables: &[i64; MAX_VARIABLES]) -> i64
-        requires { self.now.cell < TEMPORARY }
-        ensures { result ≡ operand_in variables.now self.now }
-    {
-        match variables.get(usize::from(self.cell)) {
-            Some(value) => *value,
-            None => self.number,
-        }
-    }
-}
-
-/// A step: the cell `to` gets what the operator makes of two operands.
-#[derive(Drop)]
+/// A step: the cell `to` gets what the operation makes of the cells `left` and `right` and the number.
+#[derive(Clone, Copy, Drop)]
 pub(crate) struct Step {
-    pub(crate) operator: Operator,
-    pub(crate) left: Operand,
-    pub(crate) right: Operand,
-    pub(crate) to: u8,
+    operation: Operation,
+    left: u8,
+    right: u8,
+    to: u8,
+    number: i64,
+    ghost left_here: { left < ROW },
+    ghost right_here: { right < ROW },
     ghost here: { to < ROW },
-    ghost kept: { to ≢ ZERO },
 }
 
 impl Step {
+    ghost use Rattle.petri_atom.specs.Expression.{operated};
     ghost use Rattle.petri_atom.specs.Local.{value_in};
-    ghost use Rattle.petri_atom.specs.StraightCode.{made_in, run_in};
+    ghost use Rattle.petri_atom.specs.StraightCode.{IsBelow, made_in, operand_in, run_in};
 
-    /// What the step makes of a row.
-    fn value(&self, row: &[i64; ROW]) -> i64
-        requires { value_in row.now ZERO ≡ pos 0 }
-        ensures { result ≡ made_in row.now self.now }
+    /// The step that puts into a cell what an operator makes of two operands.
+    pub(crate) fn of(operator: Operator, left: Operand, right: Operand, to: u8) -> Self
+        requires left { IsBelow ROW left }
+        requires right { IsBelow ROW right }
+        requires here { to < ROW }
+        ensures made { (row : List ℤ) → made_in row result ≡ operated operator (operand_in row left) (operand_in row right) }
+        ensures cells { (bound : ℕ) → 0 < bound → IsBelow bound left → IsBelow bound right → (result.left < bound) × (result.right < bound) }
+        ensures to { result.to ≡ to }
     {
-        self.operator
-            .apply(self.left.value(row), self.right.value(row))
+        match left {
+            Operand::Cell(left) => match right {
+                Operand::Cell(right) => Step {
+                    operation: Operation::of_cells(operator),
+                    left,
+                    right,
+                    to,
+                    number: 0,
+                },
+                Operand::Number(number) => Step {
+                    operation: Operation::before_number(operator),
+                    left,
+                    right: 0,
+                    to,
+                    number,
+                },
+            },
+            Operand::Number(number) => match right {
+                Operand::Cell(right) => Step {
+                    operation: Operation::after_number(operator),
+                    left: right,
+                    right: 0,
+                    to,
+                    number,
+                },
+                Operand::Number(other) => Step {
+                    operation: Operation::Constant,
+                    left: 0,
+                    right: 0,
+                    to,
+                    number: operator.apply(number, other),
+                },
+            },
+        }
     }
 
-    /// What a step makes that reads no temporary cell.
-    fn value_among(&self, variables: &[i64; MAX_VARIABLES]) -> i64
-        requires left { self.now.left.cell < TEMPORARY }
-        requires right { self.now.right.cell < TEMPORARY }
-        ensures { result ≡ made_in variables.now self.now }
+    /// What the step makes of a row.
+    #[inline(always)]
+    fn value<const N: usize>(&self, row: &[i64; N]) -> i64
+        requires left { self.now.left < N }
+        requires right { self.now.right < N }
+        ensures { result ≡ made_in row.now self.now }
     {
-        self.operator.apply(
-            self.left.value_among(variables),
-            self.right.value_among(variables),
-        )
+        let left = row[usize::from(self.left)];
+        match self.operation {
+            Operation::Constant => self.number,
+            Operation::AddCells => Operator::Add.apply(left, self.right_value(row)),
+            Operation::SubtractCells => Operator::Subtract.apply(left, self.right_value(row)),
+            Operation::MultiplyCells => Operator::Multiply.apply(left, self.right_value(row)),
+            Operation::MinCells => Operator::Min.apply(left, self.right_value(row)),
+            Operation::MaxCells => Operator::Max.apply(left, self.right_value(row)),
+            Operation::LessCells => Operator::Less.apply(left, self.right_value(row)),
+            Operation::LessOrEqualCells => Operator::LessOrEqual.apply(left, self.right_value(row)),
+            Operation::EqualCells => Operator::Equal.apply(left, self.right_value(row)),
+            Operation::NotEqualCells => Operator::NotEqual.apply(left, self.right_value(row)),
+            Operation::AndCells => Operator::And.apply(left, self.right_value(row)),
+            Operation::OrCells => Operator::Or.apply(left, self.right_value(row)),
+            Operation::AddNumber => Operator::Add.apply(left, self.number),
+            Operation::SubtractNumber => Operator::Subtract.apply(left, self.number),
+            Operation::MultiplyNumber => Operator::Multiply.apply(left, self.number),
+            Operation::MinNumber => Operator::Min.apply(left, self.number),
+            Operation::MaxNumber => Operator::Max.apply(left, self.number),
+            Operation::LessNumber => Operator::Less.apply(left, self.number),
+            Operation::LessOrEqualNumber => Operator::LessOrEqual.apply(left, self.number),
+            Operation::EqualNumber => Operator::Equal.apply(left, self.number),
+            Operation::NotEqualNumber => Operator::NotEqual.apply(left, self.number),
+            Operation::AndNumber => Operator::And.apply(left, self.number),
+            Operation::OrNumber => Operator::Or.apply(left, self.number),
+            Operation::NumberMinus => Operator::Subtract.apply(self.number, left),
+            Operation::NumberLess => Operator::Less.apply(self.number, left),
+            Operation::NumberLessOrEqual => Operator::LessOrEqual.apply(self.number, left),
+        }
+    }
+
+    /// What the second cell holds in a row.
+    #[inline(always)]
+    fn right_value<const N: usize>(&self, row: &[i64; N]) -> i64
+        requires { self.now.right < N }
+        ensures { result ≡ value_in row.now self.now.right }
+    {
+        row[usize::from(self.right)]
     }
 
     /// Runs the steps in a row.
     fn run(steps: &[Step], row: &mut [i64; ROW])
-        requires { value_in row.old ZERO ≡ pos 0 }
-        ensures row { row.new ≡ run_in steps.now row.old }
-        ensures zero { value_in row.new ZERO ≡ pos 0 }
+        ensures { row.new ≡ run_in steps.now row.old }
     {
         for step in steps {
             row[usize::from(step.to)] = step.value(row);
@@ -116,14 +141,14 @@ impl Step {
     }
 }
 
-/// An expression over the variables of an atom as straight code: steps, and one step more, which makes the value. Most expressions are
-/// that step alone, and are judged without a row.
+/// An expression over the variables of an atom as straight code: if it is one step, that step, and else all steps, which leave the value in the
+/// first temporary cell. Most expressions are one step, and are judged without a row.
 #[derive(Drop)]
-pub(crate) struct Code {
+pub struct Code {
     steps: Vec<Step>,
     last: Step,
-    ghost left: { length steps.items ≡ 0 → last.left.cell < TEMPORARY },
-    ghost right: { length steps.items ≡ 0 → last.right.cell < TEMPORARY },
+    ghost left: { length steps.items ≡ 0 → last.left < MAX_VARIABLES },
+    ghost right: { length steps.items ≡ 0 → last.right < MAX_VARIABLES },
 }
 
 impl Code {
@@ -133,34 +158,47 @@ impl Code {
     ghost use Rattle.petri_atom.specs.StraightCode.{is_codable, IsCodeOf};
 
     /// The code of an expression.
-    pub(crate) fn of(alloc: Global, expression: &Expression<u8>) -> Result<Self, AllocError>
+    pub fn of(alloc: Global, expression: &Expression<u8>) -> Result<Self, AllocError>
         requires { IsTrue (is_codable (tree_of expression.now)) }
         ensures { IfOk result (λ code. IsCodeOf code (tree_of expression.now)) }
     {
         let mut steps = Vec::new(alloc);
         let last = last_step(&mut steps, expression, TEMPORARY, TEMPORARY)?;
+        if !steps.is_empty() {
+            steps.push(last)?;
+        }
         Ok(Code { steps, last })
     }
 
     /// The value in a state of the expression that this is the code of.
+    #[inline(always)]
     pub(crate) fn value(&self, state: &AtomState) -> i64
         ensures { (tree : Tree ℕ) → IsCodeOf self.now tree → result ≡ value_of (value_in state.now.values) tree }
     {
-        if self.steps.is_empty() {
-            return self.last.value_among(state.variables());
-        }
-        let mut row = row_of(state.variables());
-        Step::run(&self.steps, &mut row);
-        self.last.value(&row)
+        self.value_in_row(state.variables())
     }
-}
 
-/// The row that has the variables' values in their cells, and 0 in all others.
-fn row_of(variables: &[i64; MAX_VARIABLES]) -> [i64; ROW]
-    ensures first { take MAX_VARIABLES result ≡ variables.now }
-    ensures zeros { (k : ℕ) → MAX_VARIABLES ≤ k → slice_index_or result k (pos 0) ≡ pos 0 }
-{
-    let mut row = [0; ROW];
-    row[..MAX_VARIABLES].copy_from_slice(variables);
-    row
+    /// The same where the variables have these values. Most expressions take no row: a call and a row for the others alone.
+    #[inline(always)]
+    pub fn value_in_row(&self, variables: &[i64; MAX_VARIABLES]) -> i64
+        ensures { (tree : Tree ℕ) → IsCodeOf self.now tree → result ≡ value_of (value_in variables.now) tree }
+    {
+        if self.steps.is_empty() {
+            self.last.value(variables)
+        } else {
+            self.value_by_steps(variables)
+        }
+    }
+
+    /// The same by several steps, in a row that has the variables' values in their cells, and 0 in all others.
+    #[inline(never)]
+    fn value_by_steps(&self, variables: &[i64; MAX_VARIABLES]) -> i64
+        requires { 0 < length self.now.steps.items }
+        ensures { (tree : Tree ℕ) → IsCodeOf self.now tree → result ≡ value_of (value_in variables.now) tree }
+    {
+        let mut row = [0; ROW];
+        row[..MAX_VARIABLES].copy_from_slice(variables);
+        Step::run(&self.steps, &mut row);
+        row[usize::from(TEMPORARY)]
+    }
 }

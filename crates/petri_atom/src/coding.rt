@@ -1,8 +1,8 @@
 //! How the straight code of an expression is made.
-ghost use Rattle.std.specs.Prelude.{◌≡◌, ◌≢◌, ◌≤◌, ◌<◌, ◌+◌, IsTrue, IfOk, length};
-ghost use Rattle.petri_atom.specs.StraightCode.{AreOperandsAfter, IsMadeAfter, IsOperandAfter, temporaries, temporaries_of_two};
+ghost use Rattle.std.specs.Prelude.{◌≡◌, ◌≤◌, ◌<◌, ◌+◌, IsTrue, IfOk, length};
+ghost use Rattle.petri_atom.specs.StraightCode.{AreOperandsAfter, IsBelow, IsMadeAfter, IsOperandAfter, temporaries, temporaries_of_two};
 ghost use Rattle.petri_atom.specs.Expression.{has_variables_below, tree_of, word_count};
-ghost use Rattle.petri_atom.specs.declared.code.TheConstants.{ROW, TEMPORARY, ZERO};
+ghost use Rattle.petri_atom.specs.declared.code.TheConstants.{ROW, TEMPORARY};
 ghost use Rattle.petri_atom.specs.declared.parts.TheConstants.{MAX_WORDS};
 ghost use Rattle.petri_atom.specs.declared.state.TheConstants.{MAX_VARIABLES};
 
@@ -45,49 +45,28 @@ pub(crate) fn last_step(
     requires temporary { TEMPORARY ≤ free }
     requires room { free + temporaries (tree_of expression.now) < ROW }
     requires to { to < ROW }
-    requires kept { to ≢ ZERO }
     ensures made { IfOk result (λ step. IsMadeAfter steps.old.items steps.new.items step (tree_of expression.now) free) }
     ensures to { IfOk result (λ step. step.to ≡ to) }
     ensures more { IfOk result (λ _. length steps.old.items ≤ length steps.new.items) }
-    ensures left { IfOk result (λ step. length steps.new.items ≡ 0 → step.left.cell < TEMPORARY) }
-    ensures right { IfOk result (λ step. length steps.new.items ≡ 0 → step.right.cell < TEMPORARY) }
+    ensures left { IfOk result (λ step. length steps.new.items ≡ 0 → step.left < TEMPORARY) }
+    ensures right { IfOk result (λ step. length steps.new.items ≡ 0 → step.right < TEMPORARY) }
 {
     match expression {
         Expression::Number(number) => {
-            let number = Operand::number(*number);
-            Ok(Step {
-                operator: Operator::Max,
-                left: number,
-                right: number,
-                to,
-            })
+            let number = Operand::Number(*number);
+            Ok(Step::of(Operator::Max, number, number, to))
         }
         Expression::Variable(variable) => {
-            let variable = Operand::cell(*variable);
-            Ok(Step {
-                operator: Operator::Max,
-                left: variable,
-                right: variable,
-                to,
-            })
+            let variable = Operand::Cell(*variable);
+            Ok(Step::of(Operator::Max, variable, variable, to))
         }
         Expression::Not(operand) => {
             let operand = push_operand(steps, operand, free)?;
-            Ok(Step {
-                operator: Operator::Equal,
-                left: operand,
-                right: Operand::number(0),
-                to,
-            })
+            Ok(Step::of(Operator::Equal, operand, Operand::Number(0), to))
         }
         Expression::Apply(operator, left, right) => {
             let (left, right) = push_operands(steps, left, right, free)?;
-            Ok(Step {
-                operator: *operator,
-                left,
-                right,
-                to,
-            })
+            Ok(Step::of(*operator, left, right, to))
         }
     }
 }
@@ -107,8 +86,10 @@ fn push_operands(
     requires room { free + temporaries_of_two (temporaries (tree_of left.now)) (temporaries (tree_of right.now)) < ROW }
     ensures more { IfOk result (λ _. length steps.old.items ≤ length steps.new.items) }
     ensures operands { IfOk result (λ both. AreOperandsAfter steps.old.items steps.new.items both.0 both.1 (tree_of left.now) (tree_of right.now) free) }
-    ensures left { IfOk result (λ both. length steps.new.items ≡ 0 → both.0.cell < TEMPORARY) }
-    ensures right { IfOk result (λ both. length steps.new.items ≡ 0 → both.1.cell < TEMPORARY) }
+    ensures left_here { IfOk result (λ both. IsBelow ROW both.0) }
+    ensures right_here { IfOk result (λ both. IsBelow ROW both.1) }
+    ensures left { IfOk result (λ both. length steps.new.items ≡ 0 → IsBelow TEMPORARY both.0) }
+    ensures right { IfOk result (λ both. length steps.new.items ≡ 0 → IsBelow TEMPORARY both.1) }
 {
     if temporaries(left) < temporaries(right) {
         let second = push_operand(steps, right, free)?;
@@ -135,15 +116,15 @@ fn push_operand(
     requires room { free + temporaries (tree_of expression.now) < ROW }
     ensures more { IfOk result (λ _. length steps.old.items ≤ length steps.new.items) }
     ensures operand { IfOk result (λ operand. IsOperandAfter steps.old.items steps.new.items operand (tree_of expression.now) free) }
-    ensures plain { IfOk result (λ operand. length steps.new.items ≡ 0 → operand.cell < TEMPORARY) }
+    ensures plain { IfOk result (λ operand. length steps.new.items ≡ 0 → IsBelow TEMPORARY operand) }
 {
     match expression {
-        Expression::Number(number) => Ok(Operand::number(*number)),
-        Expression::Variable(variable) => Ok(Operand::cell(*variable)),
+        Expression::Number(number) => Ok(Operand::Number(*number)),
+        Expression::Variable(variable) => Ok(Operand::Cell(*variable)),
         _ => {
             let step = last_step(steps, expression, free, free)?;
             steps.push(step)?;
-            Ok(Operand::cell(free))
+            Ok(Operand::Cell(free))
         }
     }
 }

@@ -1,7 +1,7 @@
 //! Expressions over whole numbers, and their values.
 ghost use Rattle.std.specs.Prelude.{◌≡◌, ℤ, Bool, ◌-◌, ◌^◌, min, nat_le};
 ghost use Rattle.petri_atom.specs.declared.parts.TheConstants.{MAX_WORDS};
-ghost use Rattle.petri_atom.specs.Expression.{tree_of, operated, value_of, word_count, all_variables, has_variables_below, is_same_tree, is_true_number};
+ghost use Rattle.petri_atom.specs.Expression.{tree_of, operated, value_of, word_count, all_variables, bare, has_variables_below, is_same_tree, is_true_number, is_turned};
 
 use crate::parts::MAX_WORDS;
 
@@ -104,6 +104,26 @@ impl<V> Expression<V> {
     {
         match self {
             Expression::Number(number) => *number != 0,
+            _ => false,
+        }
+    }
+
+    /// The expression without the `!` that stand before it.
+    pub(crate) fn bare(&self) -> &Expression<V>
+        ensures { tree_of result.now ≡ bare (tree_of self.now) }
+    {
+        match self {
+            Expression::Not(operand) => operand.bare(),
+            _ => self,
+        }
+    }
+
+    /// Whether as many `!` stand before the expression as turn its truth round: an odd number.
+    pub(crate) fn is_turned(&self) -> bool
+        ensures { result ≡ is_turned (tree_of self.now) }
+    {
+        match self {
+            Expression::Not(operand) => !operand.is_turned(),
             _ => false,
         }
     }

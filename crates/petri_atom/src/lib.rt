@@ -14,11 +14,16 @@
 //! - `name`, `parts`, `transition`: what an atom is made of. A transition keeps its places as machine words
 //!   too, so that a test of a marking is two operations; that they are those sets is kept by its type.
 //! - `expression`: expressions over any kind of variable, and their values.
-//! - `code`, `coding`: the same as straight code, and how it is made. `transition_code`: that of a transition's guard and updates.
+//! - `code`, `operation`, `coding`: the same as straight code, what its steps do, and how it is made. `transition_code`: that of a transition's guard and updates, and the
+//!   transitions whose guard is the same, so that it is judged once for all of them.
 //! - `state`: local states, and what is delivered to one.
 //! - `offered`: the offered transitions of a state as one set, which is then counted and picked from, by one port or by all
 //!   ([`Atom::offered`], [`Atom::first_enabled`]).
 //! - `groups`: the transitions that ask the same of a marking, so that it is tested once for all of them.
+//! - `behind`: what a firing of each transition changes, so that behind one the sets of a state are brought up to date, and not made
+//!   again ([`Atom::judge_behind`], [`Atom::is_quiet`]).
+//! - `settled`: what is offered where a marking alone decides it ([`Atom::settled_at`]).
+//! - `moving`: the transitions of a set that a marking lets move.
 //! - `marking`: lists of places as machine words.
 //! - `rules`: the rules that the parts keep, as tests. `fault`: which kind of rule is broken.
 //! - `same`: whether two parts are the same.
@@ -28,6 +33,7 @@
 #![tactic(auto)]
 
 mod atom;
+mod behind;
 mod code;
 mod coding;
 mod expression;
@@ -35,16 +41,20 @@ mod fault;
 mod groups;
 pub mod laws;
 mod marking;
+mod moving;
 mod name;
 mod offered;
+mod operation;
 mod parts;
 mod rules;
 mod same;
+mod settled;
 mod state;
 mod transition;
 mod transition_code;
 
 pub use atom::Atom;
+pub use code::Code;
 pub use expression::{Expression, Operator, Valuation, VariableTest};
 pub use fault::AtomFault;
 pub use name::{MAX_NAME, Name, is_name, is_reserved};

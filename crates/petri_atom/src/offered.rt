@@ -1,12 +1,14 @@
 //! The offered transitions of a state as one set, so that each transition is judged once in a step.
-ghost use Rattle.std.specs.Prelude.{◌≡◌, ℕ, ◌<◌, ◌≤◌, ◌&&◌, IsTrue, length, slice_get, slice_index_or};
-ghost use Rattle.petri_atom.specs.Local.{Local, has, numbers_below, set_below};
-ghost use Rattle.petri_atom.specs.Groups.{passes_guard};
-ghost use Rattle.petri_atom.specs.Definition.{enabled, first_from, offered_set, offers_port};
+ghost use Rattle.std.specs.Prelude.{◌≡◌, ℕ, ◌+◌, ◌<◌, ◌≤◌, ◌&&◌, ◌==◌, not, IsTrue, length, slice_get, slice_index_or, slice_set};
+ghost use Rattle.petri_atom.specs.Local.{Local, Row, has, numbers_below, set_below};
+ghost use Rattle.petri_atom.specs.Behind.{CountsFollow, MovableFollows, OfferedFollows, movable_set};
+ghost use Rattle.petri_atom.specs.Groups.{can_move_number, passes_bare, passes_guard};
+ghost use Rattle.petri_atom.specs.Definition.{enabled, fired, first_from, offered_set, offers_number, offers_port};
 ghost use Rattle.petri_atom.specs.declared.parts.TheConstants.{MAX_PORTS, MAX_TRANSITIONS};
 
 use crate::atom::Atom;
 use crate::groups::movable;
+use crate::moving::{low_word, moving, moving_from};
 use crate::parts::MAX_PORTS;
 use crate::state::AtomState;
 use std::marker::Model;
@@ -35,6 +37,13 @@ impl TransitionSet {
         TransitionSet { word: 0 }
     }
 
+    /// The set with these bits.
+    pub(crate) fn of(word: u128) -> Self
+        ensures { result ≡ word }
+    {
+        TransitionSet { word }
+    }
+
     /// Whether the set has the transition.
     pub fn contains(self, transition: u16) -> bool
         ensures { result ≡ has self transition }
@@ -51,27 +60,165 @@ impl Atom {
         ensures { result ≡ offered_set (definition_of self.now) state.now }
     {
         let movable = movable(&self.groups, state.places());
-        let passing = self.passing(state, movable & !self.unguarded);
+        let passing = self.unguarded_in(state, movable & !self.unguarded);
         TransitionSet {
             word: movable & self.unguarded | passing,
         }
     }
 
+    /// The transitions that the marking of the state lets move.
+    pub fn movable_in(&self, state: &AtomState) -> TransitionSet
+        ensures { result ≡ movable_set (definition_of self.now) state.now }
+    {
+        TransitionSet {
+            word: movable(&self.groups, state.places()),
+        }
+    }
+
+    /// Whether a firing of the transition leaves what can move and what is offered as it was.
+    pub fn is_quiet(&self, transition: u16) -> bool
+        ensures movable { IsTrue result → (before : Local) (delivered : Row) → IsTrue (offers_number (definition_of self.now) before transition) → movable_set (definition_of self.now) (fired (definition_of self.now) transition delivered before) ≡ movable_set (definition_of self.now) before }
+        ensures offered { IsTrue result → (before : Local) (delivered : Row) → IsTrue (offers_number (definition_of self.now) before transition) → offered_set (definition_of self.now) (fired (definition_of self.now) transition delivered before) ≡ offered_set (definition_of self.now) before }
+    {
+        match self.behind.get(usize::from(transition)) {
+            Some(told) => told.is_quiet,
+            None => false,
+        }
+    }
+
+    /// Brings the sets of a state up to date after the transition was fired in it: the transitions that can move, and those that are
+    /// offered. A marking is asked only of those of which nothing else tells, and a guard is judged only of those that can move now and
+    /// could not before, or whose guard may read what was written.
+    pub fn judge_behind(
+        &self,
+        state: &AtomState,
+        transition: u16,
+        movable: &mut TransitionSet,
+        offered: &mut TransitionSet,
+    )
+        ensures movable { (before : Local) (delivered : Row) → IsTrue (offers_number (definition_of self.now) before transition) → movable.old ≡ movable_set (definition_of self.now) before → state.now ≡ fired (definition_of self.now) transition delivered before → movable.new ≡ movable_set (definition_of self.now) state.now }
+        ensures offered { (before : Local) (delivered : Row) → IsTrue (offers_number (definition_of self.now) before transition) → movable.old ≡ movable_set (definition_of self.now) before → offered.old ≡ offered_set (definition_of self.now) before → state.now ≡ fired (definition_of self.now) transition delivered before → offered.new ≡ offered_set (definition_of self.now) state.now }
+    {
+        if self.has_few() {
+            self.judge_few(state, transition, movable, offered);
+        } else {
+            self.judge_many(state, transition, movable, offered);
+        }
+    }
+
+    /// Whether a word of 64 bits has room for all transitions. Most atoms are so, and a step then takes fewer instructions.
+    fn has_few(&self) -> bool
+        ensures { IsTrue result → length (definition_of self.now).transitions ≤ 64 }
+    {
+        self.transitions.len() <= 64
+    }
+
+    /// Brings the sets of a state up to date in words of 64 bits.
+    fn judge_few(
+        &self,
+        state: &AtomState,
+        transition: u16,
+        movable: &mut TransitionSet,
+        offered: &mut TransitionSet,
+    )
+        requires few { length (definition_of self.now).transitions ≤ 64 }
+        ensures movable { MovableFollows (definition_of self.now) transition state.now movable.old movable.new }
+        ensures offered { OfferedFollows (definition_of self.now) transition state.now movable.old offered.old offered.new }
+    {
+        if let Some(told) = self.behind.get(usize::from(transition)) {
+            let could = low_word(movable.word);
+            let asked = self.moving_few(state, low_word(told.ask));
+            let can = could & low_word(told.keep) | low_word(told.make) | asked;
+            let newly = can & !could;
+            let judged = can & !low_word(self.unguarded) & (newly | low_word(told.again));
+            let holding = self.bare_from(state, 0, judged);
+            let passed = judged & (holding ^ low_word(self.turned));
+            let was = low_word(offered.word);
+            movable.word = u128::from(can);
+            offered.word = u128::from((was & can | newly) & !judged | passed);
+        }
+    }
+
+    /// The same in words of 128 bits, of any atom.
+    fn judge_many(
+        &self,
+        state: &AtomState,
+        transition: u16,
+        movable: &mut TransitionSet,
+        offered: &mut TransitionSet,
+    )
+        ensures movable { MovableFollows (definition_of self.now) transition state.now movable.old movable.new }
+        ensures offered { OfferedFollows (definition_of self.now) transition state.now movable.old offered.old offered.new }
+    {
+        if let Some(told) = self.behind.get(usize::from(transition)) {
+            let could = movable.word;
+            let asked = self.moving(state, told.ask);
+            let can = could & told.keep | told.make | asked;
+            let newly = can & !could;
+            let judged = can & !self.unguarded & (newly | told.again);
+            let passed = self.unguarded_in(state, judged);
+            movable.word = can;
+            offered.word = (offered.word & can | newly) & !judged | passed;
+        }
+    }
+
+    /// Those of the transitions in the set that the marking of the state lets move, tested one by one.
+    fn moving(&self, state: &AtomState, set: u128) -> u128
+        requires { (n : ℕ) → IsTrue (has set n) → n < length (definition_of self.now).transitions }
+        ensures { result ≡ set_below MAX_TRANSITIONS (λ n. has set n && can_move_number (definition_of self.now).transitions state.now.marking n) }
+    {
+        moving(self.transitions(), state.places(), set)
+    }
+
+    /// The same of the transitions in a word of 64 bits.
+    fn moving_few(&self, state: &AtomState, set: u64) -> u64
+        requires { (n : ℕ) → IsTrue (has set n) → n < length (definition_of self.now).transitions }
+        ensures { result ≡ set_below 64 (λ n. has set n && can_move_number (definition_of self.now).transitions state.now.marking n) }
+    {
+        moving_from(self.transitions(), state.places(), 0, set)
+    }
+
     /// Those of the transitions in the set whose guard is not 0.
-    fn passing(&self, state: &AtomState, set: u128) -> u128
+    fn unguarded_in(&self, state: &AtomState, set: u128) -> u128
         requires { (n : ℕ) → IsTrue (has set n) → n < length (definition_of self.now).transitions }
         ensures { result ≡ set_below MAX_TRANSITIONS (λ n. has set n && passes_guard (definition_of self.now).transitions state.now n) }
     {
-        let mut passing = 0;
+        if set == 0 {
+            return 0;
+        }
+        set & (self.bare_in(state, set) ^ self.turned)
+    }
+
+    /// Those of the transitions in the set whose guard is not 0 without the `!` before it.
+    fn bare_in(&self, state: &AtomState, set: u128) -> u128
+        requires { (n : ℕ) → IsTrue (has set n) → n < length (definition_of self.now).transitions }
+        ensures { result ≡ set_below MAX_TRANSITIONS (λ n. has set n && passes_bare (definition_of self.now).transitions state.now n) }
+    {
+        // Most atoms have at most 64 transitions: a word of 64 bits is walked in fewer steps.
+        let low = self.bare_from(state, 0, (set & u128::from(u64::MAX)) as u64);
+        let high = self.bare_from(state, 64, (set >> 64) as u64);
+        u128::from(high) << 64 | u128::from(low)
+    }
+
+    /// The same of the transitions from the number `first` on, of which bit k of the set stands for the k-th. A guard is judged once for all of
+    /// them that have the same.
+    #[inline(always)]
+    fn bare_from(&self, state: &AtomState, first: usize, set: u64) -> u64
+        requires few { first < MAX_TRANSITIONS }
+        requires there { (n : ℕ) → IsTrue (has set n) → first + n < length (definition_of self.now).transitions }
+        ensures { result ≡ set_below 64 (λ n. has set n && passes_bare (definition_of self.now).transitions state.now (first + n)) }
+    {
+        let mut holding = 0;
         let mut left = set;
         while left != 0 {
-            let number = left.trailing_zeros();
-            if self.codes[number as usize].guard_holds(state) {
-                passing |= 1u128 << number;
+            let code = &self.codes[first + left.trailing_zeros() as usize];
+            let alike = left & code.alike_from(first);
+            if code.bare_holds(state) {
+                holding |= alike;
             }
-            left &= left - 1;
+            left ^= alike;
         }
-        passing
+        holding
     }
 
     /// Whether the state offers a transition of the port.
@@ -114,6 +261,70 @@ impl Atom {
         counts
     }
 
+    /// Counts again how many of each port's transitions are in the set of those that a state offers, where `before` was offered until now and
+    /// `counts` is right for that: only for the ports of transitions in which the two sets differ. Says at which ports the number is another one
+    /// now: bit k for port k.
+    pub fn recount(
+        &self,
+        before: TransitionSet,
+        after: TransitionSet,
+        counts: &mut [u8; MAX_PORTS],
+    ) -> u32
+        ensures counts { (s t : Local) → before ≡ offered_set (definition_of self.now) s → after ≡ offered_set (definition_of self.now) t → (port : ℕ) → slice_index_or counts.old port 0 ≡ length (enabled (definition_of self.now) s port) → slice_index_or counts.new port 0 ≡ length (enabled (definition_of self.now) t port) }
+        ensures few { ((port : ℕ) → slice_index_or counts.old port 0 ≤ MAX_TRANSITIONS) → (port : ℕ) → slice_index_or counts.new port 0 ≤ MAX_TRANSITIONS }
+        ensures past { (port : ℕ) → length (definition_of self.now).ports ≤ port → slice_index_or counts.new port 0 ≡ slice_index_or counts.old port 0 }
+        ensures exact { (port : ℕ) → has result port ≡ not (slice_index_or counts.new port 0 == slice_index_or counts.old port 0) }
+    {
+        if self.has_few() {
+            self.recount_few(low_word(before.word), low_word(after.word), counts)
+        } else {
+            self.recount_many(before.word, after.word, counts)
+        }
+    }
+
+    /// The same in words of 64 bits.
+    fn recount_few(&self, before: u64, after: u64, counts: &mut [u8; MAX_PORTS]) -> u32
+        requires few { length (definition_of self.now).transitions ≤ 64 }
+        ensures counts { CountsFollow (definition_of self.now) before after counts.old counts.new }
+        ensures few { ((port : ℕ) → slice_index_or counts.old port 0 ≤ MAX_TRANSITIONS) → (port : ℕ) → slice_index_or counts.new port 0 ≤ MAX_TRANSITIONS }
+        ensures past { (port : ℕ) → length (definition_of self.now).ports ≤ port → slice_index_or counts.new port 0 ≡ slice_index_or counts.old port 0 }
+        ensures exact { (port : ℕ) → has result port ≡ not (slice_index_or counts.new port 0 == slice_index_or counts.old port 0) }
+    {
+        let mut changed = 0;
+        let mut left = before ^ after;
+        while left != 0 {
+            let Some(transition) = self.transitions.get(left.trailing_zeros() as usize) else {
+                break;
+            };
+            let port = transition.port();
+            let mask = low_word(self.mask_of(port));
+            changed |= set_count(counts, port, (after & mask).count_ones() as u8);
+            left &= !mask;
+        }
+        changed
+    }
+
+    /// The same in words of 128 bits, of any atom.
+    fn recount_many(&self, before: u128, after: u128, counts: &mut [u8; MAX_PORTS]) -> u32
+        ensures counts { CountsFollow (definition_of self.now) before after counts.old counts.new }
+        ensures few { ((port : ℕ) → slice_index_or counts.old port 0 ≤ MAX_TRANSITIONS) → (port : ℕ) → slice_index_or counts.new port 0 ≤ MAX_TRANSITIONS }
+        ensures past { (port : ℕ) → length (definition_of self.now).ports ≤ port → slice_index_or counts.new port 0 ≡ slice_index_or counts.old port 0 }
+        ensures exact { (port : ℕ) → has result port ≡ not (slice_index_or counts.new port 0 == slice_index_or counts.old port 0) }
+    {
+        let mut changed = 0;
+        let mut left = before ^ after;
+        while left != 0 {
+            let Some(transition) = self.transitions.get(left.trailing_zeros() as usize) else {
+                break;
+            };
+            let port = transition.port();
+            let mask = self.mask_of(port);
+            changed |= set_count(counts, port, (after & mask).count_ones() as u8);
+            left &= !mask;
+        }
+        changed
+    }
+
     /// The transition with this place, from 0, among the port's transitions in the set of those that a state offers, by
     /// rising number.
     pub fn nth_among(&self, offered: TransitionSet, port: u16, place: usize) -> Option<u16>
@@ -121,6 +332,18 @@ impl Atom {
     {
         nth_in(offered.word & self.mask_of(port), place)
     }
+}
+
+/// Writes down how many transitions of the port are offered. Says whether it is another number now, by the bit of the port.
+fn set_count(counts: &mut [u8; MAX_PORTS], port: u16, count: u8) -> u32
+    requires { port < MAX_PORTS }
+    ensures counts { counts.new ≡ slice_set counts.old port count }
+    ensures exact { (k : ℕ) → has result k ≡ (k == port && not (count == slice_index_or counts.old port 0)) }
+{
+    let place = usize::from(port);
+    let is_other = count != counts[place];
+    counts[place] = count;
+    u32::from(is_other) << port
 }
 
 /// The number with this place, from 0, among those in the set, by rising number.

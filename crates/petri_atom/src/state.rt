@@ -1,5 +1,5 @@
 //! Local states of atoms, and the values that a firing delivers to one.
-ghost use Rattle.std.specs.Prelude.{◌≡◌, ◌≤◌, ◌↔◌, ℕ, take, map, IsTrue, length, slice_set};
+ghost use Rattle.std.specs.Prelude.{◌≡◌, ◌≤◌, ◌<◌, ◌^◌, ◌↔◌, ℕ, None, take, map, IsTrue, length, replicate, slice_set};
 ghost use Rattle.petri_atom.specs.Local.{has, set_below, value_in, IsZeroFrom, mask_of, values_of, delivered_value, given};
 ghost use Rattle.petri_atom.specs.declared.state.TheConstants.{MAX_EXPORTS};
 ghost use Rattle.petri_atom.specs.Definition.{delivered_to, is_marked_first};
@@ -158,7 +158,7 @@ impl AtomState {
     }
 
     /// The values of the variables, and zeros after them.
-    pub(crate) fn variables(&self) -> &[i64; MAX_VARIABLES]
+    pub fn variables(&self) -> &[i64; MAX_VARIABLES]
         ensures values { (k : ℕ) → value_in result.now k ≡ value_in self.now.values k }
         ensures length { length result.now ≡ MAX_VARIABLES }
     {
@@ -256,6 +256,16 @@ impl Delivered {
         }
     }
 
+    /// Takes back all that is delivered. Most rows have nothing, and are only looked at.
+    pub fn clear(&mut self)
+        ensures { self.new ≡ replicate MAX_EXPORTS None }
+    {
+        if self.mask != 0 {
+            self.mask = 0;
+            self.values = [0; MAX_EXPORTS];
+        }
+    }
+
     /// What each exported variable gets.
     pub fn row(&self) -> [Option<i64>; MAX_EXPORTS]
         ensures { result ≡ self.now }
@@ -268,10 +278,21 @@ impl Delivered {
     pub fn give(&mut self, export: u8, value: i64)
         ensures { self.new ≡ given export value self.old }
     {
-        let place = usize::from(export);
-        if place < MAX_EXPORTS && !has_bit(self.mask, place) {
-            self.mask |= 1 << place;
-            self.values[place] = value;
+        let _ = &self.mask;
+        if usize::from(export) < MAX_EXPORTS {
+            self.give_at(export, 1 << export, value);
+        }
+    }
+
+    /// The same, of a number that a port may export, with its bit in a mask.
+    pub fn give_at(&mut self, export: u8, bit: u8, value: i64)
+        requires export { export < MAX_EXPORTS }
+        requires bit { bit ≡ 2 ^ export }
+        ensures { self.new ≡ given export value self.old }
+    {
+        if self.mask & bit == 0 {
+            self.mask |= bit;
+            self.values[usize::from(export)] = value;
         }
     }
 
@@ -279,10 +300,9 @@ impl Delivered {
     pub fn value(&self, export: usize) -> Option<i64>
         ensures { result ≡ delivered_value self.now export }
     {
-        if has_bit(self.mask, export) {
-            self.values.get(export).copied()
-        } else {
-            None
+        match self.values.get(export) {
+            Some(value) if has_bit(self.mask, export) => Some(*value),
+            _ => None,
         }
     }
 }

@@ -30,7 +30,7 @@ pub struct Transition {
     pub(crate) guard: Expression<u8>,
     pub(crate) updates: Vec<Update>,
     pub(crate) source_word: u64,
-    target_word: u64,
+    pub(crate) target_word: u64,
     pub(crate) blocking_word: u64,
     ghost sources_are_places: { IsTrue (are_places sources.items) },
     ghost targets_are_places: { IsTrue (are_places targets.items) },

@@ -1,14 +1,17 @@
 //! The guard and the updates of a transition as straight code.
-ghost use Rattle.std.specs.Prelude.{◌≡◌, IsTrue, IfOk, ℕ, List, map};
+ghost use Rattle.std.specs.Prelude.{◌≡◌, ◌+◌, ◌<◌, ◌≤◌, IsTrue, IfOk, ℕ, List, length, map};
 ghost use Rattle.std.specs.List.{list_all};
 ghost use Rattle.petri_atom.specs.StraightCode.{AreChangesOf, AreCodesOf, IsCodeOf, IsTransitionCode, is_codable_transition, is_codable_update};
 ghost use Rattle.petri_atom.specs.Definition.{UpdateDefinition, updated};
-ghost use Rattle.petri_atom.specs.Expression.{Tree, is_true, value_of};
-ghost use Rattle.petri_atom.specs.Local.{value_in};
+ghost use Rattle.petri_atom.specs.Expression.{Tree, is_true, tree_of, value_of};
+ghost use Rattle.petri_atom.specs.Groups.{alike_set};
+ghost use Rattle.petri_atom.specs.Local.{has, value_in};
 ghost use Rattle.petri_atom.specs.Transition.{transition_of};
 ghost use Rattle.petri_atom.specs.Update.{update_of};
+ghost use Rattle.petri_atom.specs.declared.parts.TheConstants.{MAX_TRANSITIONS};
 
 use crate::code::Code;
+use crate::expression::Expression;
 use crate::state::AtomState;
 use crate::transition::{Transition, Update};
 use std::alloc::{AllocError, Global};
@@ -20,30 +23,46 @@ pub(crate) struct Change {
     value: Code,
 }
 
-/// The guard and the updates of a transition as straight code.
+/// The guard and the updates of a transition as straight code. The guard stands without the `!` before it, beside the set of all transitions
+/// whose guard is the same but for these, so that it is judged once for all of them.
 #[derive(Drop)]
 pub(crate) struct TransitionCode {
     guard: Code,
+    alike: u128,
     changes: Vec<Change>,
 }
 
 impl TransitionCode {
-    /// The code of the transition.
-    fn of(alloc: Global, transition: &Transition) -> Result<Self, AllocError>
-        requires { IsTrue (is_codable_transition (transition_of transition.now)) }
-        ensures { IfOk result (λ code. IsTransitionCode code (transition_of transition.now)) }
+    /// The code of one of the transitions.
+    fn of(
+        alloc: Global,
+        transition: &Transition,
+        transitions: &[Transition],
+    ) -> Result<Self, AllocError>
+        requires few { length transitions.now ≤ MAX_TRANSITIONS }
+        requires codable { IsTrue (is_codable_transition (transition_of transition.now)) }
+        ensures { IfOk result (λ code. IsTransitionCode (map transition_of transitions.now) code (transition_of transition.now)) }
     {
         Ok(TransitionCode {
-            guard: Code::of(alloc, transition.guard())?,
+            guard: Code::of(alloc, transition.guard().bare())?,
+            alike: alike_among(transitions, transition.guard()),
             changes: changes_of(alloc, transition.updates())?,
         })
     }
 
-    /// Whether the guard is not 0.
-    pub(crate) fn guard_holds(&self, state: &AtomState) -> bool
+    /// Whether the guard is not 0 without the `!` before it.
+    pub(crate) fn bare_holds(&self, state: &AtomState) -> bool
         ensures { (guard : Tree ℕ) → IsCodeOf self.now.guard guard → result ≡ is_true (value_of (value_in state.now.values) guard) }
     {
         self.guard.value(state) != 0
+    }
+
+    /// Which of the 64 transitions from the number `first` on have the same guard but for the `!` before it.
+    pub(crate) fn alike_from(&self, first: usize) -> u64
+        requires { first < MAX_TRANSITIONS }
+        ensures { (n : ℕ) → n < 64 → has result n ≡ has self.now.alike (first + n) }
+    {
+        ((self.alike >> first) & u128::from(u64::MAX)) as u64
     }
 
     /// Runs the updates, in order.
@@ -56,6 +75,19 @@ impl TransitionCode {
             state.assign(change.variable, value);
         }
     }
+}
+
+/// The set of the transitions whose guard is the same as this one, but for the `!` before both.
+fn alike_among(transitions: &[Transition], guard: &Expression<u8>) -> u128
+    requires { length transitions.now ≤ MAX_TRANSITIONS }
+    ensures { result ≡ alike_set (tree_of guard.now) (map transition_of transitions.now) }
+{
+    let bare = guard.bare();
+    let mut alike = 0;
+    for (number, transition) in transitions.iter().enumerate() {
+        alike |= u128::from(bare.same(transition.guard().bare())) << number;
+    }
+    alike
 }
 
 /// The code of each update.
@@ -78,12 +110,13 @@ pub(crate) fn codes_of(
     alloc: Global,
     transitions: &[Transition],
 ) -> Result<Vec<TransitionCode>, AllocError>
-    requires { IsTrue (list_all is_codable_transition (map transition_of transitions.now)) }
+    requires few { length transitions.now ≤ MAX_TRANSITIONS }
+    requires codable { IsTrue (list_all is_codable_transition (map transition_of transitions.now)) }
     ensures { IfOk result (λ codes. AreCodesOf codes.items (map transition_of transitions.now)) }
 {
     let mut codes = Vec::with_capacity(alloc, transitions.len())?;
     for transition in transitions {
-        codes.push(TransitionCode::of(alloc, transition)?)?;
+        codes.push(TransitionCode::of(alloc, transition, transitions)?)?;
     }
     Ok(codes)
 }

@@ -97,6 +97,17 @@ module _ (plant : PlantDefinition) (v : View) (bodies : List (List ℕ)) (kept :
     snapshots = snapshots-later plant v.saved v.kept v.acked_counts v.counts (fired_number v) (fired_number v + 0) counts-grown (omega arith) kept.snapshots;
   }
 
+-- where nothing is fired that is not acknowledged, the view has all of it acknowledged as it is
+pub nothing-new : (plant : PlantDefinition) (v : View) (bodies : List (List ℕ)) → FitsTogether plant v bodies → v.tail ≡ [] → v ≡ with_all_acked v
+nothing-new plant v bodies fits none =
+    let states : v.acked ≡ v.present = sym (fits.leads ∙ ap (fold plant v.acked) none) in
+    let counts : v.acked_counts ≡ v.counts = sym (fits.counted ∙ ap (λ cs. counts_after_all cs v.acked_counts) none) in
+    let number : v.number ≡ fired_number v = omega (arith, ap length none) in
+    ap (λ ss. record v { acked = ss }) states ∙
+    ap (λ ks. record v { acked = v.present; acked_counts = ks }) counts ∙
+    ap (λ (n : ℕ). record v { acked = v.present; acked_counts = v.counts; number = n }) number ∙
+    ap (λ cs. record v { acked = v.present; acked_counts = v.counts; number = fired_number v; tail = cs }) none
+
 -- the view after a flush, as it is kept
 pub view-of-flushed : (acked present then : List Local) (counts : List ℕ) (number sum : ℕ) (tail : List Choice) (j after : Ring) (count : ℕ) (marks : List MarkFields) (s : SnapshotFields) (away jobs : List (Option JobDefinition)) (whole broken : Bool)
     → acked ≡ present → then ≡ present → jobs ≡ away → number ≡ sum → tail ≡ [] → after ≡ appended count j → whole ≡ broken

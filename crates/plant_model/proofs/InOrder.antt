@@ -143,7 +143,7 @@ module _ (atoms : List AtomDefinition) (states : List Local) where
 -- ---- the interactions of a plant
 
 -- by connector, and then by mask
-abbrev IsEarlier : Interaction → Interaction → Type 0
+abbrev pub IsEarlier : Interaction → Interaction → Type 0
 IsEarlier i j = (i.connector < j.connector) ⊎ ((i.connector ≡ j.connector) × (i.mask < j.mask))
 
 -- an interaction of a connector has its number
@@ -153,7 +153,7 @@ own-connector n k t i at = ap (λ (x : Interaction). x.connector) (sym (from-map
 masks-rise : (t : Tree) → AllPairs (λ x y. x < y) (interactions_of t)
 masks-rise t = AllPairs-from_increasing (interactions_of t) (passing_rises (λ mask. is_port_set t (ports_of t mask)) _)
 
-interactions-rise : (n k : ℕ) (ws : List WireDefinition) → AllPairs IsEarlier (interactions_from n k ws)
+pub interactions-rise : (n k : ℕ) (ws : List WireDefinition) → AllPairs IsEarlier (interactions_from n k ws)
 interactions-rise n k [] = λ i j d less within. absurd (omega (arith, within))
 interactions-rise n k (w ∷ ws) =
     pairs-append IsEarlier (interactions_of_connector n k w.connector) (interactions_from n (suc k) ws)

@@ -7,6 +7,8 @@ mod RuleFaults
 pub mod TreeRules
 pub mod RulesKept
 pub mod ValueRows
+mod Copying
+mod Numbered
 mod Resolving
 mod Guarding
 mod Delivering
@@ -18,7 +20,7 @@ mod Rows
 mod StepRows
 pub mod Noting
 pub mod NoDeadlock
-pub mod Touched
+mod Touched
 pub mod Sighted
 pub mod Membership
 pub mod OfPorts
@@ -31,3 +33,11 @@ pub mod InOrder
 pub mod RunRows
 pub mod CountRows
 pub mod Crossing
+mod Pushed
+pub mod Reaching
+mod Putting
+pub mod OfConnector
+mod WordSets
+pub mod ByConnector
+mod Ranking
+mod ByRank

@@ -54,6 +54,14 @@ unbroken false false variables targets none = absurd (cc)
 unbroken false true false targets none = absurd (cc)
 unbroken false true true targets none = (refl, refl)
 
+-- a number of interactions that is no fault is within the limit
+pub count-kept : (n : ℕ) → fault_of_count n ≡ None → n ≤ MAX_INTERACTIONS
+count-kept n none = ltb-false MAX_INTERACTIONS n (each (nat_lt MAX_INTERACTIONS n) none)
+  where
+    each : (b : Bool) → cond b (Some Limit) None ≡ None → b ≡ false
+    each true never = absurd (cc)
+    each false none = refl
+
 module _ (plant : PlantDefinition) (valid : fault_of plant ≡ None) where
   early : early_fault plant ≡ None
   early = first_none (early_fault plant) (first_of (late_fault plant) (fault_of_order plant)) valid
@@ -68,13 +76,6 @@ module _ (plant : PlantDefinition) (valid : fault_of plant ≡ None) where
   limits-kept : (b : Bool) (o : Option SystemFault) → cond (not b) (Some Limit) o ≡ None → b ≡ true
   limits-kept true o none = refl
   limits-kept false o none = absurd (cc)
-
-  count-kept : (n : ℕ) → fault_of_count n ≡ None → n ≤ MAX_INTERACTIONS
-  count-kept n none = ltb-false MAX_INTERACTIONS n (each (nat_lt MAX_INTERACTIONS n) none)
-    where
-      each : (b : Bool) → cond b (Some Limit) None ≡ None → b ≡ false
-      each true never = absurd (cc)
-      each false none = refl
 
   pub within-limits : IsWithinLimits plant
   within-limits =

@@ -16,7 +16,8 @@ use Rattle.connector_tree.specs.Masks.{is_set}
 use Rattle.connector_tree.specs.declared.tree.Port.{Port}
 use Rattle.plant_model.specs.Exports.{exported_at, value_at, takes_part, guards_hold}
 use Rattle.plant_model.specs.Plant.{TransferDefinition}
-use Rattle.plant_model.specs.BoundExpressions.{value_there, variable_of_port, variable_of, found, leaf_bit, leaves_in, has_all, DeliveryDefinition, clause_by, delivery_by, clause_holds, is_for, value_for, given_for}
+use Rattle.plant_model.specs.BoundExpressions.{variable_of_port, variable_of, found, leaf_bit, leaves_in, has_all, DeliveryDefinition, clause_by, delivery_by, clause_holds, is_for, value_for, given_for}
+use Rattle.plant_model.specs.Values.{value_there}
 use Rattle.plant_model.specs.Step.{applies, is_to, value_to, delivered_by}
 use Rattle.plant_model.specs.declared.bound_expressions.AtomVariable.{AtomVariable}
 use Rattle.plant_model.specs.declared.wire.Export.{Export}

@@ -11,12 +11,10 @@ use Rattle.connector_tree.specs.Faults as tree
 use Rattle.priority_filter.specs.Decided.{order_fault}
 use Rattle.priority_filter.specs.declared.fault.OrderFault.{OrderFault}
 use Rattle.priority_filter.specs.declared.fault.OrderFault.TheVariants as order
-use Rattle.connector_tree.specs.declared.faults.TreeFault.{TreeFault}
 use Rattle.plant_model.specs.Plant.{WireDefinition, PlantDefinition}
 use Rattle.plant_model.specs.Rules.{first_of, first_fault_in, atom_fault, tree_fault, is_within_limits, fault_of_wire, wire_fault, fault_of_wires, fault_of_count, early_fault, first_fault, fault_of_order, fault_of, IsFaultOf}
 use Rattle.plant_model.specs.Choice.{named, plant_interactions}
 use Rattle.plant_model.specs.OrderFaults.{system_fault_of_order}
-use Rattle.plant_model.specs.declared.fault.WireFault.{WireFault}
 use Rattle.plant_model.specs.declared.fault.SystemFault.{SystemFault}
 use Rattle.plant_model.specs.declared.fault.SystemFault.TheVariants.{Limit, BadAtom, BadConnector, BadWire, Order, Memory}
 

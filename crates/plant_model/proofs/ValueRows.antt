@@ -2,20 +2,22 @@
 use Rattle.std.proofs.Common.{◌≡◌, ◌≢◌, ℕ, zero, suc, ◌+◌, ◌<◌, ◌≤◌, ◌==◌, ◌&&◌, Bool, true, false, cond, refl, sym, ◌∙◌, ap, List, [], ◌∷◌, ◌++◌, length, map, take, get_or, set, arith, ⊎_elim, ℤ, lit<, get_or-set_same, get_or-set_other}
 use Rattle.std.specs.Prelude.{Option, Some, None, is_some, slice_get, slice_index_or, find, option_map, if◌then◌else◌}
 use Rattle.std.specs.List.{range_with_len}
-use Rattle.std.specs.Option.{option_or, option_map_or}
+use Rattle.std.specs.Option.{option_map_or, option_or}
 use Rattle.std.proofs.Math.Bool.{and-true}
-use Rattle.std.proofs.lemmas.Bool.{cases_eq, cases_lt, eq-eqb, ne_eqb, false≢true}
+use Rattle.std.proofs.lemmas.Bool.{cases_eq, cases_lt, eq-eqb, eqb-true, ne_eqb, false≢true}
 use Rattle.std.proofs.lemmas.List.{take_more, map-append, length-set, set_past}
 use Rattle.std.proofs.lemmas.List.Folds.{find-append}
 use Rattle.std.proofs.lemmas.Option.{same_Some, slice_get-get_or, get_or_from_slice_get, slice_get_within}
 use Rattle.petri_atom.specs.Local.{Local, Row, given}
 use Rattle.petri_atom.specs.Expression.{tree_of, value_of}
 use Rattle.petri_atom.specs.declared.state.TheConstants.{MAX_EXPORTS}
-use Rattle.plant_model.specs.Delivery.{AreDelivered, IsFirstOfAtom, IsGiven}
-use Rattle.plant_model.specs.BoundExpressions.{value_there, DeliveryDefinition, delivery_of, has_all, is_for, value_for, given_for}
+use Rattle.plant_model.specs.Delivery.{AreApart, AreDelivered, IsChanged, IsFirstOfAtom, IsGiven, IsPlaceOf}
+use Rattle.plant_model.specs.BoundExpressions.{DeliveryDefinition, delivery_of, has_all, is_for, value_for, given_for}
+use Rattle.plant_model.specs.Values.{value_there}
 use Rattle.plant_model.specs.declared.choice.Move.{Move}
-use Rattle.plant_model.specs.declared.bound_expressions.Delivery.{Delivery}
+use Rattle.plant_model.specs.declared.delivery.Delivery.{Delivery}
 use Rattle.plant_model.proofs.FirstFault.{or_none}
+use Rattle.plant_model.proofs.Stepping.{no_move}
 
 -- a value, where there is one
 abbrev some_if : Bool → ℤ → Option ℤ
@@ -71,27 +73,14 @@ module _ (before after : ℕ → Option ℤ) (value : ℤ) where
       set_past (map before (range_with_len 0 MAX_EXPORTS)) (suc (suc (suc (suc n)))) (option_or (slice_index_or (map before (range_with_len 0 MAX_EXPORTS)) (suc (suc (suc (suc n)))) None) (Some value)) (omega arith) ∙
       four-values (kept _ 0 told (lit< tt) (λ same. absurd (omega arith))) (kept _ 1 told (lit< tt) (λ same. absurd (omega arith))) (kept _ 2 told (lit< tt) (λ same. absurd (omega arith))) (kept _ 3 told (lit< tt) (λ same. absurd (omega arith)))
 
--- the values of one delivery more
-module _ (states : List Local) (deliveries : List Delivery) (mask i : ℕ) (t : Delivery) (within : i < length deliveries) (here : t ≡ get_or deliveries i t) where
-  abbrev front : ℕ → List DeliveryDefinition
-  front n = map delivery_of (take n deliveries)
+-- what a delivery gives behind others
+module _ (states : List Local) (ds : List DeliveryDefinition) (mask : ℕ) (d : DeliveryDefinition) where
+  abbrev worth : ℤ
+  worth = value_of (value_there states) d.value
 
-  abbrev value : ℤ
-  value = value_of (value_there states) (tree_of t.value)
-
-  abbrev is_its : ℕ → Bool
-  is_its atom = option_map_or (λ a. a == atom) t.atom false
-
-  longer : front (i + 1) ≡ front i ++ delivery_of t ∷ []
-  longer =
-      ap (map delivery_of) (take_more deliveries i t within ∙ ap (λ x. take i deliveries ++ x ∷ []) (sym here)) ∙
-      map-append delivery_of (take i deliveries) (t ∷ [])
-
-  one-more : (atom e : ℕ) → value_for states (front (i + 1)) mask atom e ≡ option_or (value_for states (front i) mask atom e) (some_if (has_all mask t.leaves && is_for atom e (delivery_of t)) value)
-  one-more atom e =
-      ap (λ ts. value_for states ts mask atom e) longer ∙
-      ap (option_map read) (find-append wanted (front i) (delivery_of t ∷ [])) ∙
-      each (find wanted (front i)) (wanted (delivery_of t))
+  one-behind : (atom e : ℕ) → value_for states (ds ++ d ∷ []) mask atom e ≡ option_or (value_for states ds mask atom e) (some_if (has_all mask d.leaves && is_for atom e d) worth)
+  one-behind atom e =
+      ap (option_map read) (find-append wanted ds (d ∷ [])) ∙ each (find wanted ds) (wanted d)
     where
       read : DeliveryDefinition → ℤ
       read d = value_of (value_there states) d.value
@@ -99,61 +88,90 @@ module _ (states : List Local) (deliveries : List Delivery) (mask i : ℕ) (t : 
       wanted : DeliveryDefinition → Bool
       wanted d = has_all mask d.leaves && is_for atom e d
 
-      each : (o : Option DeliveryDefinition) (b : Bool) → option_map read (option_or o (cond b (Some (delivery_of t)) None)) ≡ option_or (option_map read o) (some_if b value)
+      each : (o : Option DeliveryDefinition) (b : Bool) → option_map read (option_or o (cond b (Some d) None)) ≡ option_or (option_map read o) (some_if b worth)
       each (Some s) b = refl
       each None true = refl
       each None false = refl
 
-  -- what an atom gets, where it is the target's, and where it is not
-  changed : (atom : ℕ) (b : Bool) → is_its atom ≡ b → has_all mask t.leaves ≡ true → (if b then given t.export value (map (value_for states (front i) mask atom) (range_with_len 0 MAX_EXPORTS)) else map (value_for states (front i) mask atom) (range_with_len 0 MAX_EXPORTS)) ≡ given_for states (front (i + 1)) mask atom
-  changed atom true its told =
-      (row-given (value_for states (front i) mask atom) (value_for states (front (i + 1)) mask atom) value t.export
-      (λ e small. one-more atom e ∙
-      ap (λ b. option_or (value_for states (front i) mask atom e) (some_if b value)) (ap (λ b. b && is_for atom e (delivery_of t)) told ∙ ap (λ b. t.export == e && b) its ∙ and-true (t.export == e))))
-  changed atom false its told =
-      four-values (same 0) (same 1) (same 2) (same 3)
+  -- its atom gets its value, where it applies
+  pub given-behind : (atom : ℕ) → d.atom ≡ Some atom → has_all mask d.leaves ≡ true → given_for states (ds ++ d ∷ []) mask atom ≡ given d.export worth (given_for states ds mask atom)
+  given-behind atom own told =
+      sym (row-given (value_for states ds mask atom) (value_for states (ds ++ d ∷ []) mask atom) worth d.export
+      (λ e small. one-behind atom e ∙
+      ap (λ b. option_or (value_for states ds mask atom e) (some_if b worth))
+      (ap (λ b. b && is_for atom e d) told ∙ ap (λ o. d.export == e && option_map_or (λ a. a == atom) o false) own ∙
+      ap (λ b. d.export == e && b) (eq-eqb atom atom refl) ∙ and-true (d.export == e))))
+
+  -- an atom that it is not for gets nothing more
+  pub passed-behind : (atom : ℕ) → ((e : ℕ) → (has_all mask d.leaves && is_for atom e d) ≡ false) → given_for states (ds ++ d ∷ []) mask atom ≡ given_for states ds mask atom
+  passed-behind atom none = four-values (same 0) (same 1) (same 2) (same 3)
     where
-      same : (e : ℕ) → value_for states (front i) mask atom e ≡ value_for states (front (i + 1)) mask atom e
+      same : (e : ℕ) → value_for states (ds ++ d ∷ []) mask atom e ≡ value_for states ds mask atom e
       same e =
-          sym (one-more atom e ∙ ap (λ b. option_or (value_for states (front i) mask atom e) (some_if b value)) (ap (λ b. b && is_for atom e (delivery_of t)) told ∙ ap (λ b. t.export == e && b) its ∙ and_false (t.export == e)) ∙ or_none (value_for states (front i) mask atom e))
+          one-behind atom e ∙ ap (λ b. option_or (value_for states ds mask atom e) (some_if b worth)) (none e) ∙ or_none (value_for states ds mask atom e)
+
+-- the values of one delivery more
+module _ (states : List Local) (deliveries : List Delivery) (mask i : ℕ) (t : Delivery) (within : i < length deliveries) (here : t ≡ get_or deliveries i t) where
+  abbrev front : ℕ → List DeliveryDefinition
+  front n = map delivery_of (take n deliveries)
+
+  abbrev value : ℤ
+  value = value_of (value_there states) (tree_of t.value.tree)
+
+  abbrev is_its : ℕ → Bool
+  is_its atom = t.atom == atom
+
+  longer : front (i + 1) ≡ front i ++ delivery_of t ∷ []
+  longer =
+      ap (map delivery_of) (take_more deliveries i t within ∙ ap (λ x. take i deliveries ++ x ∷ []) (sym here)) ∙
+      map-append delivery_of (take i deliveries) (t ∷ [])
+
+  more : (atom : ℕ) → given_for states (front (i + 1)) mask atom ≡ given_for states (front i ++ delivery_of t ∷ []) mask atom
+  more atom = ap (λ ts. given_for states ts mask atom) longer
+
+  -- what an atom gets, where it is the target's, and where it is not
+  changed : (atom : ℕ) (b : Bool) → is_its atom ≡ b → has_all mask t.leaves ≡ true → (if b then given t.export value (given_for states (front i) mask atom) else given_for states (front i) mask atom) ≡ given_for states (front (i + 1)) mask atom
+  changed atom true its told =
+      sym (more atom ∙ given-behind states (front i) mask (delivery_of t) atom (ap Some (eqb-true t.atom atom its)) told)
+  changed atom false its told =
+      sym (more atom ∙
+      passed-behind states (front i) mask (delivery_of t) atom
+      (λ e. ap (λ b. b && is_for atom e (delivery_of t)) told ∙ ap (λ b. t.export == e && b) its ∙ and_false (t.export == e)))
 
   module _ (moves : List Move) (old new : List Row) (so_far : AreDelivered moves (given_for states (front i) mask) old) where
     -- it applies, and is delivered
     pub delivered-more : has_all mask t.leaves ≡ true → IsGiven moves is_its t.export value old new → AreDelivered moves (given_for states (front (i + 1)) mask) new
     delivered-more told done place m there first =
-        done place m (map (value_for states (front i) mask m.atom) (range_with_len 0 MAX_EXPORTS)) there first (so_far place m there first) ∙
+        done place m (given_for states (front i) mask m.atom) there first (so_far place m there first) ∙
         ap Some (changed m.atom (is_its m.atom) refl told)
 
     -- or it does not
     pub delivered-same : has_all mask t.leaves ≡ false → new ≡ old → AreDelivered moves (given_for states (front (i + 1)) mask) new
     delivered-same told same place m there first =
         ap (λ row. slice_get row place) same ∙ so_far place m there first ∙
-        ap Some (four-values (as_was 0) (as_was 1) (as_was 2) (as_was 3))
-      where
-        as_was : (e : ℕ) → value_for states (front i) mask m.atom e ≡ value_for states (front (i + 1)) mask m.atom e
-        as_was e =
-            sym (one-more m.atom e ∙ ap (λ b. option_or (value_for states (front i) mask m.atom e) (some_if (b && is_for m.atom e (delivery_of t)) value)) told ∙ or_none (value_for states (front i) mask m.atom e))
+        ap Some (sym (more m.atom ∙
+        passed-behind states (front i) mask (delivery_of t) m.atom (λ e. ap (λ b. b && is_for m.atom e (delivery_of t)) told)))
 
--- the first move of an atom gets a value for one of its variables
-module _ (moves : List Move) (atom export : ℕ) (value : ℤ) (row : List Row) where
-  -- nothing is given where no move is of the atom
-  pub given-none : (n : ℕ) → length moves ≤ n → find (λ k. k.atom == atom) (take n moves) ≡ None → IsGiven moves (λ other. atom == other) export value row row
-  given-none n long none place m values there first old =
+-- what the first move of an atom gets is changed
+module _ (moves : List Move) (atom : ℕ) (change : Row → Row) (row : List Row) where
+  -- nothing is changed where no move is of the atom
+  pub changed-none : (n : ℕ) → length moves ≤ n → find (λ k. k.atom == atom) (take n moves) ≡ None → IsChanged moves (λ other. atom == other) change row row
+  changed-none n long none place m values there first old =
       let other : (m.atom == atom) ≡ false = none-at (λ k. k.atom == atom) moves n place m none (omega (arith, slice_get_within moves place m there)) there in
-      old ∙ ap (λ b. Some (if b then given export value values else values)) (sym (ne_eqb atom m.atom (λ same. false≢true (sym other ∙ eq-eqb m.atom atom (sym same)))))
+      old ∙ ap (λ b. Some (if b then change values else values)) (sym (ne_eqb atom m.atom (λ same. false≢true (sym other ∙ eq-eqb m.atom atom (sym same)))))
 
-  -- and where one is, what stands at its place is given the value
-  module _ (n : ℕ) (its : Move) (here : slice_get moves n ≡ Some its) (same : its.atom ≡ atom) (none : find (λ k. k.atom == atom) (take n moves) ≡ None) (within : n < length row) (after : Row) (told : (values : Row) → get_or row n after ≡ values → after ≡ given export value values) where
-    at-place : (place : ℕ) (m : Move) (values : Row) → slice_get moves place ≡ Some m → place ≡ n → slice_get row place ≡ Some values → slice_get (set row n after) place ≡ Some (if atom == m.atom then given export value values else values)
+  -- and where one is, what stands at its place is
+  module _ (n : ℕ) (its : Move) (here : slice_get moves n ≡ Some its) (same : its.atom ≡ atom) (none : find (λ k. k.atom == atom) (take n moves) ≡ None) (within : n < length row) (after : Row) (told : (values : Row) → get_or row n after ≡ values → after ≡ change values) where
+    at-place : (place : ℕ) (m : Move) (values : Row) → slice_get moves place ≡ Some m → place ≡ n → slice_get row place ≡ Some values → slice_get (set row n after) place ≡ Some (if atom == m.atom then change values else values)
     at-place place m values there at old =
         let is_its : its ≡ m = same_Some its m (sym here ∙ ap (slice_get moves) (sym at) ∙ there) in
         let yes : (atom == m.atom) ≡ true = eq-eqb atom m.atom (sym same ∙ ap (λ k. k.atom) is_its) in
         ap (slice_get (set row n after)) at ∙
         slice_get-get_or (set row n after) n after (omega (arith, within, length-set row n after)) ∙
         ap Some (get_or-set_same row n after after within ∙ told values (get_or_from_slice_get row n values after (ap (slice_get row) (sym at) ∙ old))) ∙
-        ap (λ b. Some (if b then given export value values else values)) (sym yes)
+        ap (λ b. Some (if b then change values else values)) (sym yes)
 
-    elsewhere : (place : ℕ) (m : Move) (values : Row) → slice_get moves place ≡ Some m → IsFirstOfAtom moves place m → place ≢ n → slice_get row place ≡ Some values → slice_get (set row n after) place ≡ Some (if atom == m.atom then given export value values else values)
+    elsewhere : (place : ℕ) (m : Move) (values : Row) → slice_get moves place ≡ Some m → IsFirstOfAtom moves place m → place ≢ n → slice_get row place ≡ Some values → slice_get (set row n after) place ≡ Some (if atom == m.atom then change values else values)
     elsewhere place m values there first other old =
         let inside : place < length row = slice_get_within row place values old in
         let no : (atom == m.atom) ≡ false = ne_eqb atom m.atom (λ equal.
@@ -163,11 +181,20 @@ module _ (moves : List Move) (atom export : ℕ) (value : ℤ) (row : List Row) 
         (cases_lt place n)) in
         slice_get-get_or (set row n after) place after (omega (arith, inside, length-set row n after)) ∙
         ap Some (get_or-set_other row n place after after other) ∙ sym (slice_get-get_or row place after inside) ∙ old ∙
-        ap (λ b. Some (if b then given export value values else values)) (sym no)
+        ap (λ b. Some (if b then change values else values)) (sym no)
 
-    pub given-here : IsGiven moves (λ other. atom == other) export value row (set row n after)
-    given-here place m values there first old =
+    pub changed-here : IsChanged moves (λ other. atom == other) change row (set row n after)
+    changed-here place m values there first old =
         ⊎_elim (λ at. at-place place m values there at old) (λ other. elsewhere place m values there first other old) (cases_eq place n)
+
+-- of moves that are apart, each is the first of its atom
+pub own-place : (moves : List Move) → AreApart moves → (n : ℕ) → n < length moves → (atom : ℕ) → (get_or moves n no_move).atom ≡ atom → IsPlaceOf moves atom n
+own-place moves apart n within atom same = record {
+  its = get_or moves n no_move;
+  here = slice_get-get_or moves n no_move within;
+  same = same;
+  first = ap (λ a. find (λ m. m.atom == a) (take n moves)) (sym same) ∙ apart n (get_or moves n no_move) (slice_get-get_or moves n no_move within);
+}
 
 -- ---- an entry that is put in the place of another
 

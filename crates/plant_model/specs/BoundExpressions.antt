@@ -1,9 +1,9 @@
 -- Guard clauses and transfers with their variables found: each by its atom and its number there, and the leaves that it names as a set.
-use Rattle.std.specs.Prelude.{◌≡◌, ℕ, ℤ, pos, ◌^◌, ◌<◌, Bool, true, false, not, ◌&&◌, ◌||◌, ◌==◌, nat_lt, bit_and, bit_or, if◌then◌else◌, List, map, find, slice_get, Option, None, option_map}
+use Rattle.std.specs.Prelude.{◌≡◌, ℕ, suc, ℤ, pos, ◌^◌, ◌<◌, Bool, true, false, not, ◌&&◌, ◌||◌, ◌==◌, nat_lt, bit_and, bit_or, if◌then◌else◌, List, [], ◌∷◌, filter, map, flat_map, find, slice_get, Option, None, Some, is_some, option_map}
 use Rattle.std.specs.List.{list_all, range_with_len}
 use Rattle.std.specs.Option.{option_map_or}
 use Rattle.petri_atom.specs.Expression.{Tree, tree_of, number, variable, negation, operation, is_true, value_of}
-use Rattle.petri_atom.specs.Local.{Local, Row, value_in}
+use Rattle.petri_atom.specs.Local.{Local, Row, given}
 use Rattle.petri_atom.specs.Definition.{AtomDefinition, exports_of}
 use Rattle.petri_atom.specs.declared.state.TheConstants.{MAX_EXPORTS}
 use Rattle.connector_tree.specs.Tree.{leaves}
@@ -11,15 +11,16 @@ use Rattle.connector_tree.specs.declared.tree.Port.{Port}
 use Rattle.plant_model.specs.Plant.{TransferDefinition, WireDefinition}
 use Rattle.plant_model.specs.Exports.{guards_hold}
 use Rattle.plant_model.specs.Step.{delivered_by, nothing_delivered}
+use Rattle.plant_model.specs.Values.{value_there}
 use Rattle.plant_model.specs.declared.bound_expressions.AtomVariable.{AtomVariable}
 use Rattle.plant_model.specs.declared.bound_expressions.Clause.{Clause}
-use Rattle.plant_model.specs.declared.bound_expressions.Delivery.{Delivery}
 use Rattle.plant_model.specs.declared.bound_expressions.BoundExpressions.{BoundExpressions}
+use Rattle.plant_model.specs.declared.copy_row.CopyRow.{CopyRow}
+use Rattle.plant_model.specs.declared.delivery.Deliveries.{Deliveries}
+use Rattle.plant_model.specs.declared.delivery.Deliveries.TheVariants.{Copies, Values}
+use Rattle.plant_model.specs.declared.delivery.Delivery.{Delivery}
+use Rattle.plant_model.specs.declared.variable_cell.VariableCell.{VariableCell}
 use Rattle.plant_model.specs.declared.wire.Export.{Export}
-
--- the value of an atom's variable in a global state; 0 where there is no such atom or variable
-abbrev pub value_there : List Local → AtomVariable → ℤ
-value_there states v = option_map_or (λ s. value_in s.values v.variable) (slice_get states v.atom) (pos 0)
 
 -- the variable that a port exports, if there is one
 abbrev pub variable_of_port : List AtomDefinition → Port → ℕ → Option AtomVariable
@@ -71,15 +72,37 @@ pub record ResolvedDefinition : Type 0 where
 
 -- a clause as it is kept
 abbrev pub clause_of : Clause → ClauseDefinition
-clause_of c = record { leaves = c.leaves; value = tree_of c.value }
+clause_of c = record { leaves = c.leaves; value = tree_of c.value.tree }
 
 -- a transfer as it is kept
 abbrev pub delivery_of : Delivery → DeliveryDefinition
-delivery_of d = record { leaves = d.leaves; atom = d.atom; export = d.export; value = tree_of d.value }
+delivery_of d = record { leaves = d.leaves; atom = Some d.atom; export = d.export; value = tree_of d.value.tree }
+
+-- a transfer that copies a cell to an exported variable of an atom
+abbrev pub copy_by : ℕ → ℕ → ℕ → VariableCell → DeliveryDefinition
+copy_by leaves atom export cell = record { leaves = leaves; atom = Some atom; export = export; value = variable cell.variable }
+
+-- those that copy cells, of which the first is of the exported variable with a number
+abbrev pub copies_from : ℕ → ℕ → ℕ → List (Option VariableCell) → List DeliveryDefinition
+copies_from leaves atom export [] = []
+copies_from leaves atom export (None ∷ cells) = copies_from leaves atom (suc export) cells
+copies_from leaves atom export (Some cell ∷ cells) = copy_by leaves atom export cell ∷ copies_from leaves atom (suc export) cells
+
+-- those of a row, and of rows
+abbrev pub copies_in : CopyRow → List DeliveryDefinition
+copies_in row = copies_from row.leaves row.atom 0 row.cells
+
+abbrev pub copied_by : List CopyRow → List DeliveryDefinition
+copied_by rows = flat_map copies_in rows
+
+-- the transfers of a wire as they are kept
+abbrev pub deliveries_in : Deliveries → List DeliveryDefinition
+deliveries_in (Copies rows) = copied_by rows.items
+deliveries_in (Values all) = map delivery_of all.items
 
 -- both of a wire as they are kept
 abbrev pub bound_of : BoundExpressions → ResolvedDefinition
-bound_of r = record { clauses = map clause_of r.clauses.items; deliveries = map delivery_of r.deliveries.items }
+bound_of r = record { clauses = map clause_of r.clauses.items; deliveries = deliveries_in r.deliveries }
 
 -- what is found of a clause
 abbrev pub clause_by : List AtomDefinition → List Port → Tree Export → ClauseDefinition
@@ -94,11 +117,19 @@ delivery_by atoms ports t = record {
   value = found atoms ports t.value;
 }
 
+-- a transfer has a target: an exported variable of an atom
+abbrev pub has_target : DeliveryDefinition → Bool
+has_target d = nat_lt d.export MAX_EXPORTS && is_some d.atom
+
+-- a leaf that masks have room for is there, and its atom stands before an atom
+abbrev pub is_lower : List Port → ℕ → ℕ → Bool
+is_lower ports atom leaf = nat_lt leaf 16 && option_map_or (λ p. nat_lt p.atom atom) (slice_get ports leaf) false
+
 -- what is found of a wire among these atoms
 abbrev pub bound_by : List AtomDefinition → WireDefinition → ResolvedDefinition
 bound_by atoms w = record {
   clauses = map (clause_by atoms (leaves w.connector)) w.guards;
-  deliveries = map (delivery_by atoms (leaves w.connector)) w.transfers;
+  deliveries = filter has_target (map (delivery_by atoms (leaves w.connector)) w.transfers);
 }
 
 -- a clause does not apply, or is not 0 in a global state
@@ -118,6 +149,12 @@ value_for states deliveries mask atom export =
 abbrev pub given_for : List Local → List DeliveryDefinition → ℕ → ℕ → Row
 given_for states deliveries mask atom = map (value_for states deliveries mask atom) (range_with_len 0 MAX_EXPORTS)
 
+-- a row of values in which exported variables, from that with a number on, have the values of their cells, unless they had one before
+abbrev pub given_copies : List Local → ℕ → List (Option VariableCell) → Row → Row
+given_copies states export [] row = row
+given_copies states export (None ∷ cells) row = given_copies states (suc export) cells row
+given_copies states export (Some cell ∷ cells) row = given_copies states (suc export) cells (given export (value_there states cell.variable) row)
+
 -- what is found of wires says of guards, in each global state and of each mask, what the wires say
 abbrev pub AreGuarding : List AtomDefinition → List WireDefinition → List BoundExpressions → Type 0
 AreGuarding atoms wires all =
@@ -129,5 +166,5 @@ AreGuarding atoms wires all =
 abbrev pub AreDelivering : List AtomDefinition → List WireDefinition → List BoundExpressions → Type 0
 AreDelivering atoms wires all =
     (states : List Local) (mask n atom : ℕ) → mask < 2 ^ 16 →
-    option_map_or (λ r. given_for states (map delivery_of r.deliveries.items) mask atom) (slice_get all n) nothing_delivered ≡
+    option_map_or (λ r. given_for states (deliveries_in r.deliveries) mask atom) (slice_get all n) nothing_delivered ≡
     option_map_or (λ w. delivered_by atoms states (leaves w.connector) w.transfers mask atom) (slice_get wires n) nothing_delivered

@@ -1,14 +1,18 @@
 //! Guard clauses and transfers with their variables found, once when a plant is made: each by its atom and its number there, so
 //! that no step looks for it by leaf, port and place among what the port exports.
-ghost use Rattle.std.specs.Prelude.{◌≡◌, IfOk, map, option_map, slice_get};
+ghost use Rattle.std.specs.Prelude.{◌≡◌, ◌<◌, ℕ, IfOk, None, Some, filter, if◌then◌else◌, length, map, nat_lt, option_map, slice_get};
 ghost use Rattle.petri_atom.specs.Atom.{definition_of};
 ghost use Rattle.petri_atom.specs.Expression.{tree_of, variable};
-ghost use Rattle.plant_model.specs.BoundExpressions.{leaf_bit, leaves_in, has_all, found, variable_of, variable_of_port, clause_of, clause_by, delivery_of, delivery_by, bound_of, bound_by, AreGuarding, AreDelivering};
+ghost use Rattle.petri_atom.specs.declared.state.TheConstants.{MAX_EXPORTS};
+ghost use Rattle.priority_filter.specs.Members.{has_bit};
+ghost use Rattle.plant_model.specs.BoundExpressions.{leaf_bit, leaves_in, has_all, found, variable_of, variable_of_port, clause_of, clause_by, delivery_of, delivery_by, has_target, is_lower, bound_of, bound_by, AreGuarding, AreDelivering};
 ghost use Rattle.plant_model.specs.Wire.{transfer_of, wire_of};
 
+use crate::bound_value::BoundValue;
+use crate::delivery::{Deliveries, Delivery};
 use crate::wire::{Export, Transfer, Wire};
 use connector_tree::{Mask, Port};
-use petri_atom::{Atom, Expression};
+use petri_atom::{Atom, Expression, MAX_EXPORTS};
 use std::alloc::{AllocError, Global};
 
 /// A variable of an atom, by the numbers of both.
@@ -22,25 +26,14 @@ pub(crate) struct AtomVariable {
 #[derive(Drop)]
 pub(crate) struct Clause {
     pub(crate) leaves: u32,
-    pub(crate) value: Expression<AtomVariable>,
-}
-
-/// A transfer, with the leaves that it names, as in a clause; its target's is one of them, and `before` are those on the left of
-/// that. The target is an exported variable of the leaf's atom.
-#[derive(Drop)]
-pub(crate) struct Delivery {
-    pub(crate) leaves: u32,
-    pub(crate) before: u32,
-    pub(crate) atom: Option<u16>,
-    pub(crate) export: u8,
-    pub(crate) value: Expression<AtomVariable>,
+    pub(crate) value: BoundValue,
 }
 
 /// The guard clauses and the transfers of a wire, in written order, with their variables found.
 #[derive(Drop)]
 pub struct BoundExpressions {
     pub(crate) clauses: Vec<Clause>,
-    pub(crate) deliveries: Vec<Delivery>,
+    pub(crate) deliveries: Deliveries,
 }
 
 impl BoundExpressions {
@@ -50,7 +43,8 @@ impl BoundExpressions {
     {
         let ports = connector_tree::leaves(alloc, &wire.connector)?;
         let clauses = clauses_of(alloc, atoms, &ports, &wire.guards)?;
-        let deliveries = deliveries_of(alloc, atoms, &ports, &wire.transfers)?;
+        let found = deliveries_of(alloc, atoms, &ports, &wire.transfers)?;
+        let deliveries = Deliveries::of(alloc, found)?;
         Ok(BoundExpressions {
             clauses,
             deliveries,
@@ -66,6 +60,7 @@ pub(crate) fn bound_wires(
 ) -> Result<Vec<BoundExpressions>, AllocError>
     ensures guarding { IfOk result (λ all. AreGuarding (map definition_of atoms.now) (map wire_of wires.now) all.items) }
     ensures delivering { IfOk result (λ all. AreDelivering (map definition_of atoms.now) (map wire_of wires.now) all.items) }
+    ensures as_many { IfOk result (λ all. length all.items ≡ length wires.now) }
 {
     let mut all = Vec::with_capacity(alloc, wires.len())?;
     for wire in wires {
@@ -85,7 +80,7 @@ fn clauses_of(
 {
     let mut all = Vec::with_capacity(alloc, written.len())?;
     for clause in written {
-        let value = found(alloc, atoms, ports, clause)?;
+        let value = BoundValue::of(alloc, found(alloc, atoms, ports, clause)?)?;
         all.push(Clause {
             leaves: leaves_in(clause),
             value,
@@ -94,27 +89,70 @@ fn clauses_of(
     Ok(all)
 }
 
-/// What is found of the transfers, where the leaves have these ports.
+/// What is found of the transfers that have a target, where the leaves have these ports.
 fn deliveries_of(
     alloc: Global,
     atoms: &[Atom],
     ports: &[Port],
     written: &[Transfer],
 ) -> Result<Vec<Delivery>, AllocError>
-    ensures { IfOk result (λ all. map delivery_of all.items ≡ map (delivery_by (map definition_of atoms.now) ports.now) (map transfer_of written.now)) }
+    ensures { IfOk result (λ all. map delivery_of all.items ≡ filter has_target (map (delivery_by (map definition_of atoms.now) ports.now) (map transfer_of written.now))) }
 {
     let mut all = Vec::with_capacity(alloc, written.len())?;
     for transfer in written {
-        let value = found(alloc, atoms, ports, &transfer.value)?;
-        all.push(Delivery {
-            leaves: leaf_bit(transfer.target.leaf) | leaves_in(&transfer.value),
-            before: leaf_bit(transfer.target.leaf).wrapping_sub(1),
-            atom: atom_of(ports, transfer.target.leaf),
-            export: transfer.target.export,
-            value,
-        })?;
+        if let Some(atom) = target_of(ports, transfer) {
+            all.push(delivery_to(alloc, atoms, ports, transfer, atom)?)?;
+        }
     }
     Ok(all)
+}
+
+/// The atom of the transfer's target, if that is a variable that a port of it can export.
+fn target_of(ports: &[Port], transfer: &Transfer) -> Option<u16>
+    ensures { result ≡ (if nat_lt transfer.now.target.export MAX_EXPORTS then option_map (λ p. p.atom) (slice_get ports.now transfer.now.target.leaf) else None) }
+{
+    if usize::from(transfer.target.export) < MAX_EXPORTS {
+        atom_of(ports, transfer.target.leaf)
+    } else {
+        None
+    }
+}
+
+/// What is found of a transfer to a variable of the atom.
+fn delivery_to(
+    alloc: Global,
+    atoms: &[Atom],
+    ports: &[Port],
+    transfer: &Transfer,
+    atom: u16,
+) -> Result<Delivery, AllocError>
+    requires exported { transfer.now.target.export < MAX_EXPORTS }
+    requires atom { option_map (λ p. p.atom) (slice_get ports.now transfer.now.target.leaf) ≡ Some atom }
+    ensures { IfOk result (λ delivery. delivery_of delivery ≡ delivery_by (map definition_of atoms.now) ports.now (transfer_of transfer.now)) }
+{
+    let target = transfer.target;
+    let value = BoundValue::of(alloc, found(alloc, atoms, ports, &transfer.value)?)?;
+    Ok(Delivery {
+        leaves: leaf_bit(target.leaf) | leaves_in(&transfer.value),
+        lower: lower_leaves(ports, atom),
+        atom,
+        export: target.export,
+        bit: 1 << target.export,
+        value,
+    })
+}
+
+/// The leaves of atoms that stand before the atom: bit j for leaf j, of those that a mask has room for.
+fn lower_leaves(ports: &[Port], atom: u16) -> u64
+    ensures { (j : ℕ) → has_bit result j ≡ is_lower ports.now atom j }
+{
+    let mut lower = 0;
+    for leaf in 0..ports.len() {
+        if leaf < 16 && ports[leaf].atom < atom {
+            lower |= 1 << leaf;
+        }
+    }
+    lower
 }
 
 /// The expression with each exported variable found; one that is not there is 0.

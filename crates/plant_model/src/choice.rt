@@ -50,6 +50,13 @@ impl Moves {
         }
     }
 
+    /// Takes all moves away.
+    pub fn clear(&mut self)
+        ensures { self.new ≡ [] }
+    {
+        self.count = 0;
+    }
+
     /// Adds a move at the end.
     pub fn push(&mut self, added: Move)
         requires { length self.old + 1 ≤ MAX_LEAVES }
@@ -114,7 +121,21 @@ pub struct Choice {
 }
 
 impl Choice {
+    ghost use Rattle.std.specs.Prelude.{[]};
     ghost use Rattle.plant_model.specs.Chosen.{choice_of};
+
+    /// A choice of no moves, as room in which another one is written.
+    pub fn none() -> Self
+        ensures connector { result.connector ≡ 0 }
+        ensures mask { result.mask ≡ 0 }
+        ensures moves { result.moves ≡ [] }
+    {
+        Choice {
+            connector: 0,
+            mask: 0,
+            moves: Moves::none(),
+        }
+    }
 
     /// A second choice that is equal to this one.
     pub fn copy(&self) -> Self

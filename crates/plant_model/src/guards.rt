@@ -1,7 +1,9 @@
 //! The values of atoms' variables in a global state, and guard clauses on them.
 ghost use Rattle.std.specs.Prelude.{◌≡◌, map};
 ghost use Rattle.std.specs.List.{list_all};
+ghost use Rattle.petri_atom.specs.Expression.{is_true, value_of};
 ghost use Rattle.plant_model.specs.BoundExpressions.{bound_of, clause_of, clause_holds};
+ghost use Rattle.plant_model.specs.Values.{value_there};
 
 use crate::bound_expressions::{AtomVariable, BoundExpressions, Clause, has_all};
 use crate::state::PlantState;
@@ -9,7 +11,7 @@ use connector_tree::Mask;
 use petri_atom::Valuation;
 
 impl Valuation<AtomVariable> for PlantState {
-    ghost use Rattle.plant_model.specs.BoundExpressions.{value_there};
+    ghost use Rattle.plant_model.specs.Values.{value_there};
 
     ghost value_at = { value_there };
 
@@ -42,6 +44,13 @@ impl Clause {
     fn holds(&self, states: &PlantState, mask: Mask) -> bool
         ensures { result ≡ clause_holds states.now mask (clause_of self.now) }
     {
-        !has_all(mask, self.leaves) || self.value.value(states) != 0
+        !has_all(mask, self.leaves) || self.is_true(states)
+    }
+
+    /// Whether the clause is not 0.
+    pub(crate) fn is_true(&self, states: &PlantState) -> bool
+        ensures { result ≡ is_true (value_of (value_there states.now) (clause_of self.now).value) }
+    {
+        self.value.value(states) != 0
     }
 }

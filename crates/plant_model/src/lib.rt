@@ -14,9 +14,15 @@
 //!   `fault`: which of them is broken.
 //! - `interaction`, `interactions`: the interactions of a connector, each with its ports in rising order of their atoms.
 //! - `lookup`: connectors and atoms by their names, and the interaction of a connector and some atoms.
-//! - `bound_expressions`: guard clauses and transfers with their variables found.
+//! - `bound_expressions`, `delivery`: guard clauses and transfers with their variables found. `bound_value`: the shortest way to the value of each:
+//!   a copy of a variable (`variable_cell`), one operator (`bound_step`), or straight code (`row_code`) over its variables by their places in
+//!   a row (`numbering`). `copy_row`: the transfers of a connector that only copy variables, in rows of those to one atom.
 //! - `dependents`: which interactions stand on a port, and whose guards read an atom, so that a step judges only those that it can
 //!   change.
+//! - `connector_rows`: the interactions of each connector, as a range of numbers and as sets by leaf and by guard clause.
+//!   `connector_judge`: which of them are possible, all of them at once. `reach`: the leaves on each port, and the connectors whose
+//!   guards can read an atom. `usual`: what the most usual firings change at the leaves of the connectors, so that a step looks it up.
+//!   `ranks`: which connectors have all, some or none of their interactions above those of another one.
 //!
 //! Its states and its choices:
 //! - `state`: a local state for each atom, and what is seen of it. `guards`: the values of variables, and whether guard clauses hold.
@@ -29,8 +35,11 @@
 //!   breaks no rule keeps).
 //! - Interactions: `Ports` (the ports of a mask), `OfInteractions` (what each is), `Noting`, `Touched` (the rows of those that depend
 //!   on an atom).
+//! - Connectors: `ByConnector` (the range and the rows of a connector's interactions), `OfConnector` (an interaction is possible
+//!   exactly where the rows say so), `Reaching` (what stands on a port), `Ranking` (how it is found where connectors stand), `ByRank` (what
+//!   is overruled by where they stand), `Pushed`, `WordSets` (lists that grow, and words as sets).
 //! - What is found of names: `FirstFault`, `Found` (the first of a list, as a walk finds it), `Resolving`, `Guarding`, `Delivering` (guards
-//!   and transfers with their variables found say what was written).
+//!   and transfers with their variables found say what was written), `Copying` (rows of copies say what their transfers say).
 //! - Choices: `Judging` (an atom and its state, by number), `Sighted` (what is seen of an atom), `Combinations`, `Membership`, `OfPorts`,
 //!   `OfChoices`, `OwnAtoms`, `InOrder` (what each choice is, and how they stand), `NoDeadlock` (priorities lose no choice).
 //! - What a choice leaves: `Initial`, `Stepping`, `FiringOfAll`, `ByAtom` (states, atom by atom), `PastExports` (nothing is delivered past
@@ -39,7 +48,13 @@
 #![tactic(auto)]
 
 mod bound_expressions;
+mod bound_step;
+mod bound_value;
 mod choice;
+mod connector_judge;
+mod connector_rows;
+mod copy_row;
+mod delivery;
 mod dependents;
 mod fault;
 mod firing;
@@ -49,15 +64,22 @@ mod interactions;
 pub mod laws;
 mod limits;
 mod lookup;
+mod numbering;
+mod ranks;
+mod reach;
+mod row_code;
 mod rules;
 mod state;
 mod system;
 mod transfers;
+mod usual;
+mod variable_cell;
 mod wire;
 mod wire_rules;
 
 pub use bound_expressions::BoundExpressions;
 pub use choice::{Choice, Move, Moves, atoms_of};
+pub use connector_rows::ConnectorRows;
 pub use dependents::{ATOM_ROWS, guard_row, port_row};
 pub use fault::{SystemFault, WireFault};
 pub use interaction::Interaction;
@@ -65,7 +87,10 @@ pub use interactions::connector_interactions;
 pub use limits::{
     MAX_ATOMS, MAX_GUARDS, MAX_INTERACTIONS, MAX_RULES, MAX_TRANSFERS, MAX_WIRES, PORTS_IN_A_WORD,
 };
+pub use ranks::{Part, Rank, Ranks};
+pub use reach::{ConnectorLeaf, PortReach, Reach};
 pub use state::PlantState;
 pub use system::{System, names_of};
 pub use transfers::{no_deliveries, nothing_delivered};
+pub use usual::{Put, Usual};
 pub use wire::{Export, Transfer, Wire};

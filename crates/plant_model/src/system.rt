@@ -8,6 +8,10 @@ ghost use Rattle.plant_model.specs.Made.{plant_by};
 ghost use Rattle.plant_model.specs.BoundExpressions.{AreGuarding, AreDelivering};
 ghost use Rattle.plant_model.specs.Rules.{fault_of, first_fault, fault_of_count, IsFaultOf};
 ghost use Rattle.plant_model.specs.Dependents.{AreDependents, AreOnPorts};
+ghost use Rattle.plant_model.specs.ConnectorRows.{AreConnectorRows};
+ghost use Rattle.plant_model.specs.Ranks.{AreRanks};
+ghost use Rattle.plant_model.specs.Reach.{IsReach};
+ghost use Rattle.plant_model.specs.Usual.{AreUsual, leaves_of};
 ghost use Rattle.plant_model.specs.Ways.{each_fits_word, fits_word};
 ghost use Rattle.plant_model.specs.Wire.{wire_of};
 ghost use Rattle.plant_model.specs.declared.dependents.TheConstants.{ATOM_ROWS};
@@ -17,11 +21,15 @@ ghost use Rattle.priority_filter.specs.Decided.{order_fault};
 ghost use Rattle.plant_model.specs.declared.limits.TheConstants.{MAX_ATOMS, MAX_INTERACTIONS, MAX_WIRES};
 
 use crate::bound_expressions::{BoundExpressions, bound_wires};
+use crate::connector_rows::{ConnectorRows, connector_rows};
 use crate::dependents::dependent_rows;
 use crate::fault::SystemFault;
 use crate::interaction::Interaction;
 use crate::interactions::connector_interactions;
 use crate::limits::{MAX_INTERACTIONS, PORTS_IN_A_WORD};
+use crate::ranks::{Ranks, ranks_of};
+use crate::reach::{Reach, reach_of};
+use crate::usual::{Usual, usual_of};
 use crate::wire::Wire;
 use crate::{rules, wire_rules};
 use connector_tree::Port;
@@ -34,8 +42,9 @@ use std::alloc::{AllocError, Global};
 ///
 /// It keeps each rule of a plant, so that what can be asked of it cannot fail. It has all interactions at hand, the
 /// leaves of each connector, its guard clauses and transfers with their variables found, the order of the priority rules, and for
-/// each atom the interactions that depend on it, so that no step takes memory. It knows whether the number of choices of each
-/// interaction fits a word.
+/// each atom the interactions that depend on it, so that no step takes memory. It has the interactions of each connector as sets,
+/// what a change at an atom reaches, what the most usual firings change, and where each connector stands by the rules. It knows whether the
+/// number of choices of each interaction fits a word.
 #[derive(Drop)]
 pub struct System {
     /// The atoms, in the order of their numbers.
@@ -43,7 +52,8 @@ pub struct System {
     /// The wires, in the order of their numbers.
     pub wires: Vec<Wire>,
     pub(crate) digest: [u8; 32],
-    pub(crate) ports: Vec<Vec<Port>>,
+    /// The ports of the leaves of each wire.
+    pub ports: Vec<Vec<Port>>,
     /// The guard clauses and the transfers of each wire, with their variables found.
     pub bound: Vec<BoundExpressions>,
     /// The interactions, in the order of their numbers.
@@ -54,6 +64,14 @@ pub struct System {
     pub order: Order,
     /// The interactions that depend on an atom: for each atom a row for each of its ports, and one for the guards that read it.
     pub dependents: Vec<InteractionSet>,
+    /// The interactions of each connector, as a range of numbers and as sets of those that a leaf or a guard clause can rule out.
+    pub connector_rows: Vec<ConnectorRows>,
+    /// The leaves and the connectors that a change at an atom reaches.
+    pub reach: Reach,
+    /// What the most usual firings change at the leaves of the connectors, by atom and transition; nothing of the other transitions.
+    pub usual: Vec<Vec<Option<Usual>>>,
+    /// Where each connector stands among the others by the priority rules without a condition.
+    pub ranks: Ranks,
     ghost valid: { fault_of (plant_by atoms.items wires.items order.rules) ≡ None },
     ghost leaves: { map (λ list. list.items) ports.items ≡ map (λ w. leaves (wire_of w).connector) wires.items },
     ghost guarding: { AreGuarding (map definition_of atoms.items) (map wire_of wires.items) bound.items },
@@ -64,6 +82,11 @@ pub struct System {
     ghost rows: { length dependents.items ≡ length atoms.items * ATOM_ROWS },
     ghost touched: { AreDependents (map wire_of wires.items) (map interaction_of interactions.items) dependents.items },
     ghost on_ports: { AreOnPorts (map interaction_of interactions.items) dependents.items },
+    ghost all_bound: { length bound.items ≡ length wires.items },
+    ghost in_rows: { AreConnectorRows (map wire_of wires.items) bound.items (map interaction_of interactions.items) connector_rows.items },
+    ghost reached: { IsReach (length atoms.items) (map wire_of wires.items) reach },
+    ghost foretold: { AreUsual (map definition_of atoms.items) (leaves_of (map wire_of wires.items)) (map (λ row. row.items) usual.items) },
+    ghost ranked: { AreRanks (length wires.items) order.rules (map interaction_of interactions.items) ranks },
 }
 
 impl System {
@@ -95,6 +118,10 @@ impl System {
         let fit_words = fit_words(&interactions);
         let order = order_of(alloc, rules, &interactions)?;
         let dependents = dependent_rows(alloc, atoms.len(), &wires, &ports, &interactions)?;
+        let connector_rows = connector_rows(alloc, &wires, &ports, &bound, &interactions)?;
+        let reach = reach_of(alloc, atoms.len(), &wires, &ports)?;
+        let usual = usual_of(alloc, &atoms, &ports)?;
+        let ranks = ranks_of(alloc, &order, &connector_rows, &interactions)?;
         Ok(System {
             atoms,
             wires,
@@ -105,6 +132,10 @@ impl System {
             fit_words,
             order,
             dependents,
+            connector_rows,
+            reach,
+            usual,
+            ranks,
         })
     }
 }

@@ -1,16 +1,18 @@
 //! What a choice delivers to its participants.
-ghost use Rattle.std.specs.Prelude.{◌≡◌, false, ◌≤◌, ◌==◌, ◌&&◌, map, length, replicate};
-ghost use Rattle.std.specs.Option.{option_map_or};
+ghost use Rattle.std.specs.Prelude.{◌≡◌, ◌≤◌, ◌<◌, ◌==◌, IfSome, None, find, map, length, replicate};
 ghost use Rattle.petri_atom.specs.Expression.{tree_of, value_of};
 ghost use Rattle.connector_tree.specs.declared.tree.TheConstants.{MAX_LEAVES};
 ghost use Rattle.plant_model.specs.Chosen.{choice_of};
-ghost use Rattle.plant_model.specs.Delivery.{AreApart, AreDelivered, IsGiven, IsDelivered};
+ghost use Rattle.plant_model.specs.Delivery.{AreApart, AreDelivered, IsChanged, IsDelivered, IsGiven, IsPlaceOf};
 ghost use Rattle.plant_model.specs.Fitting.{IsOf};
-ghost use Rattle.plant_model.specs.BoundExpressions.{value_there, delivery_of, has_all, is_for, value_for, given_for};
+ghost use Rattle.plant_model.specs.BoundExpressions.{copied_by, deliveries_in, delivery_of, given_copies, given_for, value_for};
+ghost use Rattle.plant_model.specs.Values.{value_there};
 ghost use Rattle.plant_model.specs.Step.{transfer, nothing_delivered};
 
-use crate::bound_expressions::{Delivery, has_all};
+use crate::bound_expressions::has_all;
 use crate::choice::{Choice, Move};
+use crate::copy_row::CopyRow;
+use crate::delivery::{Deliveries, Delivery};
 use crate::state::PlantState;
 use crate::system::System;
 use connector_tree::{MAX_LEAVES, Mask};
@@ -58,12 +60,70 @@ fn deliver_nothing(moves: &[Move], delivered: &mut [Delivered; MAX_LEAVES])
     ensures { IsDelivered moves.now (λ _. nothing_delivered) delivered.new }
 {
     for place in 0..moves.len() {
-        delivered[place] = nothing_delivered();
+        delivered[place].clear();
     }
 }
 
 /// Puts what the deliveries that apply give to the atoms of the moves at the places of the moves, at which nothing is delivered yet.
 fn deliver_all(
+    deliveries: &Deliveries,
+    states: &PlantState,
+    mask: Mask,
+    moves: &[Move],
+    delivered: &mut [Delivered; MAX_LEAVES],
+)
+    requires few { length moves.now ≤ MAX_LEAVES }
+    requires apart { AreApart moves.now }
+    requires nothing { IsDelivered moves.now (λ _. nothing_delivered) delivered.old }
+    ensures { AreDelivered moves.now (given_for states.now (deliveries_in deliveries.now) mask) delivered.new }
+{
+    match deliveries {
+        Deliveries::Copies(rows) => deliver_copies(rows, states, mask, moves, delivered),
+        Deliveries::Values(all) => deliver_values(all, states, mask, moves, delivered),
+    }
+}
+
+/// The same of transfers that copy variables.
+fn deliver_copies(
+    rows: &[CopyRow],
+    states: &PlantState,
+    mask: Mask,
+    moves: &[Move],
+    delivered: &mut [Delivered; MAX_LEAVES],
+)
+    requires few { length moves.now ≤ MAX_LEAVES }
+    requires apart { AreApart moves.now }
+    requires nothing { IsDelivered moves.now (λ _. nothing_delivered) delivered.old }
+    ensures { AreDelivered moves.now (given_for states.now (copied_by rows.now) mask) delivered.new }
+{
+    for row in rows {
+        if has_all(mask, row.leaves) {
+            deliver_row(row, states, mask, moves, delivered);
+        }
+    }
+}
+
+/// Gives the exported variables of the row their values, where they have none.
+fn deliver_row(
+    row: &CopyRow,
+    states: &PlantState,
+    mask: Mask,
+    moves: &[Move],
+    delivered: &mut [Delivered; MAX_LEAVES],
+)
+    requires few { length moves.now ≤ MAX_LEAVES }
+    requires apart { AreApart moves.now }
+    ensures { IsChanged moves.now (λ other. row.now.atom == other) (given_copies states.now 0 row.now.cells) delivered.old delivered.new }
+{
+    let lower = u64::from(mask) & row.lower;
+    if let Some(place) = place_behind(moves, row.atom, lower) {
+        row.give(states, &mut delivered[place]);
+    }
+}
+
+/// The same of transfers of which some make a value.
+#[inline(never)]
+fn deliver_values(
     deliveries: &[Delivery],
     states: &PlantState,
     mask: Mask,
@@ -75,34 +135,112 @@ fn deliver_all(
     requires nothing { IsDelivered moves.now (λ _. nothing_delivered) delivered.old }
     ensures { AreDelivered moves.now (given_for states.now (map delivery_of deliveries.now) mask) delivered.new }
 {
+    if moves.is_empty() {
+        return;
+    }
+    let mut place = 0;
     for delivery in deliveries {
         if has_all(mask, delivery.leaves) {
-            let expected = (u32::from(mask) & delivery.before).count_ones() as usize;
-            deliver_one(delivery, states, moves, expected, delivered);
+            place = deliver_one(delivery, states, mask, moves, place, delivered);
         }
     }
 }
 
-/// Gives the target of the delivery its value, unless it has one. Its atom's move is looked for at the place `expected` first.
+/// Gives the target of the delivery its value, unless it has one. Its atom's move is looked for at the place `last` first, and the place
+/// where it stands is the result, or `last` if it has none.
 fn deliver_one(
     delivery: &Delivery,
     states: &PlantState,
+    mask: Mask,
     moves: &[Move],
-    expected: usize,
+    last: usize,
     delivered: &mut [Delivered; MAX_LEAVES],
-)
+) -> usize
     requires few { length moves.now ≤ MAX_LEAVES }
     requires apart { AreApart moves.now }
-    ensures { IsGiven moves.now (λ other. option_map_or (λ a. a == other) delivery.now.atom false) delivery.now.export (value_of (value_there states.now) (tree_of delivery.now.value)) delivered.old delivered.new }
+    requires last { last < length moves.now }
+    ensures given { IsGiven moves.now (λ other. delivery.now.atom == other) delivery.now.export (value_of (value_there states.now) (tree_of delivery.now.value.tree)) delivered.old delivered.new }
+    ensures place { result < length moves.now }
 {
-    if let Some(atom) = delivery.atom {
-        let value = delivery.value.value(states);
-        give_to_atom(delivered, moves, expected, atom, delivery.export, value);
+    let lower = u64::from(mask) & delivery.lower;
+    match place_of(moves, delivery.atom, last, lower) {
+        Some(place) => {
+            let value = delivery.value.value(states);
+            delivered[place].give_at(delivery.export, delivery.bit, value);
+            place
+        }
+        None => last,
     }
 }
 
+/// The place of the atom's move, if it has one. It is looked for at the place `last` first, and then behind as many moves as there are
+/// lower leaves.
+fn place_of(moves: &[Move], atom: u16, last: usize, lower: u64) -> Option<usize>
+    requires apart { AreApart moves.now }
+    requires last { last < length moves.now }
+    ensures found { IfSome result (λ place. IsPlaceOf moves.now atom place) }
+    ensures none { result ≡ None → find (λ m. m.atom == atom) moves.now ≡ None }
+{
+    // Transfers to one atom mostly stand together: these take no search.
+    if moves[last].atom == atom {
+        return Some(last);
+    }
+    place_behind(moves, atom, lower)
+}
+
+/// The place of the atom's move, if it has one. It is looked for behind as many moves as there are lower leaves first.
+fn place_behind(moves: &[Move], atom: u16, lower: u64) -> Option<usize>
+    requires apart { AreApart moves.now }
+    ensures found { IfSome result (λ place. IsPlaceOf moves.now atom place) }
+    ensures none { result ≡ None → find (λ m. m.atom == atom) moves.now ≡ None }
+{
+    // The moves of a choice rise by their atoms.
+    let expected = lower.count_ones() as usize;
+    if expected < moves.len() && moves[expected].atom == atom {
+        return Some(expected);
+    }
+    find_move(moves, atom)
+}
+
+/// The place of the first move of the atom, if there is one.
+#[inline(never)]
+fn find_move(moves: &[Move], atom: u16) -> Option<usize>
+    ensures found { IfSome result (λ place. IsPlaceOf moves.now atom place) }
+    ensures none { result ≡ None → find (λ m. m.atom == atom) moves.now ≡ None }
+{
+    for place in 0..moves.len() {
+        if moves[place].atom == atom {
+            return Some(place);
+        }
+    }
+    None
+}
+
 /// What the deliveries that apply give to the atom.
-fn given_for(deliveries: &[Delivery], states: &PlantState, mask: Mask, atom: u16) -> Delivered
+fn given_for(deliveries: &Deliveries, states: &PlantState, mask: Mask, atom: u16) -> Delivered
+    ensures { result ≡ given_for states.now (deliveries_in deliveries.now) mask atom }
+{
+    match deliveries {
+        Deliveries::Copies(rows) => copied_for(rows, states, mask, atom),
+        Deliveries::Values(all) => made_for(all, states, mask, atom),
+    }
+}
+
+/// The same of transfers that copy variables.
+fn copied_for(rows: &[CopyRow], states: &PlantState, mask: Mask, atom: u16) -> Delivered
+    ensures { result ≡ given_for states.now (copied_by rows.now) mask atom }
+{
+    let mut delivered = nothing_delivered();
+    for row in rows {
+        if has_all(mask, row.leaves) && row.atom == atom {
+            row.give(states, &mut delivered);
+        }
+    }
+    delivered
+}
+
+/// The same of transfers of which some make a value.
+fn made_for(deliveries: &[Delivery], states: &PlantState, mask: Mask, atom: u16) -> Delivered
     ensures { result ≡ given_for states.now (map delivery_of deliveries.now) mask atom }
 {
     Delivered::of([
@@ -131,25 +269,6 @@ fn value_for(
     None
 }
 
-impl Delivery {
-    /// Whether the delivery applies, and is to the exported variable of the atom.
-    fn applies_to(&self, mask: Mask, atom: u16, export: u8) -> bool
-        ensures { result ≡ (has_all mask self.now.leaves && is_for atom export (delivery_of self.now)) }
-    {
-        has_all(mask, self.leaves) && self.is_for(atom, export)
-    }
-
-    /// Whether the delivery is to the exported variable of the atom.
-    fn is_for(&self, atom: u16, export: u8) -> bool
-        ensures { result ≡ is_for atom export (delivery_of self.now) }
-    {
-        match self.atom {
-            Some(own) => self.export == export && own == atom,
-            None => false,
-        }
-    }
-}
-
 /// Nothing delivered.
 pub fn nothing_delivered() -> Delivered
     ensures { result ≡ nothing_delivered }
@@ -162,31 +281,4 @@ pub fn no_deliveries() -> [Delivered; MAX_LEAVES]
     ensures { result ≡ replicate MAX_LEAVES nothing_delivered }
 {
     [nothing_delivered(); MAX_LEAVES]
-}
-
-/// Gives the atom's exported variable the value at the place of the atom's move, unless it has one there. The move is looked for
-/// at the place `expected` first.
-fn give_to_atom(
-    delivered: &mut [Delivered; MAX_LEAVES],
-    moves: &[Move],
-    expected: usize,
-    atom: u16,
-    export: u8,
-    value: i64,
-)
-    requires few { length moves.now ≤ MAX_LEAVES }
-    requires apart { AreApart moves.now }
-    ensures { IsGiven moves.now (λ other. atom == other) export value delivered.old delivered.new }
-{
-    // The atoms of a connector mostly rise with its leaves: their moves take no search.
-    if expected < moves.len() && moves[expected].atom == atom {
-        delivered[expected].give(export, value);
-        return;
-    }
-    for place in 0..moves.len() {
-        if moves[place].atom == atom {
-            delivered[place].give(export, value);
-            return;
-        }
-    }
 }

@@ -1,5 +1,5 @@
 -- Two rows of words: what is in both, and what is in either.
-use Rattle.std.proofs.Common.{◌≡◌, ◌≢◌, ℕ, ◌+◌, ◌*◌, ◌/◌, ◌%◌, ◌^◌, ◌<◌, ◌≤◌, min, max, false, not, ◌&&◌, ◌||◌, eqb, List, length, get_or, set, sym, ap, ◌∙◌, subst, ⊎_elim, bit_and, bit_or, w64, arith, get_or-set_same, get_or-set_other, IsTrue}
+use Rattle.std.proofs.Common.{◌≡◌, ◌≢◌, ℕ, ◌+◌, ◌*◌, ◌/◌, ◌%◌, ◌^◌, ◌<◌, ◌≤◌, min, max, false, not, ◌&&◌, ◌||◌, eqb, List, length, get_or, set, refl, sym, ap, ◌∙◌, subst, ⊎_elim, bit_and, bit_or, w64, arith, get_or-set_same, get_or-set_other, IsTrue}
 use Rattle.std.specs.Int.{bit_at, bit_not, trailing_zeros}
 use Rattle.std.specs.Cmp.{nat_cmp_total}
 use Rattle.std.specs.FinSet as fin
@@ -10,8 +10,8 @@ use Rattle.priority_filter.specs.Members.{has_bit, holds, members_of}
 use Rattle.priority_filter.proofs.Words.{bit-and, bit-not}
 use Rattle.priority_filter.proofs.MemberLaws.{contains-members_of, members_of-same, holds_past}
 
--- the lowest bit that is set in both words tells what is in both rows
-pub in_both_from_word : (xs ys : List ℕ) (k : ℕ) → bit_and (get_or xs k 0) (get_or ys k 0) < 2 ^ 64 → bit_and (get_or xs k 0) (get_or ys k 0) ≢ 0 → (a : ℕ) × (a < 64 * (k + 1)) × IsTrue (holds xs a) × IsTrue (holds ys a)
+-- the lowest bit that is set in both words with a place tells what is in both rows
+pub in_both_from_word : (xs ys : List ℕ) (k : ℕ) → bit_and (get_or xs k 0) (get_or ys k 0) < 2 ^ 64 → bit_and (get_or xs k 0) (get_or ys k 0) ≢ 0 → (a : ℕ) × (a / 64 ≡ k) × IsTrue (holds xs a) × IsTrue (holds ys a)
 in_both_from_word xs ys k fits some =
     let x : ℕ = get_or xs k 0 in
     let y : ℕ = get_or ys k 0 in
@@ -25,20 +25,24 @@ in_both_from_word xs ys k fits some =
     let word : (64 * k + t) / 64 ≡ k = omega arith in
     let place : (64 * k + t) % 64 ≡ t = omega arith in (
       64 * k + t,
-      omega arith,
+      word,
       eq-eqb _ 1 (ap (λ j. bit_at (get_or xs j 0) ((64 * k + t) % 64)) word ∙ ap (bit_at x) place ∙ x_bit),
       eq-eqb _ 1 (ap (λ j. bit_at (get_or ys j 0) ((64 * k + t) % 64)) word ∙ ap (bit_at y) place ∙ y_bit),
     )
 
--- if no two of the first words have a bit in common nothing of theirs is in both rows
-pub none_in_both : (xs ys : List ℕ) (n : ℕ) → ((j : ℕ) → j < n → bit_and (get_or xs j 0) (get_or ys j 0) ≡ 0) → (a : ℕ) → a < 64 * n → IsTrue (holds xs a) → IsTrue (holds ys a) → ⊥
-none_in_both xs ys n none a within in_x in_y =
+-- if the words with a place have no bit in common nothing of theirs is in both rows
+pub none_in_both_at : (xs ys : List ℕ) (k : ℕ) → bit_and (get_or xs k 0) (get_or ys k 0) ≡ 0 → (a : ℕ) → a / 64 ≡ k → IsTrue (holds xs a) → IsTrue (holds ys a) → ⊥
+none_in_both_at xs ys k none a here in_x in_y =
     let x : ℕ = get_or xs (a / 64) 0 in
     let y : ℕ = get_or ys (a / 64) 0 in
-    let zero_bit : min (bit_at x (a % 64)) (bit_at y (a % 64)) ≡ 0 = sym (bit_at_and x y (a % 64)) ∙ ap (λ w. bit_at w (a % 64)) (none (a / 64) (omega arith)) ∙ bit_at-zero (a % 64) in
+    let zero_bit : min (bit_at x (a % 64)) (bit_at y (a % 64)) ≡ 0 = sym (bit_at_and x y (a % 64)) ∙ ap (λ j. bit_at (bit_and (get_or xs j 0) (get_or ys j 0)) (a % 64)) here ∙ ap (λ w. bit_at w (a % 64)) none ∙ bit_at-zero (a % 64) in
     let x_bit : bit_at x (a % 64) ≡ 1 = eqb-true _ 1 in_x in
     let y_bit : bit_at y (a % 64) ≡ 1 = eqb-true _ 1 in_y in
     absurd (omega arith)
+
+-- if no two of the first words have a bit in common nothing of theirs is in both rows
+pub none_in_both : (xs ys : List ℕ) (n : ℕ) → ((j : ℕ) → j < n → bit_and (get_or xs j 0) (get_or ys j 0) ≡ 0) → (a : ℕ) → a < 64 * n → IsTrue (holds xs a) → IsTrue (holds ys a) → ⊥
+none_in_both xs ys n none a within in_x in_y = none_in_both_at xs ys (a / 64) (none (a / 64) (omega arith)) a refl in_x in_y
 
 -- ---- what is in one row and not in the other
 

@@ -1,5 +1,5 @@
 -- The computed order answers exactly what the relations of the order say.
-use Rattle.std.proofs.Common.{◌≡◌, ◌≢◌, ◌↔◌, ℕ, ◌<◌, Bool, false, not, ◌&&◌, ltb, eqb, bit_and, List, length, Option, Some, None, IsTrue}
+use Rattle.std.proofs.Common.{◌≡◌, ◌≢◌, ◌↔◌, ℕ, ◌<◌, Bool, true, false, not, ◌&&◌, ltb, eqb, bit_and, List, length, Option, Some, None, IsTrue}
 use Rattle.std.specs.List.{list_any}
 use Rattle.std.proofs.lemmas.Bool.{both_ways, false_from_ne_true, not-false, not_from_true}
 use Rattle.priority_filter.specs.declared.rule.Side.{Side}
@@ -13,7 +13,7 @@ use Rattle.priority_filter.specs.Rule.{IsOn, Puts, IsProperSubset}
 use Rattle.priority_filter.specs.Order.{interaction_at, rule_at, IsRuleStep, IsBelow, IsStrict, IsFirstCyclic, IsKnownSide, IsKnownPlace, IsKnown, AreKnown, IsFirstUnknown}
 use Rattle.priority_filter.specs.Decided.{is_on, is_proper_subset, puts, is_rule_step, is_below, is_overruled, is_known_side, is_known_place, is_known, first_unknown, first_cyclic, fault_from, order_fault}
 use Rattle.priority_filter.proofs.MaskLaws.{subset_and, proper_differs, proper_from_and}
-use Rattle.priority_filter.proofs.Chains.{Leads-within}
+use Rattle.priority_filter.proofs.Chains.{Leads-join, Leads-within}
 use Rattle.priority_filter.proofs.DecidedTests.{decides_eq, decides_lt, decides_and, decides_not, decides_any, decides_any_below, decides_least, decides_none}
 use Rattle.priority_filter.proofs.DecidedChains.{decides_leads}
 
@@ -63,6 +63,11 @@ unfolding is_below
 decides_below rules interactions =
     decides_leads (IsRuleStep rules interactions) (length interactions) (λ a b step. step.from) (is_rule_step rules interactions) (decides_step rules interactions)
 
+-- what is below something that is below a third is below the third
+pub below-trans : (rules : List Rule) (interactions : List (ℕ × ℕ)) (a b c : ℕ) → is_below rules interactions a b ≡ true → is_below rules interactions b c ≡ true → is_below rules interactions a c ≡ true
+below-trans rules interactions a b c up on =
+    (decides_below rules interactions a c).1 (Leads-join (IsRuleStep rules interactions) a b c ((decides_below rules interactions a b).0 up) ((decides_below rules interactions b c).0 on))
+
 -- what is below something is of the list, and so is what it is below
 pub below_inside : (rules : List Rule) (interactions : List (ℕ × ℕ)) (a b : ℕ) → IsBelow rules interactions a b → (a < length interactions) × (b < length interactions)
 below_inside rules interactions =
@@ -81,6 +86,15 @@ decides_overruled rules interactions possible a =
     let some = decides_any_below (λ b. possible b && is_below rules interactions a b) (length interactions) in (
       λ yes. let found = some.0 yes in let both = (each found.0).0 found.2 in (found.0, both.0, both.1),
       λ above. some.1 (above.0, (below_inside rules interactions a above.0 above.2).1, (each above.0).1 (above.1, above.2)),
+    )
+
+-- the same with the computed order
+pub overruled-below : (rules : List Rule) (interactions : List (ℕ × ℕ)) (possible : ℕ → Bool) (a : ℕ)
+    → (is_overruled rules interactions possible a ≡ true) ↔ ((b : ℕ) × (possible b ≡ true) × (is_below rules interactions a b ≡ true))
+overruled-below rules interactions possible a =
+    let decides = decides_overruled rules interactions possible a in (
+      λ yes. let above = decides.0 yes in (above.0, above.1, (decides_below rules interactions a above.0).1 above.2),
+      λ some. decides.1 (some.0, some.1, (decides_below rules interactions a some.0).0 some.2),
     )
 
 -- ---- names

@@ -1,16 +1,18 @@
 -- A table of sets read as a relation, and how it grows by one row, one rule or one station.
-use Rattle.std.proofs.Common.{◌≡◌, ◌⊎◌, ◌↔◌, ℕ, ◌+◌, ◌<◌, ◌≤◌, Bool, cond, ◌||◌, List, length, get_or, set, sym, ap, ◌∙◌, subst, None, inl, inr, ⊎_elim, arith, IsTrue, eqb, get_or-set_same, get_or-set_other}
+use Rattle.std.proofs.Common.{◌≡◌, ◌⊎◌, ◌↔◌, ℕ, ◌+◌, ◌<◌, ◌≤◌, Bool, false, cond, ◌||◌, List, [], ◌∷◌, ◌++◌, length, get_or, set, sym, ap, ◌∙◌, subst, None, inl, inr, ⊎_elim, arith, IsTrue, eqb, get_or-set_same, get_or-set_other}
 use Rattle.std.specs.Ordering.{nat_cmp}
 use Rattle.std.specs.Cmp.{nat_cmp_total, unsigned_tied}
 use Rattle.std.specs.FinSet.{FinSet, contains, empty, insert, union, contains-empty, contains-insert, contains-union}
 use Rattle.std.proofs.lemmas.Bool.{cases_eq, cases_order, cases_lt, cases_Bool, or_cases, or_left, or_right, eq-eqb, eqb-true, false≢true}
-use Rattle.std.proofs.lemmas.List.{get_or_past, get_or_default, get_or_read}
+use Rattle.std.proofs.lemmas.List.{get_or_past, get_or_default, get_or_read, get_or_push, get_or_append_left, length-append}
 use Rattle.priority_filter.specs.declared.rule.Rule.{Rule}
 use Rattle.priority_filter.specs.Rule.{Puts}
 use Rattle.priority_filter.specs.Order.{Priorities, interaction_at, rule_at, IsRuleStep, Leads, IsBelow, IsStrict, IsFirstCyclic}
-use Rattle.priority_filter.specs.Decided.{order_fault}
-use Rattle.priority_filter.specs.Table.{row_at, Above, PutsIn, Gains, row_through}
+use Rattle.priority_filter.specs.Decided.{is_below, order_fault}
+use Rattle.priority_filter.specs.Table.{row_at, Above, PutsIn, Gains, AreTurned, row_through}
 use Rattle.priority_filter.proofs.Chains.{JoinsAt, Leads-weaker}
+use Rattle.priority_filter.proofs.DecidedTests.{same_answer}
+use Rattle.priority_filter.proofs.DecidedOrder.{decides_below}
 
 -- ---- one set
 
@@ -58,11 +60,14 @@ contains_union_cases s t b = (
 )
 
 -- past the table every row is empty
+pub row_past : (rows : List (FinSet nat_cmp)) (a : ℕ) → length rows ≤ a → (b : ℕ) → contains (row_at rows a) b ≡ false
+row_past rows a past b = ap (λ s. contains s b) (get_or_past rows a empty past) ∙ contains-empty nat_cmp b
+
 pub above_within : (rows : List (FinSet nat_cmp)) (a b : ℕ) → Above rows a b → a < length rows
 above_within rows a b above =
     ⊎_elim
     (λ within. within)
-    (λ past. absurd (in_nothing b (sym (ap (λ s. contains s b) (get_or_past rows a empty past)) ∙ above)))
+    (λ past. absurd (false≢true (sym (row_past rows a past b) ∙ above)))
     (cases_lt a (length rows))
 
 -- a row in which all is put that stands above the station
@@ -199,7 +204,50 @@ steps_all rules interactions rows n all steps a b = (
 pub row_read : (rows : List (FinSet nat_cmp)) (i a : ℕ) (row : FinSet nat_cmp) → row ≡ get_or rows i row → i ≡ a → a < length rows → row ≡ row_at rows a
 row_read rows i a row read same within = get_or_read rows i row (omega arith) read empty ∙ ap (row_at rows) same
 
+-- ---- the other way round
+
+-- the rows up to n of the table the other way round, and no other
+abbrev pub TurnedBelow : List (FinSet nat_cmp) → ℕ → List (FinSet nat_cmp) → Type 0
+TurnedBelow rows n turned = (a b : ℕ) → Above turned b a ↔ ((b < n) × Above rows a b)
+
+module _ (rows : List (FinSet nat_cmp)) where
+  pub turned_none : (turned : List (FinSet nat_cmp)) → length turned ≡ 0 → TurnedBelow rows 0 turned
+  turned_none turned blank a b = (λ above. absurd (omega (arith, above_within turned b a above, blank)), λ never. absurd (omega (arith, never.0)))
+
+  pub turned_more : (n : ℕ) (turned new : List (FinSet nat_cmp)) (row : FinSet nat_cmp) → length turned ≡ n → new ≡ turned ++ row ∷ []
+      → TurnedBelow rows n turned → ((a : ℕ) → IsTrue (contains row a) ↔ Above rows a n) → TurnedBelow rows (n + 1) new
+  turned_more n turned new row size is so_far here a b =
+      ⊎_elim
+      (λ last.
+      let at_end : row_at new b ≡ row = ap (λ t. row_at t b) is ∙ get_or_push turned row empty b (omega (arith, size, last)) in (
+        λ above. (omega (arith, last), subst (Above rows a) (sym last) ((here a).0 (sym (ap (λ s. contains s a) at_end) ∙ above))),
+        λ some. ap (λ s. contains s a) at_end ∙ (here a).1 (subst (Above rows a) last some.1),
+      ))
+      (λ other. (
+        λ above.
+            let within : b < length new = above_within new b a above in
+            let long : length new ≡ n + 1 = ap length is ∙ length-append turned (row ∷ []) ∙ ap (λ (k : ℕ). k + 1) size in
+            let earlier : row_at new b ≡ row_at turned b = ap (λ t. row_at t b) is ∙ get_or_append_left turned (row ∷ []) empty b (omega (arith, within, long, other, size)) in
+            let was = (so_far a b).0 (sym (ap (λ s. contains s a) earlier) ∙ above) in
+            (omega (arith, was.0), was.1),
+        λ some.
+            let earlier : row_at new b ≡ row_at turned b = ap (λ t. row_at t b) is ∙ get_or_append_left turned (row ∷ []) empty b (omega (arith, some.0, other, size)) in
+            ap (λ s. contains s a) earlier ∙ (so_far a b).1 (omega (arith, some.0, other), some.1),
+      ))
+      (cases_eq b n)
+
+  pub turned_all : (n : ℕ) (turned : List (FinSet nat_cmp)) → length rows ≤ n → ((a b : ℕ) → Above rows a b → b < length rows) → TurnedBelow rows n turned → AreTurned rows turned
+  turned_all n turned all inside has a b = (
+    λ below. ((has a b).0 below).1,
+    λ above. (has a b).1 (omega (arith, all, inside a b above), above),
+  )
+
 -- ---- the order
+
+-- the table tells what is computed
+pub row_decides : (rules : List Rule) (interactions : List (ℕ × ℕ)) (rows : List (FinSet nat_cmp)) → ((x y : ℕ) → Above rows x y ↔ IsBelow rules interactions x y)
+    → (a b : ℕ) → contains (row_at rows a) b ≡ is_below rules interactions a b
+row_decides rules interactions rows exact a b = same_answer (contains (row_at rows a) b) (is_below rules interactions a b) (IsBelow rules interactions a b) (exact a b) (decides_below rules interactions a b)
 
 -- the chains of the table of single steps are the chains of rule steps
 pub chains_of_steps : (rules : List Rule) (interactions : List (ℕ × ℕ)) (steps given rows : List (FinSet nat_cmp)) → given ≡ steps

@@ -43,6 +43,10 @@ Gains interactions rule old new = (a b : ℕ) → Above new a b ↔ (Above old a
 abbrev pub row_through : ℕ → FinSet nat_cmp → FinSet nat_cmp → FinSet nat_cmp
 row_through station through row = if contains row station then union row through else row
 
+-- the other table is this one the other way round: row b holds a exactly if row a of this one holds b
+abbrev pub AreTurned : List (FinSet nat_cmp) → List (FinSet nat_cmp) → Type 0
+AreTurned rows turned = (a b : ℕ) → Above turned b a ↔ Above rows a b
+
 -- the table is the order that the rules without a condition put on the interactions, and all rules are without fault
 pub record IsOrderTable (rules : List Rule) (interactions : List (ℕ × ℕ)) (rows : List (FinSet nat_cmp)) : Type 0 where
   pub limit : length interactions ≤ INTERACTION_LIMIT
@@ -54,9 +58,10 @@ pub record IsOrderTable (rules : List Rule) (interactions : List (ℕ × ℕ)) (
 abbrev pub AreFree : List Rule → List (ℕ × ℕ) → FinSet nat_cmp → Type 0
 AreFree rules interactions set = (n : ℕ) → contains set n ≡ true → (b : ℕ) → ¬ IsBelow rules interactions n b
 
--- what an order keeps: the table, the interactions that none is above, the rules with a condition, and the places that these ask for
-pub record IsOrder (rules : List Rule) (interactions : List (ℕ × ℕ)) (rows : List (FinSet nat_cmp)) (unruled : FinSet nat_cmp) (kept : List Condition) (places : List ℕ) : Type 0 where
+-- what an order keeps: the table, the same the other way round, the interactions that none is above, the rules with a condition, and the places that these ask for
+pub record IsOrder (rules : List Rule) (interactions : List (ℕ × ℕ)) (rows turned : List (FinSet nat_cmp)) (unruled : FinSet nat_cmp) (kept : List Condition) (places : List ℕ) : Type 0 where
   pub table : IsOrderTable rules interactions rows
+  pub below : AreTurned rows turned
   pub free : AreFree rules interactions unruled
   pub conditions : AreConditions rules interactions kept
   pub watched : AreWatched rules places

@@ -69,7 +69,7 @@ impl Order {
         let mut left = some;
         while left != 0 {
             let bit = left.trailing_zeros() as usize;
-            if self.is_overruled_always((64 * place + bit) as u16, rivals) {
+            if self.is_overruled((64 * place + bit) as u16, rivals) {
                 kept &= !(1 << bit);
             }
             left &= !(1 << bit);

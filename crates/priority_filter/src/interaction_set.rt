@@ -111,8 +111,15 @@ impl InteractionSet {
         ensures { IsTrue result
             ↔ ((a : ℕ) × IsTrue (set.contains self.now a) × IsTrue (set.contains other.now a)) }
     {
-        have_common_bit_at(&self.words, &other.words, likely)
-            || have_common_bit(&self.words, &other.words, ROW_WORDS)
+        self.meets_at(other, likely) || have_common_bit(&self.words, &other.words, ROW_WORDS)
+    }
+
+    /// Whether one of the 64 interactions from 64 times the place on, if there are any, is in both sets.
+    pub(crate) fn meets_at(&self, other: &InteractionSet, place: usize) -> bool
+        ensures { IsTrue result
+            ↔ ((a : ℕ) × (a / 64 ≡ place) × IsTrue (set.contains self.now a) × IsTrue (set.contains other.now a)) }
+    {
+        place < ROW_WORDS && self.words[place] & other.words[place] != 0
     }
 
     /// Whether some interaction below 64 for each of the words is in both sets.
@@ -171,13 +178,6 @@ fn unite(words: &mut [u64; ROW_WORDS], other: &[u64; ROW_WORDS], count: usize)
     for k in 0..count {
         words[k] |= other[k];
     }
-}
-
-/// Whether some bit is set in both words with this place, if there are any.
-fn have_common_bit_at(words: &[u64; ROW_WORDS], other: &[u64; ROW_WORDS], place: usize) -> bool
-    ensures { IsTrue result → ((a : ℕ) × IsTrue (holds words.now a) × IsTrue (holds other.now a)) }
-{
-    place < ROW_WORDS && words[place] & other[place] != 0
 }
 
 /// Whether some bit of the first words is set in both.

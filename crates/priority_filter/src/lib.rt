@@ -14,7 +14,8 @@
 //! - A rule may have a condition: a place of an atom. It counts while the place is marked, and if nothing is known of the atom it
 //!   may. The order of a state is the one that the rules that count put; a row of [`Seen`] tells which they are.
 //! - [`Order::below_at`] is exactly that order. [`Order::filter`] leaves those of some candidates that have no rival above them,
-//!   64 at a time.
+//!   64 at a time. [`Order::above_word`] and [`Order::below_word`] tell for one interaction what is above it and what is below it by
+//!   the rules without a condition, 64 at a time too.
 //! - [`laws`] has what follows from the definitions: below is transitive, an order that was made is strict whichever conditions
 //!   hold, and if something is possible, some possible interaction has no possible one above it.
 //!
@@ -25,7 +26,7 @@
 //! - `rule`: a rule and its sides. `mask`: whether a leaf mask has all leaves of another, and more.
 //! - `seen`: the condition of a rule, and what is seen of the atoms. `watched`: the places that the conditions ask for.
 //! - `order`: the order; how it is made, and what is below what. `fault`: why there is none.
-//! - `table`: the order of the rules without a condition, as one row of bits for each interaction.
+//! - `table`: the order of the rules without a condition, as one row of bits for each interaction, and the same the other way round.
 //! - `condition`: the rules with a condition, as two sets each, and what they add.
 //! - `filter`: those of some candidates that no rival is above.
 //! - `interaction_set`: a set of interaction numbers, as a row of bits.

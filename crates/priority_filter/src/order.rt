@@ -1,5 +1,5 @@
 //! The order that rules put on the interactions of a plant.
-ghost use Rattle.std.specs.Prelude.{◌≡◌, ◌≢◌, ℕ, ◌/◌, ◌%◌, ◌<◌, ◌≤◌, ◌↔◌, ◌||◌, Bool, true, false, length, vec_len, IfOk, IfErr, OnOk, IsTrue, IfSome, IfNone, Some, None, Contains};
+ghost use Rattle.std.specs.Prelude.{◌≡◌, ◌≢◌, ℕ, ◌*◌, ◌/◌, ◌%◌, ◌<◌, ◌≤◌, ◌↔◌, ◌||◌, Bool, true, false, length, vec_len, IfOk, IfErr, OnOk, IsTrue, IfSome, IfNone, Some, None, Contains};
 ghost use Rattle.std.specs.FinSet as set;
 ghost use Rattle.priority_filter.specs.Active.{active, unconditional, may_be_marked};
 ghost use Rattle.priority_filter.specs.Members.{has_bit};
@@ -23,12 +23,14 @@ use std::marker::Model;
 /// Which interactions are below which. An interaction is named by its number, its place in the list
 /// that the order was made from.
 ///
-/// The table `above` is of the rules without a condition. What those with one add is kept beside it, one entry for each.
+/// The tables `above` and `below` are of the rules without a condition. What those with one add is kept beside them, one entry for
+/// each.
 #[derive(Drop)]
 pub struct Order {
     rules: Vec<Rule>,
     interactions: Vec<(u16, u16)>,
     above: Vec<InteractionSet>,
+    below: Vec<InteractionSet>,
     free: InteractionSet,
     conditions: Vec<Condition>,
     watched: [u64; SEEN_ATOMS],
@@ -42,7 +44,7 @@ impl Model for Order {
 
     ghost view = { λ o. record { rules = o.rules.items; interactions = o.interactions.items } };
 
-    ghost invariant = { λ o. IsOrder o.rules.items o.interactions.items o.above.items o.free o.conditions.items o.watched };
+    ghost invariant = { λ o. IsOrder o.rules.items o.interactions.items o.above.items o.below.items o.free o.conditions.items o.watched };
 }
 
 impl Order {
@@ -94,16 +96,19 @@ impl Order {
         ensures rules { IfOk result (λ order. order.rules ≡ rules.now) }
         ensures interactions { IfOk result (λ order. order.interactions ≡ interactions.now) }
     {
+        let watched = watched::watched_places(rules);
         let free = table::free_rows(&all);
         let above = table::table_without_conditions(alloc, rules, interactions, all)?;
+        let below = table::turned(alloc, &above)?;
         let conditions = conditions_of(alloc, rules, interactions, &above)?;
         Ok(Order {
             rules: Vec::from_slice(alloc, rules)?,
             interactions: Vec::from_slice(alloc, interactions)?,
             above,
+            below,
             free,
             conditions,
-            watched: watched::watched_places(rules),
+            watched,
         })
     }
 
@@ -164,18 +169,18 @@ impl Order {
         ensures sound { order_fault self.now.rules self.now.interactions ≡ None }
     {
         if self.has_conditions() {
-            self.is_overruled_always(interaction, rivals)
+            self.is_overruled(interaction, rivals)
                 || self
                     .overruled_by_conditions(seen, rivals)
                     .contains(interaction)
         } else {
-            self.is_overruled_always(interaction, rivals)
+            self.is_overruled(interaction, rivals)
         }
     }
 
     /// Whether a rival is above this interaction, by the rules without a condition. None is above a number of no interaction of
     /// the order.
-    pub(crate) fn is_overruled_always(&self, interaction: u16, rivals: &InteractionSet) -> bool
+    pub fn is_overruled(&self, interaction: u16, rivals: &InteractionSet) -> bool
         ensures value { result ≡ is_overruled (unconditional self.now.rules) self.now.interactions (set.contains rivals.now) interaction }
         ensures limit { length self.now.interactions ≤ INTERACTION_LIMIT }
         ensures sound { order_fault self.now.rules self.now.interactions ≡ None }
@@ -183,17 +188,43 @@ impl Order {
         let place = usize::from(interaction);
         match self.above.get(place) {
             // Under `maximal` those above follow closely, so that the own word most likely has one.
-            Some(row) => row.intersects(rivals, place / 64),
+            Some(row) => row.meets_at(rivals, place / 64) || row.meets(rivals, self.words()),
             None => false,
         }
     }
 
-    /// Those of 64 interactions that nothing is above, if all rules count.
-    pub(crate) fn free_word(&self, place: usize) -> u64
+    /// Those of the 64 interactions from 64 times the place on that nothing is above, if all rules count: bit k for the one with k
+    /// after these.
+    pub fn free_word(&self, place: usize) -> u64
         requires { place < ROW_WORDS }
         ensures { (n : ℕ) → n / 64 ≡ place → has_bit result (n % 64) ≡ true → (rivals : ℕ → Bool) → is_overruled (unconditional self.now.rules) self.now.interactions rivals n ≡ false }
     {
         self.free.word(place)
+    }
+
+    /// Which of the 64 interactions from 64 times the place on are below this one, by the rules without a condition: bit k for the
+    /// one with k after these. None is below a number of no interaction of the order.
+    pub fn below_word(&self, interaction: u16, place: usize) -> u64
+        requires { place < ROW_WORDS }
+        ensures { (n : ℕ) → n / 64 ≡ place → has_bit result (n % 64) ≡ is_below (unconditional self.now.rules) self.now.interactions n interaction }
+    {
+        table::row_word(&self.below, interaction, place)
+    }
+
+    /// Which of them are above this one. None is above a number of no interaction of the order.
+    pub fn above_word(&self, interaction: u16, place: usize) -> u64
+        requires { place < ROW_WORDS }
+        ensures { (n : ℕ) → n / 64 ≡ place → has_bit result (n % 64) ≡ is_below (unconditional self.now.rules) self.now.interactions interaction n }
+    {
+        table::row_word(&self.above, interaction, place)
+    }
+
+    /// How many words of 64 bits have a bit for each interaction.
+    fn words(&self) -> usize
+        ensures enough { length self.now.interactions ≤ 64 * result }
+        ensures limit { result ≤ ROW_WORDS }
+    {
+        self.interactions.len().div_ceil(64)
     }
 
     /// What the rules with a condition that may hold add: with what they put in the set, and what the rules without a condition
@@ -205,8 +236,7 @@ impl Order {
     ) -> InteractionSet
         ensures { (n : ℕ) → is_overruled (active (may_be_marked seen.now) self.now.rules) self.now.interactions (set.contains rivals.now) n ≡ (is_overruled (unconditional self.now.rules) self.now.interactions (set.contains rivals.now) n || set.contains result n) }
     {
-        let words = self.interactions.len().div_ceil(64);
-        condition::overruled_by(&self.conditions, seen, rivals, words)
+        condition::overruled_by(&self.conditions, seen, rivals, self.words())
     }
 }
 

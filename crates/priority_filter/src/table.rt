@@ -1,16 +1,19 @@
 //! The table of an order: for each interaction the set of those that stand above it.
 //!
-//! It is filled with the rule steps, rule by rule, and then closed through one station after another.
-ghost use Rattle.std.specs.Prelude.{◌≡◌, ℕ, ◌<◌, ◌≤◌, ◌↔◌, Bool, true, false, length, vec_len, IfOk, IfSome, IfNone, IsTrue};
+//! It is filled with the rule steps, rule by rule, and then closed through one station after another. Turned round, it has for each
+//! interaction the set of those that stand below it.
+ghost use Rattle.std.specs.Prelude.{◌≡◌, ℕ, ◌/◌, ◌%◌, ◌<◌, ◌≤◌, ◌↔◌, Bool, true, false, length, vec_len, IfOk, IfSome, IfNone, IsTrue};
 ghost use Rattle.std.specs.FinSet as set;
 ghost use Rattle.std.specs.List.{list_all};
 ghost use Rattle.priority_filter.specs.Active.{is_active, unconditional};
 ghost use Rattle.priority_filter.specs.Conditions.{IsUpTo, IsFrom};
+ghost use Rattle.priority_filter.specs.Members.{has_bit};
 ghost use Rattle.priority_filter.specs.Rule.{IsOn, Puts, IsProperSubset};
 ghost use Rattle.priority_filter.specs.Order.{rule_at, IsRuleStep, Leads, IsBelow};
-ghost use Rattle.priority_filter.specs.Table.{row_at, Above, IsSideSet, IsLargerSet, Gains, row_through};
+ghost use Rattle.priority_filter.specs.Table.{row_at, Above, IsSideSet, IsLargerSet, Gains, AreTurned, row_through};
+ghost use Rattle.priority_filter.specs.declared.interaction_set.TheConstants.{ROW_WORDS};
 
-use crate::interaction_set::{INTERACTION_LIMIT, InteractionSet};
+use crate::interaction_set::{INTERACTION_LIMIT, InteractionSet, ROW_WORDS};
 use crate::mask;
 use crate::rule::{Rule, Side};
 use std::alloc::{AllocError, Global};
@@ -226,6 +229,44 @@ pub fn table_without_conditions(
         return Ok(all);
     }
     order_table(alloc, &rules_without_condition(alloc, rules)?, interactions)
+}
+
+/// The interactions that this one stands above.
+fn rows_with(rows: &[InteractionSet], upper: u16) -> InteractionSet
+    requires { length rows.now ≤ INTERACTION_LIMIT }
+    ensures { (a : ℕ) → IsTrue (set.contains result a) ↔ Above rows.now a upper }
+{
+    let mut found = InteractionSet::new();
+    for number in 0..rows.len() {
+        if rows[number].contains(upper) {
+            found.insert(number as u16);
+        }
+    }
+    found
+}
+
+/// The table the other way round: for each interaction the set of those that it stands above.
+pub fn turned(alloc: Global, rows: &[InteractionSet]) -> Result<Vec<InteractionSet>, AllocError>
+    requires limit { length rows.now ≤ INTERACTION_LIMIT }
+    requires within { (a b : ℕ) → Above rows.now a b → b < length rows.now }
+    ensures { IfOk result (λ lower. AreTurned rows.now lower.items) }
+{
+    let mut lower = Vec::with_capacity(alloc, rows.len())?;
+    for upper in 0..rows.len() {
+        lower.push_reserved(rows_with(rows, upper as u16));
+    }
+    Ok(lower)
+}
+
+/// Which of the 64 interactions from 64 times the place on are in the row of this one, bit k for the one with k after these.
+pub fn row_word(rows: &[InteractionSet], interaction: u16, place: usize) -> u64
+    requires { place < ROW_WORDS }
+    ensures { (n : ℕ) → n / 64 ≡ place → has_bit result (n % 64) ≡ set.contains (row_at rows.now interaction) n }
+{
+    match rows.get(usize::from(interaction)) {
+        Some(row) => row.word(place),
+        None => 0,
+    }
 }
 
 /// The interactions that nothing stands above.

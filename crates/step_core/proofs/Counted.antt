@@ -24,6 +24,14 @@ no_interaction = record { connector = 0; mask = 0; ports = [] }
 pub possible-past : (atoms : List AtomDefinition) (wires : List WireDefinition) (states : List Local) (all : List Interaction) (n : ℕ) → length all ≤ n → is_possible_at atoms wires states all n ≡ false
 possible-past atoms wires states all n past = ap (λ o. option_map_or (is_possible atoms wires states) o false) (slice_get_past all n past)
 
+-- an interaction that has choices is there
+pub ways-within : (atoms : List AtomDefinition) (states : List Local) (all : List Interaction) (n place : ℕ) → place < ways_at atoms states all n → n < length all
+ways-within atoms states all n place some =
+    ⊎_elim
+    (λ within. within)
+    (λ past. absurd (omega (arith, some, ap (λ o. option_map_or (λ i. length (choices_of atoms states i)) o 0) (slice_get_past all n past))))
+    (cases_lt n (length all))
+
 module _ (plant : PlantDefinition) (marked : At → Bool) (states : List Local) (all : List Interaction) (rivals : ℕ → Bool) where
   -- what is not possible is not kept
   pub not-kept : (n : ℕ) → is_possible_at plant.atoms plant.wires states all n ≡ false → is_kept_at plant marked states all rivals n ≡ false

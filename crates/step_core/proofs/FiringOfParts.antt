@@ -1,19 +1,20 @@
 -- The parts of a state while a sure choice is fired.
-use Rattle.std.proofs.Common.{◌≡◌, ℕ, zero, suc, ◌+◌, ◌==◌, refl, sym, ◌∙◌, ap, subst, List, [], ◌∷◌, length, arith, Bool, true, false, cond, not, eqb-true}
+use Rattle.std.proofs.Common.{◌≡◌, ℕ, zero, suc, ◌+◌, ◌==◌, refl, sym, ◌∙◌, ap, subst, List, [], ◌∷◌, length, Contains, arith, Bool, true, false, cond, not, eqb-true}
 use Rattle.std.specs.Prelude.{Option, Some, None, find, is_none, option_map, slice_get}
 use Rattle.std.specs.List.{list_all}
 use Rattle.std.specs.Option.{option_map_or}
 use Rattle.std.proofs.lemmas.Bool.{and_parts, and_from, false≢true, false_from_ne_true}
 use Rattle.std.proofs.lemmas.Option.{none-some, same_Some}
 use Rattle.petri_atom.specs.Local.{Local, Row, has}
-use Rattle.petri_atom.specs.Definition.{AtomDefinition, Fits, fired, is_well_formed}
+use Rattle.petri_atom.specs.Definition.{AtomDefinition, Fits, fired, is_well_formed, offers_number}
 use Rattle.connector_tree.specs.declared.tree.Port.{Port}
 use Rattle.plant_model.specs.Choice.{ChoiceDefinition}
 use Rattle.plant_model.specs.Laws.{are_moves_at, is_move_at}
 use Rattle.plant_model.specs.Plant.{PlantDefinition}
+use Rattle.plant_model.specs.Rules.{fault_of}
 use Rattle.plant_model.specs.Step.{moved_by, next, stepped, transfer}
 use Rattle.plant_model.specs.declared.choice.Move.{Move}
-use Rattle.plant_model.proofs.ByAtom.{next-entry}
+use Rattle.plant_model.proofs.ByAtom.{first-of-atom, next-entry}
 use Rattle.plant_model.proofs.Membership.{all-in, entry-in}
 use Rattle.plant_model.proofs.OnRuns.{stepped-fits}
 use Rattle.plant_model.proofs.Stepping.{length-stepped}
@@ -21,7 +22,9 @@ use Rattle.step_core.specs.Dispatching.{AllPresentFit, ArePartsKept}
 use Rattle.step_core.specs.Parts.{is_present, parts_of, shown_in}
 use Rattle.step_core.specs.Sure.{IsSure, moved_parts, went_on}
 use Rattle.step_core.proofs.OfSure.{sure-choice-of}
+use Rattle.step_core.proofs.OfParts.{shown-at}
 use Rattle.step_core.proofs.PartsKept.{part, part-at, told-away}
+use Rattle.step_core.proofs.Present.{participant, sure-shown}
 use Rattle.step_core.proofs.Refreshing.{stays}
 
 -- ---- the atoms of a sure choice are present
@@ -133,3 +136,27 @@ presence-stays plant parts c n = ap (λ o. not (option_map_or is_none o false)) 
     each None = refl
     each (Some None) = refl
     each (Some (Some s)) = refl
+
+-- each participant offered its transition, and fires it
+module _ (plant : PlantDefinition) (valid : fault_of plant ≡ None) (parts : List (Option Local)) (c : ChoiceDefinition) (sure : IsSure plant parts c) (m : Move) (at : Contains c.moves m) (a : AtomDefinition) (before after : Local)
+    (known : slice_get plant.atoms m.atom ≡ Some a) (was : slice_get (shown_in parts) m.atom ≡ Some before) (is : slice_get (shown_in (went_on plant parts c)) m.atom ≡ Some after) where
+  its : (b : AtomDefinition) × (s : Local) × (slice_get plant.atoms m.atom ≡ Some b) × (slice_get parts m.atom ≡ Some (Some s)) × (offers_number b s m.transition ≡ true)
+  its = participant plant parts c sure m at
+
+  same-atom : its.0 ≡ a
+  same-atom = same_Some its.0 a (sym its.2 ∙ known)
+
+  same-state : its.1 ≡ before
+  same-state = same_Some its.1 before (sym (shown-at parts m.atom (Some its.1) its.3) ∙ was)
+
+  pub offered-before : offers_number a before m.transition ≡ true
+  offered-before = ap (λ b. offers_number b before m.transition) (sym same-atom) ∙ ap (λ s. offers_number its.0 s m.transition) (sym same-state) ∙ its.4
+
+  pub fires : after ≡ fired a m.transition (transfer plant (shown_in parts) c m.atom) before
+  fires =
+      let now : Local → Local = stepped plant.atoms c.moves (transfer plant (shown_in parts) c) m.atom in
+      let left : slice_get (went_on plant parts c) m.atom ≡ Some (Some (now its.1)) = moved-at plant parts c m.atom ∙ ap (option_map (option_map now)) its.3 in
+      same_Some after (now its.1) (sym is ∙ shown-at (went_on plant parts c) m.atom (Some (now its.1)) left) ∙ ap now same-state ∙
+      ap (λ o. option_map_or (λ b. moved_by b c.moves (transfer plant (shown_in parts) c m.atom) m.atom before) o before) known ∙
+      ap (λ o. option_map_or (λ k. fired a k.transition (transfer plant (shown_in parts) c m.atom) before) o before)
+      (first-of-atom plant (shown_in parts) c valid (sure-shown plant parts c sure) m at)

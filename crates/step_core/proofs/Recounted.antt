@@ -2,7 +2,7 @@
 use Rattle.std.proofs.Common.{◌≡◌, ◌≢◌, ℕ, ◌<◌, ◌≤◌, sym, ◌∙◌, ap, subst, List, [], length, get_or, set, replicate, arith, ⊎_elim}
 use Rattle.std.specs.Prelude.{Some, slice_get}
 use Rattle.std.proofs.lemmas.Bool.{cases_eq, cases_lt}
-use Rattle.std.proofs.lemmas.List.{get_or-set_same, get_or-set_other, get_or-replicate, get_or_past, length-replicate}
+use Rattle.std.proofs.lemmas.List.{get_or-set_same, get_or-set_other, get_or-replicate, get_or_past, length-replicate, length-set}
 use Rattle.std.proofs.lemmas.Option.{same_Some, slice_get_within}
 use Rattle.petri_atom.specs.Local.{Local}
 use Rattle.petri_atom.specs.Definition.{AtomDefinition, enabled, offered_set}
@@ -70,3 +70,23 @@ module _ (sets : List ℕ) (counts : List (List ℕ)) (i new : ℕ) (row : List 
       past_atoms = λ n port beyond. count-there n port (λ same. absurd (omega (arith, slice_get_within atoms i atom there, same, beyond))) ∙ before.past_atoms n port beyond;
       few = all-few before.few;
     }
+
+-- what is counted is right for all sets that are the same number by number
+pub counted-alike : (atoms : List AtomDefinition) (sets others : List ℕ) (counts : List (List ℕ)) → ((n : ℕ) → get_or sets n 0 ≡ get_or others n 0) → AreCounted atoms sets counts → AreCounted atoms others counts
+counted-alike atoms sets others counts same right = record {
+  at_ports = λ n a s port known told. right.at_ports n a s port known (same n ∙ told);
+  past_ports = right.past_ports;
+  past_atoms = right.past_atoms;
+  few = right.few;
+}
+
+-- so it is where one is put back that another one took the place of
+pub put-back : (sets : List ℕ) (i other here : ℕ) → i < length sets → here ≡ get_or sets i 0 → (n : ℕ) → get_or (set (set sets i other) i here) n 0 ≡ get_or sets n 0
+put-back sets i other here within is n = ⊎_elim
+    (λ same. ap (λ k. get_or (set (set sets i other) i here) k 0) same ∙ get_or-set_same (set sets i other) i here 0 (omega (arith, within, length-set sets i other)) ∙ is ∙ ap (λ k. get_or sets k 0) (sym same))
+    (λ differs. get_or-set_other (set sets i other) i n here 0 differs ∙ get_or-set_other sets i n other 0 differs)
+    (cases_eq n i)
+
+-- an entry that is written by its number
+pub written-at : (xs : List ℕ) (i k x : ℕ) → i ≡ k → i < length xs → get_or (set xs i x) k 0 ≡ x
+written-at xs i k x same within = ap (λ j. get_or (set xs i x) j 0) (sym same) ∙ get_or-set_same xs i x 0 within

@@ -7,12 +7,12 @@ use Rattle.std.proofs.lemmas.Bool.{and_parts, and_from, false≢true, false_from
 use Rattle.std.proofs.lemmas.Option.{slice_get-map}
 use Rattle.petri_atom.specs.Local.{Local, Row, has}
 use Rattle.petri_atom.specs.Definition.{AtomDefinition, fired}
-use Rattle.connector_tree.specs.Masks.{interactions_of, is_set, ports_of}
+use Rattle.connector_tree.specs.Masks.{is_set, ports_of}
 use Rattle.connector_tree.specs.Tree.{leaves}
 use Rattle.connector_tree.specs.declared.tree.Port.{Port}
 use Rattle.priority_filter.proofs.Counting.{below-more}
 use Rattle.priority_filter.specs.declared.seen.At.{At}
-use Rattle.plant_model.specs.Choice.{ChoiceDefinition, Interaction, IsAllowed, by_atom, interaction_by, is_marked_at, is_offered_port, is_possible, is_possible_at, named, passes_guards, plant_interactions}
+use Rattle.plant_model.specs.Choice.{ChoiceDefinition, Interaction, IsAllowed, is_marked_at, is_offered_port, is_possible, is_possible_at, named, passes_guards, plant_interactions}
 use Rattle.plant_model.specs.Exports.{guards_hold}
 use Rattle.plant_model.specs.Laws.{IsOnTop}
 use Rattle.plant_model.specs.Plant.{PlantDefinition, WireDefinition}

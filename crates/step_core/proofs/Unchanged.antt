@@ -1,6 +1,6 @@
 -- Where the same interactions of two states are kept, and each of these has as many choices, as many choices are; and where the same
 -- interactions are possible, and the same rules count, the same are allowed.
-use Rattle.std.proofs.Common.{◌≡◌, ℕ, suc, ◌+◌, refl, sym, ◌∙◌, ap, List, [], ◌∷◌, length, map, arith, Bool, true, cond, ◌&&◌, not, ⊎_elim}
+use Rattle.std.proofs.Common.{◌≡◌, ℕ, suc, ◌+◌, refl, sym, ◌∙◌, ap, List, [], ◌∷◌, ◌++◌, length, map, arith, Bool, true, false, cond, ◌&&◌, not, ⊎_elim}
 use Rattle.std.specs.Prelude.{Some, slice_get}
 use Rattle.std.specs.Option.{option_map_or}
 use Rattle.std.proofs.lemmas.Bool.{cases_Bool}
@@ -8,11 +8,10 @@ use Rattle.std.proofs.lemmas.List.{length-append}
 use Rattle.petri_atom.specs.Definition.{AtomDefinition}
 use Rattle.petri_atom.specs.Local.{Local}
 use Rattle.plant_model.specs.Plant.{PlantDefinition}
-use Rattle.plant_model.specs.Choice.{Interaction, active_in, named, is_possible_at, is_allowed_at, choices_of, choices_among, flat_from}
+use Rattle.plant_model.specs.Choice.{Interaction, active_in, named, is_possible_at, is_allowed_at, choices_of, flat_from}
 use Rattle.plant_model.specs.Ways.{ways_at}
 use Rattle.step_core.specs.ChoicesIn.{choices_in, choices_where}
 use Rattle.priority_filter.specs.Decided.{is_overruled}
-use Rattle.step_core.proofs.Counted.{possible-first}
 
 module _ (atoms : List AtomDefinition) (all : List Interaction) (before after : List Local) (old new : ℕ → Bool)
     (same : (n : ℕ) → new n ≡ old n)
@@ -40,17 +39,9 @@ module _ (atoms : List AtomDefinition) (all : List Interaction) (before after : 
       sym (ap (λ o. option_map_or (λ k. length (choices_of atoms after k)) o 0) there) ∙ ways j (ap new (omega arith) ∙ yes_) ∙
       ap (λ o. option_map_or (λ k. length (choices_of atoms before k)) o 0) there)
 
-module _ (plant : PlantDefinition) (all : List Interaction) (before after : List Local)
-    (possible : (n : ℕ) → is_possible_at plant.atoms plant.wires after all n ≡ is_possible_at plant.atoms plant.wires before all n)
-    (ways : (n : ℕ) → is_possible_at plant.atoms plant.wires after all n ≡ true → ways_at plant.atoms after all n ≡ ways_at plant.atoms before all n)
-    (counted : active_in plant after ≡ active_in plant before) where
-  same-test : is_possible_at plant.atoms plant.wires after all ≡ is_possible_at plant.atoms plant.wires before all
-  same-test = λ j n. possible n j
-
-  pub allowed-same : (n : ℕ) → is_allowed_at plant after all n ≡ is_allowed_at plant before all n
-  allowed-same n =
-      ap (λ test. test n && not (is_overruled (active_in plant after) (map named all) test n)) same-test ∙
-      ap (λ rules. is_possible_at plant.atoms plant.wires before all n && not (is_overruled rules (map named all) (is_possible_at plant.atoms plant.wires before all) n)) counted
-
-  pub total-same : length (choices_among plant after all) ≡ length (choices_among plant before all)
-  total-same = total-kept plant.atoms all before after (is_allowed_at plant before all) (is_allowed_at plant after all) allowed-same (λ n yes_. ways n (possible-first plant after all n yes_))
+-- where none is kept there is no choice
+module _ (atoms : List AtomDefinition) (states : List Local) (test : ℕ → Bool) (never : (n : ℕ) → test n ≡ false) where
+  pub none-kept : (k : ℕ) (xs : List Interaction) → flat_from (choices_where atoms states test) k xs ≡ []
+  none-kept k [] = refl
+  none-kept k (x ∷ xs) =
+      ap (λ b. cond b (choices_of atoms states x) [] ++ flat_from (choices_where atoms states test) (suc k) xs) (never k) ∙ none-kept (suc k) xs

@@ -3,9 +3,14 @@ pub mod Parts
 pub mod Sure
 pub mod Running
 pub mod Possible
-pub mod Words
 pub mod ChoicesIn
 pub mod Judges
+pub mod Leaves
+pub mod Told
+pub mod Weights
+pub mod Words
+pub mod Standing
+pub mod Renewal
 pub mod Judgement
 pub mod SureJudgement
 pub mod Laws
@@ -14,3 +19,4 @@ pub mod Job
 pub mod Queue
 pub mod Jobs
 pub mod Dispatcher
+pub mod Puts

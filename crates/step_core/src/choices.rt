@@ -1,30 +1,32 @@
 //! The choices of a global state: how many there are, and which.
-ghost use Rattle.std.specs.Prelude.{◌≡◌, ℕ, ◌↔◌, ◌+◌, ◌*◌, ◌<◌, IfOk, IfErr, true, false, Some, map, length, slice_get, slice_index_or, option_map};
+ghost use Rattle.std.specs.Prelude.{◌≡◌, ◌↔◌, ◌∷◌, [], ◌<◌, ◌≤◌, ◌*◌, ◌/◌, ◌%◌, ◌&&◌, ◌^◌, not, nat_lt, ℕ, true, false, Some, map, length, slice_get, slice_index_or};
 ghost use Rattle.std.specs.FinSet.{contains, empty};
-ghost use Rattle.petri_atom.specs.Atom.{definition_of};
-ghost use Rattle.plant_model.specs.Choice.{Interaction, is_marked_at, is_possible_at, choices, choices_of, choices_among, IsAllowed, IsStuck};
-ghost use Rattle.plant_model.specs.Chosen.{choice_of};
-ghost use Rattle.plant_model.specs.Fitting.{IsOf};
-ghost use Rattle.plant_model.specs.Interaction.{interaction_of};
-ghost use Rattle.plant_model.specs.Dependents.{is_noted, row_of_port};
-ghost use Rattle.plant_model.specs.Sights.{AreSeen};
-ghost use Rattle.plant_model.specs.Ways.{AreWays, AreWaysBut, IsSame, ways_at};
-ghost use Rattle.plant_model.specs.Wire.{wire_of};
-ghost use Rattle.plant_model.specs.System.{interactions_in, plant_of};
-ghost use Rattle.step_core.specs.Judgement.{IsJudgement, IsBehind, IsOfferedBehind, IsOffering};
-ghost use Rattle.step_core.specs.ChoicesIn.{choices_in, choices_in_from, is_kept_at};
-ghost use Rattle.step_core.specs.EnabledTransitions.{AreOffered, AreCounted, count_at};
-ghost use Rattle.priority_filter.specs.Active.{may_be_marked};
+ghost use Rattle.priority_filter.specs.Active.{active, may_be_marked};
+ghost use Rattle.priority_filter.specs.Decided.{is_overruled};
+ghost use Rattle.priority_filter.specs.Members.{has_bit};
 ghost use Rattle.priority_filter.specs.declared.interaction_set.TheConstants.{ROW_WORDS};
-ghost use Rattle.step_core.specs.Possible.{ArePossible, ArePossibleBut, AreAllowed};
+ghost use Rattle.plant_model.specs.Choice.{choices, is_possible_at, named, IsAllowed, IsStuck};
+ghost use Rattle.plant_model.specs.Chosen.{choice_of};
+ghost use Rattle.plant_model.specs.ConnectorRows.{IsOff, is_of_connector};
+ghost use Rattle.plant_model.specs.Delivery.{AreApart};
+ghost use Rattle.plant_model.specs.Fitting.{IsOf};
+ghost use Rattle.plant_model.specs.System.{interactions_in, plant_of};
+ghost use Rattle.plant_model.specs.declared.choice.Move.{Move};
+ghost use Rattle.connector_tree.specs.declared.tree.TheConstants.{MAX_LEAVES};
+ghost use Rattle.step_core.specs.ChoicesIn.{choices_in};
+ghost use Rattle.step_core.specs.Judgement.{IsBehind, IsJudgement, IsMovedBehind, IsOffering, IsUnsettled};
+ghost use Rattle.step_core.specs.Possible.{ArePossible};
+ghost use Rattle.step_core.specs.Weights.{AreSums, AreWeighed, weight_of};
 
+use crate::changes::{Changes, judge_anew, judge_moved};
 use crate::enabled_transitions::EnabledTransitions;
-use crate::interaction_numbers::numbers_below;
-use crate::judgement::{Judgement, no_ways};
-use crate::possible::InteractionJudge;
-use crate::priority_judge::PriorityJudge;
-use crate::sights::see_again;
-use plant_model::{Choice, MAX_INTERACTIONS, PlantState, System};
+use crate::judgement::Judgement;
+use crate::leaves::Leaves;
+use crate::renewal::Renewal;
+use crate::sights::{see_again, see_moved};
+use crate::standing::standing_of;
+use crate::weights::{Weighing, Weights};
+use plant_model::{Choice, Move, PlantState, System};
 use priority_filter::{InteractionSet, SEEN_ATOMS, Seen};
 
 /// How many choices the state has; none exactly if no interaction is possible.
@@ -33,7 +35,7 @@ pub fn count_allowed(system: &System, states: &PlantState) -> u128
     ensures count { result ≡ length (choices (plant_of system.now) states.now) }
     ensures stuck { (result ≡ 0) ↔ IsStuck (plant_of system.now) states.now }
 {
-    judge(system, states).total
+    judge(system, states).weights.total
 }
 
 /// The choice of the state with this place, from 0, in the order of the choices.
@@ -44,7 +46,7 @@ pub fn nth_allowed(system: &System, states: &PlantState, place: u128) -> Choice
     ensures allowed { IsAllowed (plant_of system.now) states.now (choice_of result) }
 {
     let judgement = judge(system, states);
-    nth_among(system, states, &judgement, place)
+    choice_at(system, states, &judgement, place)
 }
 
 /// What the state offers, judged in full.
@@ -53,316 +55,264 @@ pub(crate) fn judge(system: &System, states: &PlantState) -> Judgement
     ensures { IsJudgement (plant_of system.now) (interactions_in system.now) states.now result }
 {
     let offers = EnabledTransitions::of(&system.atoms, states);
+    let leaves = Leaves::of(system, &offers);
+    let all = all_below(system.wires.len());
     let mut possible = InteractionSet::new();
-    let mut ways = no_ways();
-    let all = numbers_below(system.interactions.len());
-    judge_touched(system, states, &offers, &all, &mut possible, &mut ways);
+    let _ = judge_dirty(system, states, &leaves, all, &mut possible);
     let seen = states.seen();
+    let standing = standing_of(system, &possible);
     let mut kept = InteractionSet::new();
-    let total = allow(system, states, &offers, &possible, &ways, &seen, &mut kept);
+    let _ = keep(system, &seen, &possible, &possible, &mut kept);
+    let mut weights = Weights::none();
+    let weighing = Weighing {
+        system,
+        states,
+        offers: &offers,
+        leaves: &leaves,
+        kept: &kept,
+    };
+    weighing.weigh_again(all, &mut weights);
     Judgement {
         offers,
+        leaves,
         possible,
-        ways,
         seen,
+        standing,
         kept,
-        total,
+        weights,
     }
 }
 
-/// Judges again what depends on one of the changed atoms; what is kept was judged in a state in which all other atoms were
-/// as now. Where no interaction is possible or has choices other than before, and no place that a priority rule asks for
-/// changed, the same ones are allowed, and nothing more is to be done.
+/// The word that has the bits below the count.
+pub(crate) fn all_below(count: usize) -> u64
+    requires { count ≤ 64 }
+    ensures { (k : ℕ) → has_bit result k ≡ nat_lt k count }
+{
+    if count < 64 {
+        (1 << count) - 1
+    } else {
+        u64::MAX
+    }
+}
+
+/// Judges again what depends on the moves, which were fired; what is kept was judged in the state before.
 pub(crate) fn judge_again(
     system: &System,
     states: &PlantState,
-    changed: &[u16],
+    moves: &[Move],
     judgement: &mut Judgement,
 )
     requires of_plant { IsOf (plant_of system.now) states.now }
-    requires behind { IsBehind (plant_of system.now) (interactions_in system.now) changed.now states.now judgement.old }
+    requires few { length moves.now ≤ MAX_LEAVES }
+    requires apart { AreApart moves.now }
+    requires there { (k : ℕ) (m : Move) → slice_get moves.now k ≡ Some m → m.atom < length (plant_of system.now).atoms }
+    requires behind { IsMovedBehind (plant_of system.now) (interactions_in system.now) moves.now states.now judgement.old }
     ensures { IsJudgement (plant_of system.now) (interactions_in system.now) states.now judgement.new }
 {
-    let mut touched = InteractionSet::new();
-    let is_new = judge_offers_again(system, states, changed, &mut touched, judgement);
-    let is_seen_new = see_again(&system.order, states, changed, &mut judgement.seen);
-    // Where a number of choices does not fit a word, it is not kept, and nobody knows whether it changed.
-    if is_new | is_seen_new | !system.fit_words {
-        judgement.kept.clear();
-        judgement.total = allow(
-            system,
-            states,
-            &judgement.offers,
-            &judgement.possible,
-            &judgement.ways,
-            &judgement.seen,
-            &mut judgement.kept,
-        );
-    }
-}
-
-/// Judges again what is offered by the changed atoms, and the interactions that depend on that or are in the set `touched`
-/// already; what is kept of these was judged in a state in which all other atoms were as now. The set has in the end all that
-/// were judged. Says whether an interaction is possible, or has choices, other than before.
-pub(crate) fn judge_offers_again(
-    system: &System,
-    states: &PlantState,
-    changed: &[u16],
-    touched: &mut InteractionSet,
-    judgement: &mut Judgement,
-) -> bool
-    requires of_plant { IsOf (plant_of system.now) states.now }
-    requires behind { IsOfferedBehind (plant_of system.now) (interactions_in system.now) changed.now states.now judgement.old }
-    ensures offered { AreOffered (plant_of system.now).atoms states.now judgement.new.offers.sets }
-    ensures counted { AreCounted (plant_of system.now).atoms judgement.new.offers.sets judgement.new.offers.counts }
-    ensures possible { ArePossible (plant_of system.now).atoms (plant_of system.now).wires states.now (interactions_in system.now) judgement.new.possible }
-    ensures ways { AreWays (plant_of system.now).atoms (plant_of system.now).wires states.now (interactions_in system.now) judgement.new.ways }
-    ensures same { result ≡ false → IsSame judgement.old.possible judgement.old.ways judgement.new.possible judgement.new.ways }
-    ensures told { (n atom port : ℕ) → n < length (interactions_in system.now) → is_noted system.now.dependents.items n (row_of_port atom port) ≡ true → contains touched.new n ≡ false → count_at judgement.new.offers.counts atom port ≡ count_at judgement.old.offers.counts atom port }
-    ensures kept { (n : ℕ) → n < length (interactions_in system.now) → contains touched.new n ≡ false → contains touched.old n ≡ false }
-    ensures seen { judgement.new.seen ≡ judgement.old.seen }
-    ensures still_kept { judgement.new.kept ≡ judgement.old.kept }
-    ensures total { judgement.new.total ≡ judgement.old.total }
-{
-    let words = system.interactions.len().div_ceil(64);
-    judgement.offers.judge_changed(
-        &system.atoms,
-        states,
-        &system.dependents,
-        words,
-        changed,
-        touched,
-    );
-    judge_touched(
+    let changes = judge_moved(
         system,
         states,
-        &judgement.offers,
-        touched,
-        &mut judgement.possible,
-        &mut judgement.ways,
-    )
+        moves,
+        &mut judgement.offers,
+        &mut judgement.leaves,
+    );
+    let is_seen_new = see_moved(&system.order, states, moves, &mut judgement.seen);
+    settle(system, states, changes, is_seen_new, judgement);
 }
 
-/// Judges the interactions of the set `touched`; what is possible, and the numbers of choices of these, are right for all
-/// others. Says whether that changed anything.
-fn judge_touched<'x>(
-    system: &'x System,
-    states: &'x PlantState,
-    offers: &'x EnabledTransitions,
-    touched: &InteractionSet,
-    possible: &mut InteractionSet,
-    ways: &mut [u64; MAX_INTERACTIONS],
-) -> bool
+/// Judges again what depends on the atom; what is kept was judged in a state in which all other atoms were as now.
+pub(crate) fn judge_atom_again(
+    system: &System,
+    states: &PlantState,
+    atom: u16,
+    judgement: &mut Judgement,
+)
     requires of_plant { IsOf (plant_of system.now) states.now }
-    requires exact { AreOffered (plant_of system.now).atoms states.now offers.now.sets }
-    requires shown { AreCounted (plant_of system.now).atoms offers.now.sets offers.now.counts }
-    requires others { ArePossibleBut (contains touched.now) (plant_of system.now).atoms (plant_of system.now).wires states.now (interactions_in system.now) possible.old }
-    requires other_ways { AreWaysBut (contains touched.now) (plant_of system.now).atoms (plant_of system.now).wires states.now (interactions_in system.now) ways.old }
-    ensures possible { ArePossible (plant_of system.now).atoms (plant_of system.now).wires states.now (interactions_in system.now) possible.new }
-    ensures ways { AreWays (plant_of system.now).atoms (plant_of system.now).wires states.now (interactions_in system.now) ways.new }
-    ensures same { result ≡ false → IsSame possible.old ways.old possible.new ways.new }
+    requires behind { IsBehind (plant_of system.now) (interactions_in system.now) (atom ∷ []) states.now judgement.old }
+    ensures { IsJudgement (plant_of system.now) (interactions_in system.now) states.now judgement.new }
 {
-    let judged = InteractionJudge {
-        atoms: &system.atoms,
-        wires: &system.wires,
-        bound: &system.bound,
+    let changes = judge_anew(
+        system,
         states,
-        offers,
-    };
-    judged.judge_touched(
-        &system.interactions,
-        &system.dependents,
-        touched,
-        possible,
-        ways,
-    )
+        &[atom],
+        &mut judgement.offers,
+        &mut judgement.leaves,
+    );
+    let is_seen_new = see_again(&system.order, states, &[atom], &mut judgement.seen);
+    settle(system, states, changes, is_seen_new, judgement);
 }
 
-/// Puts the allowed interactions into the empty set, and says how many choices these have in all.
-fn allow<'x>(
-    system: &'x System,
-    states: &'x PlantState,
-    offers: &'x EnabledTransitions,
-    possible: &'x InteractionSet,
-    ways: &'x [u64; MAX_INTERACTIONS],
-    seen: &'x [Seen; SEEN_ATOMS],
-    allowed: &mut InteractionSet,
-) -> u128
+/// Judges the connectors again that a change reached.
+fn settle(
+    system: &System,
+    states: &PlantState,
+    changes: Changes,
+    is_seen_new: bool,
+    judgement: &mut Judgement,
+)
     requires of_plant { IsOf (plant_of system.now) states.now }
-    requires exact { AreOffered (plant_of system.now).atoms states.now offers.now.sets }
-    requires shown { AreCounted (plant_of system.now).atoms offers.now.sets offers.now.counts }
-    requires known { ArePossible (plant_of system.now).atoms (plant_of system.now).wires states.now (interactions_in system.now) possible.now }
-    requires counted { AreWays (plant_of system.now).atoms (plant_of system.now).wires states.now (interactions_in system.now) ways.now }
-    requires sighted { AreSeen (plant_of system.now).rules (is_marked_at states.now) seen.now }
-    requires none { allowed.old ≡ empty }
-    ensures allowed { AreAllowed (plant_of system.now) states.now (interactions_in system.now) allowed.new }
-    ensures total { result ≡ length (choices_among (plant_of system.now) states.now (interactions_in system.now)) }
+    requires unsettled { IsUnsettled (plant_of system.now) (interactions_in system.now) states.now changes is_seen_new judgement.old }
+    ensures { IsJudgement (plant_of system.now) (interactions_in system.now) states.now judgement.new }
 {
-    keep(
-        system, states, offers, possible, ways, seen, possible, allowed,
-    )
+    let changed = judge_dirty(
+        system,
+        states,
+        &judgement.leaves,
+        changes.dirty,
+        &mut judgement.possible,
+    );
+    let renewal = Renewal {
+        system,
+        seen: &judgement.seen,
+        possible: &judgement.possible,
+        opened: &judgement.possible,
+        changed,
+        is_seen_new,
+    };
+    let told = renewal.keep_again(&mut judgement.standing, &mut judgement.kept);
+    weigh(system, states, changes.heavy | told, judgement);
 }
 
-/// Puts the possible interactions that no rival is above, by the rules that count as far as is seen, into the empty set,
-/// and says how many choices these have in all.
-pub(crate) fn keep<'x>(
-    system: &'x System,
-    states: &'x PlantState,
-    offers: &'x EnabledTransitions,
-    possible: &'x InteractionSet,
-    ways: &'x [u64; MAX_INTERACTIONS],
-    seen: &'x [Seen; SEEN_ATOMS],
+/// Weighs the connectors again whose bit in the word is set; the weights of all others are right.
+pub(crate) fn weigh(system: &System, states: &PlantState, heavy: u64, judgement: &mut Judgement)
+    requires of_plant { IsOf (plant_of system.now) states.now }
+    requires offering { IsOffering (plant_of system.now) (interactions_in system.now) states.now judgement.old.offers.sets judgement.old.offers.counts judgement.old.leaves (contains judgement.old.kept) }
+    requires within { (k : ℕ) → length (plant_of system.now).wires ≤ k → has_bit heavy k ≡ false }
+    requires others { (k : ℕ) → has_bit heavy k ≡ false → slice_index_or judgement.old.weights.of_connectors k 0 ≡ weight_of (plant_of system.now).atoms states.now (interactions_in system.now) (contains judgement.old.kept) k }
+    requires sums { AreSums judgement.old.weights }
+    requires few { judgement.old.weights.total ≤ 2 ^ 122 }
+    ensures weights { AreWeighed (plant_of system.now).atoms states.now (interactions_in system.now) (contains judgement.new.kept) judgement.new.weights }
+    ensures offers { judgement.new.offers ≡ judgement.old.offers }
+    ensures leaves { judgement.new.leaves ≡ judgement.old.leaves }
+    ensures possible { judgement.new.possible ≡ judgement.old.possible }
+    ensures seen { judgement.new.seen ≡ judgement.old.seen }
+    ensures standing { judgement.new.standing ≡ judgement.old.standing }
+    ensures kept { judgement.new.kept ≡ judgement.old.kept }
+{
+    let weighing = Weighing {
+        system,
+        states,
+        offers: &judgement.offers,
+        leaves: &judgement.leaves,
+        kept: &judgement.kept,
+    };
+    weighing.weigh_again(heavy, &mut judgement.weights);
+}
+
+/// Judges the interactions of the connectors whose bit in the word is set. Tells those connectors of which another one is possible now.
+pub(crate) fn judge_dirty(
+    system: &System,
+    states: &PlantState,
+    leaves: &Leaves,
+    dirty: u64,
+    possible: &mut InteractionSet,
+) -> u64
+    requires of_plant { IsOf (plant_of system.now) states.now }
+    requires off { (k : ℕ) → IsOff (plant_of system.now).atoms (plant_of system.now).wires states.now k (slice_index_or leaves.now.off k 0) }
+    requires within { (k : ℕ) → length (plant_of system.now).wires ≤ k → has_bit dirty k ≡ false }
+    requires others { (n k : ℕ) → is_of_connector (interactions_in system.now) k n ≡ true → has_bit dirty k ≡ false → contains possible.old n ≡ is_possible_at (plant_of system.now).atoms (plant_of system.now).wires states.now (interactions_in system.now) n }
+    requires past { (n : ℕ) → length (interactions_in system.now) ≤ n → contains possible.old n ≡ false }
+    ensures possible { ArePossible (plant_of system.now).atoms (plant_of system.now).wires states.now (interactions_in system.now) possible.new }
+    ensures changed_within { (k : ℕ) → length (plant_of system.now).wires ≤ k → has_bit result k ≡ false }
+    ensures same { (n k : ℕ) → is_of_connector (interactions_in system.now) k n ≡ true → has_bit result k ≡ false → contains possible.new n ≡ contains possible.old n }
+{
+    let mut changed = 0;
+    let mut left = dirty;
+    while left != 0 {
+        let connector = left.trailing_zeros() as usize;
+        left &= !(1 << connector);
+        let off = leaves.off[connector];
+        if system.judge_connector(connector as u16, off, states, possible) {
+            changed |= 1 << connector;
+        }
+    }
+    changed
+}
+
+/// Keeps the possible interactions that no rival is above, by the rules that count as far as is seen. Says of which connectors another one is
+/// kept now.
+pub(crate) fn keep(
+    system: &System,
+    seen: &[Seen; SEEN_ATOMS],
+    possible: &InteractionSet,
     rivals: &InteractionSet,
     kept: &mut InteractionSet,
-) -> u128
-    requires of_plant { IsOf (plant_of system.now) states.now }
-    requires exact { AreOffered (plant_of system.now).atoms states.now offers.now.sets }
-    requires shown { AreCounted (plant_of system.now).atoms offers.now.sets offers.now.counts }
-    requires known { ArePossible (plant_of system.now).atoms (plant_of system.now).wires states.now (interactions_in system.now) possible.now }
-    requires counted { AreWays (plant_of system.now).atoms (plant_of system.now).wires states.now (interactions_in system.now) ways.now }
-    requires none { kept.old ≡ empty }
-    ensures kept { (n : ℕ) → contains kept.new n ≡ is_kept_at (plant_of system.now) (may_be_marked seen.now) states.now (interactions_in system.now) (contains rivals.now) n }
-    ensures total { result ≡ length (choices_in (plant_of system.now).atoms states.now (interactions_in system.now) (contains kept.new)) }
+) -> u64
+    requires { (n : ℕ) → length (interactions_in system.now) ≤ n → contains possible.now n ≡ false }
+    ensures kept { (n : ℕ) → contains kept.new n ≡ (contains possible.now n && not (is_overruled (active (may_be_marked seen.now) (plant_of system.now).rules) (map named (interactions_in system.now)) (contains rivals.now) n)) }
+    ensures within { (k : ℕ) → length (plant_of system.now).wires ≤ k → has_bit result k ≡ false }
+    ensures told { (n k : ℕ) → is_of_connector (interactions_in system.now) k n ≡ true → has_bit result k ≡ false → contains kept.new n ≡ contains kept.old n }
 {
-    let judged = InteractionJudge {
-        atoms: &system.atoms,
-        wires: &system.wires,
-        bound: &system.bound,
-        states,
-        offers,
-    };
-    let filtered = PriorityJudge {
-        judged,
-        interactions: &system.interactions,
-        order: &system.order,
-        seen,
-        possible,
-        fit_words: system.fit_words,
-        ways,
-    };
-    filtered.keep(rivals, kept)
+    let before = kept.copy();
+    kept.clear();
+    let words = system.interactions.len().div_ceil(64);
+    system.order.filter(seen, possible, rivals, words, kept);
+    let mut changed = 0;
+    for place in 0..words {
+        let differing = before.word(place) ^ kept.word(place);
+        changed |= connectors_of(system, place, differing);
+    }
+    changed
 }
 
-/// The choice of the state with this place, by what the state offers.
-pub(crate) fn nth_among(
+/// The connectors of those of the 64 interactions from 64 times the place on that are there and whose bit in the word is set.
+fn connectors_of(system: &System, place: usize, word: u64) -> u64
+    requires { place < ROW_WORDS }
+    ensures within { (k : ℕ) → length (plant_of system.now).wires ≤ k → has_bit result k ≡ false }
+    ensures told { (n k : ℕ) → n / 64 ≡ place → is_of_connector (interactions_in system.now) k n ≡ true → has_bit word (n % 64) ≡ true → has_bit result k ≡ true }
+{
+    let mut connectors = 0;
+    let mut left = word;
+    while left != 0 {
+        let bit = left.trailing_zeros() as usize;
+        let Some(interaction) = system.interactions.get(64 * place + bit) else {
+            break;
+        };
+        let connector = usize::from(interaction.connector);
+        connectors |= 1 << connector;
+        left &= !system.connector_rows[connector].own.word(place);
+    }
+    connectors
+}
+
+/// The choice with this place among those of the kept interactions.
+pub(crate) fn choice_at(
     system: &System,
     states: &PlantState,
     judgement: &Judgement,
     place: u128,
 ) -> Choice
     requires of_plant { IsOf (plant_of system.now) states.now }
-    requires judged { IsJudgement (plant_of system.now) (interactions_in system.now) states.now judgement.now }
-    requires place { place < length (choices (plant_of system.now) states.now) }
-    ensures entry { slice_get (choices (plant_of system.now) states.now) place ≡ Some (choice_of result) }
-    ensures allowed { IsAllowed (plant_of system.now) states.now (choice_of result) }
+    requires offering { IsOffering (plant_of system.now) (interactions_in system.now) states.now judgement.now.offers.sets judgement.now.offers.counts judgement.now.leaves (contains judgement.now.kept) }
+    requires weights { AreWeighed (plant_of system.now).atoms states.now (interactions_in system.now) (contains judgement.now.kept) judgement.now.weights }
+    requires place { place < length (choices_in (plant_of system.now).atoms states.now (interactions_in system.now) (contains judgement.now.kept)) }
+    ensures { slice_get (choices_in (plant_of system.now).atoms states.now (interactions_in system.now) (contains judgement.now.kept)) place ≡ Some (choice_of result) }
 {
-    match find_choice(system, states, judgement, place) {
-        Some(choice) => choice,
-        None => unreachable!(),
-    }
+    let mut choice = Choice::none();
+    choose(system, states, judgement, place, &mut choice);
+    choice
 }
 
-/// The choice with this place among those of the interactions that are kept, if there is one: a walk over these.
-pub(crate) fn find_choice(
+/// Writes the choice with this place among those of the kept interactions.
+pub(crate) fn choose(
     system: &System,
     states: &PlantState,
     judgement: &Judgement,
     place: u128,
-) -> Option<Choice>
+    choice: &mut Choice,
+)
     requires of_plant { IsOf (plant_of system.now) states.now }
-    requires judged { IsOffering (plant_of system.now) (interactions_in system.now) states.now judgement.now }
-    ensures { option_map choice_of result ≡ slice_get (choices_in (plant_of system.now).atoms states.now (interactions_in system.now) (contains judgement.now.kept)) place }
+    requires offering { IsOffering (plant_of system.now) (interactions_in system.now) states.now judgement.now.offers.sets judgement.now.offers.counts judgement.now.leaves (contains judgement.now.kept) }
+    requires weights { AreWeighed (plant_of system.now).atoms states.now (interactions_in system.now) (contains judgement.now.kept) judgement.now.weights }
+    requires place { place < length (choices_in (plant_of system.now).atoms states.now (interactions_in system.now) (contains judgement.now.kept)) }
+    ensures { slice_get (choices_in (plant_of system.now).atoms states.now (interactions_in system.now) (contains judgement.now.kept)) place ≡ Some (choice_of choice.new) }
 {
-    let mut left = place;
-    for at in 0..system.interactions.len().div_ceil(64) {
-        match find_in_word(system, states, judgement, at, left) {
-            Ok(choice) => return Some(choice),
-            Err(later) => left = later,
-        }
-    }
-    None
-}
-
-/// The choice with this place among those of the kept interactions from 64 times `at` on, if it is of one of the first 64 of
-/// these; else its place among those of the interactions after them.
-fn find_in_word(
-    system: &System,
-    states: &PlantState,
-    judgement: &Judgement,
-    at: usize,
-    place: u128,
-) -> Result<Choice, u128>
-    requires of_plant { IsOf (plant_of system.now) states.now }
-    requires judged { IsOffering (plant_of system.now) (interactions_in system.now) states.now judgement.now }
-    requires at { at < ROW_WORDS }
-    ensures here { IfOk result (λ choice. slice_get (choices_in_from (plant_of system.now).atoms states.now (interactions_in system.now) (contains judgement.now.kept) (64 * at)) place ≡ Some (choice_of choice)) }
-    ensures later { IfErr result (λ later. slice_get (choices_in_from (plant_of system.now).atoms states.now (interactions_in system.now) (contains judgement.now.kept) (64 * at)) place ≡ slice_get (choices_in_from (plant_of system.now).atoms states.now (interactions_in system.now) (contains judgement.now.kept) (64 * (at + 1))) later) }
-{
-    let mut left = place;
-    let mut word = judgement.kept.word(at);
-    while word != 0 {
-        let bit = word.trailing_zeros() as usize;
-        let number = 64 * at + bit;
-        let ways = ways_of(system, states, judgement, number);
-        if left < ways {
-            return Ok(choice_at(system, states, judgement, number as u16, ways, left));
-        }
-        left -= ways;
-        word &= !(1 << bit);
-    }
-    Err(left)
-}
-
-/// How many choices the interaction with this number has, which is possible.
-fn ways_of(system: &System, states: &PlantState, judgement: &Judgement, number: usize) -> u128
-    requires of_plant { IsOf (plant_of system.now) states.now }
-    requires judged { IsOffering (plant_of system.now) (interactions_in system.now) states.now judgement.now }
-    requires number { number < length system.now.interactions.items }
-    requires possible { is_possible_at (plant_of system.now).atoms (plant_of system.now).wires states.now (interactions_in system.now) number ≡ true }
-    ensures { result ≡ ways_at (plant_of system.now).atoms states.now (interactions_in system.now) number }
-{
-    let judged = InteractionJudge {
-        atoms: &system.atoms,
-        wires: &system.wires,
-        bound: &system.bound,
+    let weighing = Weighing {
+        system,
         states,
         offers: &judgement.offers,
+        leaves: &judgement.leaves,
+        kept: &judgement.kept,
     };
-    judged.ways_of(
-        &system.interactions,
-        system.fit_words,
-        &judgement.ways,
-        number,
-    )
-}
-
-/// The choice with this place among those of the interaction with this number, which has so many.
-fn choice_at(
-    system: &System,
-    states: &PlantState,
-    judgement: &Judgement,
-    number: u16,
-    ways: u128,
-    place: u128,
-) -> Choice
-    requires of_plant { IsOf (plant_of system.now) states.now }
-    requires judged { IsOffering (plant_of system.now) (interactions_in system.now) states.now judgement.now }
-    requires number { number < length system.now.interactions.items }
-    requires ways { ways ≡ ways_at (plant_of system.now).atoms states.now (interactions_in system.now) number }
-    requires place { place < ways }
-    ensures { (i : Interaction) → slice_get (interactions_in system.now) number ≡ Some i → slice_get (choices_of (plant_of system.now).atoms states.now i) place ≡ Some (choice_of result) }
-{
-    let judged = InteractionJudge {
-        atoms: &system.atoms,
-        wires: &system.wires,
-        bound: &system.bound,
-        states,
-        offers: &judgement.offers,
-    };
-    let interaction = &system.interactions[usize::from(number)];
-    Choice {
-        connector: interaction.connector,
-        mask: interaction.mask,
-        moves: judged.nth_row(&interaction.ports, ways, place),
-    }
+    weighing.choose(&judgement.weights, place, choice);
 }

@@ -19,7 +19,10 @@ use crate::laws::sure_choices_stand_in_order;
 use crate::leaving::leave;
 use crate::parts::PlantParts;
 use crate::places::find;
-use crate::sure::{SureJudgement, count_sure_among, judge_sure, judge_sure_again, nth_sure_among};
+use crate::sure::{
+    SureJudgement, count_sure_among, judge_sure, judge_sure_flipped, judge_sure_moved,
+    nth_sure_among,
+};
 use connector_tree::MAX_LEAVES;
 use petri_atom::{AtomState, Delivered};
 use plant_model::{Choice, MAX_ATOMS, PlantState, System, atoms_of};
@@ -106,7 +109,18 @@ impl<'s> Dispatcher<'s> {
         ensures entry { slice_get (sure_choices (plant_of (system_of self.now)) (parts_in self.now)) place ≡ Some (choice_of result) }
         ensures sure { IsSure (plant_of (system_of self.now)) (parts_in self.now) (choice_of result) }
     {
-        nth_sure_among(self.system, &self.parts, &self.judgement, place)
+        let mut choice = Choice::none();
+        self.nth_sure_into(place, &mut choice);
+        choice
+    }
+
+    /// Writes the sure choice with this place, from 0, in the order of the choices.
+    pub fn nth_sure_into(&self, place: u128, choice: &mut Choice)
+        requires { place < length (sure_choices (plant_of (system_of self.now)) (parts_in self.now)) }
+        ensures entry { slice_get (sure_choices (plant_of (system_of self.now)) (parts_in self.now)) place ≡ Some (choice_of choice.new) }
+        ensures sure { IsSure (plant_of (system_of self.now)) (parts_in self.now) (choice_of choice.new) }
+    {
+        nth_sure_among(self.system, &self.parts, &self.judgement, place, choice);
     }
 
     /// The place of the choice in the list of the sure choices, if it is one of them.
@@ -128,9 +142,7 @@ impl<'s> Dispatcher<'s> {
     {
         self.parts.fire(self.system, choice, delivered);
         let moves = choice.moves.as_slice();
-        let atoms = atoms_of(moves);
-        let changed = &atoms[..moves.len()];
-        judge_sure_again(self.system, &self.parts, changed, &[], &mut self.judgement);
+        judge_sure_moved(self.system, &self.parts, moves, &mut self.judgement);
     }
 
     /// Begins the sure choice: its participants leave, and for each there is a job, in the order of the moves. A job has the atom's
@@ -145,14 +157,8 @@ impl<'s> Dispatcher<'s> {
         leave(self.system, &mut self.parts, choice, counts, jobs);
         let moves = choice.moves.as_slice();
         let atoms = atoms_of(moves);
-        let changed = &atoms[..moves.len()];
-        judge_sure_again(
-            self.system,
-            &self.parts,
-            changed,
-            changed,
-            &mut self.judgement,
-        );
+        let left = &atoms[..moves.len()];
+        judge_sure_flipped(self.system, &self.parts, left, &mut self.judgement);
     }
 
     /// Puts a state of the atom in its place: it is away, and is then back.
@@ -163,12 +169,6 @@ impl<'s> Dispatcher<'s> {
         ensures parts { parts_in self.new ≡ slice_set (parts_in self.old) atom (Some state) }
     {
         self.parts.put(atom, state);
-        judge_sure_again(
-            self.system,
-            &self.parts,
-            &[atom],
-            &[atom],
-            &mut self.judgement,
-        );
+        judge_sure_flipped(self.system, &self.parts, &[atom], &mut self.judgement);
     }
 }

@@ -12,7 +12,7 @@ use crate::choices::judge_again;
 use crate::judgement::Judgement;
 use connector_tree::MAX_LEAVES;
 use petri_atom::Delivered;
-use plant_model::{Choice, PlantState, System, atoms_of};
+use plant_model::{Choice, PlantState, System};
 
 /// Fires the choice as [`System::fire`](plant_model::System::fire) does, and judges again what that can change.
 pub(crate) fn step(
@@ -32,7 +32,5 @@ pub(crate) fn step(
     ensures delivered { IsDelivered choice.now.moves (transfer (plant_of system.now) states.old (choice_of choice.now)) delivered.new }
 {
     system.fire(states, choice, delivered);
-    let moves = choice.moves.as_slice();
-    let atoms = atoms_of(moves);
-    judge_again(system, states, &atoms[..moves.len()], judgement);
+    judge_again(system, states, choice.moves.as_slice(), judgement);
 }

@@ -7,12 +7,16 @@
 //! that another thread may do: a choice is then *sure* if it is allowed whatever the atoms that are away do (`specs/Sure.antt`).
 //!
 //! The choices of a plant in a state:
-//! - `enabled_transitions`: which transitions each atom offers, and how many at each port, judged again after a step.
-//! - `possible`: which interactions are possible. `interaction_numbers`: all interactions as a set.
-//! - `sights`: what is seen of the atoms, for the conditions of priority rules, seen again after a step. `priority_judge`: which of the
-//!   possible interactions are kept, since no rival is above them, and how many choices they have.
-//! - `judgement`: what a state offers, as it is kept. `choices`: how a judgement is made, and made again after a step; how many choices
-//!   a state has, and which. `places`: at which place of the list a choice stands.
+//! - `enabled_transitions`: which transitions each atom offers, and how many at each port. `leaves`: of each connector the leaves that offer
+//!   nothing, and those that offer more than one transition. `changes`: both judged again behind a change, which tells the connectors that this
+//!   reaches.
+//! - `sights`: what is seen of the atoms, for the conditions of priority rules, seen again after a step.
+//! - `judgement`: what a state offers, as it is kept. `choices`: how a judgement is made, and made again after a step: which interactions are
+//!   possible, and which of these are kept, since no rival is above them.
+//! - `standing`: which connectors have a rival, and what other connectors see of one. `keeping`: which interactions of a connector are kept.
+//!   `renewal`: which are kept again, only where a rival came or went. `words`: sets made right 64 interactions at a time.
+//! - `weights`: how many choices the kept interactions of each connector have, and the choice with a place among them. `possible`: in how many
+//!   ways an interaction can move. `places`: at which place of the list a choice stands.
 //!
 //! Its steps:
 //! - `firing`: a choice is fired, and what that can change is judged again.
@@ -27,34 +31,45 @@
 //! `laws`: what the definitions say of what is sure.
 //!
 //! The lemmas (`proofs/*.antt`), each named for what it is about:
-//! - One state: `Judging`, `Offering`, `Ruled` (what atoms and interactions offer), `Flattened`, `Counted`, `LowestBits`, `LowestKept`,
-//!   `FittingWords` (how many choices there are, and which has a place), `InOrder`, `PlacesInOrder` (how they stand).
-//! - Judging again: `WordByWord` (sets made right 64 numbers at a time), `Recounted`, `Refreshing`, `Untouched`, `Unchanged` (what a step
-//!   does not change).
+//! - One state: `Judging`, `Offering`, `Ruled` (what atoms and interactions offer), `Flattened`, `Counted`, `LowestBits`, `LowestKept`, `Ones`
+//!   (choices in order, by the bits of words), `ConnectorWords`, `ConnectorRange`, `WordChoices`, `SingleChoices`, `FirstRow` (those of one
+//!   connector), `ConnectorChoices`, `Weighed`, `Sums` (those of all connectors), `InOrder`, `PlacesInOrder` (how they stand).
+//! - What a system keeps: `OfSystem`, `SystemConnectors`, `OwnRange` (the words of a connector's interactions), `Ranked` (what is below what,
+//!   by its ranks).
+//! - Kept again: `Restood`, `ToldConnectors` (rivals that came or went), `Renewed` (what that did not reach), `AnyOf`, `OwnBits`.
+//! - Judging again: `Recounted`, `Refreshing`, `Written`, `LeafStates`, `Telling`, `Again`, `Putting`, `UsualFirings` (what atoms and leaves offer
+//!   behind a change), `Clean`, `Unchanged` (what a change did not reach), `Behind`, `FiringJudged`, `BitsLeft`, `Settling`, `Judged` (the rest is
+//!   settled), `WordByWord` (sets made right 64 numbers at a time).
 //! - Atoms away: `PartsKept`, `PartsLeft`, `Presence`, `FiringOfParts`, `Queued` (parts, and the jobs that leave), `OfParts`, `Openness`,
-//!   `Present`, `Alike`, `OfSure`, `SureAllowed`, `NoneAway` (what a sure choice is: allowed in the whole state).
+//!   `Present`, `Alike`, `OfSure`, `SureAllowed`, `NoneAway` (what a sure choice is: allowed in the whole state), `ConnectorsOf`, `SureBehind`,
+//!   `SureSettled` (what is sure, settled behind a change).
 //! - `Crossing`: what may go to another thread. `SureRows`: worked examples, computed.
 #![tactic(auto)]
 
+mod changes;
 mod choices;
 mod dispatcher;
 mod enabled_transitions;
 mod firing;
-mod interaction_numbers;
 mod job;
 mod jobs;
 mod judgement;
+mod keeping;
 pub mod laws;
+mod leaves;
 mod leaving;
 mod opening;
 mod parts;
 mod places;
 mod possible;
-mod priority_judge;
 mod queue;
+mod renewal;
 mod sights;
+mod standing;
 mod stepper;
 mod sure;
+mod weights;
+mod words;
 
 pub use choices::{count_allowed, nth_allowed};
 pub use dispatcher::Dispatcher;

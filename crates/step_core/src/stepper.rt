@@ -1,7 +1,7 @@
 //! A plant that runs: its present state, with what that state offers, judged once.
 ghost use Rattle.std.specs.Prelude.{◌≡◌, ◌↔◌, ◌<◌, None, Some, IfOk, IfSome, map, length, slice_get, slice_set};
 ghost use Rattle.petri_atom.specs.Definition.{AtomDefinition, Fits};
-ghost use Rattle.plant_model.specs.Choice.{choices, IsAllowed, IsStuck};
+ghost use Rattle.plant_model.specs.Choice.{ChoiceDefinition, choices, IsAllowed, IsStuck};
 ghost use Rattle.plant_model.specs.Chosen.{choice_of};
 ghost use Rattle.plant_model.specs.Delivery.{IsDelivered};
 ghost use Rattle.plant_model.specs.Fitting.{IsOf, AllFit};
@@ -10,7 +10,7 @@ ghost use Rattle.plant_model.specs.Step.{initial_states, next, transfer};
 ghost use Rattle.plant_model.specs.System.{plant_of};
 ghost use Rattle.step_core.specs.Judgement.{IsJudgement};
 
-use crate::choices::{judge, judge_again, nth_among};
+use crate::choices::{choose, judge, judge_atom_again};
 use crate::firing::step;
 use crate::judgement::Judgement;
 use crate::places::find;
@@ -23,9 +23,9 @@ use std::alloc::{AllocError, Global};
 /// A plant that runs: a system, its present state, in which each atom's state fits it, and what that state offers: transitions,
 /// and possible interactions.
 ///
-/// It judges each transition and each interaction once when it is made, and after a step only the transitions of the atoms
-/// that moved, the interactions on a port that offers another number of transitions than before, and those of a connector with
-/// guards of which an atom with a leaf in it moved. All of a step's questions ([`Stepper::count`], [`Stepper::nth`]) are answered
+/// It judges each transition and each interaction once when it is made. After a step it judges what the firing can change of the atoms
+/// that moved, and the interactions of the connectors that this reaches: a leaf offers something or nothing other than before, or a guard
+/// can read an atom that moved. All of a step's questions ([`Stepper::count`], [`Stepper::nth`]) are answered
 /// from what is offered. Only the states take memory, when these are made.
 #[derive(Drop)]
 pub struct Stepper<'s> {
@@ -34,6 +34,8 @@ pub struct Stepper<'s> {
     judgement: Judgement,
     /// What a firing delivers that nobody asks for: room that is made once.
     delivered: [Delivered; MAX_LEAVES],
+    /// The choice that [`Stepper::fire_nth`] makes: room that is made once.
+    choice: Choice,
     ghost of_plant: { IsOf (plant_of system.now) states },
     ghost fits: { AllFit (plant_of system.now) states },
     ghost judged: { IsJudgement (plant_of system.now) (map interaction_of system.now.interactions.items) states judgement },
@@ -67,6 +69,7 @@ impl<'s> Stepper<'s> {
             states,
             judgement,
             delivered: no_deliveries(),
+            choice: Choice::none(),
         }
     }
 
@@ -106,7 +109,7 @@ impl<'s> Stepper<'s> {
         ensures states { states_in self.new ≡ slice_set (states_in self.old) atom state }
     {
         self.states.set(atom, state);
-        judge_again(self.system, &self.states, &[atom], &mut self.judgement);
+        judge_atom_again(self.system, &self.states, atom, &mut self.judgement);
     }
 
     /// How many choices the present state has; none exactly if no interaction is possible.
@@ -114,7 +117,7 @@ impl<'s> Stepper<'s> {
         ensures count { result ≡ length (choices (plant_in self.now) (states_in self.now)) }
         ensures stuck { (result ≡ 0) ↔ IsStuck (plant_in self.now) (states_in self.now) }
     {
-        self.judgement.total
+        self.judgement.weights.total
     }
 
     /// The choice of the present state with this place, from 0, in the order of the choices.
@@ -123,7 +126,18 @@ impl<'s> Stepper<'s> {
         ensures entry { slice_get (choices (plant_in self.now) (states_in self.now)) place ≡ Some (choice_of result) }
         ensures allowed { IsAllowed (plant_in self.now) (states_in self.now) (choice_of result) }
     {
-        nth_among(self.system, &self.states, &self.judgement, place)
+        let mut choice = Choice::none();
+        self.nth_into(place, &mut choice);
+        choice
+    }
+
+    /// Writes the choice of the present state with this place, from 0, in the order of the choices.
+    pub fn nth_into(&self, place: u128, choice: &mut Choice)
+        requires { place < length (choices (plant_in self.now) (states_in self.now)) }
+        ensures entry { slice_get (choices (plant_in self.now) (states_in self.now)) place ≡ Some (choice_of choice.new) }
+        ensures allowed { IsAllowed (plant_in self.now) (states_in self.now) (choice_of choice.new) }
+    {
+        choose(self.system, &self.states, &self.judgement, place, choice);
     }
 
     /// The place of the choice in the list of the present state's choices, if it is one of them.
@@ -149,6 +163,31 @@ impl<'s> Stepper<'s> {
             &mut self.states,
             &mut self.judgement,
             choice,
+            &mut self.delivered,
+        );
+    }
+
+    /// Fires the choice of the present state with this place, from 0, in the order of the choices. It is [`Stepper::nth`] and
+    /// [`Stepper::fire`] in one, and makes the choice in the stepper's own room.
+    pub fn fire_nth(&mut self, place: u128)
+        requires { place < length (choices (plant_in self.old) (states_in self.old)) }
+        ensures system { system_in self.new ≡ system_in self.old }
+        ensures plant { plant_in self.new ≡ plant_in self.old }
+        ensures next { (c : ChoiceDefinition) → slice_get (choices (plant_in self.old) (states_in self.old)) place ≡ Some c → states_in self.new ≡ next (plant_in self.old) (states_in self.old) c }
+        ensures fits { AllFit (plant_in self.new) (states_in self.new) }
+    {
+        choose(
+            self.system,
+            &self.states,
+            &self.judgement,
+            place,
+            &mut self.choice,
+        );
+        step(
+            self.system,
+            &mut self.states,
+            &mut self.judgement,
+            &self.choice,
             &mut self.delivered,
         );
     }

@@ -1,32 +1,36 @@
 //! What is sure while atoms are away: judged in full in a whole state, and again where parts of it change.
-ghost use Rattle.std.specs.Prelude.{◌≡◌, ◌+◌, ◌*◌, ◌<◌, ◌≤◌, [], Some, ℕ, true, false, is_some, map, length, slice_get};
-ghost use Rattle.std.specs.FinSet.{contains, empty};
+ghost use Rattle.std.specs.Prelude.{◌≡◌, ◌&&◌, ◌||◌, ◌<◌, ◌≤◌, not, Some, ℕ, true, false, is_some, map, length, slice_get};
+ghost use Rattle.std.specs.FinSet.{contains};
 ghost use Rattle.std.specs.List.{list_all};
 ghost use Rattle.petri_atom.specs.Local.{is_in};
+ghost use Rattle.connector_tree.specs.declared.tree.TheConstants.{MAX_LEAVES};
+ghost use Rattle.priority_filter.specs.Active.{active, may_be_marked};
+ghost use Rattle.priority_filter.specs.Decided.{is_overruled};
+ghost use Rattle.priority_filter.specs.Members.{has_bit};
+ghost use Rattle.plant_model.specs.Choice.{named};
 ghost use Rattle.plant_model.specs.Chosen.{choice_of};
-ghost use Rattle.plant_model.specs.Dependents.{is_in_row, is_noted, row_of_port};
+ghost use Rattle.plant_model.specs.ConnectorRows.{is_of_connector};
+ghost use Rattle.plant_model.specs.Delivery.{AreApart};
 ghost use Rattle.plant_model.specs.Fitting.{IsOf};
-ghost use Rattle.plant_model.specs.Sights.{AreSeen};
-ghost use Rattle.plant_model.specs.Ways.{AreWays};
-ghost use Rattle.plant_model.specs.declared.dependents.TheConstants.{ATOM_ROWS};
 ghost use Rattle.plant_model.specs.System.{interactions_in, plant_of};
+ghost use Rattle.plant_model.specs.declared.choice.Move.{Move};
 ghost use Rattle.step_core.specs.Dispatching.{ArePartsOf};
 ghost use Rattle.step_core.specs.EnabledTransitions.{AreOffered, AreCounted};
-ghost use Rattle.step_core.specs.Parts.{may_be_marked_in, shown_in};
-ghost use Rattle.step_core.specs.Possible.{ArePossible};
-ghost use Rattle.priority_filter.specs.declared.interaction_set.TheConstants.{ROW_WORDS};
-ghost use Rattle.step_core.specs.Sure.{IsSure, is_open_at, sure_among, sure_choices};
-ghost use Rattle.step_core.specs.SureJudgement.{AreOpen, AreSure, IsSureBehind, IsSureJudgement};
+ghost use Rattle.step_core.specs.Parts.{shown_in};
+ghost use Rattle.step_core.specs.Sure.{IsSure, is_open_at, sure_choices};
+ghost use Rattle.step_core.specs.SureJudgement.{AreOpen, IsSureBehind, IsSureJudgement, IsSureMovedBehind, IsSureUnsettled, has_leaf_of};
 
-use crate::choices::{find_choice, judge, judge_offers_again, keep};
+use crate::changes::{Changes, judge_anew, judge_moved};
+use crate::choices::{choose, judge, judge_dirty, weigh};
 use crate::enabled_transitions::EnabledTransitions;
 use crate::judgement::Judgement;
 use crate::opening::OpenJudge;
 use crate::parts::PlantParts;
 use crate::possible::InteractionJudge;
-use crate::sights::see_again;
-use plant_model::{ATOM_ROWS, Choice, MAX_INTERACTIONS, PlantState, System};
-use priority_filter::{InteractionSet, SEEN_ATOMS, Seen};
+use crate::renewal::Renewal;
+use crate::sights::{see_again, see_moved};
+use plant_model::{Choice, Move, PlantState, System, port_row};
+use priority_filter::InteractionSet;
 
 /// What is sure while atoms are away. It has what the states that the parts show offer, of which the sure interactions are kept, and
 /// beside it which interactions are open: a participant is away, and each port of one that is present is offered. It is of fixed size and takes no memory.
@@ -47,137 +51,180 @@ pub(crate) fn judge_sure(system: &System, states: &PlantState) -> SureJudgement
     }
 }
 
-/// Judges again what depends on one of the changed atoms, of which the flipped ones have left or come back. What is kept was
-/// judged where all other parts were as now. While no atom is away, and none has come back, no interaction is looked at for being
-/// open, and no set is copied.
-pub(crate) fn judge_sure_again(
+/// Judges again what depends on the moves, which were fired; what is kept was judged in the parts before. No atom has left or come back.
+pub(crate) fn judge_sure_moved(
     system: &System,
     parts: &PlantParts,
-    changed: &[u16],
+    moves: &[Move],
+    judgement: &mut SureJudgement,
+)
+    requires of_plant { ArePartsOf (plant_of system.now) parts.now }
+    requires few { length moves.now ≤ MAX_LEAVES }
+    requires apart { AreApart moves.now }
+    requires there { (k : ℕ) (m : Move) → slice_get moves.now k ≡ Some m → m.atom < length (plant_of system.now).atoms }
+    requires behind { IsSureMovedBehind (plant_of system.now) (interactions_in system.now) moves.now parts.now judgement.old }
+    ensures { IsSureJudgement (plant_of system.now) (interactions_in system.now) parts.now judgement.new }
+{
+    let changes = judge_moved(
+        system,
+        parts.shown(),
+        moves,
+        &mut judgement.judgement.offers,
+        &mut judgement.judgement.leaves,
+    );
+    let is_seen_new = see_moved(&system.order, parts, moves, &mut judgement.judgement.seen);
+    settle_sure(system, parts, changes, 0, is_seen_new, judgement);
+}
+
+/// Judges again what depends on the flipped atoms, which have left or come back. What is kept was judged where all other parts were as now.
+pub(crate) fn judge_sure_flipped(
+    system: &System,
+    parts: &PlantParts,
     flipped: &[u16],
     judgement: &mut SureJudgement,
 )
     requires of_plant { ArePartsOf (plant_of system.now) parts.now }
-    requires behind { IsSureBehind (plant_of system.now) (interactions_in system.now) changed.now flipped.now parts.now judgement.old }
+    requires behind { IsSureBehind (plant_of system.now) (interactions_in system.now) flipped.now flipped.now parts.now judgement.old }
+    ensures { IsSureJudgement (plant_of system.now) (interactions_in system.now) parts.now judgement.new }
+{
+    let changes = judge_anew(
+        system,
+        parts.shown(),
+        flipped,
+        &mut judgement.judgement.offers,
+        &mut judgement.judgement.leaves,
+    );
+    let is_seen_new = see_again(&system.order, parts, flipped, &mut judgement.judgement.seen);
+    let reached = connectors_of_atoms(system, flipped);
+    settle_sure(system, parts, changes, reached, is_seen_new, judgement);
+}
+
+/// Judges the connectors again that a change reached; `flipped` are those with a leaf of an atom that has left or come back.
+fn settle_sure(
+    system: &System,
+    parts: &PlantParts,
+    changes: Changes,
+    flipped: u64,
+    is_seen_new: bool,
+    judgement: &mut SureJudgement,
+)
+    requires of_plant { ArePartsOf (plant_of system.now) parts.now }
+    requires unsettled { IsSureUnsettled (plant_of system.now) (interactions_in system.now) parts.now changes flipped is_seen_new judgement.old }
     ensures { IsSureJudgement (plant_of system.now) (interactions_in system.now) parts.now judgement.new }
 {
     let states = parts.shown();
-    let mut touched = InteractionSet::new();
-    touch_flipped(system, flipped, &mut touched);
-    let is_new = judge_offers_again(
+    let kept = &mut judgement.judgement;
+    let changed = judge_dirty(
         system,
         states,
-        changed,
-        &mut touched,
-        &mut judgement.judgement,
+        &kept.leaves,
+        changes.dirty,
+        &mut kept.possible,
     );
-    let is_seen_new = see_again(&system.order, parts, changed, &mut judgement.judgement.seen);
-    let is_open_new = open_again(
+    // Where a leaf offers something or nothing other than before, both words have the connector.
+    let touched = changes.dirty & changes.heavy | flipped;
+    let opened = open_again(
         system,
         parts,
-        &judgement.judgement.offers,
+        &kept.offers,
         flipped,
-        &touched,
+        touched,
         &mut judgement.opened,
     );
-    if is_new | is_seen_new | is_open_new | !system.fit_words {
-        judgement.judgement.kept.clear();
-        judgement.judgement.total = keep_sure(
-            system,
-            parts,
-            &judgement.judgement.offers,
-            &judgement.judgement.possible,
-            &judgement.judgement.ways,
-            &judgement.judgement.seen,
-            &judgement.opened,
-            &mut judgement.judgement.kept,
-        );
-    }
+    let renewal = Renewal {
+        system,
+        seen: &kept.seen,
+        possible: &kept.possible,
+        opened: &judgement.opened,
+        changed: changed | opened,
+        is_seen_new,
+    };
+    let told = renewal.keep_again(&mut kept.standing, &mut kept.kept);
+    weigh(system, states, changes.heavy | told, kept);
 }
 
-/// Puts the interactions on the ports of the flipped atoms into the set.
-fn touch_flipped(system: &System, flipped: &[u16], touched: &mut InteractionSet)
-    ensures { (n : ℕ) → n < length (interactions_in system.now) → contains touched.new n ≡ false → (atom port : ℕ) → is_noted system.now.dependents.items n (row_of_port atom port) ≡ true → atom < length (plant_of system.now).atoms → is_in flipped.now atom ≡ false }
+/// The connectors with a leaf of one of the atoms: bit k for connector k.
+fn connectors_of_atoms(system: &System, atoms: &[u16]) -> u64
+    ensures told { (k atom : ℕ) → has_bit result k ≡ false → is_in atoms.now atom ≡ true → has_leaf_of (plant_of system.now).wires atom k ≡ false }
+    ensures within { (k : ℕ) → length (plant_of system.now).wires ≤ k → has_bit result k ≡ false }
 {
-    for atom in flipped {
-        touch_ports_of(system, *atom, touched);
+    let mut connectors = 0;
+    for atom in atoms {
+        connectors |= connectors_of_atom(system, *atom);
     }
+    connectors
 }
 
-/// Puts the interactions on the ports of the atom into the set.
-fn touch_ports_of(system: &System, atom: u16, touched: &mut InteractionSet)
-    ensures ports { (n : ℕ) → n < length (interactions_in system.now) → contains touched.new n ≡ false → (port : ℕ) → is_noted system.now.dependents.items n (row_of_port atom port) ≡ true → length (plant_of system.now).atoms ≤ atom }
-    ensures kept { (n : ℕ) → n < length (interactions_in system.now) → contains touched.new n ≡ false → contains touched.old n ≡ false }
+/// The connectors with a leaf of the atom.
+fn connectors_of_atom(system: &System, atom: u16) -> u64
+    ensures told { (k : ℕ) → has_bit result k ≡ false → has_leaf_of (plant_of system.now).wires atom k ≡ false }
+    ensures within { (k : ℕ) → length (plant_of system.now).wires ≤ k → has_bit result k ≡ false }
 {
-    let words = system.interactions.len().div_ceil(64);
-    let first = usize::from(atom) * ATOM_ROWS;
-    if usize::from(atom) < system.atoms.len() {
-        touch_rows(&system.dependents, first, words, touched);
+    let mut connectors = 0;
+    let index = usize::from(atom);
+    if index < system.atoms.len() {
+        for port in 0..system.atoms[index].ports().len() {
+            connectors |= system.reach.ports[port_row(atom, port as u16)].connectors;
+        }
     }
+    connectors
 }
 
-/// Judges again which interactions of the set `touched` are open; what is kept of all others is right. Says whether that changed
-/// anything. While no atom is away, and none has come back, it looks at none.
+/// Judges again which interactions of the connectors whose bit in the word is set are open; what is kept of all others is right. Tells these
+/// connectors if another interaction is open now. Where no bit is set, and while no atom is away and none has come back, it looks at none.
 fn open_again<'x>(
     system: &'x System,
     parts: &'x PlantParts,
     offers: &'x EnabledTransitions,
-    flipped: &[u16],
-    touched: &InteractionSet,
+    flipped: u64,
+    touched: u64,
     opened: &mut InteractionSet,
-) -> bool
+) -> u64
     requires of_plant { ArePartsOf (plant_of system.now) parts.now }
     requires exact { AreOffered (plant_of system.now).atoms (shown_in parts.now) offers.now.sets }
     requires shown { AreCounted (plant_of system.now).atoms offers.now.sets offers.now.counts }
-    requires others { (n : ℕ) → (n < length (interactions_in system.now) → contains touched.now n ≡ false) → contains opened.old n ≡ is_open_at (plant_of system.now).atoms parts.now (interactions_in system.now) n }
-    requires whole { flipped.now ≡ [] → list_all is_some parts.now ≡ true → (n : ℕ) → contains opened.old n ≡ false }
+    requires within { (k : ℕ) → length (plant_of system.now).wires ≤ k → has_bit touched k ≡ false }
+    requires others { (n k : ℕ) → is_of_connector (interactions_in system.now) k n ≡ true → has_bit touched k ≡ false → contains opened.old n ≡ is_open_at (plant_of system.now).atoms parts.now (interactions_in system.now) n }
+    requires past { (n : ℕ) → length (interactions_in system.now) ≤ n → contains opened.old n ≡ false }
+    requires whole { flipped ≡ 0 → list_all is_some parts.now ≡ true → (n : ℕ) → contains opened.old n ≡ false }
     ensures opened { AreOpen (plant_of system.now).atoms parts.now (interactions_in system.now) opened.new }
-    ensures same { result ≡ false → (n : ℕ) → contains opened.new n ≡ contains opened.old n }
+    ensures changed_within { (k : ℕ) → length (plant_of system.now).wires ≤ k → has_bit result k ≡ false }
+    ensures same { (n k : ℕ) → is_of_connector (interactions_in system.now) k n ≡ true → has_bit result k ≡ false → contains opened.new n ≡ contains opened.old n }
 {
-    if flipped.is_empty() && parts.is_whole() {
-        return false;
+    if touched == 0 {
+        return 0;
+    }
+    if flipped == 0 && parts.is_whole() {
+        return 0;
     }
     let judged = InteractionJudge {
         atoms: &system.atoms,
-        wires: &system.wires,
-        bound: &system.bound,
         states: parts.shown(),
         offers,
     };
     let judge = OpenJudge { judged, parts };
-    judge.judge_touched(&system.interactions, touched, opened)
+    let is_new = judge.judge_touched(
+        &system.interactions,
+        &interactions_of(system, touched),
+        opened,
+    );
+    if is_new { touched } else { 0 }
 }
 
-/// Puts the sure interactions into the empty set, and says how many choices these have in all. Rivals are those that
-/// are possible or open.
-fn keep_sure<'x>(
-    system: &'x System,
-    parts: &'x PlantParts,
-    offers: &'x EnabledTransitions,
-    possible: &'x InteractionSet,
-    ways: &'x [u64; MAX_INTERACTIONS],
-    seen: &'x [Seen; SEEN_ATOMS],
-    opened: &InteractionSet,
-    sure: &mut InteractionSet,
-) -> u128
-    requires of_plant { ArePartsOf (plant_of system.now) parts.now }
-    requires exact { AreOffered (plant_of system.now).atoms (shown_in parts.now) offers.now.sets }
-    requires shown { AreCounted (plant_of system.now).atoms offers.now.sets offers.now.counts }
-    requires known { ArePossible (plant_of system.now).atoms (plant_of system.now).wires (shown_in parts.now) (interactions_in system.now) possible.now }
-    requires counted { AreWays (plant_of system.now).atoms (plant_of system.now).wires (shown_in parts.now) (interactions_in system.now) ways.now }
-    requires sighted { AreSeen (plant_of system.now).rules (may_be_marked_in parts.now) seen.now }
-    requires opened { AreOpen (plant_of system.now).atoms parts.now (interactions_in system.now) opened.now }
-    requires none { sure.old ≡ empty }
-    ensures sure { AreSure (plant_of system.now) parts.now (interactions_in system.now) sure.new }
-    ensures total { result ≡ length (sure_among (plant_of system.now) parts.now (interactions_in system.now)) }
+/// The interactions of the connectors whose bit in the word is set.
+fn interactions_of(system: &System, connectors: u64) -> InteractionSet
+    requires { (k : ℕ) → length (plant_of system.now).wires ≤ k → has_bit connectors k ≡ false }
+    ensures { (n k : ℕ) → is_of_connector (interactions_in system.now) k n ≡ true → has_bit connectors k ≡ true → contains result n ≡ true }
 {
-    let states = parts.shown();
-    if parts.is_whole() {
-        return keep(system, states, offers, possible, ways, seen, possible, sure);
+    let words = system.interactions.len().div_ceil(64);
+    let mut all = InteractionSet::new();
+    let mut left = connectors;
+    while left != 0 {
+        let connector = left.trailing_zeros() as usize;
+        left &= !(1 << connector);
+        all.union_words(&system.connector_rows[connector].own, words);
     }
-    let mut rivals = possible.copy();
-    rivals.union_with(opened);
-    keep(system, states, offers, possible, ways, seen, &rivals, sure)
+    all
 }
 
 /// How many sure choices there are.
@@ -189,37 +236,22 @@ pub(crate) fn count_sure_among(
     requires { IsSureJudgement (plant_of system.now) (interactions_in system.now) parts.now judgement.now }
     ensures { result ≡ length (sure_choices (plant_of system.now) parts.now) }
 {
-    judgement.judgement.total
+    judgement.judgement.weights.total
 }
 
-/// The sure choice with this place, from 0, in the order of the choices.
+/// Writes the sure choice with this place, from 0, in the order of the choices.
 pub(crate) fn nth_sure_among(
     system: &System,
     parts: &PlantParts,
     judgement: &SureJudgement,
     place: u128,
-) -> Choice
+    choice: &mut Choice,
+)
     requires of_plant { ArePartsOf (plant_of system.now) parts.now }
     requires judged { IsSureJudgement (plant_of system.now) (interactions_in system.now) parts.now judgement.now }
     requires place { place < length (sure_choices (plant_of system.now) parts.now) }
-    ensures entry { slice_get (sure_choices (plant_of system.now) parts.now) place ≡ Some (choice_of result) }
-    ensures sure { IsSure (plant_of system.now) parts.now (choice_of result) }
+    ensures entry { slice_get (sure_choices (plant_of system.now) parts.now) place ≡ Some (choice_of choice.new) }
+    ensures sure { IsSure (plant_of system.now) parts.now (choice_of choice.new) }
 {
-    match find_choice(system, parts.shown(), &judgement.judgement, place) {
-        Some(choice) => choice,
-        None => unreachable!(),
-    }
-}
-
-/// Puts the interactions of the rows of an atom, the first of which has this place, into the set, of those that a row has in so many
-/// words.
-fn touch_rows(rows: &[InteractionSet], first: usize, words: usize, touched: &mut InteractionSet)
-    requires rows { first + ATOM_ROWS ≤ length rows.now }
-    requires words { words ≤ ROW_WORDS }
-    ensures rows { (n row : ℕ) → n < 64 * words → contains touched.new n ≡ false → first ≤ row → row < first + ATOM_ROWS → is_in_row rows.now n row ≡ false }
-    ensures kept { (n : ℕ) → n < 64 * words → contains touched.new n ≡ false → contains touched.old n ≡ false }
-{
-    for row in first..first + ATOM_ROWS {
-        touched.union_words(&rows[row], words);
-    }
+    choose(system, parts.shown(), &judgement.judgement, place, choice);
 }

@@ -1,6 +1,6 @@
 use denote.Param.Send.{shr_send}
 use Rattle.std.proofs.Common.{[], ◌∷◌}
-use Rattle.engine_host.proofs.Captured.{closure_send}
+use Rattle.plant_model.proofs.Crossing.{closure_send}
 use Rattle.engine_host.proofs.Crossing.{Host-row-sync, Seat-row-send}
 use Rattle.durable_bench.proofs.reading.Job.TheSendSync as jobs
 use Rattle.durable_bench.proofs.reading.fire_while_read.Goals as goal

@@ -4,9 +4,8 @@ use Rattle.std.proofs.Common.{[], ◌∷◌}
 use Rattle.std.proofs.Crossing.{crosses}
 use Rattle.std.specs.contracts.alloc.Global as global
 use Rattle.plant_image.specs.contracts.standing.Held as held
-use Rattle.plant_model.proofs.Crossing.{System-sync}
+use Rattle.plant_model.proofs.Crossing.{System-sync, closure_sync}
 use Rattle.plant_model.specs.contracts.system.System as system
-use Rattle.parallel_replay.proofs.Captured.{closure_sync}
 use Rattle.parallel_replay.proofs.workers.replay_shares.Goals as goal
 
 Global-sync : IsSync global.the_row

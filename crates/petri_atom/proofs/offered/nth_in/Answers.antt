@@ -1,5 +1,6 @@
 use Rattle.std.proofs.Common.{◌≡◌, suc, ◌+◌, ◌-◌, ◌<◌, ◌^◌, ◌∙◌, sym, ap, arith}
 use Rattle.std.specs.Prelude.{bit_and, slice_get}
+use Rattle.std.specs.Int.{w128}
 use Rattle.petri_atom.specs.Local.{numbers_below}
 use Rattle.petri_atom.proofs.Members.{nth-none, nth-first, nth-later}
 use Rattle.petri_atom.proofs.offered.nth_in.Goals as goal
@@ -17,7 +18,7 @@ loop-preserved c =
     let some : 0 < left = omega (arith, c.if-left-eq0.false) in
     let small : left < 2 ^ 128 = omega arith in
     let e : c.args.place - c.loop.counter ≡ suc later = omega (arith, c.loop-test.true) in
-    sym (ap (slice_get (numbers_below 128 left)) e ∙ nth-later left some small later) ∙ c.loop.invariant
+    sym (ap (slice_get (numbers_below 128 left)) e ∙ nth-later w128 left some small later) ∙ c.loop.invariant
 
 pub returns-then-left-eq0 : goal.returns-then-left-eq0
 returns-then-left-eq0 c =
@@ -35,4 +36,4 @@ returns-else-left-eq0-2 c =
     let some : 0 < left = omega (arith, c.if-left-eq0-2.false) in
     let small : left < 2 ^ 128 = omega arith in
     let e : c.args.place - c.loop.counter ≡ 0 = omega (arith, c.loop-test.false) in
-    sym (ap (slice_get (numbers_below 128 left)) e ∙ nth-first left some small) ∙ c.loop.invariant
+    sym (ap (slice_get (numbers_below 128 left)) e ∙ nth-first w128 left some small) ∙ c.loop.invariant

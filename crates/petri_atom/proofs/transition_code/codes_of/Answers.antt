@@ -7,12 +7,12 @@ use Rattle.petri_atom.proofs.Fitting.{all_get}
 use Rattle.petri_atom.proofs.Lists.{mapped-at}
 use Rattle.petri_atom.proofs.transition_code.codes_of.Goals as goal
 
-pub of-requires : goal.of-requires
-of-requires c =
+pub of-requires-clause-codable : goal.of-requires-clause-codable
+of-requires-clause-codable c =
     let transitions = c.args.transitions.now in
     let n = c.loop-transition.transition-index in
     let transition = c.transition-item.result in
-    all_get is_codable_transition (map transition_of transitions) n (transition_of transition) c.requires
+    all_get is_codable_transition (map transition_of transitions) n (transition_of transition) c.requires.codable
     (mapped-at transition_of transitions transitions n n transition refl refl c.loop-transition-test.true c.transition-item.is)
 
 pub loop-transition-preserved : goal.loop-transition-preserved
@@ -20,8 +20,9 @@ loop-transition-preserved c =
     let transitions = c.args.transitions.now in
     let n = c.loop-transition.transition-index in
     let transition = c.transition-item.result in
+    let ts = map transition_of transitions in
     let code = c.in_ok-of.field-0 in
     let here = mapped-at transition_of transitions transitions n n transition refl refl c.loop-transition-test.true c.transition-item.is in
-    subst (λ items. AreFirst IsTransitionCode (n + 1) items (map transition_of transitions)) (sym c.in_ok-push.ensures.items)
-    (first-more IsTransitionCode n c.loop-transition.codes.items (map transition_of transitions) code c.loop-transition.invariant
-    (λ t at. subst (IsTransitionCode code) (same_Some (transition_of transition) t (sym here ∙ at)) c.in_ok-of.ensures))
+    subst (λ items. AreFirst (IsTransitionCode ts) (n + 1) items ts) (sym c.in_ok-push.ensures.items)
+    (first-more (IsTransitionCode ts) n c.loop-transition.codes.items ts code c.loop-transition.invariant
+    (λ t at. subst (IsTransitionCode ts code) (same_Some (transition_of transition) t (sym here ∙ at)) c.in_ok-of.ensures))

@@ -1,5 +1,5 @@
 use Rattle.std.proofs.Common.{◌≡◌, ◌∙◌, ℕ, ◌+◌, ◌<◌, ◌≤◌, List, [], ◌∷◌, ◌++◌, ap, sym, map, length, get_or, take}
-use Rattle.std.proofs.lemmas.List.{take_all, take_more, map-append}
+use Rattle.std.proofs.lemmas.List.{length-map, take_all, take_more, map-append}
 use Rattle.petri_atom.specs.Atom.{definition_of}
 use Rattle.petri_atom.specs.Definition.{AtomDefinition}
 use Rattle.plant_model.specs.BoundExpressions.{ResolvedDefinition, bound_of, bound_by}
@@ -41,3 +41,12 @@ pub returns-clause-delivering : goal.returns-clause-delivering
 returns-clause-delivering c =
     delivering-found (map definition_of c.args.atoms.now) (map wire_of c.args.wires.now) c.loop-wire.all.items
     (all_bound (map definition_of c.args.atoms.now) c.args.wires.now c.loop-wire.wire-index c.loop-wire.all.items c.loop-wire-test.false c.loop-wire.invariant)
+
+pub returns-clause-as_many : goal.returns-clause-as_many
+returns-clause-as_many c =
+    let atoms = map definition_of c.args.atoms.now in
+    let wires = c.args.wires.now in
+    let all = c.loop-wire.all.items in
+    sym (length-map all bound_of) ∙
+    ap length (all_bound atoms wires c.loop-wire.wire-index all c.loop-wire-test.false c.loop-wire.invariant) ∙
+    length-map (map wire_of wires) (bound_by atoms) ∙ length-map wires wire_of

@@ -11,11 +11,11 @@ loop-place-preserved c =
     let row = c.loop-place.delivered in
     let place = c.loop-place.place in
     let long = c.loop-place.invariant.0 in (
-      length-set row place c.nothing_delivered.result ∙ long,
+      length-set row place c.clear.new.self ∙ long,
       λ n below.
           ⊎_elim
-          (λ here. ap (slice_get (set row place c.nothing_delivered.result)) here ∙ set-here row place c.nothing_delivered.result (omega (arith, long, c.requires, c.told-delivered, c.loop-place-test.true)) ∙ ap Some c.nothing_delivered.ensures)
-          (λ other. set-other row place c.nothing_delivered.result n other ∙ c.loop-place.invariant.1 n (omega (arith, below, other)))
+          (λ here. ap (slice_get (set row place c.clear.new.self)) here ∙ set-here row place c.clear.new.self (omega (arith, long, c.requires, c.told-delivered, c.loop-place-test.true)) ∙ ap Some c.clear.ensures)
+          (λ other. set-other row place c.clear.new.self n other ∙ c.loop-place.invariant.1 n (omega (arith, below, other)))
           (cases_eq n place),
     )
 

@@ -1,67 +1,45 @@
-use Rattle.std.proofs.Common.{◌≡◌, ◌∙◌, ◌||◌, not, ℕ, false, true, ap, sym, arith, map}
-use Rattle.std.specs.FinSet.{contains}
-use Rattle.std.specs.Option.{option_map_or}
-use Rattle.std.proofs.lemmas.Bool.{not-false, or_parts}
-use Rattle.petri_atom.specs.Local.{has}
-use Rattle.priority_filter.specs.Active.{may_be_marked}
-use Rattle.priority_filter.proofs.Counting.{alike-counted}
-use Rattle.plant_model.specs.Choice.{active_in, is_marked_at, is_possible_at}
-use Rattle.plant_model.specs.System.{interactions_in, plant_of}
-use Rattle.plant_model.specs.Ways.{fits_word_at, ways_at}
-use Rattle.plant_model.proofs.RulesKept.{few_atoms_of_plant}
-use Rattle.plant_model.proofs.Sighted.{marked-past}
-use Rattle.step_core.proofs.FittingWords.{fits-at}
-use Rattle.step_core.proofs.Unchanged.{allowed-same, total-same}
+use Rattle.std.proofs.Common.{◌∙◌, arith, sym}
+use Rattle.std.proofs.lemmas.Option.{slice_get-get_or, slice_get_within}
+use Rattle.plant_model.proofs.Judging.{some_state}
+use Rattle.step_core.specs.EnabledTransitions.{atoms_of}
+use Rattle.step_core.proofs.Behind.{seen-before, unsettled}
 use Rattle.step_core.proofs.choices.judge_again.Goals as goal
 
-pub judge_offers_again-is_new-requires-clause-behind : goal.judge_offers_again-is_new-requires-clause-behind
-judge_offers_again-is_new-requires-clause-behind c =
-    let behind = c.requires.behind in
+pub judge_moved-changes-requires-clause-behind : goal.judge_moved-changes-requires-clause-behind
+judge_moved-changes-requires-clause-behind c =
+    let behind = c.requires.behind.behind in
+    let judged = behind.judged in
     record {
-      before = behind.before;
-      offered = behind.judged.offered;
-      counted = behind.judged.counted;
-      possible = behind.judged.possible;
-      ways = behind.judged.ways;
-      as_many = behind.as_many;
-      stays = behind.stays;
+      offered_others = λ n a s out known there. judged.offered n a s known (sym (behind.stays n out) ∙ there);
+      movable_others = λ n a s out known there. judged.movable n a s known (sym (behind.stays n out) ∙ there);
+      fired = λ k m a s at known there.
+          let within = slice_get_within c.args.states.now m.atom s there in
+          let was = slice_get-get_or behind.before m.atom some_state (omega (arith, within, behind.as_many)) in
+          let by = c.requires.behind.fired k m a _ s at known was there in
+          record {
+            before = _;
+            delivered = by.1.0;
+            could = by.0;
+            after = by.1.1;
+            offered = judged.offered m.atom a _ known was;
+            movable = judged.movable m.atom a _ known was;
+          };
     }
 
-pub see_again-is_seen_new-requires-clause-few : goal.see_again-is_seen_new-requires-clause-few
-see_again-is_seen_new-requires-clause-few c at past =
-    marked-past c.args.states.now at (omega (arith, past, c.requires.of_plant, few_atoms_of_plant (plant_of c.args.system.now) c.args.system.now.valid))
+pub judge_moved-changes-requires-clause-counted : goal.judge_moved-changes-requires-clause-counted
+judge_moved-changes-requires-clause-counted c = c.requires.behind.behind.judged.counted
 
-pub see_again-is_seen_new-requires-clause-others : goal.see_again-is_seen_new-requires-clause-others
-see_again-is_seen_new-requires-clause-others c = λ left right at there out.
-    let behind = c.requires.behind in
-    ap (λ rows. may_be_marked rows at) c.judge_offers_again-is_new.ensures.seen ∙ behind.judged.seen left right at there ∙ ap (λ o. option_map_or (λ s. has s.marking at.place) o false) (sym (behind.stays at.atom out))
+pub judge_moved-changes-requires-clause-leaves : goal.judge_moved-changes-requires-clause-leaves
+judge_moved-changes-requires-clause-leaves c = c.requires.behind.behind.judged.leaves
 
-pub returns-else-is_new-is_seen_new : goal.returns-else-is_new-is_seen_new
-returns-else-is_new-is_seen_new c =
-    let system = c.args.system.now in
-    let plant = plant_of system in
-    let behind = c.requires.behind in
-    let before = behind.before in
-    let after = c.args.states.now in
-    let touched = c.judge_offers_again-is_new.ensures in
-    let sights = c.see_again-is_seen_new.ensures in
-    let first = or_parts (c.judge_offers_again-is_new.result || c.see_again-is_seen_new.result) (not system.fit_words) c.if-is_new-is_seen_new.false in
-    let parts = or_parts c.judge_offers_again-is_new.result c.see_again-is_seen_new.result first.0 in
-    let all_fit : (n : ℕ) → fits_word_at (interactions_in system) n ≡ true = λ n. fits-at (interactions_in system) n (sym system.fitting ∙ not-false system.fit_words first.1) in
-    let same = touched.same parts.0 in
-    let possible : (n : ℕ) → is_possible_at plant.atoms plant.wires after (interactions_in system) n ≡ is_possible_at plant.atoms plant.wires before (interactions_in system) n =
-    λ n. sym (touched.possible n) ∙ same.0 n ∙ behind.judged.possible n in
-    let ways : (n : ℕ) → is_possible_at plant.atoms plant.wires after (interactions_in system) n ≡ true → ways_at plant.atoms after (interactions_in system) n ≡ ways_at plant.atoms before (interactions_in system) n =
-    λ n yes_. sym (touched.ways n yes_ (all_fit n)) ∙ same.1 n ∙ behind.judged.ways n (sym (possible n) ∙ yes_) (all_fit n) in
-    let counted : active_in plant after ≡ active_in plant before =
-    alike-counted plant.rules (is_marked_at after) (is_marked_at before) (λ left right at there.
-    sym (sights.seen left right at there) ∙ sights.same parts.1 left right at there ∙ ap (λ rows. may_be_marked rows at) touched.seen ∙ behind.judged.seen left right at there) in
-    record {
-      offered = touched.offered;
-      counted = touched.counted;
-      possible = touched.possible;
-      ways = touched.ways;
-      seen = sights.seen;
-      allowed = λ n. ap (λ set. contains set n) touched.still_kept ∙ behind.judged.allowed n ∙ sym (allowed-same plant (interactions_in system) before after possible ways counted n);
-      total = touched.total ∙ behind.judged.total ∙ sym (total-same plant (interactions_in system) before after possible ways counted);
-    }
+pub see_moved-is_seen_new-requires-clause-others : goal.see_moved-is_seen_new-requires-clause-others
+see_moved-is_seen_new-requires-clause-others c =
+    seen-before c.args.system.now (atoms_of c.args.moves.now) c.args.states.now c.requires.of_plant c.args.judgement.now c.requires.behind.behind
+
+pub settle-requires-clause-unsettled : goal.settle-requires-clause-unsettled
+settle-requires-clause-unsettled c =
+    let again = c.judge_moved-changes.ensures in
+    let sights = c.see_moved-is_seen_new.ensures in
+    unsettled c.args.system.now (atoms_of c.args.moves.now) c.args.states.now c.requires.of_plant c.args.judgement.now c.requires.behind.behind
+    c.judge_moved-changes.result c.see_moved-is_seen_new.result c.judge_moved-changes.new.offers c.judge_moved-changes.new.leaves c.see_moved-is_seen_new.new.seen
+    again.offered again.movable again.counted again.leaves again.within again.told sights.seen sights.same

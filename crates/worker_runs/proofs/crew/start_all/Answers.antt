@@ -4,7 +4,7 @@ use denote.Param.Send.{IsSend, arg_send, arg_sync, param_send, param_sync, senda
 use denote.Plain.{Boolean}
 use Rattle.std.proofs.Common.{◌≡◌, ◌∙◌, ap, sym, ◌+◌, ◌<◌, [], ◌∷◌, Some, length, length-append, arith}
 use Rattle.std.proofs.lemmas.List.Elements.{All-pop}
-use Rattle.engine_host.proofs.Captured.{closure_send, lock_sync}
+use Rattle.plant_model.proofs.Crossing.{closure_send, lock_sync}
 use Rattle.engine_host.proofs.Crossing.{Host-row-sync, Seat-row-send}
 use Rattle.worker_runs.specs.Shares.{IsShare}
 use Rattle.worker_runs.proofs.Growing.{pushed}

@@ -1,7 +1,7 @@
 use denote.Param.Send.{shr_send}
 use Rattle.std.proofs.Common.{[], ◌∷◌}
 use Rattle.plant_core.proofs.Crossing.{Plant-row-send}
-use Rattle.durable_tests.proofs.Captured.{closure_send, lock_sync}
+use Rattle.plant_model.proofs.Crossing.{closure_send, lock_sync}
 use Rattle.durable_tests.proofs.tests.threads.by_two_threads.Goals as goal
 
 pub join-requires-send-F : goal.join-requires-send-F

@@ -1,6 +1,6 @@
 use denote.Param.Send.{shr_send}
 use Rattle.std.proofs.Common.{[], ◌∷◌}
-use Rattle.engine_host.proofs.Captured.{closure_send}
+use Rattle.plant_model.proofs.Crossing.{closure_send}
 use Rattle.engine_host.proofs.Crossing.{Host-row-sync, Seat-row-send}
 use Rattle.host_tests.proofs.tests.host.Asked.TheSendSync as asked
 use Rattle.host_tests.proofs.tests.host.Held.TheSendSync as held

@@ -1,6 +1,6 @@
 use denote.Param.Send.{shr_sync}
 use Rattle.std.proofs.Common.{[], ◌∷◌}
-use Rattle.engine_host.proofs.Captured.{closure_sync}
+use Rattle.plant_model.proofs.Crossing.{closure_sync}
 use Rattle.engine_host.proofs.Crossing.{Host-row-sync}
 use Rattle.host_tests.proofs.tests.many.many_seats.Goals as goal
 

@@ -3,8 +3,9 @@ use Rattle.std.specs.List.{list_all}
 use Rattle.std.specs.Prelude.{Option, Some, None}
 use Rattle.std.proofs.lemmas.List.{length-map}
 use Rattle.std.proofs.lemmas.Option.{same_Some, none-some}
+use Rattle.petri_atom.specs.Behind.{AreBehind}
 use Rattle.petri_atom.specs.Definition.{IsFaultOf, fault_of}
-use Rattle.petri_atom.specs.Groups.{AreGroupsOf, unguarded_set}
+use Rattle.petri_atom.specs.Groups.{AreGroupsOf, turned_set, unguarded_set}
 use Rattle.petri_atom.specs.StraightCode.{AreCodesOf, is_codable_transition}
 use Rattle.petri_atom.specs.Parts.{definition_by, port_of, sets_below}
 use Rattle.petri_atom.specs.Transition.{transition_of}
@@ -80,12 +81,35 @@ pub invariant_of-result-clause-unguarded_bits : goal.invariant_of-result-clause-
 invariant_of-result-clause-unguarded_bits c =
     c.mask_of_unguarded-unguarded.ensures ∙ ap (λ ts. unguarded_set (map transition_of ts)) c.deref-7.ensures.value
 
-pub codes_of-requires : goal.codes_of-requires
-codes_of-requires c =
+pub mask_of_turned-turned-requires : goal.mask_of_turned-turned-requires
+mask_of_turned-turned-requires c =
     let a = definition_by c.args.name c.args.places.items c.args.variables.items c.args.ports.items c.args.transitions.items in
     let found : c.fault_of.result ≡ fault_of a = of_lent c.args.name _ _ _ _ _ _ _ _ _ c.fault_of.ensures c.deref.ensures.value c.deref-2.ensures.value c.deref-3.ensures.value c.deref-4.ensures.value in
-    subst (λ ts. list_all is_codable_transition (map transition_of ts) ≡ true) (sym c.deref-8.ensures.value) (codable-when-formed a (formed-when-sound a (sym found ∙ c.in_default.is)))
+    omega (arith, few_transitions a (formed-when-sound a (sym found ∙ c.in_default.is)), length-map c.args.transitions.items transition_of, ap length c.deref-8.ensures.value)
+
+pub invariant_of-result-clause-turned_bits : goal.invariant_of-result-clause-turned_bits
+invariant_of-result-clause-turned_bits c =
+    c.mask_of_turned-turned.ensures ∙ ap (λ ts. turned_set (map transition_of ts)) c.deref-8.ensures.value
+
+pub codes_of-requires-clause-few : goal.codes_of-requires-clause-few
+codes_of-requires-clause-few c =
+    let a = definition_by c.args.name c.args.places.items c.args.variables.items c.args.ports.items c.args.transitions.items in
+    let found : c.fault_of.result ≡ fault_of a = of_lent c.args.name _ _ _ _ _ _ _ _ _ c.fault_of.ensures c.deref.ensures.value c.deref-2.ensures.value c.deref-3.ensures.value c.deref-4.ensures.value in
+    omega (arith, few_transitions a (formed-when-sound a (sym found ∙ c.in_default.is)), length-map c.args.transitions.items transition_of, ap length c.deref-9.ensures.value)
+
+pub codes_of-requires-clause-codable : goal.codes_of-requires-clause-codable
+codes_of-requires-clause-codable c =
+    let a = definition_by c.args.name c.args.places.items c.args.variables.items c.args.ports.items c.args.transitions.items in
+    let found : c.fault_of.result ≡ fault_of a = of_lent c.args.name _ _ _ _ _ _ _ _ _ c.fault_of.ensures c.deref.ensures.value c.deref-2.ensures.value c.deref-3.ensures.value c.deref-4.ensures.value in
+    subst (λ ts. list_all is_codable_transition (map transition_of ts) ≡ true) (sym c.deref-9.ensures.value) (codable-when-formed a (formed-when-sound a (sym found ∙ c.in_default.is)))
 
 pub invariant_of-result-clause-coded : goal.invariant_of-result-clause-coded
 invariant_of-result-clause-coded c =
-    subst (λ ts. AreCodesOf c.in_ok-codes.codes.items (map transition_of ts)) c.deref-8.ensures.value c.in_ok-codes.ensures
+    subst (λ ts. AreCodesOf c.in_ok-codes.codes.items (map transition_of ts)) c.deref-9.ensures.value c.in_ok-codes.ensures
+
+pub invariant_of-result-clause-told : goal.invariant_of-result-clause-told
+invariant_of-result-clause-told c =
+    let ports : map port_of c.deref-10.result.now ≡ map port_of c.args.ports.items = ap (map port_of) c.deref-10.ensures.value in
+    let ts : map transition_of c.deref-11.result.now ≡ map transition_of c.args.transitions.items = ap (map transition_of) c.deref-11.ensures.value in
+    subst (λ os. AreBehind os (map transition_of c.args.transitions.items) c.in_ok-behind.behind.items) ports
+    (subst (λ us. AreBehind (map port_of c.deref-10.result.now) us c.in_ok-behind.behind.items) ts c.in_ok-behind.ensures)

@@ -1,10 +1,6 @@
-use Rattle.std.proofs.Common.{◌≡◌, pos, drop}
-use Rattle.petri_atom.specs.Local.{value_in}
+use Rattle.std.proofs.Common.{◌≡◌, drop}
 use Rattle.petri_atom.specs.StraightCode.{run_in}
-use Rattle.petri_atom.specs.declared.code.TheConstants.{ZERO}
 use Rattle.petri_atom.proofs.code.Step.run.Given as goal
 
 abbrev pub invariant-loop-step : goal.invariant-loop-step
-invariant-loop-step l =
-    (run_in (drop l.step-index l.steps) l.row ≡ run_in l.steps l.fn.row) ×
-    (value_in l.row ZERO ≡ pos 0)
+invariant-loop-step l = run_in (drop l.step-index l.steps) l.row ≡ run_in l.steps l.fn.row

@@ -1,5 +1,6 @@
-use Rattle.std.proofs.Common.{◌≡◌, Bool, if◌then◌else◌, ◌+◌, ◌-◌, ◌≤◌, vec_capacity, ℕ, sym, ◌∙◌, ap, subst, length, arith, true, false, None, refl}
-use Rattle.std.proofs.lemmas.List.{length-map, take_all}
+use Rattle.std.proofs.Common.{◌≡◌, Bool, if◌then◌else◌, ◌+◌, ◌-◌, ◌≤◌, vec_capacity, ℕ, sym, ◌∙◌, ap, subst, length, arith, true, false, None, refl, [], map, eqb-true, vec_len}
+use Rattle.std.proofs.lemmas.Bool.{false≢true}
+use Rattle.std.proofs.lemmas.List.{length-map, nil_from_length, take_all}
 use Rattle.disk_model.specs.Cells.{seen_cells}
 use Rattle.disk_model.specs.DiskState.{size_of}
 use Rattle.disk_model.specs.Moments.{leaves_now}
@@ -26,7 +27,7 @@ use Rattle.plant_core.specs.Stops.{StandsForFront}
 use Rattle.plant_core.specs.View.{fired_number, view_by, with_all_acked}
 use Rattle.plant_core.proofs.Answered.{err-where, ok-has, ok-where}
 use Rattle.plant_core.proofs.Firing.{bodies-many}
-use Rattle.plant_core.proofs.Flushing.{all-acked, are-records, front-runs, journal-of-failed, journal-of-flushed, noted-fits, view-of-flushed}
+use Rattle.plant_core.proofs.Flushing.{all-acked, are-records, front-runs, journal-of-failed, journal-of-flushed, noted-fits, nothing-new, view-of-flushed}
 use Rattle.plant_core.proofs.Copies.{ways-flushed}
 use Rattle.plant_core.proofs.Marking.{all-marked}
 use Rattle.plant_core.proofs.NextSlots.{slots-appended}
@@ -180,3 +181,18 @@ returns-clause-stops g c = λ keeps.
     let news = records_of plant v.acked v.acked_counts v.number v.tail in
     let are : AreRecords (self.journal.last + 1) c.deref.result.now news = subst (λ bs. AreRecords (self.journal.last + 1) bs news) (sym c.deref.ensures.value) (are-records plant v self.bodies.items self.fits_together (self.journal.last + 1) (ap (λ (n : ℕ). n + 1) self.of_journal.last)) in
     stops-stand plant digest self.journal v.acked v.acked_counts v.number v.saved self.cells (self.at_rest keeps c.if-self.false) valid v.tail (front-runs plant v self.bodies.items self.fits_together) c.append_run.new.cells (c.append_run.ensures.leaves keeps news are)
+
+pub returns-then-is_empty-clause-event : goal.returns-then-is_empty-clause-event
+returns-then-is_empty-clause-event g c =
+    let self = c.args.self.now in
+    let v = view_of self in
+    let none : v.tail ≡ [] = ap (map choice_of) (nil_from_length self.tail.items (omega (arith, eqb-true (vec_len self.tail) 0 (sym c.is_empty.ensures ∙ c.if-is_empty.true)))) in (
+      λ broken. false≢true (sym c.if-self.false ∙ broken),
+      omega (arith, ap length none),
+      nothing-new (plant_in self.executor) v self.bodies.items self.fits_together none,
+    )
+
+pub returns-then-is_empty-clause-counts : goal.returns-then-is_empty-clause-counts
+returns-then-is_empty-clause-counts g c = λ some whole.
+    let self = c.args.self.now in
+    absurd (some (ap (map choice_of) (nil_from_length self.tail.items (omega (arith, eqb-true (vec_len self.tail) 0 (sym c.is_empty.ensures ∙ c.if-is_empty.true))))))

@@ -1,6 +1,5 @@
-use Rattle.std.proofs.Common.{◌==◌, ◌∙◌, ap, arith, map, take}
+use Rattle.std.proofs.Common.{◌==◌, ◌∙◌, ap, arith, take}
 use Rattle.std.specs.Prelude.{Some, slice_get, find}
-use Rattle.plant_model.specs.BoundExpressions.{delivery_of, given_for}
 use Rattle.plant_model.specs.Chosen.{choice_of}
 use Rattle.plant_model.proofs.Delivering.{given-there, given-past}
 use Rattle.plant_model.proofs.system.System.deliver.Goals as goal
@@ -10,8 +9,7 @@ returns-in-Some c place m there first =
     let lookup = c.in-Some.ensures.lookup in
     c.deliver_all.ensures place m (ap (λ ms. slice_get ms place) c.as_slice-moves.ensures.moves ∙ there) (ap (λ ms. find (λ k. k.atom == m.atom) (take place ms)) c.as_slice-moves.ensures.moves ∙ first) ∙
     ap Some
-    (ap (λ ds. given_for c.args.states.now (map delivery_of ds) c.args.choice.now.mask m.atom) c.deref-in-Some.ensures.value ∙
-    given-there c.args.self.now c.args.states.now (choice_of c.args.choice.now) (omega arith) c.from.result c.from.ensures m.atom _ c.deref.ensures.value c.in-Some.bound.now lookup.3.0 lookup.1)
+    (given-there c.args.self.now c.args.states.now (choice_of c.args.choice.now) (omega arith) c.from.result c.from.ensures m.atom _ c.deref.ensures.value c.in-Some.bound.now lookup.3.0 lookup.1)
 
 pub returns-in_default : goal.returns-in_default
 returns-in_default c place m there first =

@@ -1,4 +1,4 @@
-use Rattle.std.proofs.Common.{◌≡◌, ℕ, ◌*◌, ◌≤◌, ◌||◌, List, length, sym, subst, arith}
+use Rattle.std.proofs.Common.{◌≡◌, ℕ, ◌*◌, ◌≤◌, ◌||◌, List, length, sym, subst}
 use Rattle.std.specs.FinSet as set
 use Rattle.priority_filter.specs.declared.condition.Condition.{Condition}
 use Rattle.priority_filter.specs.Active.{active, unconditional, may_be_marked}
@@ -12,8 +12,8 @@ use Rattle.priority_filter.proofs.order.Order.overruled_by_conditions.Goals as g
 pub overruled_by-requires-clause-within : goal.overruled_by-requires-clause-within
 overruled_by-requires-clause-within c =
     let inside = c.self.inside in
-    let bound : ℕ = 64 * c.div_ceil-words.result in
-    let enough : length inside.interactions.items ≤ bound = omega (arith, c.div_ceil-words.ensures, c.len.ensures, inside.interactions.ok.0) in
+    let bound : ℕ = 64 * c.words.result in
+    let enough : length inside.interactions.items ≤ bound = subst (λ (p : Priorities). length p.interactions ≤ bound) (sym c.self.view_is) c.words.ensures.enough in
     subst (λ conditions. AreWithin conditions bound) (sym c.deref.ensures.value) (within-list inside.rules.items inside.interactions.items inside.conditions.items c.self.invariant.conditions bound enough)
 
 pub returns : goal.returns

@@ -6,7 +6,7 @@ use Rattle.priority_filter.specs.Decided.{is_overruled}
 use Rattle.priority_filter.specs.Members.{has_bit}
 use Rattle.priority_filter.proofs.Words.{rest-less, asked-kept, asked-left}
 use Rattle.priority_filter.proofs.order.Order.without_overruled.Goals as goal
-use Rattle.priority_filter.proofs.order.Order.without_overruled.Goals.{then-is_overruled_always, else-is_overruled_always}
+use Rattle.priority_filter.proofs.order.Order.without_overruled.Goals.{then-is_overruled, else-is_overruled}
 
 pub loop-left-smaller : goal.loop-left-smaller
 loop-left-smaller c =
@@ -23,8 +23,8 @@ loop-left-preserved c =
     let small : left < 2 ^ 64 = omega arith in
     let over : ℕ → Bool = λ k. is_overruled (unconditional order.rules) order.interactions (set.contains c.args.rivals.now) (64 * place + k) in
     let lowest = trailing_zeros w64 left in
-    let answer : over lowest ≡ c.is_overruled_always.result = sym c.is_overruled_always.ensures.value in
-    elim c.if-is_overruled_always.branch [
-      | then-is_overruled_always w ↦ λ k below. ap (λ x. has_bit x k) w.kept-is ∙ asked-left left some small over c.args.some kept c.loop-left.invariant (answer ∙ w.if-is_overruled_always.true) k below
-      | else-is_overruled_always w ↦ λ k below. ap (λ x. has_bit x k) w.kept-is ∙ asked-kept left some small over c.args.some kept c.loop-left.invariant (answer ∙ w.if-is_overruled_always.false) k below
+    let answer : over lowest ≡ c.is_overruled.result = sym c.is_overruled.ensures.value in
+    elim c.if-is_overruled.branch [
+      | then-is_overruled w ↦ λ k below. ap (λ x. has_bit x k) w.kept-is ∙ asked-left left some small over c.args.some kept c.loop-left.invariant (answer ∙ w.if-is_overruled.true) k below
+      | else-is_overruled w ↦ λ k below. ap (λ x. has_bit x k) w.kept-is ∙ asked-kept left some small over c.args.some kept c.loop-left.invariant (answer ∙ w.if-is_overruled.false) k below
     ]

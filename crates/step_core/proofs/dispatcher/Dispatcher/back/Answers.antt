@@ -11,13 +11,13 @@ use Rattle.step_core.proofs.dispatcher.Dispatcher.back.Goals as goal
 pub put-requires : goal.put-requires
 put-requires c = slice_get_within c.args.self.now.parts c.args.atom None c.requires.away
 
-pub judge_sure_again-requires-clause-of_plant : goal.judge_sure_again-requires-clause-of_plant
-judge_sure_again-requires-clause-of_plant c =
+pub judge_sure_flipped-requires-clause-of_plant : goal.judge_sure_flipped-requires-clause-of_plant
+judge_sure_flipped-requires-clause-of_plant c =
     let run = c.args.self.now in
     ap length c.put.ensures ∙ length-set run.parts c.args.atom (Some c.args.state) ∙ run.of_plant
 
-pub judge_sure_again-requires-clause-behind : goal.judge_sure_again-requires-clause-behind
-judge_sure_again-requires-clause-behind c =
+pub judge_sure_flipped-requires-clause-behind : goal.judge_sure_flipped-requires-clause-behind
+judge_sure_flipped-requires-clause-behind c =
     let run = c.args.self.now in
     record {
       before = run.parts;
@@ -35,5 +35,5 @@ invariant_of-self c =
     record {
       of_plant = ap length c.put.ensures ∙ length-set run.parts c.args.atom (Some c.args.state) ∙ run.of_plant;
       fits = subst (AllPresentFit plant) (sym c.put.ensures) (one-comes-fit plant run.parts c.args.atom c.args.state within c.requires.fits run.fits);
-      judged = c.judge_sure_again.ensures;
+      judged = c.judge_sure_flipped.ensures;
     }

@@ -9,13 +9,13 @@ use Rattle.step_core.proofs.PartsLeft.{left-fits, left-stays, length-left}
 use Rattle.step_core.proofs.Presence.{no-move}
 use Rattle.step_core.proofs.dispatcher.Dispatcher.begin.Goals as goal
 
-pub judge_sure_again-requires-clause-of_plant : goal.judge_sure_again-requires-clause-of_plant
-judge_sure_again-requires-clause-of_plant c =
+pub judge_sure_flipped-requires-clause-of_plant : goal.judge_sure_flipped-requires-clause-of_plant
+judge_sure_flipped-requires-clause-of_plant c =
     let run = c.args.self.now in
     ap length c.leave.ensures.parts ∙ length-left c.args.choice.now.moves 0 run.parts ∙ run.of_plant
 
-pub judge_sure_again-requires-clause-behind : goal.judge_sure_again-requires-clause-behind
-judge_sure_again-requires-clause-behind c =
+pub judge_sure_flipped-requires-clause-behind : goal.judge_sure_flipped-requires-clause-behind
+judge_sure_flipped-requires-clause-behind c =
     let run = c.args.self.now in
     let choice = choice_of c.args.choice.now in
     let moves = c.as_slice-moves.result.now in
@@ -35,5 +35,5 @@ invariant_of-self c =
     record {
       of_plant = ap length c.leave.ensures.parts ∙ length-left c.args.choice.now.moves 0 run.parts ∙ run.of_plant;
       fits = subst (AllPresentFit plant) (sym c.leave.ensures.parts) (left-fits plant c.args.choice.now.moves run.parts run.fits);
-      judged = c.judge_sure_again.ensures;
+      judged = c.judge_sure_flipped.ensures;
     }

@@ -4,6 +4,7 @@ use Rattle.std.proofs.lemmas.Bool.{cases_eq}
 use Rattle.std.proofs.lemmas.List.{length-map, length-set}
 use Rattle.std.proofs.lemmas.Option.{same_Some, slice_get_within, slice_get_read}
 use Rattle.petri_atom.specs.Atom.{definition_of}
+use Rattle.petri_atom.specs.Behind.{movable_set}
 use Rattle.petri_atom.specs.Definition.{AtomDefinition, enabled, offered_set}
 use Rattle.petri_atom.specs.Local.{Local}
 use Rattle.plant_model.proofs.Judging.{atom-there}
@@ -19,6 +20,8 @@ loop-number-init c = (
   λ n port. omega (arith, no-counts 64 32 n port 0 refl),
   refl,
   refl,
+  λ n a s below. absurd (omega (arith, below)),
+  refl,
 )
 
 pub loop-number-preserved : goal.loop-number-preserved
@@ -28,6 +31,8 @@ loop-number-preserved c =
     let k = c.loop-number.number in
     let sets = c.loop-number.sets in
     let counts = c.loop-number.counts in
+    let movable = c.loop-number.movable in
+    let can = c.movable_in.result in
     let item = c.index-atoms-number.result in
     let atom = definition_of item in
     let here = atom-there list k item c.loop-number-test.true c.index-atoms-number.is in
@@ -37,14 +42,19 @@ loop-number-preserved c =
     let row = c.counts_among.result in
     let old = c.loop-number.invariant in
     let in-sets : k < length sets = omega (arith, c.loop-number-test.true, c.requires.few, old.5) in
+    let in-movable : k < length movable = omega (arith, c.loop-number-test.true, c.requires.few, old.8) in
     let in-counts : k < length counts = omega (arith, c.loop-number-test.true, c.requires.few, old.6) in
     let told : (s : Local) (port : ℕ) → new ≡ offered_set atom s → get_or row port 0 ≡ length (enabled atom s port) =
     λ s port e. c.counts_among.ensures.counts s e port in
     let past = c.counts_among.ensures.past in
+    let state : (n : ℕ) (s : Local) → n ≡ k → slice_get c.args.states.now n ≡ Some s → c.index-state.result.now ≡ s =
+    λ n s same there.
+    same_Some c.index-state.result.now s
+    (sym (slice_get_read c.args.states.now (length c.args.states.now) k c.index-state.result.now refl (omega (arith, c.requires.as_many, c.loop-number-test.true)) (c.index-state.ensures ∙ ap (λ xs. get_or xs k c.index-state.result.now) c.states.view_is)) ∙ ap (slice_get c.args.states.now) (sym same) ∙ there) in
     let few = c.counts_among.ensures.few in (
       λ n a s below known there. ⊎_elim
-          (λ same. set-here sets counts k new row in-sets in-counts n same ∙ c.offered-set.ensures ∙ ap (λ b. offered_set b c.index.result.now) (its n a same known) ∙
-          ap (offered_set a) (same_Some c.index.result.now s (sym (slice_get_read c.args.states.now (length c.args.states.now) k c.index.result.now refl (omega (arith, c.requires.as_many, c.loop-number-test.true)) (c.index.ensures ∙ ap (λ xs. get_or xs k c.index.result.now) c.states.view_is)) ∙ ap (slice_get c.args.states.now) (sym same) ∙ there)))
+          (λ same. set-here sets counts k new row in-sets in-counts n same ∙ c.offered-set.ensures ∙ ap (λ b. offered_set b c.index-state.result.now) (its n a same known) ∙
+          ap (offered_set a) (state n s same there))
           (λ other. set-there sets counts k new row in-sets in-counts n other ∙ old.0 n a s (omega (arith, below, other)) known there)
           (cases_eq n k),
       λ n a s port below known e. ⊎_elim
@@ -59,6 +69,11 @@ loop-number-preserved c =
       all-few sets counts k new row in-sets in-counts atom told past few old.4,
       length-set sets k new ∙ old.5,
       length-set counts k row ∙ old.6,
+      λ n a s below known there. ⊎_elim
+          (λ same. set-here movable counts k can row in-movable in-counts n same ∙ c.movable_in.ensures ∙ ap (λ b. movable_set b c.index-state.result.now) (its n a same known) ∙ ap (movable_set a) (state n s same there))
+          (λ other. set-there movable counts k can row in-movable in-counts n other ∙ old.7 n a s (omega (arith, below, other)) known there)
+          (cases_eq n k),
+      length-set movable k can ∙ old.8,
     )
 
 pub returns-clause-offered : goal.returns-clause-offered
@@ -77,3 +92,7 @@ returns-clause-counted c =
       past_atoms = λ n port beyond. old.3 n port (omega (arith, beyond, length-map list definition_of, c.loop-number-test.false, c.loop-number.auto.number-end));
       few = old.4;
     }
+
+pub returns-clause-movable : goal.returns-clause-movable
+returns-clause-movable c n a s known there =
+    c.loop-number.invariant.7 n a s (omega (arith, slice_get_within (map definition_of c.args.atoms.now) n a known, length-map c.args.atoms.now definition_of, c.loop-number-test.false)) known there

@@ -1,6 +1,7 @@
 use Rattle.std.proofs.Common.{◌≡◌, ◌<◌, ◌≤◌, ℕ, map, length, get_or}
 use Rattle.std.specs.Prelude.{Some, slice_get}
 use Rattle.petri_atom.specs.Atom.{definition_of}
+use Rattle.petri_atom.specs.Behind.{movable_set}
 use Rattle.petri_atom.specs.Local.{Local}
 use Rattle.petri_atom.specs.Definition.{AtomDefinition, enabled, offered_set}
 use Rattle.petri_atom.specs.declared.parts.TheConstants.{MAX_TRANSITIONS}
@@ -16,4 +17,6 @@ invariant-loop-number l =
     ((n : ℕ) (a : AtomDefinition) (port : ℕ) → n < l.number → slice_get atoms n ≡ Some a → length a.ports ≤ port → count_at l.counts n port ≡ 0) ×
     ((n port : ℕ) → l.number ≤ n → count_at l.counts n port ≡ 0) ×
     ((n port : ℕ) → count_at l.counts n port ≤ MAX_TRANSITIONS) ×
-    (length l.sets ≡ MAX_ATOMS) × (length l.counts ≡ MAX_ATOMS)
+    (length l.sets ≡ MAX_ATOMS) × (length l.counts ≡ MAX_ATOMS) ×
+    ((n : ℕ) (a : AtomDefinition) (s : Local) → n < l.number → slice_get atoms n ≡ Some a → slice_get l.states n ≡ Some s → get_or l.movable n 0 ≡ movable_set a s) ×
+    (length l.movable ≡ MAX_ATOMS)

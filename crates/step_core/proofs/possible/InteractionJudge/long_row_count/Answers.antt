@@ -15,22 +15,22 @@ joined ports m =
 pub returns-clause-few : goal.returns-clause-few
 returns-clause-few c =
     let ports : List Port = c.args.ports.now in
-    let m = c.min-middle.result in
+    let m : ℕ = 9 in
     let parts : length (take m ports) + length (take (length ports - m) (drop m ports)) ≡ length ports =
     sym (length-append (take m ports) (take (length ports - m) (drop m ports))) ∙ ap length (joined ports m) in
-    rw (c.from.ensures, c.from-2.ensures)
-    (parts-bound c.row_count.result c.row_count-2.result (length (take m ports)) (length (take (length ports - m) (drop m ports))) (length ports) c.row_count.ensures.few c.row_count-2.ensures.few parts)
+    rw (c.from-2.ensures, c.from-3.ensures)
+    (parts-bound c.row_count-2.result c.row_count-3.result (length (take m ports)) (length (take (length ports - m) (drop m ports))) (length ports) c.row_count-2.ensures.few c.row_count-3.ensures.few parts)
 
 pub returns-clause-count : goal.returns-clause-count
 returns-clause-count c =
     let judged = c.args.self.now in
     let moves = moves_of (map definition_of judged.atoms.now) judged.states.now in
     let ports : List Port = c.args.ports.now in
-    let m = c.min-middle.result in
+    let m : ℕ = 9 in
     let front = take m ports in
     let rest = take (length ports - m) (drop m ports) in
-    ap (λ n. n * c.from-2.result) (c.from.ensures ∙ c.row_count.ensures.count)
-    ∙ ap (λ n. length (combinations (map moves front)) * n) (c.from-2.ensures ∙ c.row_count-2.ensures.count)
+    ap (λ n. n * c.from-3.result) (c.from-2.ensures ∙ c.row_count-2.ensures.count)
+    ∙ ap (λ n. length (combinations (map moves front)) * n) (c.from-3.ensures ∙ c.row_count-3.ensures.count)
     ∙ sym (length-combinations-append (map moves front) (map moves rest))
     ∙ ap (λ lists. length (combinations lists)) (sym (map-append moves front rest))
     ∙ ap (λ list. length (combinations (map moves list))) (joined ports m)

@@ -6,8 +6,8 @@ use Rattle.plant_model.specs.System.{plant_of}
 use Rattle.step_core.proofs.Refreshing.{others-stay, one-set-fits}
 use Rattle.step_core.proofs.stepper.Stepper.set.Goals as goal
 
-pub judge_again-requires : goal.judge_again-requires
-judge_again-requires c =
+pub judge_atom_again-requires : goal.judge_atom_again-requires
+judge_atom_again-requires c =
     let run = c.args.self.now in
     let many = ap length c.set.ensures ∙ length-set run.states c.args.atom c.args.state in
     record {
@@ -26,5 +26,5 @@ invariant_of-self c =
     record {
       of_plant = ap length c.set.ensures ∙ length-set run.states c.args.atom c.args.state ∙ run.of_plant;
       fits = subst (AllFit (plant_of run.system.now)) (sym c.set.ensures) (one-set-fits (plant_of run.system.now) run.states c.args.atom c.args.state c.requires.there c.requires.fits run.fits);
-      judged = c.judge_again.ensures;
+      judged = c.judge_atom_again.ensures;
     }

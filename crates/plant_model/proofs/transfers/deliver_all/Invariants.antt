@@ -1,9 +1,0 @@
-use Rattle.std.proofs.Common.{map, take}
-use Rattle.plant_model.specs.Delivery.{AreDelivered}
-use Rattle.plant_model.specs.BoundExpressions.{delivery_of, given_for}
-use Rattle.plant_model.proofs.transfers.deliver_all.Given as goal
-
--- what stands there is what the deliveries so far give
-abbrev pub invariant-loop-delivery : goal.invariant-loop-delivery
-invariant-loop-delivery l =
-    AreDelivered l.moves (given_for l.states (map delivery_of (take l.delivery-index l.deliveries)) l.mask) l.delivered

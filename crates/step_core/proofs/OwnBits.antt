@@ -1,0 +1,89 @@
+-- Words in which the bits at some places are replaced, and the highest bit of a word.
+use Rattle.std.proofs.Common.{◌≡◌, ◌≢◌, ℕ, ◌+◌, ◌-◌, ◌*◌, ◌/◌, ◌%◌, ◌^◌, ◌<◌, ◌≤◌, refl, sym, ◌∙◌, ap, arith, Bool, true, false, not, ◌&&◌, ◌||◌, eqb, suc, ⊎_elim, w64}
+use Rattle.std.specs.Prelude.{bit_and, bit_or}
+use Rattle.std.specs.Int.{bit_at, bit_not, leading_zeros, trailing_zeros}
+use Rattle.std.proofs.Math.Nat.{pow-succ'}
+use Rattle.std.proofs.lemmas.Bool.{and_parts, cases_Bool, cases_eq, cases_lt, false≢true}
+use Rattle.std.proofs.lemmas.Nat.{leading_top}
+use Rattle.std.proofs.lemmas.Nat.Bits.{bit_at_cat_high, bit_at_set_other, bit_at_set_same}
+use Rattle.petri_atom.proofs.Sets.{has-or}
+use Rattle.priority_filter.specs.Members.{has_bit}
+use Rattle.priority_filter.proofs.Words.{bit-and, bit-not, no-bit-past}
+use Rattle.step_core.proofs.BitsLeft.{no-bit}
+
+-- a word with a bit that is set is not 0, and one that is not 0 has one
+pub not-zero : (word k : ℕ) → has_bit word k ≡ true → 0 < word
+not-zero word k set =
+    ⊎_elim
+    (λ some. some)
+    (λ none. let zero : word ≡ 0 = omega (arith, none) in absurd (false≢true (sym (ap (λ w. has_bit w k) zero ∙ no-bit k) ∙ set)))
+    (cases_lt 0 word)
+
+-- one bit more
+pub bit-set : (word k : ℕ) → k < 64 → has_bit (bit_or word (1 * 2 ^ k % 2 ^ 64)) k ≡ true
+bit-set word k low = ap (λ x. eqb x 1) (bit_at_set_same w64 word k low)
+
+pub bit-unset : (word k j : ℕ) → k < 64 → (j ≡ k → ⊥) → has_bit (bit_or word (1 * 2 ^ k % 2 ^ 64)) j ≡ has_bit word j
+bit-unset word k j low other = ap (λ x. eqb x 1) (bit_at_set_other w64 word k low j other)
+
+-- one bit alone
+abbrev alone : ℕ → ℕ
+alone k = 1 * 2 ^ k % 2 ^ 64
+
+alone-is : (k j : ℕ) → has_bit (alone k) j ≡ has_bit (bit_or 0 (alone k)) j
+alone-is k j = ap (λ b. b || has_bit (alone k) j) (sym (no-bit j)) ∙ sym (has-or 0 (alone k) j)
+
+pub alone-here : (k : ℕ) → k < 64 → has_bit (alone k) k ≡ true
+alone-here k low = alone-is k k ∙ bit-set 0 k low
+
+pub alone-other : (k j : ℕ) → k < 64 → (j ≡ k → ⊥) → has_bit (alone k) j ≡ false
+alone-other k j low other = alone-is k j ∙ bit-unset 0 k j low other ∙ no-bit j
+
+-- a word without the bits of another
+pub bit-without : (a b k : ℕ) → b < 2 ^ 64 → k < 64 → has_bit (bit_and a (bit_not w64 b)) k ≡ (has_bit a k && not (has_bit b k))
+bit-without a b k small low = bit-and a (bit_not w64 b) k ∙ ap (λ x. has_bit a k && x) (bit-not b k small low)
+
+never : (x : Bool) → (x && false) ≡ false
+never true = refl
+never false = refl
+
+as-it-is : (x : Bool) → ((x && true) || false) ≡ x
+as-it-is true = refl
+as-it-is false = refl
+
+-- of some places the bits are those of another word, and all others stay
+module _ (a own here k : ℕ) (small : own < 2 ^ 64) (low : k < 64) where
+  bit-changed : has_bit (bit_or (bit_and a (bit_not w64 own)) here) k ≡ ((has_bit a k && not (has_bit own k)) || has_bit here k)
+  bit-changed = has-or (bit_and a (bit_not w64 own)) here k ∙ ap (λ x. x || has_bit here k) (bit-without a own k small low)
+
+  pub bit-put : has_bit own k ≡ true → has_bit (bit_or (bit_and a (bit_not w64 own)) here) k ≡ has_bit here k
+  bit-put its = bit-changed ∙ ap (λ x. (has_bit a k && not x) || has_bit here k) its ∙ ap (λ x. x || has_bit here k) (never (has_bit a k))
+
+  pub bit-kept : has_bit own k ≡ false → has_bit here k ≡ false → has_bit (bit_or (bit_and a (bit_not w64 own)) here) k ≡ has_bit a k
+  bit-kept out none = bit-changed ∙ ap (λ x. (has_bit a k && not x) || has_bit here k) out ∙ ap (λ x. (has_bit a k && true) || x) none ∙ as-it-is (has_bit a k)
+
+-- the highest bit of a word
+module _ (left : ℕ) (some : 0 < left) (small : left < 2 ^ 64) where
+  abbrev pub highest : ℕ
+  highest = 63 - leading_zeros w64 left
+
+  top : (j : ℕ) × (leading_zeros w64 left + suc j ≡ 64) × (2 ^ j ≤ left) × (left < 2 ^ suc j)
+  top = leading_top 64 left some small
+
+  highest-is : highest ≡ top.0
+  highest-is = omega (arith, top.1)
+
+  pub highest-below : highest < 64
+  highest-below = omega arith
+
+  set-at : (j : ℕ) → 2 ^ j ≤ left → left < 2 ^ suc j → has_bit left j ≡ true
+  set-at j from below =
+      let rest : ℕ = left - 2 ^ j in
+      let twice : 2 ^ suc j ≡ 2 * 2 ^ j = pow-succ' 2 j in
+      let parts : left ≡ 1 * 2 ^ j + rest = omega (arith, from) in
+      let less : rest < 2 ^ j = omega (arith, from, below, twice) in
+      let none : j - j ≡ 0 = omega arith in
+      ap (λ w. has_bit w j) parts ∙ ap (λ x. eqb x 1) (bit_at_cat_high 1 j rest j less (omega arith) ∙ ap (bit_at 1) none)
+
+  pub highest-set : has_bit left highest ≡ true
+  highest-set = ap (has_bit left) highest-is ∙ set-at top.0 top.2 top.3

@@ -1,0 +1,32 @@
+use Rattle.std.proofs.Common.{ap, arith}
+use Rattle.std.specs.Prelude.{slice_get}
+use Rattle.step_core.proofs.ConnectorRange.{entries-start, entry-before, range-end}
+use Rattle.step_core.proofs.weights.Weighing.found.Goals as goal
+
+pub overflow_add-first : goal.overflow_add-first
+overflow_add-first c =
+    omega (arith, range-end c.args.self.now c.args.connector c.index-rows.result.now c.requires.connector c.index-rows.ensures, c.from-first.ensures, c.from.ensures)
+
+pub loop-at-init : goal.loop-at-init
+loop-at-init c =
+    ap (λ ys. slice_get ys c.args.place) (entries-start c.args.self.now c.args.connector c.index-rows.result.now c.requires.connector c.index-rows.ensures _ (omega (arith, c.from-first.ensures)))
+
+pub kept_word-requires-clause-place : goal.kept_word-requires-clause-place
+kept_word-requires-clause-place c =
+    omega (arith, c.loop-at-test.true, c.div_ceil-high.ensures, range-end c.args.self.now c.args.connector c.index-rows.result.now c.requires.connector c.index-rows.ensures, c.from-first.ensures, c.from.ensures)
+
+pub found_in-requires-clause-at : goal.found_in-requires-clause-at
+found_in-requires-clause-at c =
+    omega (arith, c.loop-at-test.true, c.div_ceil-high.ensures, range-end c.args.self.now c.args.connector c.index-rows.result.now c.requires.connector c.index-rows.ensures, c.from-first.ensures, c.from.ensures)
+
+-- there is such a choice, and none behind the range
+pub unreachable-requires : goal.unreachable-requires
+unreachable-requires c =
+    omega (
+      arith,
+      entry-before c.args.self.now c.args.connector c.index-rows.result.now c.requires.connector c.index-rows.ensures c.args.place c.loop-at.at c.loop-at.left c.requires.place c.loop-at.invariant,
+      c.loop-at-test.false,
+      c.div_ceil-high.ensures,
+      c.from-first.ensures,
+      c.from.ensures,
+    )
