@@ -1,13 +1,14 @@
 -- What is delivered, as it is kept: the row that a mask and values keep, and where one more variable gets a value.
-use Rattle.std.proofs.Common.{◌≡◌, ℕ, zero, suc, ℤ, pos, ◌*◌, ◌%◌, ◌^◌, ◌<◌, ◌≤◌, Bool, true, false, eqb, refl, sym, ◌∙◌, ap, arith, mod-eq_of_lt, List, [], ◌∷◌, length, Option, Some, None, ⊎_elim}
+use Rattle.std.proofs.Common.{◌≡◌, ℕ, zero, suc, ℤ, pos, ◌*◌, ◌%◌, ◌^◌, ◌<◌, ◌≤◌, Bool, true, false, eqb, refl, sym, ◌∙◌, ap, arith, mod-eq_of_lt, List, [], ◌∷◌, length, Option, Some, None, replicate, ⊎_elim}
 use Rattle.std.specs.Prelude.{bit_or, is_some, unwrap_or, slice_index_or, slice_set, slice_get, if◌then◌else◌}
 use Rattle.std.specs.Int.{w8}
-use Rattle.std.specs.Option.{option_or}
-use Rattle.std.proofs.lemmas.Bool.{false≢true, cases_eq}
-use Rattle.std.proofs.lemmas.List.{map-set, set-get_or, set_past, length-set, get_or-set_same, get_or-set_other}
+use Rattle.std.specs.Option.{option_map_or, option_or}
+use Rattle.std.proofs.lemmas.Bool.{false≢true, cases_eq, cases_lt}
+use Rattle.std.proofs.lemmas.List.{map-set, set-get_or, set_past, length-set, get_or-set_same, get_or-set_other, get_or-replicate, get_or_past}
 use Rattle.std.proofs.lemmas.Nat.{or_lt, pow_below}
 use Rattle.std.proofs.lemmas.Nat.Bits.{bit_at_set_same, bit_at_set_other}
 use Rattle.std.proofs.lemmas.Option.{slice_get_past}
+use Rattle.petri_atom.specs.Definition.{delivered_to}
 use Rattle.petri_atom.specs.Local.{Row, has, set_below, given, mask_of, values_of, row_in, AreOfRow}
 use Rattle.petri_atom.proofs.Sets.{has-set_below, set_below-lt, set_below-is}
 
@@ -142,3 +143,21 @@ module _ (mask : ℕ) (values : List ℤ) (own : AreOfRow mask values) (e : ℕ)
 
   pub given-own : AreOfRow (bit_or mask (1 * 2 ^ e % 2 ^ 8)) (slice_set values e v)
   given-own = nothing_else (given e v row) (given-four row e v refl low none) _ _ masked valued
+
+-- a row of nothing
+abbrev pub nothing : Row
+nothing = replicate 4 None
+
+-- has nothing at a number
+nothing-at : (j : ℕ) → slice_index_or nothing j None ≡ None
+nothing-at j = ⊎_elim
+    (λ within. get_or-replicate 4 j None None within)
+    (λ past. get_or_past nothing j None past)
+    (cases_lt j 4)
+
+-- so its delivery leaves all values as they are
+pub delivered-nothing : (j : ℕ) (exports : List ℕ) (values : List ℤ) → delivered_to nothing j exports values ≡ values
+delivered-nothing j [] values = refl
+delivered-nothing j (v ∷ vs) values =
+    ap (λ o. delivered_to nothing (suc j) vs (option_map_or (slice_set values v) o values)) (nothing-at j) ∙
+    delivered-nothing (suc j) vs values

@@ -17,6 +17,11 @@ has-low set n below =
 pub low-within : (set n : ℕ) → has (bit_and set (2 ^ 64 - 1)) n ≡ true → has set n ≡ true
 low-within set n inside = (and_parts _ _ (sym (has-and set (2 ^ 64 - 1) n) ∙ inside)).0
 
+-- and so has what is left of the set modulo 2 ^ 64
+pub has-rest : (set n : ℕ) → n < 64 → has (set % 2 ^ 64) n ≡ has set n
+has-rest set n below =
+    sym (ap (λ x. eqb x 1) (bit_at_cat_low (set / 2 ^ 64) 64 (set % 2 ^ 64) n below)) ∙ ap (λ x. has x n) (shr_split set 64)
+
 -- a word that is moved down has the numbers past those that are moved out
 has-past : (set first n : ℕ) → has (set / 2 ^ first) n ≡ has set (first + n)
 has-past set first n =

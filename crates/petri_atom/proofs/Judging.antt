@@ -72,11 +72,16 @@ offered-there ts s n offered = each (slice_get ts n) refl
     each (Some t) there =
         (t, there, (and_parts _ _ (sym (ap (λ o. option_map_or (offers s) o false) there) ∙ offered)).0)
 
--- so it has an entry
+-- so its number is one of a transition
+pub offered-within : (ts : List TransitionDefinition) (s : Local) (n : ℕ) → option_map_or (offers s) (slice_get ts n) false ≡ true → n < length ts
+offered-within ts s n offered =
+    let there = offered-there ts s n offered in
+    slice_get_within ts n there.0 there.1
+
+-- and it has an entry
 pub offered-below : (a : AtomDefinition) (entries : List Behind) → AreBehind a.ports a.transitions entries → (s : Local) (n : ℕ) → offers_number a s n ≡ true → n < length entries
 offered-below a entries right s n offered =
-    let there = offered-there a.transitions s n offered in
-    subst (λ m. n < m) (sym right.number) (slice_get_within a.transitions n there.0 there.1)
+    subst (λ m. n < m) (sym right.number) (offered-within a.transitions s n offered)
 
 -- ---- transition by transition
 

@@ -7,9 +7,10 @@ mod Numbers
 pub mod Fitting
 mod Sameness
 mod Rows
-mod PortSets
+pub mod PortSets
 mod Members
 mod Halves
+mod Picking
 mod Giving
 mod Grouping
 mod Effects

@@ -1,20 +1,21 @@
 use Rattle.std.proofs.Common.{◌≡◌, ℕ, zero, suc, ◌+◌, ◌-◌, ◌*◌, ◌/◌, ◌%◌, ◌^◌, ◌<◌, ◌≤◌, Bool, true, false, cond, not, ◌&&◌, eqb, refl, sym, ◌∙◌, ap, arith, List, [], ◌∷◌, length, filter, find, Some, None, ⊎_elim}
 use Rattle.std.specs.Prelude.{bit_and, slice_get}
 use mir.Val.{bits}
-use Rattle.std.specs.Int.{Width, trailing_zeros}
+use Rattle.std.specs.Int.{Width, trailing_zeros, w64, w128}
 use Rattle.std.specs.List.{range_with_len}
 use Rattle.std.proofs.Math.Bool.{and-true}
-use Rattle.std.proofs.lemmas.Bool.{cases_lt, cases_eq, eq-eqb, ne_eqb, and_right}
+use Rattle.std.proofs.lemmas.Bool.{both_ways, cases_lt, cases_eq, eq-eqb, ne_eqb, and_right}
 use Rattle.std.proofs.lemmas.Nat.{pow_pos, pow_below, shr_split, mod_below}
 use Rattle.std.proofs.lemmas.Nat.Bits.{bit_at_cat_low, bit_at_cat_high, bit_at-pow_same, bit_at-pow_other, bit_at-trailing_zeros}
 use Rattle.petri_atom.specs.Definition.{TransitionDefinition, numbers_of}
 use Rattle.petri_atom.specs.Local.{has, set_below, numbers_below}
 use Rattle.petri_atom.specs.Parts.{is_of_port, set_of_port}
 use Rattle.petri_atom.proofs.Sets.{has-above, has-and, same_set, set_below-lt, has-set_below}
+use Rattle.petri_atom.proofs.Halves.{has-rest, has-high}
 use Rattle.petri_atom.proofs.PortSets.{filter-filter, set_below-both, numbers-set}
 
 -- two tests that agree in a range keep the same of it
-filter-agree : (f g : ℕ → Bool) (a n : ℕ) → ((k : ℕ) → a ≤ k → k < a + n → f k ≡ g k) → filter f (range_with_len a n) ≡ filter g (range_with_len a n)
+pub filter-agree : (f g : ℕ → Bool) (a n : ℕ) → ((k : ℕ) → a ≤ k → k < a + n → f k ≡ g k) → filter f (range_with_len a n) ≡ filter g (range_with_len a n)
 filter-agree f g a zero same = refl
 filter-agree f g a (suc n) same =
     ap (λ b. cond b (a ∷ filter f (range_with_len (a + 1) n)) (filter f (range_with_len (a + 1) n))) (same a (omega arith) (omega arith)) ∙
@@ -167,6 +168,41 @@ module _ (width : Width) (w : ℕ) (some : 0 < w) (small : w < 2 ^ bits width) w
 
   pub find-others : (p : ℕ → Bool) → p t ≡ false → find p (numbers_below (bits width) w) ≡ find p (numbers_below (bits width) rest)
   find-others p fails = ap (find p) numbers_below-first ∙ ap (λ b. cond b (Some t) (find p (numbers_below (bits width) rest))) fails
+
+-- of a set that is not empty
+module _ (set : ℕ) (some : 0 < set) (small : set < 2 ^ 128) where
+  -- the first number is the one before which it has no other
+  first-is : (n : ℕ) → has set n ≡ true → ((k : ℕ) → k < n → has set k ≡ false) → slice_get (numbers_below 128 set) 0 ≡ Some n
+  first-is n inside none =
+      let least = trailing_zeros w128 set in
+      let same : least ≡ n = ⊎_elim
+      (λ less. absurd (both_ways _ (none least less) (there w128 set some small)))
+      (λ past. ⊎_elim (λ is. is) (λ other. absurd (both_ways _ (before w128 set some small n (omega (arith, past, other))) inside)) (cases_eq least n))
+      (cases_lt least n) in
+      nth-first w128 set some small ∙ ap Some same
+
+  -- it is the lowest one below 64, if there is one
+  pub first-low : (low : ℕ) → low ≡ set % 2 ^ 64 → 0 < low → slice_get (numbers_below 128 set) 0 ≡ Some (trailing_zeros w64 low)
+  first-low low is filled =
+      let fits : low < 2 ^ 64 = omega (arith, is, mod_below set (2 ^ 64) (pow_pos 64)) in
+      let least = trailing_zeros w64 low in
+      let below : least < 64 = lowest-below w64 low filled fits in
+      let same : (k : ℕ) → k < 64 → has low k ≡ has set k = λ k h. ap (λ x. has x k) is ∙ has-rest set k h in
+      first-is least (sym (same least below) ∙ there w64 low filled fits)
+      (λ k h. sym (same k (omega (arith, h, below))) ∙ before w64 low filled fits k h)
+
+  -- and else the lowest one of the others
+  pub first-high : set % 2 ^ 64 ≡ 0 → slice_get (numbers_below 128 set) 0 ≡ Some (64 + trailing_zeros w64 (set / 2 ^ 64))
+  first-high none =
+      let high = set / 2 ^ 64 in
+      let filled : 0 < high = omega (arith, shr_split set 64, none, some) in
+      let fits : high < 2 ^ 64 = omega (arith, shr_split set 64, small) in
+      let least = trailing_zeros w64 high in
+      first-is (64 + least) (sym (has-high set least) ∙ there w64 high filled fits)
+      (λ k h. ⊎_elim
+      (λ low. sym (has-rest set k low) ∙ ap (λ x. has x k) none ∙ has-above 0 0 k (pow_pos 0) (omega arith))
+      (λ past. let back : 64 + (k - 64) ≡ k = omega (arith, past) in sym (ap (has set) back) ∙ sym (has-high set (k - 64)) ∙ before w64 high filled fits (k - 64) (omega (arith, h, past)))
+      (cases_lt k 64))
 
 -- of a set of transitions, the numbers of a port are those of its transitions that pass the set's test
 pub numbers_below-of_port : (f : ℕ → Bool) (port : ℕ) (ts : List TransitionDefinition) → length ts ≤ 128 → numbers_below 128 (bit_and (set_below (length ts) f) (set_of_port port ts)) ≡ filter f (numbers_of port ts)

@@ -1,4 +1,4 @@
-use Rattle.std.proofs.Common.{◌≡◌, ℕ, zero, suc, ◌+◌, ◌*◌, ◌^◌, ◌≤◌, Bool, true, false, cond, not, ◌&&◌, ◌||◌, eqb, ltb, refl, sym, ◌∙◌, ap, arith, List, [], ◌∷◌, ◌++◌, length, filter, ⊎_elim}
+use Rattle.std.proofs.Common.{◌≡◌, ℕ, zero, suc, ◌+◌, ◌*◌, ◌^◌, ◌<◌, ◌≤◌, Bool, true, false, cond, not, ◌&&◌, ◌||◌, eqb, ltb, refl, sym, ◌∙◌, ap, arith, List, [], ◌∷◌, ◌++◌, length, filter, ⊎_elim}
 use Rattle.std.specs.Prelude.{bit_and}
 use Rattle.std.specs.Int.Bits.{and_lt}
 use Rattle.std.specs.Int.Count.{ones, ones-ones}
@@ -58,7 +58,7 @@ pub ones-none : ones 0 ≡ 0
 ones-none = let few : ones 0 ≤ 0 = ones-le 0 0 (pow_pos 0) in omega (arith, few)
 
 -- a set of numbers below n has as many bits as numbers pass its test
-ones-set_below : (n : ℕ) (f : ℕ → Bool) → ones (set_below n f) ≡ length (filter f (range_with_len 0 n))
+pub ones-set_below : (n : ℕ) (f : ℕ → Bool) → ones (set_below n f) ≡ length (filter f (range_with_len 0 n))
 unfolding set_below
 ones-set_below zero f = ones-none
 ones-set_below (suc n) f =
@@ -116,3 +116,11 @@ module _ (f : ℕ → Bool) (port : ℕ) (ts : List TransitionDefinition) where
   pub any-of_port : not (eqb (bit_and (set_below (length ts) f) (set_of_port port ts)) 0) ≡ list_any f (numbers_of port ts)
   any-of_port =
       ap not (empty-ones _ ∙ ap (λ k. eqb k 0) ones-of_port) ∙ sym (any-kept f (numbers_of port ts))
+
+  -- so there is one if one of those passes
+  pub some-of_port : 0 < length (filter f (numbers_of port ts)) → 0 < bit_and (set_below (length ts) f) (set_of_port port ts)
+  some-of_port some =
+      ⊎_elim
+      (λ none. absurd (omega (arith, some, sym ones-none ∙ ap ones (sym none) ∙ ones-of_port)))
+      (λ filled. omega (arith, filled))
+      (cases_eq (bit_and (set_below (length ts) f) (set_of_port port ts)) 0)

@@ -1,4 +1,4 @@
-use Rattle.std.specs.Prelude.{◌≡◌, ℕ, suc, ◌+◌, ◌<◌, ℤ, Bool, ◌&&◌, List, [], ◌∷◌, length, max, if◌then◌else◌, ◌==◌, nat_le, slice_get, slice_set, Some}
+use Rattle.std.specs.Prelude.{◌≡◌, ℕ, suc, ◌+◌, ◌<◌, ◌≤◌, ℤ, Bool, ◌&&◌, List, [], ◌∷◌, length, max, if◌then◌else◌, ◌==◌, nat_le, nat_lt, slice_get, slice_set, Some, IsTrue}
 use Rattle.std.specs.List.{list_all}
 use Rattle.petri_atom.specs.Expression.{Tree, number, variable, negation, operation, bare, operated, value_of, word_count, has_variables_below}
 use Rattle.petri_atom.specs.Definition.{TransitionDefinition, UpdateDefinition}
@@ -8,7 +8,7 @@ use Rattle.petri_atom.specs.declared.code.Code.{Code}
 use Rattle.petri_atom.specs.declared.code.Operand.{Operand}
 use Rattle.petri_atom.specs.declared.code.Step.{Step}
 use Rattle.petri_atom.specs.declared.code.Operand.TheVariants.{Cell, Number}
-use Rattle.petri_atom.specs.declared.code.TheConstants.{ROW, TEMPORARY}
+use Rattle.petri_atom.specs.declared.code.TheConstants.{ROW, SMALL_ROW, SMALL_TEMPORARY, TEMPORARY}
 use Rattle.petri_atom.specs.declared.expression.Operator.TheVariants.{Add, Subtract, Multiply, Min, Max, Less, LessOrEqual, Equal, NotEqual, And, Or}
 use Rattle.petri_atom.specs.declared.operation.Operation.{Operation}
 use Rattle.petri_atom.specs.declared.operation.Operation.TheVariants.{Constant, AddCells, SubtractCells, MultiplyCells, MinCells, MaxCells, LessCells, LessOrEqualCells, EqualCells, NotEqualCells, AndCells, OrCells, AddNumber, SubtractNumber, MultiplyNumber, MinNumber, MaxNumber, LessNumber, LessOrEqualNumber, EqualNumber, NotEqualNumber, AndNumber, OrNumber, NumberMinus, NumberLess, NumberLessOrEqual}
@@ -17,7 +17,7 @@ use Rattle.petri_atom.specs.declared.state.TheConstants.{MAX_VARIABLES}
 use Rattle.petri_atom.specs.declared.transition_code.Change.{Change}
 use Rattle.petri_atom.specs.declared.transition_code.TransitionCode.{TransitionCode}
 
--- ---- straight code
+-- ---- steps
 
 -- what an operation makes of what two cells hold and of a number
 abbrev pub made : Operation → ℤ → ℤ → ℤ → ℤ
@@ -67,6 +67,16 @@ abbrev pub run_in : List Step → List ℤ → List ℤ
 run_in [] row = row
 run_in (s ∷ ss) row = run_in ss (slice_set row s.to (made_in row s))
 
+-- all cells of a step stand before a number
+abbrev pub is_within : ℕ → Step → Bool
+is_within bound s = nat_lt s.left bound && nat_lt s.right bound && nat_lt s.to bound
+
+-- so do those of each of some steps
+abbrev pub are_within : ℕ → List Step → Bool
+are_within bound steps = list_all (is_within bound) steps
+
+-- ---- straight code
+
 -- how many temporary cells two operands take that take so many. The one that takes more is judged first, so that one cell more is taken only if
 -- both take as many
 abbrev pub temporaries_of_two : ℕ → ℕ → ℕ
@@ -79,22 +89,46 @@ temporaries (variable v) = 0
 temporaries (negation e) = max (temporaries e) 1
 temporaries (operation op e f) = temporaries_of_two (temporaries e) (temporaries f)
 
--- behind the steps that were there, those that were added and one step more make the value of an expression, and change no cell before a number
+-- behind the steps that were there, those that were added and one step more make the value of an expression, and change no cell before a number.
+-- Their own cells stand before each number that leaves room for the temporary cells of the value
 pub record IsMadeAfter (before after : List Step) (last : Step) (tree : Tree ℕ) (free : ℕ) : Type 0 where
-  pub value : (row : List ℤ) → length row ≡ ROW → made_in (run_in after row) last ≡ value_of (value_in (run_in before row)) tree
+  pub value : (row : List ℤ) → free + temporaries tree < length row → made_in (run_in after row) last ≡ value_of (value_in (run_in before row)) tree
   pub others : (row : List ℤ) (k : ℕ) → k < free → value_in (run_in after row) k ≡ value_in (run_in before row) k
+  pub within : (bound : ℕ) → free + temporaries tree < bound → IsTrue (are_within bound before) → IsTrue (are_within bound after)
+  pub left : (bound : ℕ) → free + temporaries tree < bound → last.left < bound
+  pub right : (bound : ℕ) → free + temporaries tree < bound → last.right < bound
 
 -- the same of an operand in place of the one step more; it stands in no cell past the number
 pub record IsOperandAfter (before after : List Step) (operand : Operand) (tree : Tree ℕ) (free : ℕ) : Type 0 where
-  pub value : (row : List ℤ) → length row ≡ ROW → operand_in (run_in after row) operand ≡ value_of (value_in (run_in before row)) tree
+  pub value : (row : List ℤ) → free + temporaries tree < length row → operand_in (run_in after row) operand ≡ value_of (value_in (run_in before row)) tree
   pub others : (row : List ℤ) (k : ℕ) → k < free → value_in (run_in after row) k ≡ value_in (run_in before row) k
+  pub within : (bound : ℕ) → free + temporaries tree < bound → IsTrue (are_within bound before) → IsTrue (are_within bound after)
   pub cell : IsBelow (free + 1) operand
 
 -- the same of two operands at once
 pub record AreOperandsAfter (before after : List Step) (left right : Operand) (e f : Tree ℕ) (free : ℕ) : Type 0 where
-  pub left_value : (row : List ℤ) → length row ≡ ROW → operand_in (run_in after row) left ≡ value_of (value_in (run_in before row)) e
-  pub right_value : (row : List ℤ) → length row ≡ ROW → operand_in (run_in after row) right ≡ value_of (value_in (run_in before row)) f
+  pub left_value : (row : List ℤ) → free + temporaries_of_two (temporaries e) (temporaries f) < length row → operand_in (run_in after row) left ≡ value_of (value_in (run_in before row)) e
+  pub right_value : (row : List ℤ) → free + temporaries_of_two (temporaries e) (temporaries f) < length row → operand_in (run_in after row) right ≡ value_of (value_in (run_in before row)) f
   pub others : (row : List ℤ) (k : ℕ) → k < free → value_in (run_in after row) k ≡ value_in (run_in before row) k
+  pub within : (bound : ℕ) → free + temporaries_of_two (temporaries e) (temporaries f) < bound → IsTrue (are_within bound before) → IsTrue (are_within bound after)
+  pub left_cell : (bound : ℕ) → free + temporaries_of_two (temporaries e) (temporaries f) < bound → IsBelow bound left
+  pub right_cell : (bound : ℕ) → free + temporaries_of_two (temporaries e) (temporaries f) < bound → IsBelow bound right
+
+-- ---- the two kinds of row
+
+-- the code of an expression fits a small row
+abbrev pub is_small : Tree ℕ → Bool
+is_small e = has_variables_below SMALL_TEMPORARY e && nat_lt (SMALL_TEMPORARY + temporaries e) SMALL_ROW
+
+-- the first temporary cell of a small row, or of a whole one
+abbrev pub first_temporary : Bool → ℕ
+first_temporary small = if small then SMALL_TEMPORARY else TEMPORARY
+
+-- how many cells it has
+abbrev pub row_length : Bool → ℕ
+row_length small = if small then SMALL_ROW else ROW
+
+-- ---- code
 
 -- an expression that code is made of: it is within the limit of words, over variables that an atom may have
 abbrev pub is_codable : Tree ℕ → Bool
@@ -103,11 +137,13 @@ is_codable e = nat_le (word_count e) MAX_WORDS && has_variables_below MAX_VARIAB
 -- what code makes of a row: what its one step makes, or what all its steps leave in the first temporary cell
 abbrev pub coded_in : Code → List ℤ → ℤ
 coded_in code row =
-    if length code.steps.items == 0 then made_in row code.last else value_in (run_in code.steps.items row) TEMPORARY
+    if length code.steps.items == 0 then made_in row code.last else value_in (run_in code.steps.items row) (first_temporary code.is_small)
 
--- code gives the value of an expression, in each row that has the variables' values in their cells
-abbrev pub IsCodeOf : Code → Tree ℕ → Type 0
-IsCodeOf code tree = (row : List ℤ) → length row ≡ ROW → coded_in code row ≡ value_of (value_in row) tree
+-- code gives the value of an expression, in each row that has the variables' values in their cells and room for all cells of the code; no
+-- variable has a temporary cell
+pub record IsCodeOf (code : Code) (tree : Tree ℕ) : Type 0 where
+  pub variables : IsTrue (has_variables_below (first_temporary code.is_small) tree)
+  pub value : (row : List ℤ) → row_length code.is_small ≤ length row → coded_in code row ≡ value_of (value_in row) tree
 
 -- ---- transitions
 

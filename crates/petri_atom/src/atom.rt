@@ -1,5 +1,5 @@
 //! Atoms: what they are made of, which transitions a state offers, and what firing one leaves.
-ghost use Rattle.std.specs.Prelude.{◌≡◌, ◌≤◌, ◌↔◌, IsTrue, IfOk, IfErr, None, map, length};
+ghost use Rattle.std.specs.Prelude.{◌≡◌, ◌<◌, ◌≤◌, ◌↔◌, IsTrue, IfOk, IfErr, None, map, length};
 ghost use Rattle.petri_atom.specs.Definition.{is_well_formed, fault_of, IsFaultOf};
 ghost use Rattle.petri_atom.specs.Parts.{port_of, definition_by, set_of_port, sets_below};
 ghost use Rattle.petri_atom.specs.StraightCode.{AreCodesOf};
@@ -189,10 +189,19 @@ impl Atom {
     pub(crate) fn mask_of(&self, port: u16) -> u128
         ensures { result ≡ set_of_port port (definition_of self.now).transitions }
     {
-        match self.masks.get(usize::from(port)) {
-            Some(mask) => *mask,
-            None => 0,
+        if usize::from(port) < self.ports.len() {
+            self.mask_at(port)
+        } else {
+            0
         }
+    }
+
+    /// The same of a port that is there.
+    pub(crate) fn mask_at(&self, port: u16) -> u128
+        requires { port < length (definition_of self.now).ports }
+        ensures { result ≡ set_of_port port (definition_of self.now).transitions }
+    {
+        self.masks[usize::from(port)]
     }
 
     /// The numbers of the variables that the port exports, in order; none of a port that is not there.
@@ -222,11 +231,12 @@ impl Atom {
     {
         let number = usize::from(transition);
         let transition = &self.transitions[number];
-        if let Some(port) = self.ports.get(usize::from(transition.port())) {
-            state.deliver(&port.exports, delivered);
+        if !delivered.is_empty() {
+            state.deliver(self.exports(transition.port()), delivered);
         }
-        self.codes[number].update(state);
+        // No update reads the marking: moved before them, the places need not be kept while they run.
         transition.shift(state);
+        self.codes[number].update(state);
     }
 }
 

@@ -1,18 +1,23 @@
 //! Expressions as straight code: steps over a row of cells, each of which applies one operator.
-ghost use Rattle.std.specs.Prelude.{◌≡◌, ◌≢◌, ◌<◌, ℕ, ℤ, List, pos, length};
+ghost use Rattle.std.specs.Prelude.{◌≡◌, ◌<◌, ◌++◌, ◌&&◌, IsTrue, ℕ, ℤ, List, drop, length, nat_lt};
+ghost use Rattle.std.specs.List.{list_all};
 ghost use Rattle.petri_atom.specs.declared.state.TheConstants.{MAX_VARIABLES};
-ghost use Rattle.petri_atom.specs.declared.code.TheConstants.{ROW, TEMPORARY};
+ghost use Rattle.petri_atom.specs.declared.code.TheConstants.{ROW, SMALL_ROW};
 
-use crate::coding::last_step;
+use crate::coding::{first_temporary, fits_small_row, last_step};
 use crate::expression::{Expression, Operator};
 use crate::operation::Operation;
 use crate::state::{AtomState, MAX_VARIABLES};
 use std::alloc::{AllocError, Global};
 
-/// How many cells a row has: one for each variable that an atom may have, and temporary ones.
+/// How many cells a whole row has: one for each variable that an atom may have, and temporary ones.
 pub(crate) const ROW: usize = 24;
-/// The first temporary cell; the variables' cells stand before it.
+/// The first temporary cell of a whole row; the variables' cells stand before it.
 pub(crate) const TEMPORARY: u8 = 16;
+/// How many cells a small row has, which most expressions fit: one for each of the first variables, and temporary ones.
+pub(crate) const SMALL_ROW: usize = 8;
+/// The first temporary cell of a small row.
+pub(crate) const SMALL_TEMPORARY: u8 = 4;
 
 /// What an operator is applied to: what a cell holds, or a number.
 #[derive(Clone, Copy, Drop)]
@@ -37,7 +42,7 @@ pub(crate) struct Step {
 impl Step {
     ghost use Rattle.petri_atom.specs.Expression.{operated};
     ghost use Rattle.petri_atom.specs.Local.{value_in};
-    ghost use Rattle.petri_atom.specs.StraightCode.{IsBelow, made_in, operand_in, run_in};
+    ghost use Rattle.petri_atom.specs.StraightCode.{IsBelow, are_within, made_in, operand_in, run_in};
 
     /// The step that puts into a cell what an operator makes of two operands.
     pub(crate) fn of(operator: Operator, left: Operand, right: Operand, to: u8) -> Self
@@ -131,8 +136,9 @@ impl Step {
         row[usize::from(self.right)]
     }
 
-    /// Runs the steps in a row.
-    fn run(steps: &[Step], row: &mut [i64; ROW])
+    /// Runs the steps in a row that has their cells.
+    fn run<const N: usize>(steps: &[Step], row: &mut [i64; N])
+        requires { IsTrue (are_within N steps.now) }
         ensures { row.new ≡ run_in steps.now row.old }
     {
         for step in steps {
@@ -142,32 +148,41 @@ impl Step {
 }
 
 /// An expression over the variables of an atom as straight code: if it is one step, that step, and else all steps, which leave the value in the
-/// first temporary cell. Most expressions are one step, and are judged without a row.
+/// first temporary cell. Most expressions are one step, and are judged without a row. Most others are judged in a small row, which takes fewer
+/// instructions to fill than a whole one.
 #[derive(Drop)]
 pub struct Code {
     steps: Vec<Step>,
     last: Step,
+    is_small: bool,
     ghost left: { length steps.items ≡ 0 → last.left < MAX_VARIABLES },
     ghost right: { length steps.items ≡ 0 → last.right < MAX_VARIABLES },
+    ghost within: { IsTrue is_small → IsTrue (list_all (λ s. nat_lt s.left SMALL_ROW && nat_lt s.right SMALL_ROW && nat_lt s.to SMALL_ROW) steps.items) },
 }
 
 impl Code {
-    ghost use Rattle.std.specs.Prelude.{IsTrue, IfOk};
+    ghost use Rattle.std.specs.Prelude.{IfOk};
     ghost use Rattle.petri_atom.specs.Expression.{Tree, tree_of, value_of};
     ghost use Rattle.petri_atom.specs.Local.{value_in};
-    ghost use Rattle.petri_atom.specs.StraightCode.{is_codable, IsCodeOf};
+    ghost use Rattle.petri_atom.specs.StraightCode.{are_within, is_codable, run_in, IsCodeOf};
 
     /// The code of an expression.
     pub fn of(alloc: Global, expression: &Expression<u8>) -> Result<Self, AllocError>
         requires { IsTrue (is_codable (tree_of expression.now)) }
         ensures { IfOk result (λ code. IsCodeOf code (tree_of expression.now)) }
     {
+        let is_small = fits_small_row(expression);
+        let temporary = first_temporary(is_small);
         let mut steps = Vec::new(alloc);
-        let last = last_step(&mut steps, expression, TEMPORARY, TEMPORARY)?;
+        let last = last_step(&mut steps, expression, temporary, temporary)?;
         if !steps.is_empty() {
             steps.push(last)?;
         }
-        Ok(Code { steps, last })
+        Ok(Code {
+            steps,
+            last,
+            is_small,
+        })
     }
 
     /// The value in a state of the expression that this is the code of.
@@ -190,15 +205,29 @@ impl Code {
         }
     }
 
-    /// The same by several steps, in a row that has the variables' values in their cells, and 0 in all others.
+    /// The same by several steps, in a row of the code's kind.
     #[inline(never)]
     fn value_by_steps(&self, variables: &[i64; MAX_VARIABLES]) -> i64
         requires { 0 < length self.now.steps.items }
         ensures { (tree : Tree ℕ) → IsCodeOf self.now tree → result ≡ value_of (value_in variables.now) tree }
     {
-        let mut row = [0; ROW];
-        row[..MAX_VARIABLES].copy_from_slice(variables);
-        Step::run(&self.steps, &mut row);
-        row[usize::from(TEMPORARY)]
+        if self.is_small {
+            let first = &variables[..usize::from(SMALL_TEMPORARY)];
+            self.value_in_cells(first, &mut [0; SMALL_ROW])
+        } else {
+            self.value_in_cells(variables, &mut [0; ROW])
+        }
+    }
+
+    /// What the steps leave in the cell behind those of the variables, in a row that has these values in the variables' cells.
+    #[inline(always)]
+    fn value_in_cells<const N: usize>(&self, variables: &[i64], row: &mut [i64; N]) -> i64
+        requires room { length variables.now < N }
+        requires within { IsTrue (are_within N self.now.steps.items) }
+        ensures { result ≡ value_in (run_in self.now.steps.items (variables.now ++ drop (length variables.now) row.old)) (length variables.now) }
+    {
+        row[..variables.len()].copy_from_slice(variables);
+        Step::run(&self.steps, row);
+        row[variables.len()]
     }
 }

@@ -1,12 +1,11 @@
 //! How the straight code of an expression is made.
-ghost use Rattle.std.specs.Prelude.{◌≡◌, ◌≤◌, ◌<◌, ◌+◌, IsTrue, IfOk, length};
-ghost use Rattle.petri_atom.specs.StraightCode.{AreOperandsAfter, IsBelow, IsMadeAfter, IsOperandAfter, temporaries, temporaries_of_two};
+ghost use Rattle.std.specs.Prelude.{◌≡◌, ◌≤◌, ◌<◌, ◌+◌, IsTrue, IfOk, ℕ, length};
+ghost use Rattle.petri_atom.specs.StraightCode.{AreOperandsAfter, IsBelow, IsMadeAfter, IsOperandAfter, first_temporary, is_small, temporaries, temporaries_of_two};
 ghost use Rattle.petri_atom.specs.Expression.{has_variables_below, tree_of, word_count};
-ghost use Rattle.petri_atom.specs.declared.code.TheConstants.{ROW, TEMPORARY};
 ghost use Rattle.petri_atom.specs.declared.parts.TheConstants.{MAX_WORDS};
-ghost use Rattle.petri_atom.specs.declared.state.TheConstants.{MAX_VARIABLES};
+ghost use Rattle.petri_atom.specs.declared.code.TheConstants.{ROW};
 
-use crate::code::{Operand, Step};
+use crate::code::{Operand, SMALL_ROW, SMALL_TEMPORARY, Step, TEMPORARY};
 use crate::expression::{Expression, Operator};
 use std::alloc::AllocError;
 
@@ -31,8 +30,25 @@ fn temporaries(expression: &Expression<u8>) -> u8
     }
 }
 
+/// Whether the code of an expression fits a small row: its variables stand before the first temporary cell, and there is room for the
+/// temporary cells that its value takes.
+pub(crate) fn fits_small_row(expression: &Expression<u8>) -> bool
+    requires { word_count (tree_of expression.now) ≤ MAX_WORDS }
+    ensures { result ≡ is_small (tree_of expression.now) }
+{
+    expression.has_variables_below(usize::from(SMALL_TEMPORARY))
+        && usize::from(SMALL_TEMPORARY) + usize::from(temporaries(expression)) < SMALL_ROW
+}
+
+/// The first temporary cell of a small row, or of a whole one.
+pub(crate) fn first_temporary(is_small: bool) -> u8
+    ensures { result ≡ first_temporary is_small }
+{
+    if is_small { SMALL_TEMPORARY } else { TEMPORARY }
+}
+
 /// Adds the steps for all of an expression but its value, and gives the one that makes the value, for the cell `to`. They change no cell
-/// before the temporary cell `free`.
+/// before the temporary cell `free`; the variables' cells stand before it.
 #[cycle(push)]
 pub(crate) fn last_step(
     steps: &mut Vec<Step>,
@@ -41,15 +57,15 @@ pub(crate) fn last_step(
     free: u8,
 ) -> Result<Step, AllocError>
     requires small { word_count (tree_of expression.now) ≤ MAX_WORDS }
-    requires known { IsTrue (has_variables_below MAX_VARIABLES (tree_of expression.now)) }
-    requires temporary { TEMPORARY ≤ free }
+    requires known { IsTrue (has_variables_below free (tree_of expression.now)) }
+    requires some { 0 < free }
     requires room { free + temporaries (tree_of expression.now) < ROW }
     requires to { to < ROW }
     ensures made { IfOk result (λ step. IsMadeAfter steps.old.items steps.new.items step (tree_of expression.now) free) }
     ensures to { IfOk result (λ step. step.to ≡ to) }
     ensures more { IfOk result (λ _. length steps.old.items ≤ length steps.new.items) }
-    ensures left { IfOk result (λ step. length steps.new.items ≡ 0 → step.left < TEMPORARY) }
-    ensures right { IfOk result (λ step. length steps.new.items ≡ 0 → step.right < TEMPORARY) }
+    ensures left { IfOk result (λ step. length steps.new.items ≡ 0 → step.left < free) }
+    ensures right { IfOk result (λ step. length steps.new.items ≡ 0 → step.right < free) }
 {
     match expression {
         Expression::Number(number) => {
@@ -80,16 +96,16 @@ fn push_operands(
     free: u8,
 ) -> Result<(Operand, Operand), AllocError>
     requires small { 1 + word_count (tree_of left.now) + word_count (tree_of right.now) ≤ MAX_WORDS }
-    requires known_left { IsTrue (has_variables_below MAX_VARIABLES (tree_of left.now)) }
-    requires known_right { IsTrue (has_variables_below MAX_VARIABLES (tree_of right.now)) }
-    requires temporary { TEMPORARY ≤ free }
+    requires known_left { IsTrue (has_variables_below free (tree_of left.now)) }
+    requires known_right { IsTrue (has_variables_below free (tree_of right.now)) }
+    requires some { 0 < free }
     requires room { free + temporaries_of_two (temporaries (tree_of left.now)) (temporaries (tree_of right.now)) < ROW }
     ensures more { IfOk result (λ _. length steps.old.items ≤ length steps.new.items) }
     ensures operands { IfOk result (λ both. AreOperandsAfter steps.old.items steps.new.items both.0 both.1 (tree_of left.now) (tree_of right.now) free) }
     ensures left_here { IfOk result (λ both. IsBelow ROW both.0) }
     ensures right_here { IfOk result (λ both. IsBelow ROW both.1) }
-    ensures left { IfOk result (λ both. length steps.new.items ≡ 0 → IsBelow TEMPORARY both.0) }
-    ensures right { IfOk result (λ both. length steps.new.items ≡ 0 → IsBelow TEMPORARY both.1) }
+    ensures left { IfOk result (λ both. length steps.new.items ≡ 0 → IsBelow free both.0) }
+    ensures right { IfOk result (λ both. length steps.new.items ≡ 0 → IsBelow free both.1) }
 {
     if temporaries(left) < temporaries(right) {
         let second = push_operand(steps, right, free)?;
@@ -111,12 +127,12 @@ fn push_operand(
     free: u8,
 ) -> Result<Operand, AllocError>
     requires small { word_count (tree_of expression.now) ≤ MAX_WORDS }
-    requires known { IsTrue (has_variables_below MAX_VARIABLES (tree_of expression.now)) }
-    requires temporary { TEMPORARY ≤ free }
+    requires known { IsTrue (has_variables_below free (tree_of expression.now)) }
+    requires some { 0 < free }
     requires room { free + temporaries (tree_of expression.now) < ROW }
     ensures more { IfOk result (λ _. length steps.old.items ≤ length steps.new.items) }
     ensures operand { IfOk result (λ operand. IsOperandAfter steps.old.items steps.new.items operand (tree_of expression.now) free) }
-    ensures plain { IfOk result (λ operand. length steps.new.items ≡ 0 → IsBelow TEMPORARY operand) }
+    ensures plain { IfOk result (λ operand. length steps.new.items ≡ 0 → (bound : ℕ) → IsTrue (has_variables_below bound (tree_of expression.now)) → IsBelow bound operand) }
 {
     match expression {
         Expression::Number(number) => Ok(Operand::Number(*number)),

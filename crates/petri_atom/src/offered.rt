@@ -1,9 +1,10 @@
 //! The offered transitions of a state as one set, so that each transition is judged once in a step.
-ghost use Rattle.std.specs.Prelude.{◌≡◌, ℕ, ◌+◌, ◌<◌, ◌≤◌, ◌&&◌, ◌==◌, not, IsTrue, length, slice_get, slice_index_or, slice_set};
+ghost use Rattle.std.specs.Prelude.{◌≡◌, ℕ, ◌+◌, ◌<◌, ◌≤◌, ◌&&◌, ◌==◌, not, IsTrue, Some, bit_and, count_ones, length, slice_get, slice_index_or, slice_set};
 ghost use Rattle.petri_atom.specs.Local.{Local, Row, has, numbers_below, set_below};
 ghost use Rattle.petri_atom.specs.Behind.{CountsFollow, MovableFollows, OfferedFollows, movable_set};
 ghost use Rattle.petri_atom.specs.Groups.{can_move_number, passes_bare, passes_guard};
 ghost use Rattle.petri_atom.specs.Definition.{enabled, fired, first_from, offered_set, offers_number, offers_port};
+ghost use Rattle.petri_atom.specs.Parts.{set_of_port};
 ghost use Rattle.petri_atom.specs.declared.parts.TheConstants.{MAX_PORTS, MAX_TRANSITIONS};
 
 use crate::atom::Atom;
@@ -77,13 +78,12 @@ impl Atom {
 
     /// Whether a firing of the transition leaves what can move and what is offered as it was.
     pub fn is_quiet(&self, transition: u16) -> bool
+        requires { transition < length (definition_of self.now).transitions }
         ensures movable { IsTrue result → (before : Local) (delivered : Row) → IsTrue (offers_number (definition_of self.now) before transition) → movable_set (definition_of self.now) (fired (definition_of self.now) transition delivered before) ≡ movable_set (definition_of self.now) before }
         ensures offered { IsTrue result → (before : Local) (delivered : Row) → IsTrue (offers_number (definition_of self.now) before transition) → offered_set (definition_of self.now) (fired (definition_of self.now) transition delivered before) ≡ offered_set (definition_of self.now) before }
     {
-        match self.behind.get(usize::from(transition)) {
-            Some(told) => told.is_quiet,
-            None => false,
-        }
+        let told = &self.behind[usize::from(transition)];
+        told.is_quiet
     }
 
     /// Brings the sets of a state up to date after the transition was fired in it: the transitions that can move, and those that are
@@ -332,6 +332,14 @@ impl Atom {
     {
         nth_in(offered.word & self.mask_of(port), place)
     }
+
+    /// The least transition of the port in the set of those that a state offers, of which there is one.
+    pub fn first_among(&self, offered: TransitionSet, port: u16) -> u16
+        requires some { 0 < bit_and offered (set_of_port port (definition_of self.now).transitions) }
+        ensures { (state : Local) → offered ≡ offered_set (definition_of self.now) state → slice_get (enabled (definition_of self.now) state port) 0 ≡ Some result }
+    {
+        lowest_in(offered.word & self.mask_at(port))
+    }
 }
 
 /// Writes down how many transitions of the port are offered. Says whether it is another number now, by the bit of the port.
@@ -350,17 +358,43 @@ fn set_count(counts: &mut [u8; MAX_PORTS], port: u16, count: u8) -> u32
 fn nth_in(set: u128, place: usize) -> Option<u16>
     ensures { result ≡ slice_get (numbers_below MAX_TRANSITIONS set) place }
 {
-    let mut left = set;
+    // A word of 64 bits is walked in fewer steps, and by its count the lower one is passed over as a whole.
+    let low = low_word(set);
+    let high = (set >> 64) as u64;
+    let lower = low.count_ones() as usize;
+    if place < lower {
+        Some(nth_in_word(low, place))
+    } else if place - lower < high.count_ones() as usize {
+        Some(64 + nth_in_word(high, place - lower))
+    } else {
+        None
+    }
+}
+
+/// The number with this place, from 0, among those in the word, by rising number. There is one.
+fn nth_in_word(word: u64, place: usize) -> u16
+    requires { place < count_ones word }
+    ensures nth { slice_get (numbers_below 64 word) place ≡ Some result }
+    ensures low { result < 64 }
+{
+    let mut left = word;
     for _ in 0..place {
-        if left == 0 {
-            return None;
-        }
         left &= left - 1;
     }
-    if left == 0 {
-        None
+    left.trailing_zeros() as u16
+}
+
+/// The least number in the set, which has one.
+fn lowest_in(set: u128) -> u16
+    requires { 0 < set }
+    ensures { slice_get (numbers_below MAX_TRANSITIONS set) 0 ≡ Some result }
+{
+    // Of a word of 64 bits one instruction tells the lowest.
+    let low = low_word(set);
+    if low != 0 {
+        low.trailing_zeros() as u16
     } else {
-        Some(left.trailing_zeros() as u16)
+        64 + ((set >> 64) as u64).trailing_zeros() as u16
     }
 }
 

@@ -256,6 +256,13 @@ impl Delivered {
         }
     }
 
+    /// Whether nothing is delivered.
+    pub(crate) fn is_empty(&self) -> bool
+        ensures { IsTrue result ↔ (self.now ≡ replicate MAX_EXPORTS None) }
+    {
+        self.mask == 0
+    }
+
     /// Takes back all that is delivered. Most rows have nothing, and are only looked at.
     pub fn clear(&mut self)
         ensures { self.new ≡ replicate MAX_EXPORTS None }

@@ -90,6 +90,7 @@ fn print_drawn_atom<W: Write>(
     if !has_number(drawn, number) {
         return Ok(());
     }
+    run.system().keeps_its_rules();
     let state = run.states().state(number as u16);
     print_atom(number as u64, atom, state, output)
 }

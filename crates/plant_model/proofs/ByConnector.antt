@@ -1,10 +1,10 @@
 -- Interactions that stand in the order of their connectors: where those of a connector begin and end, and the rows of them.
-use Rattle.std.proofs.Common.{◌≡◌, ◌≢◌, ℕ, ◌+◌, ◌<◌, ◌≤◌, ◌^◌, refl, sym, ◌∙◌, ap, List, length, map, get_or, nat_lt, ◌==◌, Contains, arith, Bool, true, false, not, ◌&&◌, ⊎_elim}
+use Rattle.std.proofs.Common.{◌≡◌, ◌≢◌, ◌↔◌, ℕ, ◌+◌, ◌<◌, ◌≤◌, ◌^◌, refl, sym, ◌∙◌, ap, List, length, map, get_or, nat_lt, ◌==◌, Contains, arith, Bool, true, false, not, ◌&&◌, ⊎_elim}
 use Rattle.std.specs.Prelude.{Option, Some, None, slice_get, option_map, if◌then◌else◌, pos}
 use Rattle.std.specs.List.{range_with_len}
 use Rattle.std.specs.Option.{option_map_or}
 use Rattle.std.proofs.Math.Nat.{pow-le-pow_right}
-use Rattle.std.proofs.lemmas.Bool.{and_right, cases_eq, cases_lt, eq-eqb, ne_eqb, le-ltb, lt-ltb, ltb-false, ltb-true, true≢false}
+use Rattle.std.proofs.lemmas.Bool.{and_parts, and_right, cases_eq, cases_lt, eq-eqb, ne_eqb, le-ltb, lt-ltb, ltb-false, ltb-true, not-true, true≢false}
 use Rattle.std.proofs.lemmas.List.{length-map}
 use Rattle.std.proofs.lemmas.List.FromFn.{get_or-range_with_len, length-range_with_len}
 use Rattle.std.proofs.lemmas.Option.{get_or_from_slice_get, none-some, same_Some, slice_get-map, slice_get_past, slice_get_read, slice_get_within}
@@ -15,7 +15,7 @@ use Rattle.connector_tree.specs.declared.tree.Port.{Port}
 use Rattle.petri_atom.specs.Expression.{number, variable}
 use Rattle.plant_model.specs.BoundExpressions.{has_all, leaf_bit}
 use Rattle.plant_model.specs.Choice.{Interaction, plant_interactions}
-use Rattle.plant_model.specs.ConnectorRows.{AreByConnector, AreRowsOf, has_all_at, is_before, is_from, is_of_connector, is_with_all, is_with_leaf}
+use Rattle.plant_model.specs.ConnectorRows.{AreByConnector, AreRowsOf, IsInAll, has_all_at, is_before, is_from, is_of_connector, is_with_all, is_with_leaf}
 use Rattle.plant_model.specs.Interaction.{interaction_of}
 use Rattle.plant_model.specs.Plant.{PlantDefinition, WireDefinition}
 use Rattle.plant_model.specs.Rules.{first_fault_in, tree_fault}
@@ -161,6 +161,40 @@ module _ (all : List Interaction) (connector first end : ℕ) (begins : (n : ℕ
       each (Some i) some =
           both (ap not (sym (begins n) ∙ at-before all connector n i some)) (sym (ends n) ∙ at-before all (connector + 1) n i some) ∙ same-number i.connector connector ∙
           sym (ap (λ o. option_map_or (λ j. j.connector == connector) o false) some)
+
+  -- a leaf takes part in all of them exactly where it takes part in each of the connector's
+  pub in-all-own : (leaf : ℕ) → IsInAll all first end leaf ↔ ((n : ℕ) → is_of_connector all connector n ≡ true → is_with_leaf all connector leaf n ≡ true)
+  in-all-own leaf = (λ each n own. forth each n own (slice_get all n) refl, back)
+    where
+      bounds : (n : ℕ) → is_of_connector all connector n ≡ true → (first ≤ n) × (n < end)
+      bounds n own =
+          let parts = and_parts (not (nat_lt n first)) (nat_lt n end) (range-of n ∙ own) in
+          (ltb-false n first (not-true (nat_lt n first) parts.0), ltb-true n end parts.1)
+
+      forth : IsInAll all first end leaf → (n : ℕ) → is_of_connector all connector n ≡ true → (o : Option Interaction) → slice_get all n ≡ o → is_with_leaf all connector leaf n ≡ true
+      forth each n own None none = absurd (true≢false (sym own ∙ ap (λ o. option_map_or (λ j. j.connector == connector) o false) none))
+      forth each n own (Some i) some =
+          ap (λ o. option_map_or (λ j. j.connector == connector && is_set j.mask leaf) o false) some ∙
+          both (sym (ap (λ o. option_map_or (λ j. j.connector == connector) o false) some) ∙ own) (each n i (bounds n own).0 (bounds n own).1 some)
+
+      back : ((n : ℕ) → is_of_connector all connector n ≡ true → is_with_leaf all connector leaf n ≡ true) → IsInAll all first end leaf
+      back each n i from before some =
+          let own = sym (range-of n) ∙ both (ap not (le-ltb n first from)) (lt-ltb n end before) in
+          (and_parts (i.connector == connector) (is_set i.mask leaf) (sym (ap (λ o. option_map_or (λ j. j.connector == connector && is_set j.mask leaf) o false) some) ∙ each n own)).1
+
+-- ---- leaves that take part in all of some interactions
+
+module _ (all : List Interaction) (leaf first k : ℕ) (i : Interaction) (there : slice_get all k ≡ Some i) where
+  -- one interaction more
+  pub in-all-more : IsInAll all first k leaf → is_set i.mask leaf ≡ true → IsInAll all first (k + 1) leaf
+  in-all-more before set n j from below at =
+      ⊎_elim
+      (λ same. ap (λ (x : Interaction). is_set x.mask leaf) (same_Some j i (sym at ∙ ap (slice_get all) same ∙ there)) ∙ set)
+      (λ other. before n j from (omega (arith, below, other)) at)
+      (cases_eq n k)
+
+  pub in-all-less : first ≤ k → IsInAll all first (k + 1) leaf → IsInAll all first k leaf × (is_set i.mask leaf ≡ true)
+  in-all-less from each = (λ n j at_least below at. each n j at_least (omega (arith, below)) at, each k i from (omega arith) there)
 
 -- ---- sets of leaves
 

@@ -20,7 +20,6 @@ mod Rows
 mod StepRows
 pub mod Noting
 pub mod NoDeadlock
-mod Touched
 pub mod Sighted
 pub mod Membership
 pub mod OfPorts
@@ -38,6 +37,7 @@ pub mod Reaching
 mod Putting
 pub mod OfConnector
 mod WordSets
+mod JudgedWords
 pub mod ByConnector
 mod Ranking
-mod ByRank
+mod RankTables

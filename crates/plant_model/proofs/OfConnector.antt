@@ -15,8 +15,7 @@ use Rattle.connector_tree.specs.declared.tree.Port.{Port}
 use Rattle.plant_model.specs.BoundExpressions.{AreGuarding, clause_holds, clause_of, has_all}
 use Rattle.plant_model.specs.Values.{value_there}
 use Rattle.plant_model.specs.Choice.{Interaction, is_offered_port, is_possible, is_possible_at, passes_guards, plant_interactions}
-use Rattle.plant_model.specs.ConnectorRows.{AreRowsOf, is_leaf_off, is_of_connector}
-use Rattle.plant_model.specs.Dependents.{is_in_row}
+use Rattle.plant_model.specs.ConnectorRows.{AreRowsOf, is_leaf_off, is_of_connector, is_in_row}
 use Rattle.plant_model.specs.Laws.{IsInteractionOf}
 use Rattle.plant_model.specs.Plant.{PlantDefinition, WireDefinition}
 use Rattle.plant_model.specs.Rules.{fault_of}

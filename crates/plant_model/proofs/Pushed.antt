@@ -7,7 +7,7 @@ use Rattle.std.specs.Option.{option_map_or}
 use Rattle.std.proofs.lemmas.Bool.{cases_lt}
 use Rattle.std.proofs.lemmas.List.{length-append}
 use Rattle.std.proofs.lemmas.Option.{same_Some, slice_get_read, slice_get_within}
-use Rattle.plant_model.specs.Dependents.{is_in_row}
+use Rattle.plant_model.specs.ConnectorRows.{is_in_row}
 
 module _ {X : Type 0} where
   -- what was there stays, and the last one is the new one

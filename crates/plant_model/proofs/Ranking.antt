@@ -1,35 +1,41 @@
 -- How it is found where connectors stand.
-use Rattle.std.proofs.Common.{◌≡◌, ◌≢◌, ◌⊎◌, inl, inr, ⊎_elim, ℕ, zero, suc, ◌+◌, ◌*◌, ◌/◌, ◌%◌, ◌^◌, ◌<◌, ◌≤◌, refl, sym, ◌∙◌, ap, List, [], ◌∷◌, ◌++◌, get_or, length, map, arith, Bool, true, false, not, ◌&&◌, ◌||◌, eqb, nat_lt, w64}
+use Rattle.std.proofs.Common.{◌≡◌, ◌⊎◌, ◌↔◌, inl, inr, ⊎_elim, ℕ, zero, suc, ◌+◌, ◌*◌, ◌/◌, ◌%◌, ◌^◌, ◌<◌, ◌≤◌, refl, sym, ◌∙◌, ap, subst, List, [], ◌∷◌, ◌++◌, get_or, length, arith, Bool, true, false, not, ◌&&◌, ◌||◌, eqb, nat_lt, w64, Vec, Global}
 use Rattle.std.specs.Prelude.{Option, Some, None, slice_get, bit_and, bit_or}
-use Rattle.std.specs.Cmp.{nat_cmp_total}
 use Rattle.std.specs.Ordering.{nat_cmp}
-use Rattle.std.specs.FinSet.{FinSet, contains, union, contains-union}
-use Rattle.std.specs.Int.{bit_not}
+use Rattle.std.specs.FinSet.{FinSet, contains, contains-empty, empty}
+use Rattle.std.specs.Int.{bit_not, trailing_zeros}
 use Rattle.std.specs.Option.{option_map_or}
-use Rattle.std.proofs.lemmas.Bool.{and_from, and_parts, both_ways, cases_Bool, cases_eq, eq-eqb, eqb-true, false≢true, false_from_ne_true, le-ltb, lt-ltb, ltb-false, ltb-true, not-true, or_cases, or_left, or_right}
+use Rattle.std.proofs.lemmas.Bool.{and_from, and_parts, both_ways, cases_Bool, cases_eq, cases_lt, eq-eqb, eqb-true, false≢true, le-ltb, lt-ltb, ltb-false, ltb-true, ne_eqb, not-true, or_cases, or_left, or_right}
+use Rattle.std.proofs.lemmas.List.{length-append}
 use Rattle.std.proofs.lemmas.List.Folds.{list_any-append}
+use Rattle.std.proofs.lemmas.Nat.{and_le_l}
 use Rattle.std.proofs.lemmas.Nat.Bits.{bit_at_set_other, bit_at_set_same}
-use Rattle.std.proofs.lemmas.Option.{same_Some, slice_get_read, slice_get_within}
+use Rattle.std.proofs.lemmas.Option.{none-some, same_Some, slice_get_past, slice_get_read, slice_get_within}
 use Rattle.connector_tree.specs.Tree.{leaves}
+use Rattle.priority_filter.specs.Active.{unconditional}
+use Rattle.priority_filter.specs.Decided.{is_below}
 use Rattle.priority_filter.specs.Members.{has_bit}
 use Rattle.priority_filter.specs.declared.interaction_set.TheConstants.{ROW_WORDS}
+use Rattle.priority_filter.specs.declared.rule.Rule.{Rule}
+use Rattle.priority_filter.proofs.DecidedOrder.{below_inside, decides_below}
+use Rattle.priority_filter.proofs.Words.{bit-and, no-bit-past}
 use Rattle.plant_model.specs.Choice.{Interaction, plant_interactions}
 use Rattle.plant_model.specs.ConnectorRows.{AreConnectorRows, is_of_connector}
-use Rattle.plant_model.specs.Interaction.{interaction_of}
 use Rattle.plant_model.specs.Plant.{PlantDefinition, WireDefinition}
-use Rattle.plant_model.specs.Ranks.{AreHigher, AreRanges, IsHigher, IsRange, IsRank, has_interaction, is_in_part, is_in_parts}
+use Rattle.plant_model.specs.Ranks.{AreRanges, AreRests, IsAbove, IsRange, has_interaction, is_in_part, is_head_at, is_in_parts, is_own, parts_at}
 use Rattle.plant_model.specs.declared.bound_expressions.BoundExpressions.{BoundExpressions}
 use Rattle.plant_model.specs.declared.connector_rows.ConnectorRows.{ConnectorRows}
-use Rattle.plant_model.specs.declared.interaction.Interaction as kept
 use Rattle.plant_model.specs.declared.limits.TheConstants.{MAX_INTERACTIONS}
-use Rattle.plant_model.specs.declared.ranks.Higher.{Higher}
 use Rattle.plant_model.specs.declared.ranks.Part.{Part}
-use Rattle.plant_model.specs.declared.ranks.Rank.{Rank}
-use Rattle.plant_model.proofs.ByConnector.{in-own-range, kept-at, range-within}
+use Rattle.plant_model.specs.declared.ranks.Rests.{Rests}
+use Rattle.plant_model.specs.declared.ranks.Shared.{Shared}
+use Rattle.petri_atom.proofs.Markings.{same_answer}
+use Rattle.plant_model.proofs.ByConnector.{in-own-range, range-within}
+use Rattle.plant_model.proofs.FirstFault.{both}
 use Rattle.plant_model.proofs.Membership.{entry-in}
 use Rattle.plant_model.proofs.OfInteractions.{of-wire}
-use Rattle.plant_model.proofs.Pushed.{some-at}
-use Rattle.plant_model.proofs.WordSets.{bit-without, no-bit}
+use Rattle.plant_model.proofs.Pushed.{get-last, get-pushed, some-at}
+use Rattle.plant_model.proofs.WordSets.{bit-without, lowest-set, no-bit}
 
 -- ---- the range of a connector
 
@@ -39,8 +45,15 @@ module _ (r : ConnectorRows) (range : IsRange r) (m : ℕ) where
       let parts = and_parts (not (nat_lt m r.first)) (nat_lt m (r.first + r.count)) (sym (range.own m) ∙ own) in
       (ltb-false m r.first (not-true (nat_lt m r.first) parts.0), ltb-true m (r.first + r.count) parts.1)
 
+  -- and stands in the words of that
+  pub in-words : contains r.own m ≡ true → (r.low ≤ m / 64) × (m / 64 < r.high)
+  in-words own = let its = in-range own in (omega (arith, its.0, range.low), omega (arith, its.1, range.high))
+
   pub of-range : r.first ≤ m → m < r.first + r.count → contains r.own m ≡ true
   of-range from before = range.own m ∙ and_from (not (nat_lt m r.first)) (nat_lt m (r.first + r.count)) (ap not (le-ltb m r.first from)) (lt-ltb m (r.first + r.count) before)
+
+pub few-words : (r : ConnectorRows) → IsRange r → r.high ≤ ROW_WORDS
+few-words r range = omega (arith, range.few, range.high)
 
 -- the rows of the connectors of a plant hold their interactions by ranges
 pub ranges-from : (wires : List WireDefinition) (bound : List BoundExpressions) (interactions : List Interaction) (rows : List ConnectorRows) → length bound ≡ length wires → length interactions ≤ MAX_INTERACTIONS
@@ -52,6 +65,8 @@ ranges-from wires bound interactions rows as_many few known are = record {
       let its = are.each k r w.0 b.0 at w.1 b.1 in
       record {
         few = omega (arith, few, within k r at);
+        low = its.low;
+        high = its.high;
         own = λ n. its.own n ∙ sym (in-own-range interactions k r (length (leaves w.0.connector)) b.0.clauses.items its n);
       };
   within = within;
@@ -75,6 +90,47 @@ ranges-from wires bound interactions rows as_many few known are = record {
 pub known-from : (plant : PlantDefinition) (n : ℕ) (i : Interaction) → slice_get (plant_interactions plant) n ≡ Some i → i.connector < length plant.wires
 known-from plant n i at = let found = of-wire plant i (entry-in (plant_interactions plant) n i at) in slice_get_within plant.wires i.connector found.0 found.1
 
+-- what is above something is there
+pub up-inside : (rules : List Rule) (names : List (ℕ × ℕ)) (n m : ℕ) → is_below (unconditional rules) names n m ≡ true → m < length names
+up-inside rules names n m up = (below_inside (unconditional rules) names n m ((decides_below (unconditional rules) names n m).0 up)).1
+
+-- ---- the interactions of a connector by its rows
+
+module _ (rows : List ConnectorRows) (k n : ℕ) where
+  pub own-at : (r : ConnectorRows) → slice_get rows k ≡ Some r → is_own rows k n ≡ contains r.own n
+  own-at r at = ap (λ o. option_map_or (λ (x : ConnectorRows). contains x.own n) o false) at
+
+  pub own-there : is_own rows k n ≡ true → (r : ConnectorRows) × (slice_get rows k ≡ Some r) × (contains r.own n ≡ true)
+  own-there own = each (slice_get rows k) refl
+    where
+      each : (o : Option ConnectorRows) → slice_get rows k ≡ o → (r : ConnectorRows) × (slice_get rows k ≡ Some r) × (contains r.own n ≡ true)
+      each None none = absurd (false≢true (sym (ap (λ o. option_map_or (λ (x : ConnectorRows). contains x.own n) o false) none) ∙ own))
+      each (Some r) some = (r, some, sym (own-at r some) ∙ own)
+
+  pub own-within : is_own rows k n ≡ true → k < length rows
+  own-within own = let found = own-there own in slice_get_within rows k found.0 found.1
+
+-- they are those of the connector
+pub own-is : (interactions : List Interaction) (rows : List ConnectorRows) → AreRanges interactions rows → (k n : ℕ) → is_own rows k n ≡ is_of_connector interactions k n
+own-is interactions rows ranges k n =
+    ⊎_elim
+    (λ below. let r = some-at rows k below in own-at rows k n r.0 r.1 ∙ ranges.own k n r.0 r.1)
+    (λ past. ap (λ o. option_map_or (λ (x : ConnectorRows). contains x.own n) o false) (slice_get_past rows k past) ∙ sym (none past (slice_get interactions n) refl))
+    (cases_lt k (length rows))
+  where
+    none : length rows ≤ k → (o : Option Interaction) → slice_get interactions n ≡ o → is_of_connector interactions k n ≡ false
+    none past None at = ap (λ o. option_map_or (λ (i : Interaction). eqb i.connector k) o false) at
+    none past (Some i) at =
+        ap (λ o. option_map_or (λ (j : Interaction). eqb j.connector k) o false) at ∙ ne_eqb i.connector k (λ same. absurd (omega (arith, past, same, ranges.known n i at)))
+
+-- what is above each interaction of a connector is so with what is the same of each
+pub above-as : (under : ℕ → ℕ → Bool) (p q : ℕ → Bool) (m : ℕ) → ((n : ℕ) → p n ≡ q n) → IsAbove under p m → IsAbove under q m
+above-as under p q m same is = record {
+  apart = sym (same m) ∙ is.apart;
+  some = (is.some.0, sym (same is.some.0) ∙ is.some.1);
+  each = λ n own. is.each n (same n ∙ own);
+}
+
 -- ---- words
 
 -- where nothing of a word is left without the bits of another, that has its bits
@@ -85,19 +141,51 @@ without-none a b k small low none set =
     (λ no. absurd (both_ways (has_bit (bit_and a (bit_not w64 b)) k) (ap (λ w. has_bit w k) none ∙ no-bit k) (bit-without a b k small low ∙ and_from (has_bit a k) (not (has_bit b k)) set (ap not no))))
     (cases_Bool (has_bit b k))
 
--- a bit is put into a word
-module _ (word n : ℕ) (low : n < 64) where
-  pub bit-there : has_bit (bit_or word (1 * 2 ^ n % 2 ^ 64)) n ≡ true
-  bit-there = ap (λ x. eqb x 1) (bit_at_set_same w64 word n low)
+-- a word that is not 0 has a bit
+pub some-in : (place word : ℕ) (p : ℕ → Bool) → ((n : ℕ) → n / 64 ≡ place → has_bit word (n % 64) ≡ p n) → word < 2 ^ 64 → 0 < word → (m : ℕ) × (m / 64 ≡ place) × (p m ≡ true)
+some-in place word p is small some =
+    let low : ℕ = trailing_zeros w64 word in
+    let set : has_bit word low ≡ true = lowest-set word some small in
+    ⊎_elim
+    (λ below.
+    let m : ℕ = 64 * place + low in
+    let at : m / 64 ≡ place = omega (arith, below) in
+    let bit : m % 64 ≡ low = omega (arith, below) in
+    (m, at, sym (is m at) ∙ ap (has_bit word) bit ∙ set))
+    (λ past. absurd (both_ways (has_bit word low) (no-bit-past word low small past) set))
+    (cases_lt low 64)
 
-  other-bit : (k : ℕ) → (k ≡ n → ⊥) → has_bit (bit_or word (1 * 2 ^ n % 2 ^ 64)) k ≡ has_bit word k
-  other-bit k other = ap (λ x. eqb x 1) (bit_at_set_other w64 word n low k other)
+-- two words with a common bit
+pub common-in : (place a b : ℕ) (p q : ℕ → Bool) → ((n : ℕ) → n / 64 ≡ place → has_bit a (n % 64) ≡ p n) → ((n : ℕ) → n / 64 ≡ place → has_bit b (n % 64) ≡ q n) → a < 2 ^ 64 → 0 < bit_and a b
+    → (m : ℕ) × (m / 64 ≡ place) × (p m ≡ true) × (q m ≡ true)
+common-in place a b p q one other small some =
+    let found = some-in place (bit_and a b) (λ n. p n && q n) (λ n at. bit-and a b (n % 64) ∙ both (one n at) (other n at)) (omega (arith, small, and_le_l a b)) some in
+    let parts = and_parts (p found.0) (q found.0) found.2 in
+    (found.0, found.1, parts.0, parts.1)
 
-  pub bit-before : (k : ℕ) → has_bit word k ≡ true → has_bit (bit_or word (1 * 2 ^ n % 2 ^ 64)) k ≡ true
-  bit-before k set = ⊎_elim (λ is. ap (has_bit (bit_or word (1 * 2 ^ n % 2 ^ 64))) is ∙ bit-there) (λ other. other-bit k other ∙ set) (cases_eq k n)
+-- of the numbers below one the bits are those of which something holds: so it is with one number more
+module _ (word n : ℕ) (P : ℕ → Type 0) (so_far : (k : ℕ) → (has_bit word k ≡ true) ↔ ((k < n) × P k)) where
+  pub mark-passed : (P n → ⊥) → (k : ℕ) → (has_bit word k ≡ true) ↔ ((k < n + 1) × P k)
+  mark-passed fails k = (
+    λ set. let its = (so_far k).0 set in (omega (arith, its.0), its.1),
+    λ is. ⊎_elim (λ same. absurd (fails (subst P same is.1))) (λ other. (so_far k).1 (omega (arith, is.0, other), is.1)) (cases_eq k n),
+  )
 
-  pub bit-from : (k : ℕ) → has_bit (bit_or word (1 * 2 ^ n % 2 ^ 64)) k ≡ true → (k ≡ n) ⊎ (has_bit word k ≡ true)
-  bit-from k set = ⊎_elim (λ is. inl is) (λ other. inr (sym (other-bit k other) ∙ set)) (cases_eq k n)
+  pub mark-added : n < 64 → P n → (k : ℕ) → (has_bit (bit_or word (1 * 2 ^ n % 2 ^ 64)) k ≡ true) ↔ ((k < n + 1) × P k)
+  mark-added low holds k = (
+    λ set. ⊎_elim
+        (λ same. (omega (arith, same), subst P (sym same) holds))
+        (λ other. let its = (so_far k).0 (sym (ap (λ x. eqb x 1) (bit_at_set_other w64 word n low k other)) ∙ set) in (omega (arith, its.0), its.1))
+        (cases_eq k n),
+    λ is. ⊎_elim
+        (λ same. ap (has_bit (bit_or word (1 * 2 ^ n % 2 ^ 64))) same ∙ ap (λ x. eqb x 1) (bit_at_set_same w64 word n low))
+        (λ other. ap (λ x. eqb x 1) (bit_at_set_other w64 word n low k other) ∙ (so_far k).1 (omega (arith, is.0, other), is.1))
+        (cases_eq k n),
+  )
+
+-- before the first number there is none
+pub mark-none : (P : ℕ → Type 0) (k : ℕ) → (has_bit 0 k ≡ true) ↔ ((k < 0) × P k)
+mark-none P k = (λ set. absurd (both_ways (has_bit 0 k) (no-bit k) set), λ is. absurd (omega (arith, is.0)))
 
 -- ---- connectors
 
@@ -117,87 +205,34 @@ some-interaction [] e m own = absurd (false≢true own)
 some-interaction (i ∷ is) e zero own = or_left (eqb i.connector e) (has_interaction is e) own
 some-interaction (i ∷ is) e (suc m) own = or_right (eqb i.connector e) (has_interaction is e) (some-interaction is e m own)
 
--- one that is read is of its connector
-pub own-of : (items : List kept.Interaction) (n : ℕ) (item : kept.Interaction) → n < length items → (is : item ≡ get_or items n item) → is_of_connector (map interaction_of items) (get_or items n item).connector n ≡ true
-own-of items n item below is =
-    ap (λ o. option_map_or (λ (i : Interaction). eqb i.connector (get_or items n item).connector) o false) (kept-at items n item below is) ∙
-    eq-eqb item.connector (get_or items n item).connector (ap (λ (i : kept.Interaction). i.connector) is)
+-- ---- heads
 
--- ---- what is above an interaction, of other connectors
-
--- of the connectors before one: the bits of those all of whose interactions are above, which are in the set together with the
--- interactions of the own connector
-pub record AreCovered (under : ℕ → ℕ → Bool) (interactions : List Interaction) (n own connector whole : ℕ) (covered : FinSet nat_cmp) : Type 0 where
-  pub there : (e : ℕ) → has_bit whole e ≡ true → (e < connector) × (e ≢ own) × ((m : ℕ) × (is_of_connector interactions e m ≡ true))
-  pub above : (e m : ℕ) → has_bit whole e ≡ true → is_of_connector interactions e m ≡ true → under n m ≡ true
-  pub of_own : (m : ℕ) → is_of_connector interactions own m ≡ true → contains covered m ≡ true
-  pub from : (m : ℕ) → contains covered m ≡ true → (is_of_connector interactions own m ≡ true) ⊎ ((e : ℕ) × (has_bit whole e ≡ true) × (is_of_connector interactions e m ≡ true))
-
--- the set has what is above one interaction or another beside whole connectors
-abbrev pub HasOthers : List Higher → FinSet nat_cmp → Type 0
-HasOthers higher watched = (m n : ℕ) (h : Higher) → slice_get higher n ≡ Some h → contains h.others m ≡ true → contains watched m ≡ true
-
--- before the first connector the set has the own one's alone
-pub covered-none : (under : ℕ → ℕ → Bool) (interactions : List Interaction) (n own : ℕ) (covered : FinSet nat_cmp) → ((m : ℕ) → contains covered m ≡ is_of_connector interactions own m) → AreCovered under interactions n own 0 0 covered
-covered-none under interactions n own covered is = record {
-  there = λ e set. absurd (both_ways (has_bit 0 e) (no-bit e) set);
-  above = λ e m set. absurd (both_ways (has_bit 0 e) (no-bit e) set);
-  of_own = λ m its. is m ∙ its;
-  from = λ m inside. inl (sym (is m) ∙ inside);
-}
-
-module _ (under : ℕ → ℕ → Bool) (interactions : List Interaction) (n own connector whole : ℕ) (covered : FinSet nat_cmp) (before : AreCovered under interactions n own connector whole covered) where
-  -- one more connector that is not taken
-  pub covered-past : AreCovered under interactions n own (connector + 1) whole covered
-  covered-past = record {
-    there = λ e set. let its = before.there e set in (omega (arith, its.0), its.1, its.2);
-    above = before.above;
-    of_own = before.of_own;
-    from = before.from;
-  }
-
-  -- one more that is
-  pub covered-more : (row : FinSet nat_cmp) → connector < 64 → connector ≢ own → ((m : ℕ) → contains row m ≡ is_of_connector interactions connector m) → (m : ℕ) × (contains row m ≡ true) → ((m : ℕ) → contains row m ≡ true → under n m ≡ true)
-      → AreCovered under interactions n own (connector + 1) (bit_or whole (1 * 2 ^ connector % 2 ^ 64)) (union covered row)
-  covered-more row low other is some above = record {
-    there = λ e set. ⊎_elim
-        (λ same. (omega (arith, same), λ its. other (sym same ∙ its), (some.0, ap (λ k. is_of_connector interactions k some.0) same ∙ sym (is some.0) ∙ some.1)))
-        (λ earlier. let its = before.there e earlier in (omega (arith, its.0), its.1, its.2))
-        (bit-from whole connector low e set);
-    above = λ e m set its. ⊎_elim
-        (λ same. above m (is m ∙ ap (λ k. is_of_connector interactions k m) (sym same) ∙ its))
-        (λ earlier. before.above e m earlier its)
-        (bit-from whole connector low e set);
-    of_own = λ m its. united m ∙ or_left (contains covered m) (contains row m) (before.of_own m its);
-    from = λ m inside. ⊎_elim
-        (λ old. ⊎_elim (λ its. inl its) (λ found. inr (found.0, bit-before whole connector low found.0 found.1, found.2)) (before.from m old))
-        (λ new. inr (connector, bit-there whole connector low, sym (is m) ∙ new))
-        (or_cases (contains covered m) (contains row m) (sym (united m) ∙ inside));
-  }
-    where
-      united : (m : ℕ) → contains (union covered row) m ≡ (contains covered m || contains row m)
-      united m = contains-union nat_cmp_total covered row m
-
--- where all connectors are gone through, what is above and not in the set is the rest
-pub higher-from : (under : ℕ → ℕ → Bool) (interactions : List Interaction) (n own connectors whole : ℕ) (covered others : FinSet nat_cmp) → AreCovered under interactions n own connectors whole covered → is_of_connector interactions own n ≡ true
-    → ((m : ℕ) → contains others m ≡ (under n m && not (contains covered m))) → IsHigher under connectors interactions n (record { whole = whole; others = others })
-higher-from under interactions n own connectors whole covered others all its is = record {
-  whole_there = λ e set. let found = all.there e set in (found.0, false_from_ne_true (is_of_connector interactions e n) (λ yes. found.1 (one-connector interactions e own n yes its)), found.2);
-  whole = all.above;
-  others = λ m inside. (parts m inside).0;
-  others_apart = λ e m inside same. false_from_ne_true (is_of_connector interactions e m) (λ yes.
-      both_ways (contains covered m) (not-true (contains covered m) (parts m inside).1) (all.of_own m (ap (λ k. is_of_connector interactions k m) (one-connector interactions own e n its same) ∙ yes)));
-  all = λ e m apart here up. ⊎_elim
-      (λ yes. ⊎_elim
-      (λ same. absurd (both_ways (is_of_connector interactions e n) apart (ap (λ k. is_of_connector interactions k n) (one-connector interactions e own m here same) ∙ its)))
-      (λ found. inl (ap (has_bit whole) (one-connector interactions e found.0 m here found.2) ∙ found.1))
-      (all.from m yes))
-      (λ no. inr (is m ∙ and_from (under n m) (not (contains covered m)) up (ap not no)))
-      (cases_Bool (contains covered m));
-}
-  where
-    parts : (m : ℕ) → contains others m ≡ true → (under n m ≡ true) × (not (contains covered m) ≡ true)
-    parts m inside = and_parts (under n m) (not (contains covered m)) (sym (is m) ∙ inside)
+-- what is left of a set, where the interactions of a connector are taken out with others
+pub heads-more : (own : ℕ → ℕ → Bool) (all old new : FinSet nat_cmp) (word n : ℕ) → n < 64 → ((m : ℕ) → (contains old m ≡ true) ↔ ((contains all m ≡ true) × ((e : ℕ) → has_bit word e ≡ true → own e m ≡ false)))
+    → ((m : ℕ) → contains new m ≡ (contains old m && not (own n m)))
+    → (m : ℕ) → (contains new m ≡ true) ↔ ((contains all m ≡ true) × ((e : ℕ) → has_bit (bit_or word (1 * 2 ^ n % 2 ^ 64)) e ≡ true → own e m ≡ false))
+heads-more own all old new word n low before taken m = (
+  λ inside.
+      let parts = and_parts (contains old m) (not (own n m)) (sym (taken m) ∙ inside) in
+      let its = (before m).0 parts.0 in (
+        its.0,
+        λ e set. ⊎_elim
+            (λ same. ap (λ k. own k m) same ∙ not-true (own n m) parts.1)
+            (λ other. its.1 e (sym (ap (λ x. eqb x 1) (bit_at_set_other w64 word n low e other)) ∙ set))
+            (cases_eq e n),
+      ),
+  λ is.
+      taken m ∙
+      and_from (contains old m) (not (own n m))
+      ((before m).1 (
+        is.0,
+        λ e set. is.1 e (⊎_elim
+            (λ same. ap (has_bit (bit_or word (1 * 2 ^ n % 2 ^ 64))) same ∙ ap (λ x. eqb x 1) (bit_at_set_same w64 word n low))
+            (λ other. ap (λ x. eqb x 1) (bit_at_set_other w64 word n low e other) ∙ set)
+            (cases_eq e n)),
+      ))
+      (ap not (is.1 n (ap (λ x. eqb x 1) (bit_at_set_same w64 word n low)))),
+)
 
 -- ---- entries of a list as they are read
 
@@ -242,114 +277,130 @@ module _ (set : FinSet nat_cmp) (place word : ℕ) (is : (n : ℕ) → n / 64 �
       (λ other. all m (omega (arith, below, other)) its)
       (cases_eq (m / 64) place)
 
--- ---- a rank
+-- what is in one of the parts is in the parts
+pub in-parts : (parts : List Part) (k : ℕ) (p : Part) (m : ℕ) → slice_get parts k ≡ Some p → is_in_part m p ≡ true → is_in_parts parts m ≡ true
+in-parts [] k p m there inside = absurd (none-some p there)
+in-parts (q ∷ qs) zero p m there inside = or_left (is_in_part m q) (is_in_parts qs m) (ap (is_in_part m) (same_Some q p there) ∙ inside)
+in-parts (q ∷ qs) (suc k) p m there inside = or_right (is_in_part m q) (is_in_parts qs m) (in-parts qs k p m there inside)
 
--- what is found of a connector is its rank
-module _ (under : ℕ → ℕ → Bool) (interactions : List Interaction) (rows : List ConnectorRows) (ranges : AreRanges interactions rows) (few : length interactions ≤ MAX_INTERACTIONS)
-    (inside : (n m : ℕ) → under n m ≡ true → m < length interactions) (higher : List Higher) (each : AreHigher under (length rows) interactions higher)
-    (c : ℕ) (r : ConnectorRows) (there : slice_get rows c ≡ Some r) (first end : ℕ) (begins : first ≡ r.first) (ends : end ≡ r.first + r.count) where
-  of-connector : (n : ℕ) → is_of_connector interactions c n ≡ true → (first ≤ n) × (n < end)
-  of-connector n own = let range = in-range r (ranges.range c r there) n (ranges.own c n r there ∙ own) in (omega (arith, range.0, begins), omega (arith, range.1, ends))
+-- and what is in the parts in one of them
+pub from-parts : (parts : List Part) (m : ℕ) → is_in_parts parts m ≡ true → (k : ℕ) × (p : Part) × (slice_get parts k ≡ Some p) × (is_in_part m p ≡ true)
+from-parts [] m inside = absurd (false≢true inside)
+from-parts (q ∷ qs) m inside =
+    ⊎_elim
+    (λ here. (zero, q, refl, here))
+    (λ no. let later = from-parts qs m (sym (ap (λ b. b || is_in_parts qs m) no) ∙ inside) in (suc later.0, later.1, later.2, later.3))
+    (cases_Bool (is_in_part m q))
 
-  own-first : first < end → is_of_connector interactions c first ≡ true
-  own-first some = sym (ranges.own c first r there) ∙ of-range r (ranges.range c r there) first (omega (arith, begins)) (omega (arith, some, ends))
+-- a head of a connector is there
+pub head-there : (shared : List Shared) (m k : ℕ) → is_head_at shared m k ≡ true → (s : Shared) × (slice_get shared k ≡ Some s) × (contains s.heads m ≡ true)
+head-there shared m k head = each (slice_get shared k) refl
+  where
+    each : (o : Option Shared) → slice_get shared k ≡ o → (s : Shared) × (slice_get shared k ≡ Some s) × (contains s.heads m ≡ true)
+    each None none = absurd (false≢true (sym (ap (λ o. option_map_or (λ (s : Shared). contains s.heads m) o false) none) ∙ head))
+    each (Some s) some = (s, some, sym (ap (λ o. option_map_or (λ (x : Shared). contains x.heads m) o false) some) ∙ head)
 
-  -- what is above an interaction that is there
-  at : (n : ℕ) → n < length interactions → (h : Higher) × (slice_get higher n ≡ Some h)
-  at n below = some-at higher n (omega (arith, below, each.as_many))
+-- ---- rests
 
-  at-own : (n : ℕ) → is_of_connector interactions c n ≡ true → (h : Higher) × (slice_get higher n ≡ Some h)
-  at-own n own = at n (omega (arith, (of-connector n own).1, ends, ranges.within c r there))
+-- the parts at a place
+pub parts-are : (all : List (Vec Part Global)) (n : ℕ) (v : Vec Part Global) → slice_get all n ≡ Some v → parts_at all n ≡ v.items
+parts-are all n v at = ap (λ o. option_map_or (λ (x : Vec Part Global). x.items) o []) at
 
-  at-first : first < end → (h : Higher) × (slice_get higher first ≡ Some h)
-  at-first some = at first (omega (arith, some, ends, ranges.within c r there))
+pub parts-past : (all : List (Vec Part Global)) (n : ℕ) → length all ≤ n → parts_at all n ≡ []
+parts-past all n past = ap (λ o. option_map_or (λ (x : Vec Part Global). x.items) o []) (slice_get_past all n past)
 
-  low : (m : ℕ) → m < length interactions → m / 64 < ROW_WORDS
-  low m below = omega (arith, below, few)
+-- before the first there is none
+pub rests-none : (under : ℕ → ℕ → Bool) (interactions : List Interaction) (shared : List Shared) (new : Rests) → new.parts.items ≡ [] → new.with_rest ≡ empty → new.watched ≡ empty → AreRests under interactions shared 0 new
+rests-none under interactions shared new no-parts no-number no-watched = record {
+  as_many = ap length no-parts;
+  places = λ n k p at. absurd (none-some p (sym (ap (λ ps. slice_get ps k) (none n)) ∙ at));
+  each = λ n m i s below. absurd (omega (arith, below));
+  with_rest = λ n. (
+    λ inside. absurd (both_ways (contains new.with_rest n) (ap (λ set. contains set n) no-number ∙ contains-empty nat_cmp n) inside),
+    λ some. absurd (false≢true (ap (λ ps. is_in_parts ps some.0) (sym (none n)) ∙ some.1)),
+  );
+  watched = λ m. (
+    λ inside. absurd (both_ways (contains new.watched m) (ap (λ set. contains set m) no-watched ∙ contains-empty nat_cmp m) inside),
+    λ some. absurd (false≢true (ap (λ ps. is_in_parts ps m) (sym (none some.0)) ∙ some.1)),
+  );
+}
+  where
+    none : (n : ℕ) → parts_at new.parts.items n ≡ []
+    none n = parts-past new.parts.items n (omega (arith, ap length no-parts))
 
-  -- an interaction of a connector is there, and the connector too
-  there-of : (k n : ℕ) → is_of_connector interactions k n ≡ true → (n < length interactions) × (k < length rows)
-  there-of k n own = each-of (slice_get interactions n) refl
-    where
-      each-of : (o : Option Interaction) → slice_get interactions n ≡ o → (n < length interactions) × (k < length rows)
-      each-of None none = absurd (false≢true (sym (ap (λ o. option_map_or (λ (i : Interaction). eqb i.connector k) o false) none) ∙ own))
-      each-of (Some i) some =
-          let same = eqb-true i.connector k (sym (ap (λ o. option_map_or (λ (j : Interaction). eqb j.connector k) o false) some) ∙ own) in
-          (slice_get_within interactions n i some, omega (arith, same, ranges.known n i some))
+-- one more rest
+module _ (under : ℕ → ℕ → Bool) (interactions : List Interaction) (shared : List Shared) (n : ℕ) (old : Rests) (before : AreRests under interactions shared n old)
+    (i : Interaction) (there : slice_get interactions n ≡ Some i) (s : Shared) (its : slice_get shared i.connector ≡ Some s)
+    (above : FinSet nat_cmp) (is : (m : ℕ) → contains above m ≡ (under n m && not (contains s.covered m))) (low : (m : ℕ) → under n m ≡ true → m / 64 < ROW_WORDS)
+    (rest : Vec Part Global) (places : (k : ℕ) (p : Part) → slice_get rest.items k ≡ Some p → p.place < ROW_WORDS)
+    (within : (m : ℕ) → is_in_parts rest.items m ≡ true → contains above m ≡ true) (all : (m : ℕ) → m / 64 < ROW_WORDS → contains above m ≡ true → is_in_parts rest.items m ≡ true)
+    (new : Rests) (pushed : new.parts.items ≡ old.parts.items ++ rest ∷ [])
+    (with_new : (k : ℕ) → (contains new.with_rest k ≡ true) ↔ ((contains old.with_rest k ≡ true) ⊎ ((k ≡ n) × ((m : ℕ) × (contains above m ≡ true)))))
+    (watched_new : (m : ℕ) → contains new.watched m ≡ (contains old.watched m || contains above m)) where
+  earlier : (k : ℕ) → k < n → parts_at new.parts.items k ≡ parts_at old.parts.items k
+  earlier k below = ap (λ xs. parts_at xs k) pushed ∙ ap (λ o. option_map_or (λ (x : Vec Part Global). x.items) o []) (get-pushed old.parts.items rest k (omega (arith, below, before.as_many)))
 
-  apart : (k n : ℕ) → k ≢ c → is_of_connector interactions k n ≡ true → is_of_connector interactions c n ≡ false
-  apart k n other own = false_from_ne_true (is_of_connector interactions c n) (λ yes. other (one-connector interactions k c n own yes))
+  here : parts_at new.parts.items n ≡ rest.items
+  here = ap (λ xs. parts_at xs n) pushed ∙ parts-are (old.parts.items ++ rest ∷ []) n rest (get-last old.parts.items rest n (sym before.as_many))
 
-  module _ (all : Higher)
-      (whole_some : (e : ℕ) → has_bit all.whole e ≡ true → first < end)
-      (whole : (e n : ℕ) (h : Higher) → has_bit all.whole e ≡ true → first ≤ n → n < end → slice_get higher n ≡ Some h → has_bit h.whole e ≡ true)
-      (others_some : (m : ℕ) → contains all.others m ≡ true → first < end)
-      (others : (m n : ℕ) (h : Higher) → contains all.others m ≡ true → m / 64 < ROW_WORDS → first ≤ n → n < end → slice_get higher n ≡ Some h → contains h.others m ≡ true)
-      (within : (m : ℕ) → contains all.others m ≡ true → (h : Higher) → slice_get higher first ≡ Some h → contains h.others m ≡ true)
-      (watched : FinSet nat_cmp) (has : HasOthers higher watched) (k : Rank)
-      (whole-is : k.whole ≡ all.whole)
-      (places : (j : ℕ) (p : Part) → slice_get k.common.items j ≡ Some p → p.place < ROW_WORDS)
-      (parts-in : (m : ℕ) → is_in_parts k.common.items m ≡ true → contains all.others m ≡ true)
-      (parts-all : (m : ℕ) → m / 64 < ROW_WORDS → contains all.others m ≡ true → is_in_parts k.common.items m ≡ true)
-      (same-whole : k.is_same ≡ true → (n : ℕ) (h : Higher) → first ≤ n → n < end → slice_get higher n ≡ Some h → h.whole ≡ all.whole)
-      (same-others : k.is_same ≡ true → (m n : ℕ) (h : Higher) → m / 64 < ROW_WORDS → first ≤ n → n < end → slice_get higher n ≡ Some h → contains h.others m ≡ contains all.others m)
-      (flat : k.is_flat ≡ true → (n m : ℕ) → contains r.own n ≡ true → contains r.own m ≡ true → under n m ≡ false)
-      (told-whole : (j : ℕ) → has_bit k.below_whole j ≡ true → (n : ℕ) × (h : Higher) × (slice_get higher n ≡ Some h) × (is_of_connector interactions j n ≡ true) × (has_bit h.whole c ≡ true))
-      (all-whole : (j n : ℕ) (h : Higher) → slice_get higher n ≡ Some h → is_of_connector interactions j n ≡ true → has_bit h.whole c ≡ true → has_bit k.below_whole j ≡ true)
-      (told-some : (j : ℕ) → has_bit k.below_some j ≡ true → (j ≢ c) × ((n : ℕ) × (is_of_connector interactions j n ≡ true)))
-      (all-some : (j n m : ℕ) (h : Higher) → j ≢ c → slice_get higher n ≡ Some h → is_of_connector interactions j n ≡ true → contains r.own m ≡ true → contains h.others m ≡ true → has_bit k.below_some j ≡ true) where
-    above-first : (m : ℕ) (some : first < end) → contains all.others m ≡ true → contains (at-first some).0.others m ≡ true
-    above-first m some its = within m its (at-first some).0 (at-first some).1
+  many : length new.parts.items ≡ n + 1
+  many = ap length pushed ∙ length-append old.parts.items (rest ∷ []) ∙ ap (λ k. k + 1) before.as_many
 
-    right-first : (some : first < end) → IsHigher under (length rows) interactions first (at-first some).0
-    right-first some = each.each first (at-first some).0 (at-first some).1
+  -- what is in the rest of one is in that of an earlier one, or in the new one
+  from-new : (k m : ℕ) → is_in_parts (parts_at new.parts.items k) m ≡ true → (is_in_parts (parts_at old.parts.items k) m ≡ true) ⊎ ((k ≡ n) × (contains above m ≡ true))
+  from-new k m inside =
+      ⊎_elim
+      (λ below. inl (ap (λ ps. is_in_parts ps m) (sym (earlier k below)) ∙ inside))
+      (λ past. ⊎_elim
+      (λ same. inr (same, within m (sym (ap (λ ps. is_in_parts ps m) (ap (parts_at new.parts.items) same ∙ here)) ∙ inside)))
+      (λ other. absurd (false≢true (ap (λ ps. is_in_parts ps m) (sym (parts-past new.parts.items k (omega (arith, past, other, many)))) ∙ inside)))
+      (cases_eq k n))
+      (cases_lt k n)
 
-    common-within : (m : ℕ) → contains all.others m ≡ true → m < length interactions
-    common-within m its = let some = others_some m its in inside first m ((right-first some).others m (above-first m some its))
+  in-old : (k m : ℕ) → is_in_parts (parts_at old.parts.items k) m ≡ true → is_in_parts (parts_at new.parts.items k) m ≡ true
+  in-old k m inside =
+      ⊎_elim
+      (λ below. ap (λ ps. is_in_parts ps m) (earlier k below) ∙ inside)
+      (λ past. absurd (false≢true (ap (λ ps. is_in_parts ps m) (sym (parts-past old.parts.items k (omega (arith, past, before.as_many)))) ∙ inside)))
+      (cases_lt k n)
 
-    pub rank-from : IsRank under (length rows) interactions watched c k
-    rank-from = record {
-      whole_there = λ e set.
-          let bit : has_bit all.whole e ≡ true = ap (λ w. has_bit w e) (sym whole-is) ∙ set in
-          let some = whole_some e bit in
-          let found = (right-first some).whole_there e (whole e first (at-first some).0 bit (omega arith) some (at-first some).1) in
-          (found.0, λ same. both_ways (is_of_connector interactions e first) found.1 (ap (λ j. is_of_connector interactions j first) same ∙ own-first some), some-interaction interactions e found.2.0 found.2.1);
-      whole = λ e n m set own its.
-          let h = at-own n own in
-          let range = of-connector n own in
-          (each.each n h.0 h.1).whole e m (whole e n h.0 (ap (λ w. has_bit w e) (sym whole-is) ∙ set) range.0 range.1 h.1) its;
-      places = places;
-      common_there = λ m its.
-          let in_all = parts-in m its in
-          let some = others_some m in_all in
-          (common-within m in_all, (right-first some).others_apart c m (above-first m some in_all) (own-first some));
-      common = λ n m its own.
-          let in_all = parts-in m its in
-          let h = at-own n own in
-          let range = of-connector n own in
-          (each.each n h.0 h.1).others m (others m n h.0 in_all (low m (common-within m in_all)) range.0 range.1 h.1);
-      same = λ is e n m other own its up.
-          let h = at-own n own in
-          let range = of-connector n own in
-          let words = low m (inside n m up) in
-          let not-own = false_from_ne_true (is_of_connector interactions e n) (λ yes. other (one-connector interactions e c n yes own)) in
-          ⊎_elim
-          (λ set. or_left (has_bit k.whole e) (is_in_parts k.common.items m) (ap (λ w. has_bit w e) (whole-is ∙ sym (same-whole is n h.0 range.0 range.1 h.1)) ∙ set))
-          (λ in_it. or_right (has_bit k.whole e) (is_in_parts k.common.items m) (parts-all m words (sym (same-others is m n h.0 words range.0 range.1 h.1) ∙ in_it)))
-          ((each.each n h.0 h.1).all e m not-own its up);
-      flat = λ is n m own its. flat is n m (ranges.own c n r there ∙ own) (ranges.own c m r there ∙ its);
-      below_whole_there = λ j set.
-          let found = told-whole j set in
-          let n = found.0 in
-          let known = (each.each n found.1 found.2).whole_there c found.4 in
-          ((there-of j n found.3).1, λ same. both_ways (is_of_connector interactions c n) known.1 (ap (λ i. is_of_connector interactions i n) (sym same) ∙ found.3));
-      below_some_there = λ j set. let found = told-some j set in ((there-of j found.1.0 found.1.1).1, found.0);
-      reaches = λ j n m other own its up no.
-          let h = at n (there-of j n own).0 in
-          let right = each.each n h.0 h.1 in
-          ⊎_elim
-          (λ set. (all-whole j n h.0 h.1 own set, λ l here. right.whole c l set here))
-          (λ in_it. absurd (both_ways (has_bit k.below_some j && contains watched m) no
-          (and_from (has_bit k.below_some j) (contains watched m) (all-some j n m h.0 other h.1 own (ranges.own c m r there ∙ its) in_it) (has m n h.0 h.1 in_it))))
-          (right.all c m (apart j n other own) its up);
-    }
+  in-here : (m : ℕ) → contains above m ≡ true → is_in_parts (parts_at new.parts.items n) m ≡ true
+  in-here m inside = ap (λ ps. is_in_parts ps m) here ∙ all m (low m (and_parts (under n m) (not (contains s.covered m)) (sym (is m) ∙ inside)).0) inside
+
+  pub rests-more : AreRests under interactions shared (n + 1) new
+  rests-more = record {
+    as_many = many;
+    places = λ k j p at. ⊎_elim
+        (λ below. before.places k j p (ap (λ ps. slice_get ps j) (sym (earlier k below)) ∙ at))
+        (λ past. ⊎_elim
+        (λ same. places j p (sym (ap (λ ps. slice_get ps j) (ap (parts_at new.parts.items) same ∙ here)) ∙ at))
+        (λ other. absurd (none-some p (sym (ap (λ ps. slice_get ps j) (parts-past new.parts.items k (omega (arith, past, other, many)))) ∙ at)))
+        (cases_eq k n))
+        (cases_lt k n);
+    each = λ k m j t below at own. ⊎_elim
+        (λ same.
+        let is_i = same_Some i j (sym there ∙ ap (slice_get interactions) (sym same) ∙ at) in
+        let is_s = same_Some s t (sym its ∙ ap (λ (x : Interaction). slice_get shared x.connector) is_i ∙ own) in
+        ap (λ x. is_in_parts (parts_at new.parts.items x) m) same ∙
+        same_answer (is_in_parts (parts_at new.parts.items n) m) (contains above m) (λ inside. within m (sym (ap (λ ps. is_in_parts ps m) here) ∙ inside)) (in-here m) ∙
+        is m ∙ ap (λ x. under x m && not (contains s.covered m)) (sym same) ∙ ap (λ (x : Shared). under k m && not (contains x.covered m)) is_s)
+        (λ other. ap (λ ps. is_in_parts ps m) (earlier k (omega (arith, below, other))) ∙ before.each k m j t (omega (arith, below, other)) at own)
+        (cases_eq k n);
+    with_rest = λ k. (
+      λ inside. ⊎_elim
+          (λ old_one. let found = (before.with_rest k).0 old_one in (found.0, in-old k found.0 found.1))
+          (λ new_one. (new_one.1.0, ap (λ x. is_in_parts (parts_at new.parts.items x) new_one.1.0) new_one.0 ∙ in-here new_one.1.0 new_one.1.1))
+          ((with_new k).0 inside),
+      λ some. (with_new k).1 (⊎_elim (λ old_one. inl ((before.with_rest k).1 (some.0, old_one))) (λ new_one. inr (new_one.0, (some.0, new_one.1))) (from-new k some.0 some.1)),
+    );
+    watched = λ m. (
+      λ inside. ⊎_elim
+          (λ old_one. let found = (before.watched m).0 old_one in (found.0, in-old found.0 m found.1))
+          (λ new_one. (n, in-here m new_one))
+          (or_cases (contains old.watched m) (contains above m) (sym (watched_new m) ∙ inside)),
+      λ some. watched_new m ∙ ⊎_elim
+          (λ old_one. or_left (contains old.watched m) (contains above m) ((before.watched m).1 (some.0, old_one)))
+          (λ new_one. or_right (contains old.watched m) (contains above m) new_one.1)
+          (from-new some.0 m some.1),
+    );
+  }

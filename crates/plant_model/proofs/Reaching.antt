@@ -11,9 +11,8 @@ use Rattle.std.proofs.lemmas.Option.{same_Some, slice_get-get_or}
 use Rattle.connector_tree.specs.Tree.{leaves}
 use Rattle.connector_tree.specs.declared.tree.Port.{Port}
 use Rattle.priority_filter.specs.Members.{has_bit}
-use Rattle.plant_model.specs.Dependents.{at_port, has_row}
 use Rattle.plant_model.specs.Plant.{WireDefinition}
-use Rattle.plant_model.specs.Reach.{has_leaf_at, is_at, leaves_at, leaves_from}
+use Rattle.plant_model.specs.Reach.{has_leaf_at, is_at, leaves_at, leaves_from, at_port, has_row}
 use Rattle.plant_model.specs.declared.reach.ConnectorLeaf.{ConnectorLeaf}
 use Rattle.plant_model.proofs.FirstFault.{both}
 use Rattle.plant_model.proofs.Membership.{here, here-or-later, later}

@@ -1,6 +1,6 @@
 -- The interactions of each connector as a range of numbers, and as sets: of each of its leaves those in which that takes part, and of
 -- each of its guard clauses those to which that applies.
-use Rattle.std.specs.Prelude.{◌≡◌, ◌≤◌, ◌<◌, ◌+◌, ◌==◌, ◌&&◌, ◌^◌, not, nat_lt, ℕ, Bool, true, false, List, length, Some, slice_get}
+use Rattle.std.specs.Prelude.{◌≡◌, ◌≤◌, ◌<◌, ◌+◌, ◌/◌, ◌↔◌, ◌==◌, ◌&&◌, ◌^◌, not, nat_lt, ℕ, Bool, true, false, List, length, Some, slice_get}
 use Rattle.std.specs.Ordering.{nat_cmp}
 use Rattle.std.specs.FinSet.{FinSet, contains}
 use Rattle.std.specs.Option.{option_map_or}
@@ -12,7 +12,6 @@ use Rattle.connector_tree.specs.Tree.{leaves}
 use Rattle.plant_model.specs.BoundExpressions.{clause_of, has_all}
 use Rattle.plant_model.specs.Values.{value_there}
 use Rattle.plant_model.specs.Choice.{Interaction, is_offered_port}
-use Rattle.plant_model.specs.Dependents.{is_in_row}
 use Rattle.plant_model.specs.Plant.{WireDefinition}
 use Rattle.plant_model.specs.declared.bound_expressions.BoundExpressions.{BoundExpressions}
 use Rattle.plant_model.specs.declared.bound_expressions.Clause.{Clause}
@@ -46,6 +45,11 @@ is_from first end n = not (nat_lt n first) && nat_lt n end
 abbrev pub has_all_at : List Interaction → ℕ → ℕ → Bool
 has_all_at interactions leaves n = option_map_or (λ i. has_all i.mask leaves) (slice_get interactions n) false
 
+-- the leaf takes part in each of the interactions with the numbers from a first one on, and before an end
+abbrev pub IsInAll : List Interaction → ℕ → ℕ → ℕ → Type 0
+IsInAll interactions first end leaf =
+    (n : ℕ) (i : Interaction) → first ≤ n → n < end → slice_get interactions n ≡ Some i → is_set i.mask leaf ≡ true
+
 -- interactions stand in the order of their connectors, and each mask has 16 bits
 pub record AreByConnector (interactions : List Interaction) : Type 0 where
   pub rising : (m n : ℕ) (i j : Interaction) → m ≤ n → slice_get interactions m ≡ Some i → slice_get interactions n ≡ Some j → i.connector ≤ j.connector
@@ -53,13 +57,21 @@ pub record AreByConnector (interactions : List Interaction) : Type 0 where
 
 -- ---- its rows
 
+-- the interaction is in the row with a place
+abbrev pub is_in_row : List (FinSet nat_cmp) → ℕ → ℕ → Bool
+is_in_row rows n place = option_map_or (λ row. contains row n) (slice_get rows place) false
+
 -- these are the rows of the connector with a number, which has so many leaves and these clauses: before its first number stand exactly
 -- the interactions of earlier connectors, and before its end those and its own; `own` has these; and there is a row for each leaf and
--- one for each clause
+-- one for each clause. `own` stands in the words of 64 numbers from `low` on and before `high`, and `must` has the leaves that take part in
+-- each interaction
 pub record AreRowsOf (interactions : List Interaction) (connector leaf_count : ℕ) (written : List Clause) (r : ConnectorRows) : Type 0 where
   pub begins : (n : ℕ) → is_before interactions connector n ≡ nat_lt n r.first
   pub ends : (n : ℕ) → is_before interactions (connector + 1) n ≡ nat_lt n (r.first + r.count)
+  pub low : r.low ≡ r.first / 64
+  pub high : r.high ≡ (r.first + r.count + 63) / 64
   pub own : (n : ℕ) → contains r.own n ≡ is_of_connector interactions connector n
+  pub must : (j : ℕ) → (is_set r.must j ≡ true) ↔ ((j < leaf_count) × ((n : ℕ) → is_of_connector interactions connector n ≡ true → is_with_leaf interactions connector j n ≡ true))
   pub leaves : length r.on_leaf.items ≡ leaf_count
   pub on_leaf : (leaf n : ℕ) → leaf < leaf_count → is_in_row r.on_leaf.items n leaf ≡ is_with_leaf interactions connector leaf n
   pub clauses : length r.under_clause.items ≡ length written
@@ -84,14 +96,14 @@ IsOff atoms wires states connector off = (leaf : ℕ) → is_set off leaf ≡ is
 
 -- ---- interactions judged by the rows
 
--- a set is right at each interaction of a connector by its rows: it has those that are in no row of a leaf in `off`, and in no row of a
+-- a set is right at some interactions of a connector by its rows: it has those that are in no row of a leaf in `off`, and in no row of a
 -- clause that is 0 in a global state; and it is as it was at all others
-pub record IsJudged (r : ConnectorRows) (off : ℕ) (clauses : List Clause) (states : List Local) (old new : FinSet nat_cmp) : Type 0 where
-  pub put : (n : ℕ) → contains r.own n ≡ true
+pub record IsJudged (own : ℕ → Bool) (r : ConnectorRows) (off : ℕ) (clauses : List Clause) (states : List Local) (old new : FinSet nat_cmp) : Type 0 where
+  pub put : (n : ℕ) → own n ≡ true
       → ((j : ℕ) → is_set off j ≡ true → is_in_row r.on_leaf.items n j ≡ false)
       → ((k : ℕ) (clause : Clause) → slice_get clauses k ≡ Some clause → is_in_row r.under_clause.items n k ≡ true → is_true (value_of (value_there states) (clause_of clause).value) ≡ true)
       → contains new n ≡ true
-  pub blocked : (n j : ℕ) → contains r.own n ≡ true → is_set off j ≡ true → is_in_row r.on_leaf.items n j ≡ true → contains new n ≡ false
-  pub forbidden : (n k : ℕ) (clause : Clause) → contains r.own n ≡ true → slice_get clauses k ≡ Some clause → is_in_row r.under_clause.items n k ≡ true
+  pub blocked : (n j : ℕ) → own n ≡ true → is_set off j ≡ true → is_in_row r.on_leaf.items n j ≡ true → contains new n ≡ false
+  pub forbidden : (n k : ℕ) (clause : Clause) → own n ≡ true → slice_get clauses k ≡ Some clause → is_in_row r.under_clause.items n k ≡ true
       → is_true (value_of (value_there states) (clause_of clause).value) ≡ false → contains new n ≡ false
-  pub others : (n : ℕ) → contains r.own n ≡ false → contains new n ≡ contains old n
+  pub others : (n : ℕ) → own n ≡ false → contains new n ≡ contains old n

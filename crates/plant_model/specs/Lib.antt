@@ -18,7 +18,6 @@ pub mod BoundValue
 pub mod BoundExpressions
 pub mod Messages
 pub mod OrderFaults
-pub mod Dependents
 pub mod ConnectorRows
 pub mod Reach
 pub mod Usual

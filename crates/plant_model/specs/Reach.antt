@@ -1,16 +1,29 @@
 -- Which leaves of which connectors stand on a port, and which connectors have guards that can read an atom.
-use Rattle.std.specs.Prelude.{◌≡◌, ◌<◌, ◌*◌, ◌==◌, ◌&&◌, ◌++◌, nat_lt, ℕ, suc, Bool, false, if◌then◌else◌, List, [], ◌∷◌, length, Some, slice_get, slice_index_or}
+use Rattle.std.specs.Prelude.{◌≡◌, ◌<◌, ◌+◌, ◌*◌, ◌==◌, ◌&&◌, ◌++◌, min, nat_lt, ℕ, suc, Bool, false, if◌then◌else◌, List, [], ◌∷◌, length, Some, slice_get, slice_index_or}
 use Rattle.std.specs.List.{list_any}
 use Rattle.std.specs.Option.{option_map_or}
 use Rattle.connector_tree.specs.Tree.{leaves}
 use Rattle.connector_tree.specs.declared.tree.Port.{Port}
+use Rattle.petri_atom.specs.declared.parts.TheConstants.{MAX_PORTS}
 use Rattle.priority_filter.specs.Members.{has_bit}
-use Rattle.plant_model.specs.Dependents.{at_port, has_row}
 use Rattle.plant_model.specs.Plant.{WireDefinition}
-use Rattle.plant_model.specs.declared.dependents.TheConstants.{ATOM_ROWS}
 use Rattle.plant_model.specs.declared.reach.ConnectorLeaf.{ConnectorLeaf}
 use Rattle.plant_model.specs.declared.reach.PortReach.{PortReach}
 use Rattle.plant_model.specs.declared.reach.Reach.{Reach}
+use Rattle.plant_model.specs.declared.reach.TheConstants.{ATOM_ROWS}
+
+-- the place of the row of a port of an atom: the atom has a row for each port that an atom may have, and a last one for all numbers past
+-- those
+abbrev pub row_of_port : ℕ → ℕ → ℕ
+row_of_port atom port = atom * ATOM_ROWS + min port MAX_PORTS
+
+-- the same of a port
+abbrev pub at_port : Port → ℕ
+at_port p = row_of_port p.atom p.port
+
+-- one of the ports has its row at the place
+abbrev pub has_row : List Port → ℕ → Bool
+has_row ports place = list_any (λ p. at_port p == place) ports
 
 -- the leaf of the connector is there, and its port has its row at the place
 abbrev pub has_leaf_at : List WireDefinition → ℕ → ConnectorLeaf → Bool

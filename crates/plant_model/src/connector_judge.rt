@@ -1,5 +1,5 @@
 //! Which interactions of a connector are possible, all of them at once by the connector's rows.
-ghost use Rattle.std.specs.Prelude.{◌≡◌, ◌≤◌, ◌<◌, ◌/◌, ◌%◌, ◌&&◌, ◌||◌, not, ℕ, true, false, Some, length, slice_get};
+ghost use Rattle.std.specs.Prelude.{◌≡◌, ◌≤◌, ◌<◌, ◌/◌, ◌%◌, ◌==◌, ◌&&◌, ◌||◌, not, ℕ, true, false, Some, length, slice_get};
 ghost use Rattle.std.specs.FinSet.{contains};
 ghost use Rattle.connector_tree.specs.Masks.{is_set};
 ghost use Rattle.petri_atom.specs.Expression.{is_true, value_of};
@@ -7,9 +7,8 @@ ghost use Rattle.priority_filter.specs.Members.{has_bit};
 ghost use Rattle.priority_filter.specs.declared.interaction_set.TheConstants.{ROW_WORDS};
 ghost use Rattle.plant_model.specs.BoundExpressions.{clause_of};
 ghost use Rattle.plant_model.specs.Values.{value_there};
-ghost use Rattle.plant_model.specs.ConnectorRows.{IsJudged, IsOff, is_of_connector};
+ghost use Rattle.plant_model.specs.ConnectorRows.{IsJudged, IsOff, is_of_connector, is_in_row};
 ghost use Rattle.plant_model.specs.Choice.{is_possible_at};
-ghost use Rattle.plant_model.specs.Dependents.{is_in_row};
 ghost use Rattle.plant_model.specs.declared.bound_expressions.Clause.{Clause};
 
 use crate::bound_expressions::Clause;
@@ -41,9 +40,8 @@ impl System {
         let number = usize::from(connector);
         let rows = &self.connector_rows[number];
         let clauses: &[Clause] = &self.bound[number].clauses;
-        let first = usize::from(rows.first);
-        let low = first / 64;
-        let high = (first + usize::from(rows.count)).div_ceil(64);
+        let low = usize::from(rows.low);
+        let high = usize::from(rows.high);
         // The interactions of most connectors stand in one word: these take no loop over words.
         if high == low + 1 {
             judge_word(rows, low, off, clauses, states, possible)
@@ -53,8 +51,9 @@ impl System {
     }
 }
 
-/// Makes the set right at each of the connector's interactions, all of which stand in the word with this place, by the leaves that
-/// offer nothing and the clauses. Says whether the set changed.
+/// Makes the set right at each of the connector's interactions in the word with this place, by the leaves that offer nothing and the
+/// clauses. Says whether the set changed.
+#[inline]
 fn judge_word(
     rows: &ConnectorRows,
     place: usize,
@@ -64,19 +63,44 @@ fn judge_word(
     possible: &mut InteractionSet,
 ) -> bool
     requires place { place < ROW_WORDS }
-    requires own { (n : ℕ) → contains rows.now.own n ≡ true → n / 64 ≡ place }
+    requires must { (n j : ℕ) → contains rows.now.own n ≡ true → is_set rows.now.must j ≡ true → is_in_row rows.now.on_leaf.items n j ≡ true }
     requires off { (j : ℕ) → is_set off j ≡ true → j < length rows.now.on_leaf.items }
     requires as_many { length rows.now.under_clause.items ≡ length clauses.now }
-    ensures judged { IsJudged rows.now off clauses.now states.now possible.old possible.new }
+    ensures judged { IsJudged (λ n. contains rows.now.own n && (n / 64 == place)) rows.now off clauses.now states.now possible.old possible.new }
     ensures same { result ≡ false → (n : ℕ) → contains possible.new n ≡ contains possible.old n }
 {
     let own = rows.own.word(place);
-    let offered = own & !word_on(&rows.on_leaf, off, place);
-    let here = word_allowed(&rows.under_clause, clauses, states, place, offered);
     let before = possible.word(place);
-    let after = before & !own | here;
+    let after = before & !own | word_possible(rows, place, off, clauses, states);
     possible.set_word(place, after);
     after != before
+}
+
+/// Which of the 64 interactions from 64 times the place on are of the connector and possible, by the leaves that offer nothing and the
+/// clauses.
+#[inline]
+fn word_possible(
+    rows: &ConnectorRows,
+    place: usize,
+    off: Mask,
+    clauses: &[Clause],
+    states: &PlantState,
+) -> u64
+    requires place { place < ROW_WORDS }
+    requires must { (n j : ℕ) → contains rows.now.own n ≡ true → is_set rows.now.must j ≡ true → is_in_row rows.now.on_leaf.items n j ≡ true }
+    requires off { (j : ℕ) → is_set off j ≡ true → j < length rows.now.on_leaf.items }
+    requires as_many { length rows.now.under_clause.items ≡ length clauses.now }
+    ensures put { (n : ℕ) → n / 64 ≡ place → contains rows.now.own n ≡ true → ((j : ℕ) → is_set off j ≡ true → is_in_row rows.now.on_leaf.items n j ≡ false) → ((k : ℕ) (clause : Clause) → slice_get clauses.now k ≡ Some clause → is_in_row rows.now.under_clause.items n k ≡ true → is_true (value_of (value_there states.now) (clause_of clause).value) ≡ true) → has_bit result (n % 64) ≡ true }
+    ensures blocked { (n j : ℕ) → n / 64 ≡ place → is_set off j ≡ true → is_in_row rows.now.on_leaf.items n j ≡ true → has_bit result (n % 64) ≡ false }
+    ensures forbidden { (n k : ℕ) (clause : Clause) → n / 64 ≡ place → slice_get clauses.now k ≡ Some clause → is_in_row rows.now.under_clause.items n k ≡ true → is_true (value_of (value_there states.now) (clause_of clause).value) ≡ false → has_bit result (n % 64) ≡ false }
+    ensures within { (n : ℕ) → n / 64 ≡ place → contains rows.now.own n ≡ false → has_bit result (n % 64) ≡ false }
+{
+    // Most connectors that are judged miss a leaf that takes part in all of their interactions.
+    if off & rows.must != 0 {
+        return 0;
+    }
+    let offered = rows.own.word(place) & !word_on(&rows.on_leaf, off, place);
+    word_allowed(&rows.under_clause, clauses, states, place, offered)
 }
 
 /// Those of the 64 interactions from 64 times the place on that are in the word, and under no clause that is 0 in the state. The rows
@@ -126,19 +150,49 @@ fn judge_words(
     requires words { high ≤ ROW_WORDS }
     requires own { (n : ℕ) → contains rows.now.own n ≡ true → (low ≤ n / 64) × (n / 64 < high) }
     requires under { (k n : ℕ) → is_in_row rows.now.under_clause.items n k ≡ true → contains rows.now.own n ≡ true }
+    requires must { (n j : ℕ) → contains rows.now.own n ≡ true → is_set rows.now.must j ≡ true → is_in_row rows.now.on_leaf.items n j ≡ true }
     requires off { (j : ℕ) → is_set off j ≡ true → j < length rows.now.on_leaf.items }
     requires as_many { length rows.now.under_clause.items ≡ length clauses.now }
-    ensures judged { IsJudged rows.now off clauses.now states.now possible.old possible.new }
+    ensures judged { IsJudged (contains rows.now.own) rows.now off clauses.now states.now possible.old possible.new }
     ensures same { result ≡ false → (n : ℕ) → contains possible.new n ≡ contains possible.old n }
 {
+    // A clause is asked once for all words. Where none is asked, each word is judged by itself.
+    if off & rows.must != 0 || clauses.is_empty() {
+        return judge_each_word(rows, low, high, off, clauses, states, possible);
+    }
     let before = possible.copy();
     put_without(rows, low, high, off, possible);
     take_forbidden(&rows.under_clause, low, high, clauses, states, possible);
     differ(&before, possible, low, high)
 }
 
+/// The same, word by word.
+fn judge_each_word(
+    rows: &ConnectorRows,
+    low: usize,
+    high: usize,
+    off: Mask,
+    clauses: &[Clause],
+    states: &PlantState,
+    possible: &mut InteractionSet,
+) -> bool
+    requires words { high ≤ ROW_WORDS }
+    requires own { (n : ℕ) → contains rows.now.own n ≡ true → (low ≤ n / 64) × (n / 64 < high) }
+    requires must { (n j : ℕ) → contains rows.now.own n ≡ true → is_set rows.now.must j ≡ true → is_in_row rows.now.on_leaf.items n j ≡ true }
+    requires off { (j : ℕ) → is_set off j ≡ true → j < length rows.now.on_leaf.items }
+    requires as_many { length rows.now.under_clause.items ≡ length clauses.now }
+    ensures judged { IsJudged (contains rows.now.own) rows.now off clauses.now states.now possible.old possible.new }
+    ensures same { result ≡ false → (n : ℕ) → contains possible.new n ≡ contains possible.old n }
+{
+    let mut changed = false;
+    for place in low..high {
+        changed |= judge_word(rows, place, off, clauses, states, possible);
+    }
+    changed
+}
+
 /// Whether an interaction of the words from `low` on and before `high` is in one of the sets alone.
-pub(crate) fn differ(one: &InteractionSet, other: &InteractionSet, low: usize, high: usize) -> bool
+fn differ(one: &InteractionSet, other: &InteractionSet, low: usize, high: usize) -> bool
     requires { high ≤ ROW_WORDS }
     ensures { result ≡ false → (n : ℕ) → low ≤ n / 64 → n / 64 < high → contains one.now n ≡ contains other.now n }
 {
@@ -238,12 +292,7 @@ fn take_under(
 }
 
 /// Whether an interaction of the first set, which stand in the words from `low` on and before `high`, is in the other one.
-pub(crate) fn has_common(
-    set: &InteractionSet,
-    other: &InteractionSet,
-    low: usize,
-    high: usize,
-) -> bool
+fn has_common(set: &InteractionSet, other: &InteractionSet, low: usize, high: usize) -> bool
     requires words { high ≤ ROW_WORDS }
     requires own { (n : ℕ) → contains set.now n ≡ true → (low ≤ n / 64) × (n / 64 < high) }
     ensures { result ≡ false → (n : ℕ) → contains set.now n ≡ true → contains other.now n ≡ false }
@@ -257,7 +306,7 @@ pub(crate) fn has_common(
 }
 
 /// Takes the interactions of the first set, which stand in the words from `low` on and before `high`, out of the other one.
-fn take_out(set: &InteractionSet, low: usize, high: usize, from: &mut InteractionSet)
+pub(crate) fn take_out(set: &InteractionSet, low: usize, high: usize, from: &mut InteractionSet)
     requires words { high ≤ ROW_WORDS }
     requires own { (n : ℕ) → contains set.now n ≡ true → (low ≤ n / 64) × (n / 64 < high) }
     ensures { (n : ℕ) → contains from.new n ≡ (contains from.old n && not (contains set.now n)) }

@@ -1,11 +1,11 @@
 //! The interactions of each connector as a range of numbers and as sets, so that a step judges those of a connector together: of each
 //! of its leaves those in which that takes part, and of each of its guard clauses those to which that applies.
-ghost use Rattle.std.specs.Prelude.{◌≡◌, ◌≤◌, ◌<◌, ◌&&◌, ◌^◌, ℕ, nat_lt, IfOk, Some, map, length, slice_get};
+ghost use Rattle.std.specs.Prelude.{◌≡◌, ◌≤◌, ◌<◌, ◌&&◌, ◌^◌, ◌↔◌, ℕ, true, nat_lt, IfOk, Some, map, length, slice_get};
 ghost use Rattle.std.specs.FinSet.{contains};
+ghost use Rattle.connector_tree.specs.Masks.{is_set};
 ghost use Rattle.connector_tree.specs.Tree.{leaves};
 ghost use Rattle.connector_tree.specs.declared.tree.TheConstants.{MAX_LEAVES};
-ghost use Rattle.plant_model.specs.ConnectorRows.{AreByConnector, AreConnectorRows, AreRowsOf, has_all_at, is_before, is_from};
-ghost use Rattle.plant_model.specs.Dependents.{is_in_row};
+ghost use Rattle.plant_model.specs.ConnectorRows.{AreByConnector, AreConnectorRows, AreRowsOf, IsInAll, has_all_at, is_before, is_from, is_in_row};
 ghost use Rattle.plant_model.specs.Interaction.{interaction_of};
 ghost use Rattle.plant_model.specs.Plant.{WireDefinition};
 ghost use Rattle.plant_model.specs.Wire.{wire_of};
@@ -15,7 +15,7 @@ ghost use Rattle.plant_model.specs.declared.limits.TheConstants.{MAX_INTERACTION
 use crate::bound_expressions::{BoundExpressions, Clause, has_all};
 use crate::interaction::Interaction;
 use crate::wire::Wire;
-use connector_tree::Port;
+use connector_tree::{Mask, Port};
 use priority_filter::InteractionSet;
 use std::alloc::{AllocError, Global};
 
@@ -26,6 +26,12 @@ pub struct ConnectorRows {
     pub first: u16,
     /// How many there are.
     pub count: u16,
+    /// They stand in the words of 64 interactions from this one on.
+    pub low: u16,
+    /// And before this one.
+    pub high: u16,
+    /// The leaves that take part in each of them: bit j for leaf j. While one of these offers nothing, none of them is possible.
+    pub must: Mask,
     /// All of them.
     pub own: InteractionSet,
     /// Of each leaf, by its number, those in which it takes part.
@@ -91,6 +97,20 @@ fn rows_of_leaves(
     Ok(rows)
 }
 
+/// Those of so many leaves that take part in each interaction from the number `first` on and before `end`: bit j for leaf j.
+fn leaves_of_all(interactions: &[Interaction], first: usize, end: usize, leaves: usize) -> Mask
+    requires first { first ≤ end }
+    requires end { end ≤ length interactions.now }
+    requires leaves { leaves ≤ MAX_LEAVES }
+    ensures { (j : ℕ) → (is_set result j ≡ true) ↔ ((j < leaves) × IsInAll (map interaction_of interactions.now) first end j) }
+{
+    let mut all = ((1_u32 << leaves) - 1) as Mask;
+    for number in first..end {
+        all &= interactions[number].mask;
+    }
+    all
+}
+
 /// Of each of the clauses the interactions from the number `first` on and before `end` to which it applies.
 fn rows_of_clauses(
     alloc: Global,
@@ -134,6 +154,9 @@ fn rows_of(
     Ok(ConnectorRows {
         first: first as u16,
         count: (end - first) as u16,
+        low: (first / 64) as u16,
+        high: end.div_ceil(64) as u16,
+        must: leaves_of_all(interactions, first, end, leaves),
         own,
         on_leaf,
         under_clause,

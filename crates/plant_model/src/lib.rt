@@ -17,12 +17,11 @@
 //! - `bound_expressions`, `delivery`: guard clauses and transfers with their variables found. `bound_value`: the shortest way to the value of each:
 //!   a copy of a variable (`variable_cell`), one operator (`bound_step`), or straight code (`row_code`) over its variables by their places in
 //!   a row (`numbering`). `copy_row`: the transfers of a connector that only copy variables, in rows of those to one atom.
-//! - `dependents`: which interactions stand on a port, and whose guards read an atom, so that a step judges only those that it can
-//!   change.
 //! - `connector_rows`: the interactions of each connector, as a range of numbers and as sets by leaf and by guard clause.
-//!   `connector_judge`: which of them are possible, all of them at once. `reach`: the leaves on each port, and the connectors whose
-//!   guards can read an atom. `usual`: what the most usual firings change at the leaves of the connectors, so that a step looks it up.
-//!   `ranks`: which connectors have all, some or none of their interactions above those of another one.
+//!   `connector_judge`: which of them are possible, all of them at once. `reach`: the leaves on each port, by rows, and the
+//!   connectors whose guards can read an atom, so that a step judges only what it can change. `usual`: what the most usual firings change
+//!   at the leaves of the connectors, so that a step looks it up. `ranks`: what is above the interactions of each connector: all of some
+//!   connectors, heads that are above each, and a rest of each.
 //!
 //! Its states and its choices:
 //! - `state`: a local state for each atom, and what is seen of it. `guards`: the values of variables, and whether guard clauses hold.
@@ -33,11 +32,10 @@
 //! The lemmas (`proofs/*.antt`), each named for what it is about:
 //! - Rules: `RuleFaults`, `TreeRules` (which fault is told, and what the early rules say of each wire), `RulesKept` (what a plant that
 //!   breaks no rule keeps).
-//! - Interactions: `Ports` (the ports of a mask), `OfInteractions` (what each is), `Noting`, `Touched` (the rows of those that depend
-//!   on an atom).
+//! - Interactions: `Ports` (the ports of a mask), `OfInteractions` (what each is), `Noting` (sets of them, as they grow).
 //! - Connectors: `ByConnector` (the range and the rows of a connector's interactions), `OfConnector` (an interaction is possible
-//!   exactly where the rows say so), `Reaching` (what stands on a port), `Ranking` (how it is found where connectors stand), `ByRank` (what
-//!   is overruled by where they stand), `Pushed`, `WordSets` (lists that grow, and words as sets).
+//!   exactly where the rows say so), `JudgedWords` (a set made right word by word), `Reaching` (what stands on a port), `Ranking`,
+//!   `RankTables` (how it is found where connectors stand), `Pushed`, `WordSets` (lists that grow, and words as sets).
 //! - What is found of names: `FirstFault`, `Found` (the first of a list, as a walk finds it), `Resolving`, `Guarding`, `Delivering` (guards
 //!   and transfers with their variables found say what was written), `Copying` (rows of copies say what their transfers say).
 //! - Choices: `Judging` (an atom and its state, by number), `Sighted` (what is seen of an atom), `Combinations`, `Membership`, `OfPorts`,
@@ -55,7 +53,6 @@ mod connector_judge;
 mod connector_rows;
 mod copy_row;
 mod delivery;
-mod dependents;
 mod fault;
 mod firing;
 mod guards;
@@ -80,7 +77,6 @@ mod wire_rules;
 pub use bound_expressions::BoundExpressions;
 pub use choice::{Choice, Move, Moves, atoms_of};
 pub use connector_rows::ConnectorRows;
-pub use dependents::{ATOM_ROWS, guard_row, port_row};
 pub use fault::{SystemFault, WireFault};
 pub use interaction::Interaction;
 pub use interactions::connector_interactions;
@@ -88,7 +84,7 @@ pub use limits::{
     MAX_ATOMS, MAX_GUARDS, MAX_INTERACTIONS, MAX_RULES, MAX_TRANSFERS, MAX_WIRES, PORTS_IN_A_WORD,
 };
 pub use ranks::{Part, Rank, Ranks};
-pub use reach::{ConnectorLeaf, PortReach, Reach};
+pub use reach::{ATOM_ROWS, ConnectorLeaf, PortReach, Reach, port_row};
 pub use state::PlantState;
 pub use system::{System, names_of};
 pub use transfers::{no_deliveries, nothing_delivered};

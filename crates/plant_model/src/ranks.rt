@@ -1,21 +1,18 @@
 //! Where each connector stands among the others by the priority rules without a condition, so that a step asks the order again only
 //! for interactions where the answer can be another one than before.
-ghost use Rattle.std.specs.Prelude.{◌≡◌, ◌≢◌, ◌≤◌, ◌<◌, ◌&&◌, ◌/◌, ℕ, true, false, not, IfOk, Some, map, length, slice_get};
-ghost use Rattle.std.specs.Ordering.{nat_cmp};
-ghost use Rattle.std.specs.FinSet.{FinSet, contains};
+ghost use Rattle.std.specs.Prelude.{◌≡◌, ◌≤◌, ◌<◌, ◌+◌, ◌↔◌, ◌&&◌, ◌/◌, ℕ, true, false, not, IfOk, Some, map, length, slice_get, slice_index_or};
+ghost use Rattle.std.specs.FinSet.{contains};
 ghost use Rattle.priority_filter.specs.Active.{unconditional};
 ghost use Rattle.priority_filter.specs.Decided.{is_below};
 ghost use Rattle.priority_filter.specs.Members.{has_bit};
 ghost use Rattle.priority_filter.specs.declared.interaction_set.TheConstants.{INTERACTION_LIMIT, ROW_WORDS};
 ghost use Rattle.plant_model.specs.Choice.{named};
-ghost use Rattle.plant_model.specs.ConnectorRows.{is_of_connector};
 ghost use Rattle.plant_model.specs.Interaction.{interaction_of};
-ghost use Rattle.plant_model.specs.Ranks.{AreHigher, AreRanges, AreRanks, AreRanksBy, IsHigher, IsRange, IsRank, is_in_parts};
+ghost use Rattle.plant_model.specs.Ranks.{AreRanges, AreRanks, AreRests, AreShared, IsAbove, IsAlone, IsInRestOf, IsRange, IsRankBy, IsShared, has_whole, is_head_at, is_in_parts, is_own, parts_at};
 ghost use Rattle.plant_model.specs.declared.limits.TheConstants.{MAX_INTERACTIONS, MAX_WIRES};
-ghost use Rattle.plant_model.specs.declared.ranks.Higher.{Higher};
 ghost use Rattle.plant_model.specs.declared.ranks.Part.{Part};
 
-use crate::connector_judge::{differ, has_common};
+use crate::connector_judge::take_out;
 use crate::connector_rows::ConnectorRows;
 use crate::interaction::Interaction;
 use priority_filter::{InteractionSet, Order, ROW_WORDS};
@@ -33,66 +30,122 @@ pub struct Part {
 pub struct Rank {
     /// Other connectors, each of which has all of its interactions (and it has some) above each interaction of this one.
     pub whole: u64,
-    /// Interactions of other connectors that are above each interaction of this one, beside those of the connectors in `whole`.
-    pub common: Vec<Part>,
-    /// Whether what is above an interaction of this connector, of other connectors, is the same for all of its interactions: `whole`
-    /// and `common`.
-    pub is_same: bool,
     /// Whether no interaction of it is above another one of it.
     pub is_flat: bool,
-    /// Connectors with an interaction that all of this one's are above.
+    /// The connectors that have this one in `whole`.
     pub below_whole: u64,
-    /// Connectors with an interaction that some of this one's are above, and not all.
-    pub below_some: u64,
+    /// The connectors with an interaction that has one of this one's in its rest.
+    pub below_rest: u64,
 }
 
-/// Where each connector stands.
+/// Where each connector stands. What is above an interaction, of other connectors than its own, are all interactions of the connectors in
+/// `whole` of its connector, the heads that are above all of its connector, and its rest.
 #[derive(Drop)]
 pub struct Ranks {
     /// The ranks, in the order of the connectors' numbers.
     pub of_connectors: Vec<Rank>,
-    /// The interactions that are above one of another connector, of which not all are above that.
+    /// The connectors of which no interaction is above or below one of another connector: bit k for connector k.
+    pub alone: u64,
+    /// The interactions that are above each one of another connector, beside those of the connectors in its `whole`.
+    pub heads: InteractionSet,
+    /// By interaction, the connectors of which each interaction is below this head; nothing of one that is no head.
+    pub below_head: Vec<u64>,
+    /// By interaction, what else is above it, of other connectors.
+    pub rest: Vec<Vec<Part>>,
+    /// The interactions that have a rest.
+    pub with_rest: InteractionSet,
+    /// The interactions that are in a rest.
     pub watched: InteractionSet,
 }
 
-/// What is above an interaction, of other connectors than its own.
+/// What is above each interaction of a connector, of other connectors.
 #[derive(Drop)]
-pub(crate) struct Higher {
-    /// The connectors of which all interactions are, bit k for connector k.
+pub(crate) struct Shared {
+    /// The connectors of which all interactions are, and they have some: bit k for connector k.
     pub(crate) whole: u64,
     /// The interactions that are, beside those of the connectors in `whole`.
-    pub(crate) others: InteractionSet,
+    pub(crate) heads: InteractionSet,
+    /// All that are, and the connector's own.
+    pub(crate) covered: InteractionSet,
 }
 
-/// Whether the connector with these rows has interactions, and each of them is above this one.
-fn is_whole_above(order: &Order, interaction: u16, rows: &ConnectorRows) -> bool
-    requires { IsRange rows.now }
-    ensures some { result ≡ true → (m : ℕ) × (contains rows.now.own m ≡ true) }
-    ensures all { result ≡ true → (m : ℕ) → contains rows.now.own m ≡ true → is_below (unconditional order.now.rules) order.now.interactions interaction m ≡ true }
-{
-    let low = usize::from(rows.first) / 64;
-    let high = (usize::from(rows.first) + usize::from(rows.count)).div_ceil(64);
-    for place in low..high {
-        if rows.own.word(place) & !order.above_word(interaction, place) != 0 {
-            return false;
-        }
-    }
-    rows.count > 0
+/// What is above interactions, beside what is above each one of their connectors, and these themselves.
+#[derive(Drop)]
+pub(crate) struct Rests {
+    /// By interaction, its rest.
+    pub(crate) parts: Vec<Vec<Part>>,
+    /// The interactions that have one.
+    pub(crate) with_rest: InteractionSet,
+    /// The interactions that are in one.
+    pub(crate) watched: InteractionSet,
 }
 
 /// Whether an interaction of the connector with these rows is above this one.
 fn is_one_above(order: &Order, interaction: u16, rows: &ConnectorRows) -> bool
     requires { IsRange rows.now }
-    ensures { result ≡ false → (m : ℕ) → contains rows.now.own m ≡ true → is_below (unconditional order.now.rules) order.now.interactions interaction m ≡ false }
+    ensures some { result ≡ true → (m : ℕ) × (contains rows.now.own m ≡ true) × (is_below (unconditional order.now.rules) order.now.interactions interaction m ≡ true) }
+    ensures none { result ≡ false → (m : ℕ) → contains rows.now.own m ≡ true → is_below (unconditional order.now.rules) order.now.interactions interaction m ≡ false }
 {
-    let low = usize::from(rows.first) / 64;
-    let high = (usize::from(rows.first) + usize::from(rows.count)).div_ceil(64);
-    for place in low..high {
+    for place in usize::from(rows.low)..usize::from(rows.high) {
         if rows.own.word(place) & order.above_word(interaction, place) != 0 {
             return true;
         }
     }
     false
+}
+
+/// Whether an interaction of the second connector is above one of the first.
+fn is_some_above(order: &Order, below: &ConnectorRows, above: &ConnectorRows) -> bool
+    requires below { IsRange below.now }
+    requires above { IsRange above.now }
+    ensures { (result ≡ false) ↔ ((n m : ℕ) → contains below.now.own n ≡ true → contains above.now.own m ≡ true → is_below (unconditional order.now.rules) order.now.interactions n m ≡ false) }
+{
+    let first = usize::from(below.first);
+    for number in first..first + usize::from(below.count) {
+        if is_one_above(order, number as u16, above) {
+            return true;
+        }
+    }
+    false
+}
+
+/// Whether no interaction of one of these connectors is above one of the other.
+fn are_apart(order: &Order, one: &ConnectorRows, other: &ConnectorRows) -> bool
+    requires one { IsRange one.now }
+    requires other { IsRange other.now }
+    ensures { (result ≡ true) ↔ ((n m : ℕ) → contains one.now.own n ≡ true → contains other.now.own m ≡ true → (is_below (unconditional order.now.rules) order.now.interactions n m ≡ false) × (is_below (unconditional order.now.rules) order.now.interactions m n ≡ false)) }
+{
+    !is_some_above(order, one, other) & !is_some_above(order, other, one)
+}
+
+/// Whether no interaction of the connector is above or below one of another connector.
+fn is_alone(order: &Order, rows: &[ConnectorRows], connector: usize) -> bool
+    requires few_rows { length rows.now ≤ MAX_WIRES }
+    requires ranges { (k : ℕ) (r : ConnectorRows) → slice_get rows.now k ≡ Some r → IsRange r }
+    requires connector { connector < length rows.now }
+    ensures { (result ≡ true) ↔ IsAlone (is_below (unconditional order.now.rules) order.now.interactions) (is_own rows.now) connector }
+{
+    for number in 0..rows.len() {
+        if number != connector && !are_apart(order, &rows[connector], &rows[number]) {
+            return false;
+        }
+    }
+    true
+}
+
+/// The connectors of which no interaction is above or below one of another connector.
+fn alone_of(order: &Order, rows: &[ConnectorRows]) -> u64
+    requires few_rows { length rows.now ≤ MAX_WIRES }
+    requires ranges { (k : ℕ) (r : ConnectorRows) → slice_get rows.now k ≡ Some r → IsRange r }
+    ensures { (k : ℕ) → (has_bit result k ≡ true) ↔ ((k < length rows.now) × IsAlone (is_below (unconditional order.now.rules) order.now.interactions) (is_own rows.now) k) }
+{
+    let mut alone = 0;
+    for connector in 0..rows.len() {
+        if is_alone(order, rows, connector) {
+            alone |= 1 << connector;
+        }
+    }
+    alone
 }
 
 /// The interactions above this one that are not in the set.
@@ -110,102 +163,90 @@ fn above_without(order: &Order, interaction: u16, set: &InteractionSet) -> Inter
     above
 }
 
-/// What is above the interaction with this number, of other connectors than its own.
-fn higher_of(
-    order: &Order,
-    rows: &[ConnectorRows],
-    interactions: &[Interaction],
-    number: usize,
-) -> Higher
-    requires few { length order.now.interactions ≤ MAX_INTERACTIONS }
-    requires few_interactions { length interactions.now ≤ MAX_INTERACTIONS }
-    requires few_rows { length rows.now ≤ MAX_WIRES }
-    requires number { number < length interactions.now }
-    requires ranges { AreRanges (map interaction_of interactions.now) rows.now }
-    ensures { IsHigher (is_below (unconditional order.now.rules) order.now.interactions) (length rows.now) (map interaction_of interactions.now) number result }
-{
-    let own = usize::from(interactions[number].connector);
-    let mut whole = 0;
-    let mut covered = rows[own].own.copy();
-    for connector in 0..rows.len() {
-        if connector != own && is_whole_above(order, number as u16, &rows[connector]) {
-            whole |= 1 << connector;
-            covered.union_with(&rows[connector].own);
-        }
-    }
-    Higher {
-        whole,
-        others: above_without(order, number as u16, &covered),
-    }
-}
-
-/// What is above each interaction, by the interactions' numbers.
-fn all_higher(
-    alloc: Global,
-    order: &Order,
-    rows: &[ConnectorRows],
-    interactions: &[Interaction],
-) -> Result<Vec<Higher>, AllocError>
-    requires few { length order.now.interactions ≤ MAX_INTERACTIONS }
-    requires few_interactions { length interactions.now ≤ MAX_INTERACTIONS }
-    requires few_rows { length rows.now ≤ MAX_WIRES }
-    requires ranges { AreRanges (map interaction_of interactions.now) rows.now }
-    ensures { IfOk result (λ all. AreHigher (is_below (unconditional order.now.rules) order.now.interactions) (length rows.now) (map interaction_of interactions.now) all.items) }
-{
-    let mut all = Vec::with_capacity(alloc, interactions.len())?;
-    for number in 0..interactions.len() {
-        all.push(higher_of(order, rows, interactions, number))?;
-    }
-    Ok(all)
-}
-
-/// Takes out of the first set what is not in the other one.
-fn keep_common(set: &mut InteractionSet, other: &InteractionSet)
-    ensures { (m : ℕ) → contains set.new m ≡ true → (contains set.old m ≡ true) × (m / 64 < ROW_WORDS → contains other.now m ≡ true) }
+/// Takes out what is not above the interaction.
+fn keep_above(order: &Order, interaction: u16, set: &mut InteractionSet)
+    ensures within { (m : ℕ) → m / 64 < ROW_WORDS → contains set.new m ≡ (contains set.old m && is_below (unconditional order.now.rules) order.now.interactions interaction m) }
+    ensures past { (m : ℕ) → ROW_WORDS ≤ m / 64 → contains set.new m ≡ contains set.old m }
 {
     for place in 0..ROW_WORDS {
-        set.set_word(place, set.word(place) & other.word(place));
+        let kept = set.word(place) & order.above_word(interaction, place);
+        set.set_word(place, kept);
     }
 }
 
-/// What is above each of the interactions from the number `first` on and before `end`: what is above the first one, without what is
-/// missing at another one. Nothing if there are none.
-fn higher_than_all(higher: &[Higher], first: usize, end: usize) -> Higher
-    requires { end ≤ length higher.now }
-    ensures whole_some { (e : ℕ) → has_bit result.whole e ≡ true → first < end }
-    ensures whole { (e n : ℕ) (h : Higher) → has_bit result.whole e ≡ true → first ≤ n → n < end → slice_get higher.now n ≡ Some h → has_bit h.whole e ≡ true }
-    ensures others_some { (m : ℕ) → contains result.others m ≡ true → first < end }
-    ensures others { (m n : ℕ) (h : Higher) → contains result.others m ≡ true → m / 64 < ROW_WORDS → first ≤ n → n < end → slice_get higher.now n ≡ Some h → contains h.others m ≡ true }
-    ensures within { (m : ℕ) → contains result.others m ≡ true → (h : Higher) → slice_get higher.now first ≡ Some h → contains h.others m ≡ true }
+/// What is above each interaction of the connector with these rows, of other connectors; nothing if it has none.
+fn above_all(order: &Order, rows: &ConnectorRows) -> InteractionSet
+    requires few { length order.now.interactions ≤ MAX_INTERACTIONS }
+    requires range { IsRange rows.now }
+    ensures { (m : ℕ) → (contains result m ≡ true) ↔ IsAbove (is_below (unconditional order.now.rules) order.now.interactions) (contains rows.now.own) m }
 {
-    if first >= end {
-        return Higher {
-            whole: 0,
-            others: InteractionSet::new(),
-        };
+    if rows.count == 0 {
+        return InteractionSet::new();
     }
-    let mut whole = higher[first].whole;
-    let mut others = higher[first].others.copy();
-    for number in first + 1..end {
-        whole &= higher[number].whole;
-        keep_common(&mut others, &higher[number].others);
+    let first = usize::from(rows.first);
+    let mut above = above_without(order, rows.first, &rows.own);
+    for number in first + 1..first + usize::from(rows.count) {
+        keep_above(order, number as u16, &mut above);
     }
-    Higher { whole, others }
+    above
 }
 
-/// Whether the same is above each of the interactions from the number `first` on and before `end`.
-fn are_same(higher: &[Higher], first: usize, end: usize, all: &Higher) -> bool
-    requires { end ≤ length higher.now }
-    ensures whole { result ≡ true → (n : ℕ) (h : Higher) → first ≤ n → n < end → slice_get higher.now n ≡ Some h → h.whole ≡ all.now.whole }
-    ensures others { result ≡ true → (m n : ℕ) (h : Higher) → m / 64 < ROW_WORDS → first ≤ n → n < end → slice_get higher.now n ≡ Some h → contains h.others m ≡ contains all.now.others m }
+/// Whether the connector with these rows has interactions, and each of them is in the set.
+fn is_whole_in(rows: &ConnectorRows, set: &InteractionSet) -> bool
+    requires { IsRange rows.now }
+    ensures { (result ≡ true) ↔ (((m : ℕ) × (contains rows.now.own m ≡ true)) × ((m : ℕ) → contains rows.now.own m ≡ true → contains set.now m ≡ true)) }
 {
-    for number in first..end {
-        let here = &higher[number];
-        if here.whole != all.whole || differ(&here.others, &all.others, 0, ROW_WORDS) {
+    for place in usize::from(rows.low)..usize::from(rows.high) {
+        if rows.own.word(place) & !set.word(place) != 0 {
             return false;
         }
     }
-    true
+    rows.count > 0
+}
+
+/// What is above each interaction of the connector with this number, of other connectors.
+fn shared_of(order: &Order, rows: &[ConnectorRows], connector: usize) -> Shared
+    requires few { length order.now.interactions ≤ MAX_INTERACTIONS }
+    requires few_rows { length rows.now ≤ MAX_WIRES }
+    requires ranges { (k : ℕ) (r : ConnectorRows) → slice_get rows.now k ≡ Some r → IsRange r }
+    requires connector { connector < length rows.now }
+    ensures { IsShared (is_below (unconditional order.now.rules) order.now.interactions) (is_own rows.now) connector result }
+{
+    let all = above_all(order, &rows[connector]);
+    let mut whole = 0;
+    let mut heads = all.copy();
+    for number in 0..rows.len() {
+        let other = &rows[number];
+        if is_whole_in(other, &all) {
+            whole |= 1 << number;
+            take_out(&other.own, 0, ROW_WORDS, &mut heads);
+        }
+    }
+    let mut covered = rows[connector].own.copy();
+    covered.union_with(&all);
+    Shared {
+        whole,
+        heads,
+        covered,
+    }
+}
+
+/// What is above each interaction of each connector, by the connectors' numbers.
+fn all_shared(
+    alloc: Global,
+    order: &Order,
+    rows: &[ConnectorRows],
+) -> Result<Vec<Shared>, AllocError>
+    requires few { length order.now.interactions ≤ MAX_INTERACTIONS }
+    requires few_rows { length rows.now ≤ MAX_WIRES }
+    requires ranges { (k : ℕ) (r : ConnectorRows) → slice_get rows.now k ≡ Some r → IsRange r }
+    ensures { IfOk result (λ all. AreShared (is_below (unconditional order.now.rules) order.now.interactions) rows.now all.items) }
+{
+    let mut all = Vec::with_capacity(alloc, rows.len())?;
+    for connector in 0..rows.len() {
+        all.push(shared_of(order, rows, connector))?;
+    }
+    Ok(all)
 }
 
 /// The interactions of the set, as parts.
@@ -213,6 +254,7 @@ fn parts_of(alloc: Global, set: &InteractionSet) -> Result<Vec<Part>, AllocError
     ensures places { IfOk result (λ parts. (k : ℕ) (p : Part) → slice_get parts.items k ≡ Some p → p.place < ROW_WORDS) }
     ensures within { IfOk result (λ parts. (m : ℕ) → is_in_parts parts.items m ≡ true → contains set.now m ≡ true) }
     ensures all { IfOk result (λ parts. (m : ℕ) → m / 64 < ROW_WORDS → contains set.now m ≡ true → is_in_parts parts.items m ≡ true) }
+    ensures some { IfOk result (λ parts. 0 < length parts.items → (m : ℕ) × (contains set.now m ≡ true)) }
 {
     let mut parts = Vec::new(alloc);
     for place in 0..ROW_WORDS {
@@ -227,18 +269,36 @@ fn parts_of(alloc: Global, set: &InteractionSet) -> Result<Vec<Part>, AllocError
     Ok(parts)
 }
 
-/// Whether no interaction of the connector with these rows is above another one of it.
-fn is_flat(order: &Order, rows: &ConnectorRows) -> bool
-    requires { IsRange rows.now }
-    ensures { result ≡ true → (n m : ℕ) → contains rows.now.own n ≡ true → contains rows.now.own m ≡ true → is_below (unconditional order.now.rules) order.now.interactions n m ≡ false }
+/// The rest of each interaction, by the interactions' numbers.
+fn rests_of(
+    alloc: Global,
+    order: &Order,
+    interactions: &[Interaction],
+    shared: &[Shared],
+) -> Result<Rests, AllocError>
+    requires few { length order.now.interactions ≤ MAX_INTERACTIONS }
+    requires few_interactions { length interactions.now ≤ MAX_INTERACTIONS }
+    requires known { (n : ℕ) (i : Interaction) → slice_get interactions.now n ≡ Some i → i.connector < length shared.now }
+    ensures { IfOk result (λ rests. AreRests (is_below (unconditional order.now.rules) order.now.interactions) (map interaction_of interactions.now) shared.now (length interactions.now) rests) }
 {
-    let first = usize::from(rows.first);
-    for number in first..first + usize::from(rows.count) {
-        if is_one_above(order, number as u16, rows) {
-            return false;
+    let mut parts = Vec::with_capacity(alloc, interactions.len())?;
+    let mut with_rest = InteractionSet::new();
+    let mut watched = InteractionSet::new();
+    for number in 0..interactions.len() {
+        let connector = usize::from(interactions[number].connector);
+        let above = above_without(order, number as u16, &shared[connector].covered);
+        let rest = parts_of(alloc, &above)?;
+        if !rest.is_empty() {
+            with_rest.insert(number as u16);
         }
+        watched.union_with(&above);
+        parts.push(rest)?;
     }
-    true
+    Ok(Rests {
+        parts,
+        with_rest,
+        watched,
+    })
 }
 
 /// Whether the word has the connector's bit.
@@ -248,87 +308,130 @@ fn has_connector(word: u64, connector: usize) -> bool
     connector < 64 && (word >> connector) & 1 == 1
 }
 
-/// The connectors with an interaction that all of this connector's are above.
-fn below_whole(higher: &[Higher], interactions: &[Interaction], connector: usize) -> u64
-    requires as_many { length higher.now ≡ length interactions.now }
-    requires few { (k n : ℕ) → is_of_connector (map interaction_of interactions.now) k n ≡ true → k < 64 }
-    ensures there { (k : ℕ) → has_bit result k ≡ true → (n : ℕ) × (h : Higher) × (slice_get higher.now n ≡ Some h) × (is_of_connector (map interaction_of interactions.now) k n ≡ true) × (has_bit h.whole connector ≡ true) }
-    ensures all { (k n : ℕ) (h : Higher) → slice_get higher.now n ≡ Some h → is_of_connector (map interaction_of interactions.now) k n ≡ true → has_bit h.whole connector ≡ true → has_bit result k ≡ true }
+/// The connectors that have this one in `whole`.
+fn below_whole(shared: &[Shared], connector: usize) -> u64
+    requires { length shared.now ≤ MAX_WIRES }
+    ensures { (k : ℕ) → has_bit result k ≡ has_whole shared.now connector k }
 {
     let mut below = 0;
-    for number in 0..higher.len() {
-        if has_connector(higher[number].whole, connector) {
-            below |= 1 << interactions[number].connector;
+    for number in 0..shared.len() {
+        if has_connector(shared[number].whole, connector) {
+            below |= 1 << number;
         }
     }
     below
 }
 
-/// The other connectors with an interaction that some of this connector's are above, and not all; `own` are this one's.
-fn below_some(
-    higher: &[Higher],
-    interactions: &[Interaction],
-    connector: usize,
-    own: &InteractionSet,
-) -> u64
-    requires as_many { length higher.now ≡ length interactions.now }
-    requires few { (k n : ℕ) → is_of_connector (map interaction_of interactions.now) k n ≡ true → k < 64 }
-    requires own { (m : ℕ) → contains own.now m ≡ true → m / 64 < ROW_WORDS }
-    ensures there { (k : ℕ) → has_bit result k ≡ true → (k ≢ connector) × ((n : ℕ) × (is_of_connector (map interaction_of interactions.now) k n ≡ true)) }
-    ensures all { (k n m : ℕ) (h : Higher) → k ≢ connector → slice_get higher.now n ≡ Some h → is_of_connector (map interaction_of interactions.now) k n ≡ true → contains own.now m ≡ true → contains h.others m ≡ true → has_bit result k ≡ true }
+/// Whether an interaction of the set is in one of the parts.
+fn is_one_in(set: &InteractionSet, parts: &[Part]) -> bool
+    requires { (k : ℕ) (p : Part) → slice_get parts.now k ≡ Some p → p.place < ROW_WORDS }
+    ensures { (result ≡ true) ↔ ((m : ℕ) × (contains set.now m ≡ true) × (is_in_parts parts.now m ≡ true)) }
 {
+    for part in parts {
+        if set.word(usize::from(part.place)) & part.word != 0 {
+            return true;
+        }
+    }
+    false
+}
+
+/// Whether an interaction of the set is in the rest of one of the connector with these rows.
+fn is_one_in_rest(set: &InteractionSet, rest: &[Vec<Part>], rows: &ConnectorRows) -> bool
+    requires places { (n k : ℕ) (p : Part) → slice_get (parts_at rest.now n) k ≡ Some p → p.place < ROW_WORDS }
+    requires range { IsRange rows.now }
+    requires within { rows.now.first + rows.now.count ≤ length rest.now }
+    ensures { (result ≡ true) ↔ ((n : ℕ) × (m : ℕ) × (contains rows.now.own n ≡ true) × (contains set.now m ≡ true) × (is_in_parts (parts_at rest.now n) m ≡ true)) }
+{
+    let first = usize::from(rows.first);
+    for number in first..first + usize::from(rows.count) {
+        if is_one_in(set, &rest[number]) {
+            return true;
+        }
+    }
+    false
+}
+
+/// The connectors with an interaction that has one of this connector's in its rest.
+fn below_rest(rest: &[Vec<Part>], rows: &[ConnectorRows], connector: usize) -> u64
+    requires places { (n k : ℕ) (p : Part) → slice_get (parts_at rest.now n) k ≡ Some p → p.place < ROW_WORDS }
+    requires few_rows { length rows.now ≤ MAX_WIRES }
+    requires ranges { (k : ℕ) (r : ConnectorRows) → slice_get rows.now k ≡ Some r → IsRange r }
+    requires within { (k : ℕ) (r : ConnectorRows) → slice_get rows.now k ≡ Some r → r.first + r.count ≤ length rest.now }
+    requires connector { connector < length rows.now }
+    ensures { (k : ℕ) → (has_bit result k ≡ true) ↔ ((k < length rows.now) × IsInRestOf (is_own rows.now) rest.now connector k) }
+{
+    let own = &rows[connector];
     let mut below = 0;
-    for number in 0..higher.len() {
-        let other = usize::from(interactions[number].connector);
-        if other != connector && has_common(own, &higher[number].others, 0, ROW_WORDS) {
-            below |= 1 << other;
+    for number in 0..rows.len() {
+        if is_one_in_rest(&own.own, rest, &rows[number]) {
+            below |= 1 << number;
         }
     }
     below
-}
-
-/// The interactions that are above one of another connector, of which not all are above that.
-fn watched_of(higher: &[Higher]) -> InteractionSet
-    ensures { (m n : ℕ) (h : Higher) → slice_get higher.now n ≡ Some h → contains h.others m ≡ true → contains result m ≡ true }
-{
-    let mut watched = InteractionSet::new();
-    for number in 0..higher.len() {
-        watched.union_with(&higher[number].others);
-    }
-    watched
 }
 
 /// Where the connector stands.
 fn rank_of(
-    alloc: Global,
     order: &Order,
     rows: &[ConnectorRows],
-    interactions: &[Interaction],
-    higher: &[Higher],
+    shared: &[Shared],
+    rest: &[Vec<Part>],
     connector: usize,
-) -> Result<Rank, AllocError>
-    requires few { length order.now.interactions ≤ MAX_INTERACTIONS }
-    requires as_many { length order.now.interactions ≡ length interactions.now }
+) -> Rank
     requires few_rows { length rows.now ≤ MAX_WIRES }
+    requires as_many { length shared.now ≡ length rows.now }
+    requires places { (n k : ℕ) (p : Part) → slice_get (parts_at rest.now n) k ≡ Some p → p.place < ROW_WORDS }
+    requires ranges { (k : ℕ) (r : ConnectorRows) → slice_get rows.now k ≡ Some r → IsRange r }
+    requires within { (k : ℕ) (r : ConnectorRows) → slice_get rows.now k ≡ Some r → r.first + r.count ≤ length rest.now }
     requires connector { connector < length rows.now }
-    requires ranges { AreRanges (map interaction_of interactions.now) rows.now }
-    requires higher { AreHigher (is_below (unconditional order.now.rules) order.now.interactions) (length rows.now) (map interaction_of interactions.now) higher.now }
-    ensures { (watched : FinSet nat_cmp) → ((m n : ℕ) (h : Higher) → slice_get higher.now n ≡ Some h → contains h.others m ≡ true → contains watched m ≡ true)
-        → IfOk result (λ rank. IsRank (is_below (unconditional order.now.rules) order.now.interactions) (length rows.now) (map interaction_of interactions.now) watched connector rank) }
+    ensures { IsRankBy (is_below (unconditional order.now.rules) order.now.interactions) rows.now shared.now rest.now connector result }
 {
     let own = &rows[connector];
-    let first = usize::from(own.first);
-    let end = first + usize::from(own.count);
-    let all = higher_than_all(higher, first, end);
-    let common = parts_of(alloc, &all.others)?;
-    Ok(Rank {
-        whole: all.whole,
-        common,
-        is_same: are_same(higher, first, end, &all),
-        is_flat: is_flat(order, own),
-        below_whole: below_whole(higher, interactions, connector),
-        below_some: below_some(higher, interactions, connector, &own.own),
-    })
+    Rank {
+        whole: shared[connector].whole,
+        is_flat: !is_some_above(order, own, own),
+        below_whole: below_whole(shared, connector),
+        below_rest: below_rest(rest, rows, connector),
+    }
+}
+
+/// All heads.
+fn all_heads(shared: &[Shared]) -> InteractionSet
+    ensures { (m : ℕ) → (contains result m ≡ true) ↔ ((k : ℕ) × (is_head_at shared.now m k ≡ true)) }
+{
+    let mut heads = InteractionSet::new();
+    for number in 0..shared.len() {
+        heads.union_with(&shared[number].heads);
+    }
+    heads
+}
+
+/// The connectors of which the interaction is a head.
+fn below_head(shared: &[Shared], interaction: u16) -> u64
+    requires { length shared.now ≤ MAX_WIRES }
+    ensures { (k : ℕ) → has_bit result k ≡ is_head_at shared.now interaction k }
+{
+    let mut below = 0;
+    for number in 0..shared.len() {
+        if shared[number].heads.contains(interaction) {
+            below |= 1 << number;
+        }
+    }
+    below
+}
+
+/// The same of each of so many interactions, by their numbers.
+fn below_heads(alloc: Global, shared: &[Shared], count: usize) -> Result<Vec<u64>, AllocError>
+    requires few_rows { length shared.now ≤ MAX_WIRES }
+    requires few { count ≤ MAX_INTERACTIONS }
+    ensures as_many { IfOk result (λ below. length below.items ≡ count) }
+    ensures each { IfOk result (λ below. (m k : ℕ) → m < count → has_bit (slice_index_or below.items m 0) k ≡ is_head_at shared.now m k) }
+{
+    let mut below = Vec::with_capacity(alloc, count)?;
+    for number in 0..count {
+        below.push(below_head(shared, number as u16))?;
+    }
+    Ok(below)
 }
 
 /// Where each connector stands by the order; `rows` are the connectors' rows.
@@ -344,13 +447,20 @@ pub(crate) fn ranks_of(
     requires ranges { AreRanges (map interaction_of interactions.now) rows.now }
     ensures { IfOk result (λ ranks. AreRanks (length rows.now) order.now.rules (map interaction_of interactions.now) ranks) }
 {
-    let higher = all_higher(alloc, order, rows, interactions)?;
+    let shared = all_shared(alloc, order, rows)?;
+    let rests = rests_of(alloc, order, interactions, &shared)?;
+    let below_head = below_heads(alloc, &shared, interactions.len())?;
     let mut of_connectors = Vec::with_capacity(alloc, rows.len())?;
     for connector in 0..rows.len() {
-        of_connectors.push(rank_of(alloc, order, rows, interactions, &higher, connector)?)?;
+        of_connectors.push(rank_of(order, rows, &shared, &rests.parts, connector))?;
     }
     Ok(Ranks {
         of_connectors,
-        watched: watched_of(&higher),
+        alone: alone_of(order, rows),
+        heads: all_heads(&shared),
+        below_head,
+        rest: rests.parts,
+        with_rest: rests.with_rest,
+        watched: rests.watched,
     })
 }

@@ -4,16 +4,26 @@ ghost use Rattle.std.specs.Prelude.{◌≡◌, ◌≤◌, ◌<◌, ◌++◌, ◌
 ghost use Rattle.connector_tree.specs.Tree.{leaves};
 ghost use Rattle.connector_tree.specs.declared.tree.TheConstants.{MAX_LEAVES};
 ghost use Rattle.priority_filter.specs.Members.{has_bit};
-ghost use Rattle.plant_model.specs.Dependents.{has_row};
-ghost use Rattle.plant_model.specs.Reach.{IsPortReach, IsReach, can_read, has_atom, leaves_from};
+ghost use Rattle.plant_model.specs.Reach.{IsPortReach, IsReach, can_read, has_atom, has_row, leaves_from, row_of_port};
 ghost use Rattle.plant_model.specs.Plant.{WireDefinition};
 ghost use Rattle.plant_model.specs.Wire.{wire_of};
 ghost use Rattle.plant_model.specs.declared.limits.TheConstants.{MAX_ATOMS, MAX_WIRES};
 
-use crate::dependents::{ATOM_ROWS, port_row};
 use crate::wire::Wire;
 use connector_tree::Port;
+use petri_atom::MAX_PORTS;
 use std::alloc::{AllocError, Global};
+
+/// How many rows an atom has: one for each port that an atom may have, and one for all numbers past those.
+pub const ATOM_ROWS: usize = MAX_PORTS + 1;
+
+/// The place of the row of a port of the atom. All ports past those that an atom may have, at which nothing is ever offered, have one
+/// row together.
+pub fn port_row(atom: u16, port: u16) -> usize
+    ensures { result ≡ row_of_port atom port }
+{
+    usize::from(atom) * ATOM_ROWS + usize::from(port).min(MAX_PORTS)
+}
 
 /// A leaf of a connector, by the numbers of both.
 #[derive(Clone, Copy, PartialEq, Eq)]

@@ -1,5 +1,5 @@
 //! Systems: the atoms, wires and priority rules of a plant, which keep each rule of one, and what is prepared for its steps.
-ghost use Rattle.std.specs.Prelude.{◌≡◌, ◌*◌, ◌≤◌, None, map, length, ◌≢◌, true, IfOk, IfErr, OnOk, Some, []};
+ghost use Rattle.std.specs.Prelude.{◌≡◌, ◌≤◌, None, map, length, ◌≢◌, true, IfOk, IfErr, OnOk, Some, []};
 ghost use Rattle.petri_atom.specs.Atom.{definition_of};
 ghost use Rattle.connector_tree.specs.Tree.{leaves};
 ghost use Rattle.plant_model.specs.Choice.{named, plant_interactions, interactions_from, interactions_of_connector};
@@ -7,14 +7,11 @@ ghost use Rattle.plant_model.specs.Interaction.{interaction_of};
 ghost use Rattle.plant_model.specs.Made.{plant_by};
 ghost use Rattle.plant_model.specs.BoundExpressions.{AreGuarding, AreDelivering};
 ghost use Rattle.plant_model.specs.Rules.{fault_of, first_fault, fault_of_count, IsFaultOf};
-ghost use Rattle.plant_model.specs.Dependents.{AreDependents, AreOnPorts};
 ghost use Rattle.plant_model.specs.ConnectorRows.{AreConnectorRows};
 ghost use Rattle.plant_model.specs.Ranks.{AreRanks};
 ghost use Rattle.plant_model.specs.Reach.{IsReach};
 ghost use Rattle.plant_model.specs.Usual.{AreUsual, leaves_of};
-ghost use Rattle.plant_model.specs.Ways.{each_fits_word, fits_word};
 ghost use Rattle.plant_model.specs.Wire.{wire_of};
-ghost use Rattle.plant_model.specs.declared.dependents.TheConstants.{ATOM_ROWS};
 ghost use Rattle.std.specs.List.{list_all};
 ghost use Rattle.petri_atom.specs.Definition.{is_well_formed};
 ghost use Rattle.priority_filter.specs.Decided.{order_fault};
@@ -22,11 +19,10 @@ ghost use Rattle.plant_model.specs.declared.limits.TheConstants.{MAX_ATOMS, MAX_
 
 use crate::bound_expressions::{BoundExpressions, bound_wires};
 use crate::connector_rows::{ConnectorRows, connector_rows};
-use crate::dependents::dependent_rows;
 use crate::fault::SystemFault;
 use crate::interaction::Interaction;
 use crate::interactions::connector_interactions;
-use crate::limits::{MAX_INTERACTIONS, PORTS_IN_A_WORD};
+use crate::limits::MAX_INTERACTIONS;
 use crate::ranks::{Ranks, ranks_of};
 use crate::reach::{Reach, reach_of};
 use crate::usual::{Usual, usual_of};
@@ -34,17 +30,16 @@ use crate::wire::Wire;
 use crate::{rules, wire_rules};
 use connector_tree::Port;
 use petri_atom::Atom;
-use priority_filter::{InteractionSet, Order, OrderFault, Rule};
+use priority_filter::{Order, OrderFault, Rule};
 use std::alloc::{AllocError, Global};
 
 /// A plant: its atoms and its wires, each numbered from 0 in the order of their lists, its priority rules, and the digest of
 /// the text that it was read from.
 ///
-/// It keeps each rule of a plant, so that what can be asked of it cannot fail. It has all interactions at hand, the
-/// leaves of each connector, its guard clauses and transfers with their variables found, the order of the priority rules, and for
-/// each atom the interactions that depend on it, so that no step takes memory. It has the interactions of each connector as sets,
-/// what a change at an atom reaches, what the most usual firings change, and where each connector stands by the rules. It knows whether the
-/// number of choices of each interaction fits a word.
+/// It keeps each rule of a plant, so that what can be asked of it cannot fail. It has all interactions at hand, the leaves of each
+/// connector, its guard clauses and transfers with their variables found, and the order of the priority rules, so that no step takes
+/// memory. It has the interactions of each connector as sets, what a change at an atom reaches, what the most usual firings change, and
+/// where each connector stands by the rules.
 #[derive(Drop)]
 pub struct System {
     /// The atoms, in the order of their numbers.
@@ -58,12 +53,8 @@ pub struct System {
     pub bound: Vec<BoundExpressions>,
     /// The interactions, in the order of their numbers.
     pub interactions: Vec<Interaction>,
-    /// Whether the number of choices of each interaction fits a word.
-    pub fit_words: bool,
     /// The order that the priority rules put on the interactions.
     pub order: Order,
-    /// The interactions that depend on an atom: for each atom a row for each of its ports, and one for the guards that read it.
-    pub dependents: Vec<InteractionSet>,
     /// The interactions of each connector, as a range of numbers and as sets of those that a leaf or a guard clause can rule out.
     pub connector_rows: Vec<ConnectorRows>,
     /// The leaves and the connectors that a change at an atom reaches.
@@ -77,11 +68,7 @@ pub struct System {
     ghost guarding: { AreGuarding (map definition_of atoms.items) (map wire_of wires.items) bound.items },
     ghost delivering: { AreDelivering (map definition_of atoms.items) (map wire_of wires.items) bound.items },
     ghost listed: { map interaction_of interactions.items ≡ plant_interactions (plant_by atoms.items wires.items order.rules) },
-    ghost fitting: { fit_words ≡ each_fits_word (map interaction_of interactions.items) },
     ghost ordered: { order.interactions ≡ map named (map interaction_of interactions.items) },
-    ghost rows: { length dependents.items ≡ length atoms.items * ATOM_ROWS },
-    ghost touched: { AreDependents (map wire_of wires.items) (map interaction_of interactions.items) dependents.items },
-    ghost on_ports: { AreOnPorts (map interaction_of interactions.items) dependents.items },
     ghost all_bound: { length bound.items ≡ length wires.items },
     ghost in_rows: { AreConnectorRows (map wire_of wires.items) bound.items (map interaction_of interactions.items) connector_rows.items },
     ghost reached: { IsReach (length atoms.items) (map wire_of wires.items) reach },
@@ -115,9 +102,7 @@ impl System {
         if let Some(fault) = fault_of_count(interactions.len()) {
             return Err(fault);
         }
-        let fit_words = fit_words(&interactions);
         let order = order_of(alloc, rules, &interactions)?;
-        let dependents = dependent_rows(alloc, atoms.len(), &wires, &ports, &interactions)?;
         let connector_rows = connector_rows(alloc, &wires, &ports, &bound, &interactions)?;
         let reach = reach_of(alloc, atoms.len(), &wires, &ports)?;
         let usual = usual_of(alloc, &atoms, &ports)?;
@@ -129,9 +114,7 @@ impl System {
             ports,
             bound,
             interactions,
-            fit_words,
             order,
-            dependents,
             connector_rows,
             reach,
             usual,
@@ -203,15 +186,6 @@ impl System {
     {
         self.order.rules()
     }
-}
-
-/// Whether the number of choices of each interaction fits a word.
-fn fit_words(interactions: &[Interaction]) -> bool
-    ensures { result ≡ list_all (λ i. fits_word (interaction_of i)) interactions.now }
-{
-    interactions
-        .iter()
-        .all(|interaction| interaction.ports.len() <= PORTS_IN_A_WORD)
 }
 
 /// The order that the rules put on the interactions.

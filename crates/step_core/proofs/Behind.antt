@@ -19,7 +19,7 @@ use Rattle.step_core.specs.declared.judgement.Judgement.{Judgement}
 use Rattle.step_core.specs.declared.leaves.Leaves.{Leaves}
 use Rattle.step_core.proofs.Judging.{counted-moves}
 
-module _ (s : System) (changed : List ℕ) (states : List Local) (of_plant : IsOf (plant_of s) states) (old : Judgement) (behind : IsBehind (plant_of s) (interactions_in s) changed states old) where
+module _ (s : System) (changed : List ℕ) (states : List Local) (of_plant : IsOf (plant_of s) states) (old : Judgement) (behind : IsBehind (plant_of s) (interactions_in s) s.ranks changed states old) where
   -- what is seen is right of the atoms that did not change
   pub seen-before : AreSeenBut changed (plant_of s).rules (is_marked_at states) old.seen
   seen-before left right at there out =
@@ -32,7 +32,7 @@ module _ (s : System) (changed : List ℕ) (states : List Local) (of_plant : IsO
       → AreToldOf (plant_of s).wires changed old.offers.counts offers.counts changes
       → AreSeen (plant_of s).rules (is_marked_at states) seen
       → (is_seen_new ≡ false → AskAlike (plant_of s).rules (may_be_marked seen) (may_be_marked old.seen))
-      → IsUnsettled (plant_of s) (interactions_in s) states changes is_seen_new
+      → IsUnsettled (plant_of s) (interactions_in s) s.ranks states changes is_seen_new
       (record { offers = offers; leaves = leaves; possible = old.possible; seen = seen; standing = old.standing; kept = old.kept; weights = old.weights })
   unsettled changes is_seen_new offers leaves seen offered movable counted are_leaves within told sighted same =
       let judged = behind.judged in

@@ -18,10 +18,13 @@ use Rattle.plant_model.specs.declared.connector_rows.ConnectorRows.{ConnectorRow
 use Rattle.plant_model.specs.declared.system.System.{System}
 use Rattle.plant_model.proofs.ByConnector.{in-own-range, range-within}
 use Rattle.plant_model.proofs.OfInteractions.{within-limits}
+use Rattle.step_core.specs.ChoicesIn.{AreAllPossible}
 use Rattle.step_core.specs.Weights.{IsFound, choices_of_connector, weight_of}
 use Rattle.step_core.specs.declared.weights.Weighing.{Weighing}
 use Rattle.step_core.proofs.Counted.{count-adds, count-all, count-skips, entries-end, entries-skip, entry-here, none-past}
-use Rattle.step_core.proofs.ConnectorWords.{all-possible, counted, counted-few, entries, found-there, its, one-each, ways}
+use Rattle.step_core.proofs.OwnRange.{row-at}
+use Rattle.step_core.proofs.OwnRows.{first-own}
+use Rattle.step_core.proofs.ConnectorWords.{counted, counted-few, entries, found-there, its, one-each, ways}
 
 some-at : {X : Type 0} (xs : List X) (k : ℕ) → k < length xs → (x : X) × (slice_get xs k ≡ Some x)
 some-at [] k below = absurd (omega (arith, below))
@@ -33,13 +36,13 @@ pub few-interactions : (s : System) → length (interactions_in s) ≤ 1024
 few-interactions s = omega (arith, ap length s.listed, (within-limits (plant_of s) s.valid).interactions)
 
 -- a connector of which no leaf offers more than one transition has few choices
-pub few-single : (w : Weighing) (connector : ℕ) → slice_index_or w.leaves.now.many connector 0 ≡ 0 → weight_of (plant_of w.system.now).atoms w.states.now (interactions_in w.system.now) (contains w.kept.now) connector ≤ 1024
-few-single w connector none =
+pub few-single : (w : Weighing) (connector : ℕ) → AreAllPossible (plant_of w.system.now).atoms (plant_of w.system.now).wires w.states.now (interactions_in w.system.now) (its w connector) → slice_index_or w.leaves.now.many connector 0 ≡ 0 → weight_of (plant_of w.system.now).atoms w.states.now (interactions_in w.system.now) (contains w.kept.now) connector ≤ 1024
+few-single w connector possible none =
     omega (
       arith,
-      counted-few w connector none 1024,
-      count-all (plant_of w.system.now).atoms (plant_of w.system.now).wires w.states.now (interactions_in w.system.now) (its w connector) (all-possible w connector) 1024
-          (λ m from. none-past (plant_of w.system.now).atoms (plant_of w.system.now).wires w.states.now (interactions_in w.system.now) (its w connector) (all-possible w connector) m (omega (arith, from, few-interactions w.system.now))),
+      counted-few w connector possible none 1024,
+      count-all (plant_of w.system.now).atoms (plant_of w.system.now).wires w.states.now (interactions_in w.system.now) (its w connector) possible 1024
+          (λ m from. none-past (plant_of w.system.now).atoms (plant_of w.system.now).wires w.states.now (interactions_in w.system.now) (its w connector) possible m (omega (arith, from, few-interactions w.system.now))),
     )
 
 module _ (w : Weighing) (connector : ℕ) (rows : ConnectorRows) (within : connector < length (plant_of w.system.now).wires) (is : rows ≡ get_or w.system.now.connector_rows.items connector rows) where
@@ -61,6 +64,16 @@ module _ (w : Weighing) (connector : ℕ) (rows : ConnectorRows) (within : conne
   range-end =
       omega (arith, range-within (interactions_in w.system.now) connector rows (length (leaves right.0.connector)) right.1.clauses.items right.2, few-interactions w.system.now)
 
+  -- its words, of which there are few, begin with that of its first number, and none of its numbers is behind them
+  pub low-is : rows.low ≡ rows.first / 64
+  low-is = right.2.low
+
+  pub words-end : rows.first + rows.count ≤ 64 * rows.high
+  words-end = omega (arith, right.2.high)
+
+  pub few-words : rows.high ≤ 16
+  few-words = omega (arith, right.2.high, range-end)
+
   in-range : (n : ℕ) → is_from rows.first (rows.first + rows.count) n ≡ is_of_connector (interactions_in w.system.now) connector n
   in-range = in-own-range (interactions_in w.system.now) connector rows (length (leaves right.0.connector)) right.1.clauses.items right.2
 
@@ -81,106 +94,108 @@ module _ (w : Weighing) (connector : ℕ) (rows : ConnectorRows) (within : conne
   word-of at kept own first second n here =
       bit-and kept own (n % 64) ∙ ap (λ b. b && has_bit own (n % 64)) (first n here) ∙ ap (λ b. contains w.kept.now n && b) (second n here ∙ right.2.own n)
 
-  -- none is counted before the range, and behind it all are
-  pub counted-start : (low : ℕ) → low ≡ rows.first / 64 → counted w connector (64 * low) ≡ 0
-  counted-start low is_low =
-      count-skips (plant_of w.system.now).atoms (plant_of w.system.now).wires w.states.now (interactions_in w.system.now) (its w connector) (all-possible w connector) 0 (64 * low) (omega arith)
-      (λ m from below. none-before m (omega (arith, below, is_low)))
+  -- where it has one interaction, the first is of the connector
+  pub of-first : rows.count ≡ 1 → is_of_connector (interactions_in w.system.now) connector rows.first ≡ true
+  of-first one = first-own w.system.now connector rows within (row-at w.system.now connector rows within is) one
 
-  pub counted-end : (high : ℕ) → rows.first + rows.count ≤ 64 * high → counted w connector (64 * high) ≡ weight_of (plant_of w.system.now).atoms w.states.now (interactions_in w.system.now) (contains w.kept.now) connector
-  counted-end high past =
-      count-all (plant_of w.system.now).atoms (plant_of w.system.now).wires w.states.now (interactions_in w.system.now) (its w connector) (all-possible w connector) (64 * high)
-      (λ m from. none-behind m (omega (arith, from, past)))
+  -- ---- where its kept interactions are possible
 
-  -- the choices of the connector are those from the first word of the range on, and none is behind it
-  pub entries-start : (low : ℕ) → low ≡ rows.first / 64 → choices_of_connector (plant_of w.system.now).atoms w.states.now (interactions_in w.system.now) (contains w.kept.now) connector ≡ entries w connector (64 * low)
-  entries-start low is_low =
-      entries-skip (plant_of w.system.now).atoms (plant_of w.system.now).wires w.states.now (interactions_in w.system.now) (its w connector) (all-possible w connector) 0 (64 * low) (omega arith)
-      (λ m from below. none-before m (omega (arith, below, is_low)))
+  module _ (possible : AreAllPossible (plant_of w.system.now).atoms (plant_of w.system.now).wires w.states.now (interactions_in w.system.now) (its w connector)) where
+    -- none is counted before the range, and behind it all are
+    pub counted-start : (low : ℕ) → low ≡ rows.first / 64 → counted w connector possible (64 * low) ≡ 0
+    counted-start low is_low =
+        count-skips (plant_of w.system.now).atoms (plant_of w.system.now).wires w.states.now (interactions_in w.system.now) (its w connector) possible 0 (64 * low) (omega arith)
+        (λ m from below. none-before m (omega (arith, below, is_low)))
 
-  pub entries-none : (high : ℕ) → rows.first + rows.count ≤ 64 * high → entries w connector (64 * high) ≡ []
-  entries-none high past =
-      entries-end (plant_of w.system.now).atoms (plant_of w.system.now).wires w.states.now (interactions_in w.system.now) (its w connector) (all-possible w connector) (64 * high)
-      (λ m from. none-behind m (omega (arith, from, past)))
+    pub counted-end : (high : ℕ) → rows.first + rows.count ≤ 64 * high → counted w connector possible (64 * high) ≡ weight_of (plant_of w.system.now).atoms w.states.now (interactions_in w.system.now) (contains w.kept.now) connector
+    counted-end high past =
+        count-all (plant_of w.system.now).atoms (plant_of w.system.now).wires w.states.now (interactions_in w.system.now) (its w connector) possible (64 * high)
+        (λ m from. none-behind m (omega (arith, from, past)))
 
-  -- an entry that is there stands before the end of the range
-  pub entry-before : (place at left : ℕ) → place < weight_of (plant_of w.system.now).atoms w.states.now (interactions_in w.system.now) (contains w.kept.now) connector
-      → slice_get (choices_of_connector (plant_of w.system.now).atoms w.states.now (interactions_in w.system.now) (contains w.kept.now) connector) place ≡ slice_get (entries w connector (64 * at)) left
-      → 64 * at < rows.first + rows.count
-  entry-before place at left inside is_entry =
-      let own = choices_of_connector (plant_of w.system.now).atoms w.states.now (interactions_in w.system.now) (contains w.kept.now) connector in
-      let nothing : ChoiceDefinition = record { connector = 0; mask = 0; moves = [] } in
-      ⊎_elim
-      (λ there. there)
-      (λ past. absurd (none-some (get_or own place nothing) (sym (is_entry ∙ ap (λ ys. slice_get ys left) (entries-none at past)) ∙ slice_get-get_or own place nothing inside)))
-      (cases_lt (64 * at) (rows.first + rows.count))
+    -- the choices of the connector are those from the first word of the range on, and none is behind it
+    pub entries-start : (low : ℕ) → low ≡ rows.first / 64 → choices_of_connector (plant_of w.system.now).atoms w.states.now (interactions_in w.system.now) (contains w.kept.now) connector ≡ entries w connector possible (64 * low)
+    entries-start low is_low =
+        entries-skip (plant_of w.system.now).atoms (plant_of w.system.now).wires w.states.now (interactions_in w.system.now) (its w connector) possible 0 (64 * low) (omega arith)
+        (λ m from below. none-before m (omega (arith, below, is_low)))
 
-  -- ---- where the connector has one interaction
+    pub entries-none : (high : ℕ) → rows.first + rows.count ≤ 64 * high → entries w connector possible (64 * high) ≡ []
+    entries-none high past =
+        entries-end (plant_of w.system.now).atoms (plant_of w.system.now).wires w.states.now (interactions_in w.system.now) (its w connector) possible (64 * high)
+        (λ m from. none-behind m (omega (arith, from, past)))
 
-  module _ (one : rows.count ≡ 1) where
-    pub of-first : is_of_connector (interactions_in w.system.now) connector rows.first ≡ true
-    of-first =
-        let end : rows.first < rows.first + rows.count = omega (arith, one) in
-        sym (in-range rows.first) ∙ ap (λ b. not b && nat_lt rows.first (rows.first + rows.count)) (le-ltb rows.first rows.first (omega arith)) ∙ lt-ltb rows.first (rows.first + rows.count) end
-
-    its-first : its w connector rows.first ≡ contains w.kept.now rows.first
-    its-first = ap (λ b. contains w.kept.now rows.first && b) of-first ∙ always (contains w.kept.now rows.first)
-      where
-        always : (b : Bool) → (b && true) ≡ b
-        always true = refl
-        always false = refl
-
-    -- it has all choices of the connector
-    counted-first : counted w connector rows.first ≡ 0
-    counted-first =
-        count-skips (plant_of w.system.now).atoms (plant_of w.system.now).wires w.states.now (interactions_in w.system.now) (its w connector) (all-possible w connector) 0 rows.first (omega arith)
-        (λ m from below. none-before m below)
-
-    counted-one : counted w connector (rows.first + 1) ≡ weight_of (plant_of w.system.now).atoms w.states.now (interactions_in w.system.now) (contains w.kept.now) connector
-    counted-one =
-        count-all (plant_of w.system.now).atoms (plant_of w.system.now).wires w.states.now (interactions_in w.system.now) (its w connector) (all-possible w connector) (rows.first + 1)
-        (λ m from. none-behind m (omega (arith, from, one)))
-
-    weight-kept : contains w.kept.now rows.first ≡ true → weight_of (plant_of w.system.now).atoms w.states.now (interactions_in w.system.now) (contains w.kept.now) connector ≡ ways w connector rows.first
-    weight-kept kept =
-        omega (
-          arith,
-          counted-one,
-          count-adds (plant_of w.system.now).atoms (plant_of w.system.now).wires w.states.now (interactions_in w.system.now) (its w connector) (all-possible w connector) rows.first (its-first ∙ kept),
-          counted-first,
-        )
-
-    weight-none : contains w.kept.now rows.first ≡ false → weight_of (plant_of w.system.now).atoms w.states.now (interactions_in w.system.now) (contains w.kept.now) connector ≡ 0
-    weight-none not_kept =
-        omega (
-          arith,
-          counted-one,
-          count-skips (plant_of w.system.now).atoms (plant_of w.system.now).wires w.states.now (interactions_in w.system.now) (its w connector) (all-possible w connector) rows.first (rows.first + 1) (omega arith)
-              (λ m from below. let e : m ≡ rows.first = omega (arith, from, below) in ap (its w connector) e ∙ its-first ∙ not_kept),
-          counted-first,
-        )
-
-    pub weight-first : weight_of (plant_of w.system.now).atoms w.states.now (interactions_in w.system.now) (contains w.kept.now) connector ≡ cond (contains w.kept.now rows.first) (ways w connector rows.first) 0
-    weight-first =
-        ⊎_elim
-        (λ kept. weight-kept kept ∙ sym (ap (λ b. cond b (ways w connector rows.first) 0) kept))
-        (λ not_kept. weight-none not_kept ∙ sym (ap (λ b. cond b (ways w connector rows.first) 0) not_kept))
-        (cases_Bool (contains w.kept.now rows.first))
-
-    -- a choice of the connector is its
-    pub found-first : (place : ℕ) → slice_index_or w.leaves.now.many connector 0 ≡ 0 → place < weight_of (plant_of w.system.now).atoms w.states.now (interactions_in w.system.now) (contains w.kept.now) connector
-        → IsFound (plant_of w.system.now).atoms w.states.now (interactions_in w.system.now) (slice_get (choices_of_connector (plant_of w.system.now).atoms w.states.now (interactions_in w.system.now) (contains w.kept.now) connector) place) rows.first 1 0
-    found-first place none inside =
+    -- an entry that is there stands before the end of the range
+    pub entry-before : (place at left : ℕ) → place < weight_of (plant_of w.system.now).atoms w.states.now (interactions_in w.system.now) (contains w.kept.now) connector
+        → slice_get (choices_of_connector (plant_of w.system.now).atoms w.states.now (interactions_in w.system.now) (contains w.kept.now) connector) place ≡ slice_get (entries w connector possible (64 * at)) left
+        → 64 * at < rows.first + rows.count
+    entry-before place at left inside is_entry =
         let own = choices_of_connector (plant_of w.system.now).atoms w.states.now (interactions_in w.system.now) (contains w.kept.now) connector in
+        let nothing : ChoiceDefinition = record { connector = 0; mask = 0; moves = [] } in
         ⊎_elim
-        (λ kept.
-        let here : its w connector rows.first ≡ true = its-first ∙ kept in
-        let single : ways w connector rows.first ≡ 1 = one-each w connector none rows.first here in
-        let start : place ≡ 0 = omega (arith, inside, weight-kept kept, single) in
-        found-there w connector rows.first 1 0 (slice_get own place) (sym single) (omega arith)
-        (ap (slice_get own) start ∙
-        ap (λ ys. slice_get ys 0) (entries-skip (plant_of w.system.now).atoms (plant_of w.system.now).wires w.states.now (interactions_in w.system.now) (its w connector) (all-possible w connector) 0 rows.first (omega arith)
-        (λ m from below. none-before m below)) ∙
-        entry-here (plant_of w.system.now).atoms (plant_of w.system.now).wires w.states.now (interactions_in w.system.now) (its w connector) (all-possible w connector) rows.first 0 here (omega (arith, single))))
-        (λ not_kept. absurd (omega (arith, inside, weight-none not_kept)))
-        (cases_Bool (contains w.kept.now rows.first))
+        (λ there. there)
+        (λ past. absurd (none-some (get_or own place nothing) (sym (is_entry ∙ ap (λ ys. slice_get ys left) (entries-none at past)) ∙ slice_get-get_or own place nothing inside)))
+        (cases_lt (64 * at) (rows.first + rows.count))
+
+    -- ---- where the connector has one interaction
+
+    module _ (one : rows.count ≡ 1) where
+      its-first : its w connector rows.first ≡ contains w.kept.now rows.first
+      its-first = ap (λ b. contains w.kept.now rows.first && b) (of-first one) ∙ always (contains w.kept.now rows.first)
+        where
+          always : (b : Bool) → (b && true) ≡ b
+          always true = refl
+          always false = refl
+
+      -- it has all choices of the connector
+      counted-first : counted w connector possible rows.first ≡ 0
+      counted-first =
+          count-skips (plant_of w.system.now).atoms (plant_of w.system.now).wires w.states.now (interactions_in w.system.now) (its w connector) possible 0 rows.first (omega arith)
+          (λ m from below. none-before m below)
+
+      counted-one : counted w connector possible (rows.first + 1) ≡ weight_of (plant_of w.system.now).atoms w.states.now (interactions_in w.system.now) (contains w.kept.now) connector
+      counted-one =
+          count-all (plant_of w.system.now).atoms (plant_of w.system.now).wires w.states.now (interactions_in w.system.now) (its w connector) possible (rows.first + 1)
+          (λ m from. none-behind m (omega (arith, from, one)))
+
+      weight-kept : contains w.kept.now rows.first ≡ true → weight_of (plant_of w.system.now).atoms w.states.now (interactions_in w.system.now) (contains w.kept.now) connector ≡ ways w connector rows.first
+      weight-kept kept =
+          omega (
+            arith,
+            counted-one,
+            count-adds (plant_of w.system.now).atoms (plant_of w.system.now).wires w.states.now (interactions_in w.system.now) (its w connector) possible rows.first (its-first ∙ kept),
+            counted-first,
+          )
+
+      weight-none : contains w.kept.now rows.first ≡ false → weight_of (plant_of w.system.now).atoms w.states.now (interactions_in w.system.now) (contains w.kept.now) connector ≡ 0
+      weight-none not_kept =
+          omega (
+            arith,
+            counted-one,
+            count-skips (plant_of w.system.now).atoms (plant_of w.system.now).wires w.states.now (interactions_in w.system.now) (its w connector) possible rows.first (rows.first + 1) (omega arith)
+                (λ m from below. let e : m ≡ rows.first = omega (arith, from, below) in ap (its w connector) e ∙ its-first ∙ not_kept),
+            counted-first,
+          )
+
+      pub weight-first : weight_of (plant_of w.system.now).atoms w.states.now (interactions_in w.system.now) (contains w.kept.now) connector ≡ cond (contains w.kept.now rows.first) (ways w connector rows.first) 0
+      weight-first =
+          ⊎_elim
+          (λ kept. weight-kept kept ∙ sym (ap (λ b. cond b (ways w connector rows.first) 0) kept))
+          (λ not_kept. weight-none not_kept ∙ sym (ap (λ b. cond b (ways w connector rows.first) 0) not_kept))
+          (cases_Bool (contains w.kept.now rows.first))
+
+      -- a choice of the connector is its
+      pub found-first : (place : ℕ) → slice_index_or w.leaves.now.many connector 0 ≡ 0 → place < weight_of (plant_of w.system.now).atoms w.states.now (interactions_in w.system.now) (contains w.kept.now) connector
+          → IsFound (plant_of w.system.now).atoms w.states.now (interactions_in w.system.now) (slice_get (choices_of_connector (plant_of w.system.now).atoms w.states.now (interactions_in w.system.now) (contains w.kept.now) connector) place) rows.first 1 0
+      found-first place none inside =
+          let own = choices_of_connector (plant_of w.system.now).atoms w.states.now (interactions_in w.system.now) (contains w.kept.now) connector in
+          ⊎_elim
+          (λ kept.
+          let here : its w connector rows.first ≡ true = its-first ∙ kept in
+          let single : ways w connector rows.first ≡ 1 = one-each w connector possible none rows.first here in
+          let start : place ≡ 0 = omega (arith, inside, weight-kept kept, single) in
+          found-there w connector rows.first 1 0 (slice_get own place) (sym single) (omega arith)
+          (ap (slice_get own) start ∙
+          ap (λ ys. slice_get ys 0) (entries-skip (plant_of w.system.now).atoms (plant_of w.system.now).wires w.states.now (interactions_in w.system.now) (its w connector) possible 0 rows.first (omega arith)
+          (λ m from below. none-before m below)) ∙
+          entry-here (plant_of w.system.now).atoms (plant_of w.system.now).wires w.states.now (interactions_in w.system.now) (its w connector) possible rows.first 0 here (omega (arith, single))))
+          (λ not_kept. absurd (omega (arith, inside, weight-none not_kept)))
+          (cases_Bool (contains w.kept.now rows.first))

@@ -18,7 +18,7 @@ use Rattle.priority_filter.specs.Members.{has_bit}
 use Rattle.priority_filter.proofs.Words.{no-bit-past}
 use Rattle.plant_model.specs.Choice.{Interaction, plant_interactions}
 use Rattle.plant_model.specs.ConnectorRows.{is_of_connector}
-use Rattle.plant_model.specs.Dependents.{at_port, has_row, row_of_port}
+use Rattle.plant_model.specs.Reach.{at_port, has_row, row_of_port}
 use Rattle.plant_model.specs.Plant.{WireDefinition}
 use Rattle.plant_model.specs.Reach.{has_atom, is_at}
 use Rattle.plant_model.specs.Rules.{is_known_port}

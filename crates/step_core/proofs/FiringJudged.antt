@@ -47,7 +47,7 @@ module _ (s : System) (before : List Local) (c : ChoiceDefinition) (allowed : Is
     ),
   )
 
-  pub moved-behind : (j : Judgement) → IsJudgement (plant_of s) (interactions_in s) before j → IsMovedBehind (plant_of s) (interactions_in s) c.moves (next (plant_of s) before c) j
+  pub moved-behind : (j : Judgement) → IsJudgement (plant_of s) (interactions_in s) s.ranks before j → IsMovedBehind (plant_of s) (interactions_in s) s.ranks c.moves (next (plant_of s) before c) j
   moved-behind j judged = record {
     behind = record {
       before = before;

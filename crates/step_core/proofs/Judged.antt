@@ -11,7 +11,7 @@ use Rattle.step_core.specs.declared.judgement.Judgement.{Judgement}
 use Rattle.step_core.proofs.Counted.{possible-first}
 use Rattle.step_core.proofs.Weighed.{small-connectors, sum-of-weights}
 
-module _ (s : System) (states : List Local) (j : Judgement) (judged : IsJudgement (plant_of s) (interactions_in s) states j) where
+module _ (s : System) (states : List Local) (j : Judgement) (judged : IsJudgement (plant_of s) (interactions_in s) s.ranks states j) where
   -- the choices of the kept interactions are those of the state
   pub all-choices : choices_in (plant_of s).atoms states (interactions_in s) (contains j.kept) ≡ choices (plant_of s) states
   all-choices =
@@ -28,8 +28,6 @@ module _ (s : System) (states : List Local) (j : Judgement) (judged : IsJudgemen
   -- each interaction that is kept is possible
   pub offering : IsOffering (plant_of s) (interactions_in s) states j.offers.sets j.offers.counts j.leaves (contains j.kept)
   offering = record {
-    offered = judged.offered;
-    counted = judged.counted;
-    leaves = judged.leaves;
+    offers = record { offered = judged.offered; counted = judged.counted; leaves = judged.leaves };
     kept = λ n yes_. possible-first (plant_of s) states (interactions_in s) n (sym (judged.allowed n) ∙ yes_);
   }

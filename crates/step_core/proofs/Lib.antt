@@ -1,5 +1,6 @@
 mod Judging
 mod FirstRow
+mod FirstMove
 mod Flattened
 mod Counted
 mod Offering
@@ -14,12 +15,12 @@ mod Recounted
 mod Unchanged
 mod Clean
 mod BitsLeft
+mod WithoutLowest
 mod SystemConnectors
 mod Behind
 mod FiringJudged
-mod Settling
+mod Unsettled
 mod Judged
-mod Ruled
 mod LowestBits
 mod LowestKept
 mod OfSure
@@ -34,12 +35,14 @@ mod SureRows
 pub mod Crossing
 mod Openness
 mod Weighed
+mod OneWord
 mod Ones
 mod SingleChoices
 mod ConnectorChoices
 mod WordChoices
 mod ConnectorWords
 mod ConnectorRange
+mod KeptCount
 mod Sums
 mod Written
 mod LeafStates
@@ -53,8 +56,17 @@ mod Putting
 mod UsualFirings
 mod Ranked
 mod OwnRange
+mod OwnRows
+mod OwnWord
 mod OwnBits
 mod Restood
+mod Looked
+mod NextConnector
+mod BoundedWeights
+mod OfAlone
+mod TopAlone
+mod AloneCount
+mod SettledBut
 mod AnyOf
 mod ToldConnectors
 mod Renewed

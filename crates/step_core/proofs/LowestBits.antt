@@ -1,10 +1,11 @@
 -- The bits of a word one after the other, from the lowest on: what is left of them.
-use Rattle.std.proofs.Common.{◌≡◌, ℕ, ◌+◌, ◌*◌, ◌%◌, ◌^◌, ◌<◌, ◌≤◌, sym, ◌∙◌, ap, arith, Bool, true, false, eqb, ⊎_elim, w64}
+use Rattle.std.proofs.Common.{◌≡◌, ℕ, ◌+◌, ◌*◌, ◌-◌, ◌%◌, ◌^◌, ◌<◌, ◌≤◌, sym, ◌∙◌, ap, subst, arith, Bool, true, false, eqb, ⊎_elim, w64}
 use Rattle.std.specs.Prelude.{bit_and}
 use Rattle.std.specs.Int.{bit_not, trailing_zeros}
 use Rattle.std.proofs.lemmas.Bool.{cases_eq, cases_lt, false≢true}
 use Rattle.std.proofs.lemmas.Nat.Bits.{bit_at-zero, bit_at_clear_same, bit_at_clear_other, bit_at-trailing_zeros}
 use Rattle.priority_filter.specs.Members.{has_bit}
+use Rattle.step_core.proofs.WithoutLowest.{same-rest}
 
 -- what is left are the bits from a number on for which a test is passed
 abbrev pub IsRest : (ℕ → Bool) → ℕ → ℕ → Type 0
@@ -45,6 +46,10 @@ module _ (test : ℕ → Bool) (left k : ℕ) (some : 0 < left) (small : left < 
         (λ other. ap (λ x. eqb x 1) (bit_at_clear_other w64 left lowest bit-below j (omega (arith, lower, bit-below)) other) ∙ none-lower j (omega (arith, lower, other)))
         (cases_eq j lowest),
   )
+
+  -- what it has together with the word that is less by 1 is the same
+  pub fewer-next : IsRest test (bit_and left (left - 1)) (lowest + 1)
+  fewer-next = subst (λ w. IsRest test w (lowest + 1)) (sym (same-rest w64 left some small)) rest-next
 
 -- where nothing is left, none from the number on passes
 pub none-left : (test : ℕ → Bool) (left k : ℕ) → IsRest test left k → left ≡ 0 → (j : ℕ) → k ≤ j → j < 64 → test j ≡ false

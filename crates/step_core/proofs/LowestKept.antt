@@ -1,7 +1,7 @@
 -- The kept interactions of a word of 64, one after the other from the lowest bit on.
 use Rattle.std.proofs.Common.{◌≡◌, ℕ, ◌+◌, ◌*◌, ◌-◌, ◌/◌, ◌%◌, ◌^◌, ◌<◌, ◌≤◌, ◌∙◌, ap, List, length, arith, Bool, true, false, w64}
 use Rattle.std.specs.Prelude.{bit_and}
-use Rattle.std.specs.Int.{bit_not, trailing_zeros}
+use Rattle.std.specs.Int.{trailing_zeros}
 use Rattle.petri_atom.specs.Local.{Local}
 use Rattle.petri_atom.specs.Definition.{AtomDefinition}
 use Rattle.priority_filter.specs.Members.{has_bit}
@@ -9,7 +9,7 @@ use Rattle.plant_model.specs.Choice.{Interaction}
 use Rattle.plant_model.specs.Plant.{WireDefinition}
 use Rattle.step_core.specs.ChoicesIn.{AreAllPossible}
 use Rattle.step_core.proofs.Counted.{kept-within}
-use Rattle.step_core.proofs.LowestBits.{IsRest, bit-below, bit-from, bit-passes, none-between, none-left, rest-next}
+use Rattle.step_core.proofs.LowestBits.{IsRest, bit-below, bit-from, bit-passes, fewer-next, none-between, none-left}
 
 -- of the interactions from 64 times a number on, those from one on whose bits are left are to come
 abbrev pub IsLeft : (ℕ → Bool) → ℕ → ℕ → ℕ → Type 0
@@ -34,7 +34,7 @@ pub record IsLowest (all : List Interaction) (kept : ℕ → Bool) (at word k : 
   pub is_kept : kept (64 * at + trailing_zeros w64 word) ≡ true
   pub within : 64 * at + trailing_zeros w64 word < length all
   pub none_before : (n : ℕ) → 64 * at + k ≤ n → n < 64 * at + trailing_zeros w64 word → kept n ≡ false
-  pub later : IsLeft kept at (bit_and word (bit_not w64 (1 * 2 ^ trailing_zeros w64 word % 2 ^ 64))) (trailing_zeros w64 word + 1)
+  pub later : IsLeft kept at (bit_and word (word - 1)) (trailing_zeros w64 word + 1)
 
 pub lowest : (atoms : List AtomDefinition) (wires : List WireDefinition) (states : List Local) (all : List Interaction) (kept : ℕ → Bool) → AreAllPossible atoms wires states all kept
     → (at word k : ℕ) → IsLeft kept at word k → 0 < word → word < 2 ^ 64 → IsLowest all kept at word k
@@ -49,5 +49,5 @@ lowest atoms wires states all kept possible at word k left some small =
       is_kept = is_kept;
       within = kept-within atoms wires states all kept possible (64 * at + bit) is_kept;
       none_before = λ n first last. ap kept (omega (arith, first)) ∙ none-between test word k some small left (n - 64 * at) (omega (arith, first)) (omega (arith, first, last));
-      later = rest-next test word k some small left;
+      later = fewer-next test word k some small left;
     }

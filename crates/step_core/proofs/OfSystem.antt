@@ -1,28 +1,30 @@
 -- What a system keeps of its connectors, their leaves and its atoms.
-use Rattle.std.proofs.Common.{◌≡◌, ℕ, zero, suc, ◌<◌, ◌≤◌, ◌==◌, ◌&&◌, nat_lt, true, false, refl, sym, ◌∙◌, ap, subst, List, [], ◌∷◌, length, get_or, arith}
-use Rattle.std.specs.Prelude.{IsTrue, Option, Some, None, slice_get}
+use Rattle.std.proofs.Common.{◌≡◌, ℕ, zero, suc, ◌<◌, ◌≤◌, ◌==◌, ◌&&◌, nat_lt, true, false, refl, sym, ◌∙◌, ap, subst, List, [], ◌∷◌, length, map, get_or, arith, ⊎_elim}
+use Rattle.std.specs.Prelude.{IsTrue, Option, Some, None, option_map, slice_get}
 use Rattle.std.specs.List.{list_all}
 use Rattle.std.specs.Option.{option_map_or}
-use Rattle.std.proofs.lemmas.Bool.{and_parts, and_right, ne_eqb, or_from}
+use Rattle.std.proofs.lemmas.Bool.{and_parts, and_right, cases_lt, false≢true, ne_eqb, or_from}
 use Rattle.std.proofs.lemmas.List.{get_or_default, length-map}
-use Rattle.std.proofs.lemmas.Option.{same_Some, slice_get_past, slice_get_read}
+use Rattle.std.proofs.lemmas.Option.{same_Some, slice_get-map, slice_get_past, slice_get_read}
 use Rattle.connector_tree.specs.Tree.{leaves}
 use Rattle.connector_tree.specs.declared.tree.Port.{Port}
 use Rattle.connector_tree.specs.declared.tree.TheConstants.{MAX_LEAVES}
 use Rattle.petri_atom.specs.Atom.{definition_of}
-use Rattle.petri_atom.specs.Definition.{AtomDefinition, fired, offers_number}
+use Rattle.petri_atom.specs.Definition.{AtomDefinition, fired, offers, offers_number}
 use Rattle.petri_atom.specs.Local.{Local, Row}
 use Rattle.petri_atom.specs.declared.atom.Atom.{Atom}
 use Rattle.priority_filter.specs.Members.{has_bit}
-use Rattle.plant_model.specs.Dependents.{row_of_port}
+use Rattle.plant_model.specs.Reach.{row_of_port}
 use Rattle.plant_model.specs.Plant.{WireDefinition}
 use Rattle.plant_model.specs.Reach.{IsPortReach, can_read, has_atom}
 use Rattle.plant_model.specs.Rules.{early_fault, fault_of_order, first_of, is_known_port, late_fault}
 use Rattle.plant_model.specs.System.{plant_of}
+use Rattle.plant_model.specs.Usual.{IsUsual, leaves_of}
 use Rattle.plant_model.specs.Wire.{wire_of}
 use Rattle.plant_model.specs.declared.limits.TheConstants.{MAX_ATOMS, MAX_WIRES}
 use Rattle.plant_model.specs.declared.reach.PortReach.{PortReach}
 use Rattle.plant_model.specs.declared.system.System.{System}
+use Rattle.plant_model.specs.declared.usual.Usual.{Usual}
 use Rattle.plant_model.proofs.ByConnector.{lent-count, lent-leaves}
 use Rattle.plant_model.proofs.Judging.{atom-at}
 use Rattle.plant_model.proofs.OfInteractions.{known-atom, known-leaves}
@@ -41,6 +43,19 @@ none-of-atom atoms n past [] all = refl
 none-of-atom atoms n past (p ∷ ps) all =
     let parts = and_parts (is_known_port atoms p) (list_all (is_known_port atoms) ps) all in
     or_from (p.atom == n) (has_atom ps n) (ne_eqb p.atom n (λ same. absurd (omega (arith, same, past, known-atom atoms p parts.0)))) (none-of-atom atoms n past ps parts.1)
+
+-- an entry that is read by its number, of what the entries show
+read-shown : {X Y : Type 0} (show : X → Y) (xs : List X) (n k : ℕ) (x : X) → n ≡ k → k < length xs → x ≡ get_or xs n x → slice_get (map show xs) k ≡ Some (show x)
+read-shown show xs n k x same within is =
+    slice_get-map show xs k ∙ ap (option_map show) (slice_get_read xs (length xs) k x refl within (is ∙ ap (λ m. get_or xs m x) same))
+
+-- what an atom offers is one of its transitions
+pub offered-within : (a : AtomDefinition) (state : Local) (n : ℕ) → IsTrue (offers_number a state n) → n < length a.transitions
+offered-within a state n offered =
+    ⊎_elim
+    (λ within. within)
+    (λ past. absurd (false≢true (sym (ap (λ o. option_map_or (offers state) o false) (slice_get_past a.transitions n past)) ∙ offered)))
+    (cases_lt n (length a.transitions))
 
 -- the guards of no connector past the last can read an atom
 pub none-reads : (wires : List WireDefinition) (atom k : ℕ) → length wires ≤ k → can_read wires atom k ≡ false
@@ -128,3 +143,19 @@ module _ (s : System) where
   quiet-right f n k item transition before after delivered x same within is quiet a known fires was =
       let its : definition_of item ≡ a = same_Some (definition_of item) a (sym (atom-read n k item same within is) ∙ known) in
       was ∙ sym (subst (λ b. f b (fired b transition delivered before) ≡ f b before) its quiet) ∙ ap (f a) (sym fires)
+
+  -- the usual firings of an atom stand in a row that is there, with an entry or none for each of its transitions, and each entry is right
+  usual-there : (k : ℕ) → k < length (plant_of s).atoms → k < length s.usual.items
+  usual-there k there = omega (arith, there, s.foretold.as_many, length-map s.usual.items (λ row. row.items))
+
+  pub usual-long : (n k t : ℕ) (row : _) → n ≡ k → k < length (plant_of s).atoms → row ≡ get_or s.usual.items n row → ((a : AtomDefinition) → slice_get (plant_of s).atoms k ≡ Some a → t < length a.transitions)
+      → t < length row.items
+  usual-long n k t row same there is fires =
+      let atom = some-at (plant_of s).atoms k there in
+      omega (arith, fires atom.0 atom.1, s.foretold.in_row k atom.0 row.items atom.1 (read-shown (λ r. r.items) s.usual.items n k row same (usual-there k there) is))
+
+  pub usual-read : (n k t m : ℕ) (row : _) (entry : Option Usual) (usual : Usual) → n ≡ k → k < length (plant_of s).atoms → row ≡ get_or s.usual.items n row → m ≡ t → t < length row.items → entry ≡ get_or row.items m entry → entry ≡ Some usual
+      → (a : AtomDefinition) → slice_get (plant_of s).atoms k ≡ Some a → IsUsual a (leaves_of (plant_of s).wires) k usual
+  usual-read n k t m row entry usual same there is its within at found a known =
+      s.foretold.right k t a row.items usual known (read-shown (λ r. r.items) s.usual.items n k row same (usual-there k there) is)
+      (slice_get_read row.items (length row.items) t entry refl within (at ∙ ap (λ j. get_or row.items j entry) its) ∙ ap Some found)

@@ -1,12 +1,11 @@
--- How many bits of a word are set below a place, and a word without its lowest bit.
-use Rattle.std.proofs.Common.{◌≡◌, ℕ, zero, suc, ◌+◌, ◌*◌, ◌-◌, ◌/◌, ◌%◌, ◌^◌, ◌<◌, ◌≤◌, sym, ◌∙◌, ap, arith, Bool, true, false, eqb, refl, pow-suc, mod-eq_of_lt, ⊎_elim}
-use Rattle.std.specs.Prelude.{bit_and, count_ones}
+-- How many bits of a word are set below a place.
+use Rattle.std.proofs.Common.{◌≡◌, ℕ, zero, suc, ◌+◌, ◌-◌, ◌%◌, ◌^◌, ◌<◌, ◌≤◌, sym, ◌∙◌, ap, arith, true, false, refl, mod-eq_of_lt, ⊎_elim}
+use Rattle.std.specs.Prelude.{count_ones}
 use Rattle.std.specs.Int.{bit_at, trailing_zeros, w64}
-use Rattle.std.specs.Int.Bits.{and_self}
 use Rattle.std.specs.Int.Count.{ones-ones}
-use Rattle.std.proofs.lemmas.Bool.{cases_eq, eqb-true, eqb-false}
-use Rattle.std.proofs.lemmas.Nat.{and_block, and_mask, mod-pow-add, mod_below, mod_low, ones_cat, pow_pos, shr_split, zero_from_ones}
-use Rattle.std.proofs.lemmas.Nat.Bits.{bit_at-lt, bit_at-trailing_zeros, bit_at-zero, bit_at_cat_high, bit_at_cat_low}
+use Rattle.std.proofs.lemmas.Bool.{cases_Bool, cases_eq, eqb-true, eqb-false}
+use Rattle.std.proofs.lemmas.Nat.{mod-pow-add, mod_below, ones_cat, pow_pos}
+use Rattle.std.proofs.lemmas.Nat.Bits.{bit_at-lt}
 use Rattle.priority_filter.specs.Members.{has_bit}
 use Rattle.step_core.proofs.LowestBits.{IsRest, bit-from, bit-passes, none-between, none-left}
 
@@ -50,63 +49,18 @@ ones-skip word i (suc e) none =
 pub ones-all : (word : ℕ) → word < 2 ^ 64 → ones_below word 64 ≡ count_ones word
 ones-all word small = ap count_ones (mod-eq_of_lt small)
 
--- ---- without the lowest bit
+-- a word has no more than it has places
+ones-few : (word k : ℕ) → ones_below word k ≤ k
+ones-few word zero = omega (arith, ones-start word)
+ones-few word (suc k) =
+    let more : suc k ≡ k + 1 = omega arith in
+    ⊎_elim
+    (λ set. omega (arith, ap (ones_below word) more, ones-set word k set, ones-few word k))
+    (λ unset. omega (arith, ap (ones_below word) more, ones-unset word k unset, ones-few word k))
+    (cases_Bool (has_bit word k))
 
-module _ (left : ℕ) (some : 0 < left) (small : left < 2 ^ 64) where
-  abbrev t : ℕ
-  t = trailing_zeros w64 left
-
-  abbrev high : ℕ
-  high = left / 2 ^ (t + 1)
-
-  abbrev rest : ℕ
-  rest = bit_and left (left - 1)
-
-  none-under : left % 2 ^ t ≡ 0
-  none-under =
-      let e : 0 + t ≡ t = omega arith in
-      zero_from_ones (left % 2 ^ t)
-      (ap (ones_below left) (sym e) ∙ ones-skip left 0 t (λ j from below. ap (λ x. eqb x 1) ((bit_at-trailing_zeros w64 left some small).2 j (omega (arith, below)))) ∙ ones-start left)
-
-  low-is : left % 2 ^ (t + 1) ≡ 2 ^ t
-  low-is =
-      let e : t + 1 ≡ 1 + t = omega arith in
-      let split : left % 2 ^ (1 + t) ≡ bit_at left t * 2 ^ t + left % 2 ^ t = mod-pow-add left 1 t in
-      let one : bit_at left t * 2 ^ t ≡ 1 * 2 ^ t = ap (λ b. b * 2 ^ t) (bit_at-trailing_zeros w64 left some small).1 in
-      ap (λ k. left % 2 ^ k) e ∙ omega (arith, split, one, none-under)
-
-  whole : left ≡ high * 2 ^ (t + 1) + 2 ^ t
-  whole = omega (arith, shr_split left (t + 1), low-is)
-
-  less : left - 1 ≡ high * 2 ^ (t + 1) + (2 ^ t - 1)
-  less = omega (arith, whole, pow_pos t)
-
-  power : 2 ^ t < 2 ^ (t + 1)
-  power = let e : t + 1 ≡ suc t = omega arith in omega (arith, ap (λ k. 2 ^ k) e, pow-suc 2 t, pow_pos t)
-
-  rest-is : rest ≡ high * 2 ^ (t + 1) + 0
-  rest-is =
-      let alone : 2 ^ t ≡ 1 * 2 ^ t + 0 = omega arith in
-      let none : bit_and (2 ^ t) (2 ^ t - 1) ≡ 0 = and_mask (2 ^ t) t ∙ ap (λ n. n % 2 ^ t) alone ∙ mod_low 1 t 0 (pow_pos t) in
-      ap (λ w. bit_and w (left - 1)) whole ∙ ap (bit_and (high * 2 ^ (t + 1) + 2 ^ t)) less ∙
-      and_block (t + 1) high high (2 ^ t) (2 ^ t - 1) power (omega (arith, power)) ∙
-      ap (λ n. n * 2 ^ (t + 1) + bit_and (2 ^ t) (2 ^ t - 1)) (and_self high) ∙ ap (λ n. high * 2 ^ (t + 1) + n) none
-
-  rest-above : (j : ℕ) → t < j → has_bit rest j ≡ has_bit left j
-  rest-above j above =
-      ap (λ w. has_bit w j) rest-is ∙ ap (λ x. eqb x 1) (bit_at_cat_high high (t + 1) 0 j (pow_pos (t + 1)) (omega (arith, above))) ∙
-      sym (ap (λ w. has_bit w j) whole ∙ ap (λ x. eqb x 1) (bit_at_cat_high high (t + 1) (2 ^ t) j power (omega (arith, above))))
-
-  rest-below : (j : ℕ) → j < t + 1 → has_bit rest j ≡ false
-  rest-below j below =
-      ap (λ w. has_bit w j) rest-is ∙ ap (λ x. eqb x 1) (bit_at_cat_low high (t + 1) 0 j below) ∙ ap (λ x. eqb x 1) (bit_at-zero j)
-
-  -- what is left are the bits behind it
-  pub without-lowest : (test : ℕ → Bool) (k : ℕ) → IsRest test left k → IsRest test rest (t + 1)
-  without-lowest test k is_rest = (
-    λ j from low. rest-above j (omega (arith, from)) ∙ is_rest.0 j (omega (arith, from, bit-from test left k some small is_rest)) low,
-    rest-below,
-  )
+pub few-ones : (word : ℕ) → word < 2 ^ 64 → count_ones word ≤ 64
+few-ones word small = omega (arith, ones-all word small, ones-few word 64)
 
 -- ---- the bits of a word that are left from a place on
 

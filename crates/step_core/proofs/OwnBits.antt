@@ -1,15 +1,17 @@
--- Words in which the bits at some places are replaced, and the highest bit of a word.
-use Rattle.std.proofs.Common.{◌≡◌, ◌≢◌, ℕ, ◌+◌, ◌-◌, ◌*◌, ◌/◌, ◌%◌, ◌^◌, ◌<◌, ◌≤◌, refl, sym, ◌∙◌, ap, arith, Bool, true, false, not, ◌&&◌, ◌||◌, eqb, suc, ⊎_elim, w64}
+-- Words in which the bits at some places are replaced, what two words have in common, and the highest bit of a word.
+use Rattle.std.proofs.Common.{◌≡◌, ℕ, ◌+◌, ◌-◌, ◌*◌, ◌/◌, ◌%◌, ◌^◌, ◌<◌, ◌≤◌, refl, sym, ◌∙◌, ap, arith, Bool, true, false, not, ◌&&◌, ◌||◌, eqb, suc, ⊎_elim, w64}
 use Rattle.std.specs.Prelude.{bit_and, bit_or}
 use Rattle.std.specs.Int.{bit_at, bit_not, leading_zeros, trailing_zeros}
+use Rattle.std.specs.Int.Bits.{bit_xor}
 use Rattle.std.proofs.Math.Nat.{pow-succ'}
-use Rattle.std.proofs.lemmas.Bool.{and_parts, cases_Bool, cases_eq, cases_lt, false≢true}
-use Rattle.std.proofs.lemmas.Nat.{leading_top}
-use Rattle.std.proofs.lemmas.Nat.Bits.{bit_at_cat_high, bit_at_set_other, bit_at_set_same}
+use Rattle.std.proofs.lemmas.Bool.{and_parts, cases_lt, false≢true}
+use Rattle.std.proofs.lemmas.Bool.Decides.{nat_tests}
+use Rattle.std.proofs.lemmas.Nat.{and_le_l, leading_top}
+use Rattle.std.proofs.lemmas.Nat.Bits.{bit_at-lt, bit_at_cat_high, bit_at_set_other, bit_at_set_same, bit_at_xor}
 use Rattle.petri_atom.proofs.Sets.{has-or}
 use Rattle.priority_filter.specs.Members.{has_bit}
-use Rattle.priority_filter.proofs.Words.{bit-and, bit-not, no-bit-past}
-use Rattle.step_core.proofs.BitsLeft.{no-bit}
+use Rattle.priority_filter.proofs.Words.{bit-and, bit-not}
+use Rattle.step_core.proofs.BitsLeft.{lowest-below, lowest-set, no-bit}
 
 -- a word with a bit that is set is not 0, and one that is not 0 has one
 pub not-zero : (word k : ℕ) → has_bit word k ≡ true → 0 < word
@@ -87,3 +89,29 @@ module _ (left : ℕ) (some : 0 < left) (small : left < 2 ^ 64) where
 
   pub highest-set : has_bit left highest ≡ true
   highest-set = ap (has_bit left) highest-is ∙ set-at top.0 top.2 top.3
+
+-- a bit in which two words do not differ
+pub no-difference : (a b k : ℕ) → has_bit (bit_xor a b) k ≡ false → has_bit a k ≡ has_bit b k
+no-difference a b k = grind (arith, nat_tests, bit_at_xor a b k, bit_at-lt a k, bit_at-lt b k)
+
+-- a bit that two words do not have is none in which they differ
+pub no-bit-differs : (a b k : ℕ) → has_bit a k ≡ false → has_bit b k ≡ false → has_bit (bit_xor a b) k ≡ false
+no-bit-differs a b k none no_other = grind (arith, nat_tests, bit_at_xor a b k, bit_at-lt a k, bit_at-lt b k, none, no_other)
+
+-- two words without a common bit
+pub no-common : (a b k : ℕ) → bit_and a b ≡ 0 → has_bit a k ≡ true → has_bit b k ≡ false
+no-common a b k none here = ap (λ x. x && has_bit b k) (sym here) ∙ sym (bit-and a b k) ∙ ap (λ w. has_bit w k) none ∙ no-bit k
+
+-- and two that have one, which stand for sets of numbers
+pub common-in : (place a b : ℕ) (p q : ℕ → Bool) → ((n : ℕ) → n / 64 ≡ place → has_bit a (n % 64) ≡ p n) → ((n : ℕ) → n / 64 ≡ place → has_bit b (n % 64) ≡ q n) → a < 2 ^ 64 → 0 < bit_and a b
+    → (n : ℕ) × (n / 64 ≡ place) × (p n ≡ true) × (q n ≡ true)
+common-in place a b p q one other small some =
+    let both : ℕ = bit_and a b in
+    let fits : both < 2 ^ 64 = omega (arith, small, and_le_l a b) in
+    let low = lowest-below both some fits in
+    let bit : ℕ = trailing_zeros w64 both in
+    let n : ℕ = 64 * place + bit in
+    let here : n / 64 ≡ place = omega (arith, low) in
+    let at : n % 64 ≡ bit = omega (arith, low) in
+    let parts = and_parts (has_bit a bit) (has_bit b bit) (sym (bit-and a b bit) ∙ lowest-set both some fits) in
+    (n, here, sym (one n here) ∙ ap (has_bit a) at ∙ parts.0, sym (other n here) ∙ ap (has_bit b) at ∙ parts.1)

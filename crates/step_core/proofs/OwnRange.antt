@@ -1,11 +1,12 @@
 -- The words in which the interactions of a connector stand.
-use Rattle.std.proofs.Common.{◌≡◌, ℕ, zero, suc, ◌+◌, ◌*◌, ◌/◌, ◌<◌, ◌≤◌, refl, sym, ◌∙◌, ap, List, [], ◌∷◌, length, get_or, nat_lt, arith, true, not}
+use Rattle.std.proofs.Common.{◌≡◌, ℕ, ◌+◌, ◌*◌, ◌/◌, ◌<◌, ◌≤◌, refl, ◌∙◌, length, get_or, nat_lt, arith, true, not}
 use Rattle.std.specs.Prelude.{Some, slice_get}
 use Rattle.std.specs.FinSet.{contains}
 use Rattle.std.proofs.lemmas.Bool.{and_parts, ltb-false, ltb-true, not-true}
 use Rattle.std.proofs.lemmas.List.{length-map}
 use Rattle.std.proofs.lemmas.Option.{slice_get_read}
 use Rattle.connector_tree.specs.Tree.{leaves}
+use Rattle.priority_filter.specs.declared.interaction_set.TheConstants.{ROW_WORDS}
 use Rattle.plant_model.specs.ConnectorRows.{AreRowsOf, is_of_connector}
 use Rattle.plant_model.specs.Plant.{WireDefinition}
 use Rattle.plant_model.specs.System.{interactions_in, plant_of}
@@ -14,12 +15,7 @@ use Rattle.plant_model.specs.declared.bound_expressions.BoundExpressions.{BoundE
 use Rattle.plant_model.specs.declared.connector_rows.ConnectorRows.{ConnectorRows}
 use Rattle.plant_model.specs.declared.system.System.{System}
 use Rattle.plant_model.proofs.ByConnector.{in-own-range, range-within}
-use Rattle.step_core.proofs.SystemConnectors.{few-interactions}
-
-some-at : {X : Type 0} (xs : List X) (k : ℕ) → k < length xs → (x : X) × (slice_get xs k ≡ Some x)
-some-at [] k below = absurd (omega (arith, below))
-some-at (x ∷ xs) zero below = (x, refl)
-some-at (x ∷ xs) (suc k) below = some-at xs k (omega (arith, below))
+use Rattle.step_core.proofs.SystemConnectors.{few-interactions, some-at}
 
 -- its rows stand at its number
 pub row-at : (system : System) (k : ℕ) (r : ConnectorRows) → k < length (plant_of system).wires → r ≡ get_or system.connector_rows.items k r → slice_get system.connector_rows.items k ≡ Some r
@@ -50,3 +46,10 @@ module _ (system : System) (k : ℕ) (r : ConnectorRows) (within : k < length (p
   in-words low high n is_low is_high own =
       let range = in-range n own in
       (omega (arith, range.0, is_low), omega (arith, range.1, is_high))
+
+  -- which its rows name
+  pub own-words : (n : ℕ) → is_of_connector (interactions_in system) k n ≡ true → (r.low ≤ n / 64) × (n / 64 < r.high)
+  own-words n own = let range = in-range n own in (omega (arith, range.0, right.2.low), omega (arith, range.1, right.2.high))
+
+  pub few-words : r.high ≤ ROW_WORDS
+  few-words = omega (arith, range-end, right.2.high)

@@ -87,6 +87,13 @@ put-back sets i other here within is n = ⊎_elim
     (λ differs. get_or-set_other (set sets i other) i n here 0 differs ∙ get_or-set_other sets i n other 0 differs)
     (cases_eq n i)
 
+-- and where one is put that was there
+pub put-same : (sets : List ℕ) (i k here : ℕ) → i ≡ k → i < length sets → here ≡ get_or sets i 0 → (n : ℕ) → get_or (set sets k here) n 0 ≡ get_or sets n 0
+put-same sets i k here alike within is n = ⊎_elim
+    (λ same. ap (λ j. get_or (set sets k here) j 0) same ∙ get_or-set_same sets k here 0 (omega (arith, within, alike)) ∙ is ∙ ap (λ j. get_or sets j 0) (omega (arith, alike, same)))
+    (λ differs. get_or-set_other sets k n here 0 differs)
+    (cases_eq n k)
+
 -- an entry that is written by its number
 pub written-at : (xs : List ℕ) (i k x : ℕ) → i ≡ k → i < length xs → get_or (set xs i x) k 0 ≡ x
 written-at xs i k x same within = ap (λ j. get_or (set xs i x) j 0) (sym same) ∙ get_or-set_same xs i x 0 within

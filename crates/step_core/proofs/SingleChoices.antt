@@ -22,7 +22,8 @@ use Rattle.plant_model.specs.declared.system.System.{System}
 use Rattle.plant_model.proofs.Combinations.{length-rows}
 use Rattle.plant_model.proofs.Membership.{all-in, here, in-entry, later}
 use Rattle.plant_model.proofs.NoDeadlock.{some-moves}
-use Rattle.step_core.specs.Judgement.{IsOffering}
+use Rattle.step_core.specs.ChoicesIn.{AreAllPossible}
+use Rattle.step_core.specs.Judgement.{IsOffers}
 use Rattle.step_core.specs.Leaves.{count_of, is_leaf_where, is_many}
 use Rattle.step_core.specs.Weights.{is_kept_of}
 use Rattle.step_core.specs.declared.leaves.Leaves.{Leaves}
@@ -38,7 +39,8 @@ one-row atoms states (p ∷ ps) each =
     omega (arith, one-row atoms states ps (λ q at. each q (later p ps q at)))
 
 module _ (s : System) (states : List Local) (sets : List ℕ) (counts : List (List ℕ)) (l : Leaves) (kept : ℕ → Bool) (of_plant : IsOf (plant_of s) states)
-    (offering : IsOffering (plant_of s) (interactions_in s) states sets counts l kept) (connector : ℕ) (none : slice_index_or l.many connector 0 ≡ 0) where
+    (offering : IsOffers (plant_of s) states sets counts l) (connector : ℕ) (all-possible : AreAllPossible (plant_of s).atoms (plant_of s).wires states (interactions_in s) (is_kept_of (interactions_in s) kept connector))
+    (none : slice_index_or l.many connector 0 ≡ 0) where
   -- no leaf of the connector offers more than one
   few-at : (w : WireDefinition) (leaf : ℕ) (p : Port) → slice_get (plant_of s).wires connector ≡ Some w → slice_get (leaves w.connector) leaf ≡ Some p → length (moves_of (plant_of s).atoms states p) ≤ 1
   few-at w leaf p wire at =
@@ -77,7 +79,7 @@ module _ (s : System) (states : List Local) (sets : List ℕ) (counts : List (Li
   pub one-way : (n : ℕ) → is_kept_of (interactions_in s) kept connector n ≡ true → ways_at (plant_of s).atoms states (interactions_in s) n ≡ 1
   one-way n both =
       let parts = and_parts (kept n) (is_of_connector (interactions_in s) connector n) both in
-      each (slice_get (interactions_in s) n) refl parts.1 (offering.kept n parts.0)
+      each (slice_get (interactions_in s) n) refl parts.1 (all-possible n both)
     where
       each : (o : Option Interaction) → slice_get (interactions_in s) n ≡ o → is_of_connector (interactions_in s) connector n ≡ true → is_possible_at (plant_of s).atoms (plant_of s).wires states (interactions_in s) n ≡ true
           → ways_at (plant_of s).atoms states (interactions_in s) n ≡ 1

@@ -3,7 +3,8 @@ use Rattle.std.proofs.Common.{◌≡◌, ◌⊎◌, inl, inr, ℕ, zero, suc, �
 use Rattle.std.specs.Prelude.{slice_index_or, slice_set}
 use Rattle.std.proofs.lemmas.Bool.{cases_eq, cases_lt}
 use Rattle.std.proofs.lemmas.List.{get_or-set_other, get_or-set_same}
-use Rattle.step_core.specs.Weights.{sum_from, sum_of}
+use Rattle.step_core.specs.Weights.{AreSums, sum_from, sum_of}
+use Rattle.step_core.specs.declared.weights.Weights.{Weights}
 
 -- each of them is no more than the sum
 pub one-of-sum : (xs : List ℕ) (k : ℕ) → slice_index_or xs k 0 ≤ sum_of xs
@@ -91,3 +92,50 @@ zero-at (suc n) (suc k) = zero-at n k
 pub zero-some : (n from count : ℕ) → sum_from (zeros n) from count ≡ 0
 zero-some n from zero = refl
 zero-some n from (suc count) = omega (arith, zero-at n from, zero-some n (suc from) count)
+
+-- ---- the sum of those before one
+
+sum-joined : (xs : List ℕ) (from some more : ℕ) → sum_from xs from (some + more) ≡ sum_from xs from some + sum_from xs (from + some) more
+sum-joined xs from zero more =
+    let e : from ≡ from + 0 = omega arith in
+    let n : 0 + more ≡ more = omega arith in
+    omega (arith, ap (sum_from xs from) n, ap (λ k. sum_from xs k more) e)
+sum-joined xs from (suc some) more =
+    let e : suc from + some ≡ from + suc some = omega arith in
+    let n : suc some + more ≡ suc (some + more) = omega arith in
+    omega (arith, ap (sum_from xs from) n, sum-joined xs (suc from) some more, ap (λ k. sum_from xs k more) e)
+
+-- with one or with eight more
+pub sum-before-next : (xs : List ℕ) (k : ℕ) → sum_from xs 0 (k + 1) ≡ sum_from xs 0 k + slice_index_or xs k 0
+sum-before-next xs k = let e : 0 + k ≡ k = omega arith in omega (arith, sum-joined xs 0 k 1, ap (λ n. slice_index_or xs n 0) e)
+
+pub sum-before-group : (xs : List ℕ) (group : ℕ) → sum_from xs 0 (8 * (group + 1)) ≡ sum_from xs 0 (8 * group) + sum_from xs (8 * group) 8
+sum-before-group xs group =
+    let e : 8 * (group + 1) ≡ 8 * group + 8 = omega arith in
+    let start : 0 + 8 * group ≡ 8 * group = omega arith in
+    ap (sum_from xs 0) e ∙ sum-joined xs 0 (8 * group) 8 ∙ ap (λ k. sum_from xs 0 (8 * group) + sum_from xs k 8) start
+
+-- the sum of those before the end, or more, is that of all
+sum-to-end : (xs : List ℕ) (k : ℕ) → length xs ≤ k → sum_of xs ≤ sum_from xs 0 k
+sum-to-end [] k past = omega arith
+sum-to-end (x ∷ xs) zero past = absurd (omega (arith, past))
+sum-to-end (x ∷ xs) (suc k) past = omega (arith, later-sum x xs 0 k, sum-to-end xs k (omega (arith, past)))
+
+-- so where a place below the sum of all is not below that of those before one, this one is there
+one-there : (xs : List ℕ) (k left place : ℕ) → place < sum_of xs → place ≡ sum_from xs 0 k + left → k < length xs
+one-there xs k left place below is =
+    ⊎_elim (λ there. there) (λ past. absurd (omega (arith, below, is, sum-to-end xs k past))) (cases_lt k (length xs))
+
+-- the same by the weights: the connector is below 64, and a group of which it is the first is below 8
+pub small-connector : (w : Weights) (sums : AreSums w) (k left place : ℕ) → place < w.total → place ≡ sum_from w.of_connectors 0 k + left → k < 64
+small-connector w sums k left place below is = omega (arith, one-there w.of_connectors k left place (omega (arith, below, sums.total)) is, sums.many)
+
+pub small-group : (w : Weights) (sums : AreSums w) (group left place : ℕ) → place < w.total → place ≡ sum_from w.of_connectors 0 (8 * group) + left → group < 8
+small-group w sums group left place below is = omega (arith, small-connector w sums (8 * group) left place below is)
+
+-- no weight is more than the total, and no sum of a group
+pub weight-in-total : (w : Weights) (sums : AreSums w) (k : ℕ) → slice_index_or w.of_connectors k 0 ≤ w.total
+weight-in-total w sums k = omega (arith, one-of-sum w.of_connectors k, sums.total)
+
+pub group-in-total : (w : Weights) (sums : AreSums w) (group : ℕ) → slice_index_or w.groups group 0 ≤ w.total
+group-in-total w sums group = omega (arith, some-of-sum w.of_connectors (8 * group) 8, sums.groups group, sums.total)

@@ -12,6 +12,7 @@ use Rattle.priority_filter.specs.declared.seen.Seen.{Seen}
 use Rattle.plant_model.specs.Choice.{Interaction, moves_of}
 use Rattle.plant_model.specs.Plant.{PlantDefinition}
 use Rattle.plant_model.specs.Sights.{AreSeen, AreSeenBut}
+use Rattle.plant_model.specs.declared.ranks.Ranks.{Ranks}
 use Rattle.step_core.specs.Dispatching.{ArePartsOf}
 use Rattle.step_core.specs.EnabledTransitions.{AreCounted, AreMovable, AreMovableBut, AreOffered, AreOfferedBut}
 use Rattle.step_core.specs.Leaves.{AreLeaves, AreToldOf, count_of}
@@ -24,8 +25,8 @@ use Rattle.step_core.specs.declared.sure.SureJudgement.{SureJudgement}
 use Rattle.step_core.proofs.Judging.{counted-moves}
 use Rattle.step_core.proofs.Refreshing.{offered-still}
 
-module _ (plant : PlantDefinition) (all : List Interaction) (parts : List (Option Local)) (of_plant : ArePartsOf plant parts) (changed flipped : List ℕ) (j : SureJudgement)
-    (behind : IsSureBehind plant all changed flipped parts j) where
+module _ (plant : PlantDefinition) (all : List Interaction) (ranks : Ranks) (parts : List (Option Local)) (of_plant : ArePartsOf plant parts) (changed flipped : List ℕ) (j : SureJudgement)
+    (behind : IsSureBehind plant all ranks changed flipped parts j) where
   -- the parts from before are of the plant too
   pub before-of-plant : length (shown_in behind.before) ≡ length plant.atoms
   before-of-plant = length-map behind.before shown ∙ behind.as_many ∙ of_plant
@@ -59,7 +60,7 @@ module _ (plant : PlantDefinition) (all : List Interaction) (parts : List (Optio
       (reached : AreToldOf plant.wires changed j.judgement.offers.counts offers.counts changes)
       (sighted : AreSeen plant.rules (may_be_marked_in parts) seen)
       (same : is_seen_new ≡ false → AskAlike plant.rules (may_be_marked seen) (may_be_marked j.judgement.seen)) where
-    pub unsettled : IsSureUnsettled plant all parts changes told is_seen_new (record {
+    pub unsettled : IsSureUnsettled plant all ranks parts changes told is_seen_new (record {
       judgement = record {
         offers = offers;
         leaves = l;
@@ -70,6 +71,7 @@ module _ (plant : PlantDefinition) (all : List Interaction) (parts : List (Optio
         weights = j.judgement.weights;
       };
       opened = j.opened;
+      rivals = j.rivals;
     })
     unsettled = record {
       changed = changed;
@@ -92,6 +94,7 @@ module _ (plant : PlantDefinition) (all : List Interaction) (parts : List (Optio
       seen = sighted;
       seen_alike = λ unseen left right at there. sym (sighted left right at there) ∙ same unseen left right at there ∙ behind.judged.seen left right at there;
       opened = behind.judged.opened;
+      rivals = behind.judged.rivals;
       standing = behind.judged.standing;
       sure = behind.judged.sure;
       weights = behind.judged.weights;

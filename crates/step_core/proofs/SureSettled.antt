@@ -1,8 +1,9 @@
 -- What is sure of parts of a state once the connectors are judged again that a change reached: what it did not reach is as it was.
 use Rattle.std.proofs.Common.{◌≡◌, ℕ, ◌≤◌, ◌^◌, refl, sym, ◌∙◌, ap, List, length, map, Contains, arith, Bool, true, false, not, ◌&&◌, ◌||◌, ◌==◌, ⊎_elim}
 use Rattle.std.specs.Prelude.{Option, Some, None, slice_get, slice_index_or, option_map, is_some, bit_and, bit_or}
-use Rattle.std.specs.FinSet.{contains}
+use Rattle.std.specs.FinSet.{FinSet, contains}
 use Rattle.std.specs.List.{list_all}
+use Rattle.std.specs.Ordering.{nat_cmp}
 use Rattle.std.specs.Option.{option_map_or}
 use Rattle.std.proofs.lemmas.Bool.{cases_Bool, eqb-true, false≢true, or_from, or_parts}
 use Rattle.std.proofs.lemmas.List.{length-map}
@@ -23,7 +24,8 @@ use Rattle.plant_model.proofs.RulesKept.{well_formed}
 use Rattle.step_core.specs.Dispatching.{ArePartsOf}
 use Rattle.step_core.specs.Leaves.{IsSameOff, count_of, is_none}
 use Rattle.step_core.specs.Parts.{is_present, may_be_marked_in, shown, shown_in}
-use Rattle.step_core.specs.Renewal.{IsKeptBehind}
+use Rattle.step_core.specs.Renewal.{IsKeptBehind, is_kept_of_possible}
+use Rattle.step_core.specs.Standing.{AreRivals, is_always_overruled}
 use Rattle.step_core.specs.Sure.{is_open, is_open_at, is_sure_at}
 use Rattle.step_core.specs.SureJudgement.{IsSureUnsettled}
 use Rattle.step_core.specs.Weights.{weight_of}
@@ -33,10 +35,11 @@ use Rattle.step_core.proofs.Clean.{possible-as-before, weight-as-before}
 use Rattle.step_core.proofs.ConnectorsOf.{no-bit, port-has-leaf, port-leaf}
 use Rattle.step_core.proofs.Judging.{counted-moves}
 use Rattle.step_core.proofs.Openness.{kept-sure, open-past, open-stays, whole-not-open, whole-present}
+use Rattle.step_core.proofs.Ranked.{rivals-alike}
 use Rattle.step_core.proofs.Weighed.{few-choices, few-of-each, small-connectors, sum-of-weights}
 
 module _ (s : System) (parts : List (Option Local)) (of_plant : ArePartsOf (plant_of s) parts) (changes : Changes) (flipped : ℕ) (is_seen_new : Bool) (j : SureJudgement)
-    (u : IsSureUnsettled (plant_of s) (interactions_in s) parts changes flipped is_seen_new j) where
+    (u : IsSureUnsettled (plant_of s) (interactions_in s) s.ranks parts changes flipped is_seen_new j) where
   abbrev plant : PlantDefinition
   plant = plant_of s
 
@@ -127,32 +130,46 @@ module _ (s : System) (parts : List (Option Local)) (of_plant : ArePartsOf (plan
   -- ---- what is sure
 
   -- what is kept anew
-  pub sure-anew : (possible opened kept : ℕ → Bool) → ((n : ℕ) → possible n ≡ is_possible_now n) → ((n : ℕ) → opened n ≡ is_open_at plant.atoms parts all n)
-      → ((n : ℕ) → kept n ≡ (possible n && not (is_overruled (active (may_be_marked j.judgement.seen) plant.rules) (map named all) (λ m. possible m || opened m) n)))
-      → (n : ℕ) → kept n ≡ is_sure_at plant parts all n
-  sure-anew possible opened kept can open_now is n =
+  pub sure-anew : (possible opened rivals kept : FinSet nat_cmp) → ((n : ℕ) → contains possible n ≡ is_possible_now n) → ((n : ℕ) → contains opened n ≡ is_open_at plant.atoms parts all n)
+      → AreRivals all (λ m. contains possible m || contains opened m) rivals
+      → ((n : ℕ) → contains kept n ≡ is_kept_of_possible plant all (may_be_marked j.judgement.seen) (contains possible) (contains rivals) n)
+      → (n : ℕ) → contains kept n ≡ is_sure_at plant parts all n
+  sure-anew possible opened rivals kept can open_now are is n =
+      let rules = active (may_be_marked j.judgement.seen) plant.rules in
       is n ∙
-      ap (λ b. b && not (is_overruled (active (may_be_marked j.judgement.seen) plant.rules) (map named all) (λ m. possible m || opened m) n)) (can n) ∙
-      kept-sure plant (well_formed s.atoms.items) parts all (may_be_marked j.judgement.seen) (λ m. possible m || opened m) u.seen
-      (λ m. ap (λ b. b || opened m) (can m) ∙ ap (λ b. is_possible_now m || b) (open_now m)) n
+      ap (λ b. contains possible n && not b) (rivals-alike s rules (λ m. contains possible m || contains opened m) (contains rivals) are n) ∙
+      ap (λ b. b && not (is_overruled rules (map named all) (λ m. contains possible m || contains opened m) n)) (can n) ∙
+      kept-sure plant (well_formed s.atoms.items) parts all (may_be_marked j.judgement.seen) (λ m. contains possible m || contains opened m) u.seen
+      (λ m. ap (λ b. b || contains opened m) (can m) ∙ ap (λ b. is_possible_now m || b) (open_now m)) n
 
-  -- what is kept is that of what was possible and open before, at the connectors of which nothing else is so now as it is
-  pub kept-behind : (changed : ℕ) (possible opened : ℕ → Bool) → ((n k : ℕ) → is_of_connector all k n ≡ true → has_bit changed k ≡ false → possible n ≡ contains j.judgement.possible n)
-      → ((n k : ℕ) → is_of_connector all k n ≡ true → has_bit changed k ≡ false → opened n ≡ contains j.opened n)
-      → IsKeptBehind plant all changed is_seen_new (may_be_marked j.judgement.seen) possible (λ n. possible n || opened n) j.judgement.standing j.judgement.kept
-  kept-behind changed possible opened can open_now = record {
+  -- the rivals are those of what is possible and open now, of the connectors of which nothing else is so
+  pub rivals-here : (changed : ℕ) (possible opened : FinSet nat_cmp) → ((n k : ℕ) → is_of_connector all k n ≡ true → has_bit changed k ≡ false → contains possible n ≡ contains j.judgement.possible n)
+      → ((n k : ℕ) → is_of_connector all k n ≡ true → has_bit changed k ≡ false → contains opened n ≡ contains j.opened n)
+      → (n k : ℕ) → is_of_connector all k n ≡ true → has_bit changed k ≡ false → contains j.rivals n ≡ (contains possible n || contains opened n)
+  rivals-here changed possible opened can open_now n k its out =
+      u.rivals n k its ∙ ap (λ b. b || contains j.opened n) (sym (can n k its out)) ∙ ap (λ b. contains possible n || b) (sym (open_now n k its out))
+
+  -- what is kept is that of what was possible, and of the rivals, before
+  pub kept-behind : (affected : ℕ) (possible rivals : FinSet nat_cmp) → ((n k : ℕ) → is_of_connector all k n ≡ true → has_bit affected k ≡ false → contains possible n ≡ contains j.judgement.possible n)
+      → ((n k : ℕ) → is_of_connector all k n ≡ true → has_bit affected k ≡ false → contains rivals n ≡ contains j.rivals n)
+      → ((n k : ℕ) → is_of_connector all k n ≡ true → has_bit affected k ≡ false → contains possible n ≡ true → is_always_overruled plant all (contains rivals) n ≡ is_always_overruled plant all (contains j.rivals) n)
+      → IsKeptBehind plant all affected is_seen_new (may_be_marked j.judgement.seen) (contains possible) (contains rivals) j.judgement.kept
+  kept-behind affected possible rivals can same told = record {
     marked_before = may_be_marked_in u.before;
-    possible_before = is_possible_at plant.atoms plant.wires (shown_in u.before) all;
-    rivals_before = λ n. contains j.judgement.possible n || contains j.opened n;
+    possible_before = contains j.judgement.possible;
+    rivals_before = contains j.rivals;
     seen_alike = λ unseen left right at there. u.seen left right at there ∙ u.seen_alike unseen left right at there;
-    possible_alike = λ n k its out. can n k its out ∙ u.possible n;
-    rivals_alike = λ n k its out. ap (λ b. b || opened n) (can n k its out) ∙ ap (λ b. contains j.judgement.possible n || b) (open_now n k its out);
-    none_before = λ n past. sym (u.possible n) ∙ possible-past n past;
-    stood = u.standing;
+    possible_alike = can;
+    rivals_alike = same;
+    over_alike = told;
+    none_before = possible-past;
     were_kept = λ n.
+        let rules = active (may_be_marked_in u.before) plant.rules in
         u.sure n ∙
         sym (kept-sure plant (well_formed s.atoms.items) u.before all (may_be_marked_in u.before) (λ m. contains j.judgement.possible m || contains j.opened m) (λ left right at there. refl)
-        (λ m. ap (λ b. b || contains j.opened m) (u.possible m) ∙ ap (λ b. is_possible_at plant.atoms plant.wires (shown_in u.before) all m || b) (u.opened m)) n);
+        (λ m. ap (λ b. b || contains j.opened m) (u.possible m) ∙ ap (λ b. is_possible_at plant.atoms plant.wires (shown_in u.before) all m || b) (u.opened m)) n) ∙
+        ap (λ b. b && not (is_overruled rules (map named all) (λ m. contains j.judgement.possible m || contains j.opened m) n)) (sym (u.possible n)) ∙
+        ap (λ b. contains j.judgement.possible n && not b) (sym (rivals-alike s rules (λ m. contains j.judgement.possible m || contains j.opened m) (contains j.rivals) u.rivals n));
   }
 
   -- ---- weights

@@ -20,7 +20,7 @@ use Rattle.plant_model.proofs.OfConnector.{has-connector, one-connector}
 use Rattle.plant_model.proofs.OfInteractions.{interaction-of, within-limits}
 
 -- there is an element at each place before the end
-some-at : {X : Type 0} (xs : List X) (k : ℕ) → k < length xs → (x : X) × (slice_get xs k ≡ Some x)
+pub some-at : {X : Type 0} (xs : List X) (k : ℕ) → k < length xs → (x : X) × (slice_get xs k ≡ Some x)
 some-at [] k below = absurd (omega (arith, below))
 some-at (x ∷ xs) zero below = (x, refl)
 some-at (x ∷ xs) (suc k) below = some-at xs k (omega (arith, below))

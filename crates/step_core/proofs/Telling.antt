@@ -1,10 +1,10 @@
 -- What is told of connectors, port by port and atom by atom.
-use Rattle.std.proofs.Common.{◌≡◌, ◌⊎◌, inl, inr, ℕ, ◌*◌, ◌%◌, ◌^◌, ◌<◌, ◌≤◌, ◌==◌, refl, sym, ◌∙◌, ap, List, [], length, Bool, true, false, cond, not, ◌||◌, arith, bit_and, bit_or, w32, set, get_or-set_other, ⊎_elim}
+use Rattle.std.proofs.Common.{◌≡◌, ◌⊎◌, inl, inr, ℕ, ◌-◌, ◌^◌, ◌<◌, ◌≤◌, ◌==◌, refl, sym, ◌∙◌, ap, List, [], length, Bool, true, false, cond, not, ◌||◌, arith, bit_and, bit_or, w32, set, get_or-set_other, ⊎_elim}
 use Rattle.std.specs.Prelude.{Option, Some, None, slice_get, slice_index_or}
-use Rattle.std.specs.Int.{bit_not, trailing_zeros}
+use Rattle.std.specs.Int.{trailing_zeros}
 use Rattle.std.specs.Option.{option_map_or}
 use Rattle.std.proofs.lemmas.Bool.{cases_eq, cases_lt, eq-eqb, eqb-true, ne_eqb, false≢true, or_from, or_parts, true≢false}
-use Rattle.std.proofs.lemmas.Nat.{and_le_l, pow_pos}
+use Rattle.std.proofs.lemmas.Nat.{pow_pos}
 use Rattle.std.proofs.lemmas.Nat.Bits.{bit_at-trailing_zeros, bit_at_clear_other, bit_at_clear_same}
 use Rattle.std.proofs.lemmas.Option.{slice_get_past, slice_get_within}
 use Rattle.petri_atom.specs.Local.{has}
@@ -14,7 +14,7 @@ use Rattle.connector_tree.specs.Masks.{is_set}
 use Rattle.connector_tree.specs.Tree.{leaves}
 use Rattle.connector_tree.specs.declared.tree.Port.{Port}
 use Rattle.priority_filter.specs.Members.{has_bit}
-use Rattle.plant_model.specs.Dependents.{at_port, has_row, row_of_port}
+use Rattle.plant_model.specs.Reach.{at_port, has_row, row_of_port}
 use Rattle.plant_model.specs.Plant.{WireDefinition}
 use Rattle.plant_model.specs.Reach.{IsPortReach, has_leaf_at, is_at, leaves_at}
 use Rattle.plant_model.specs.declared.reach.ConnectorLeaf.{ConnectorLeaf}
@@ -25,6 +25,7 @@ use Rattle.step_core.specs.Leaves.{AreLeaves, count_of, is_many, is_none}
 use Rattle.step_core.specs.Told.{IsRecounted, IsTold}
 use Rattle.step_core.specs.declared.changes.Changes.{Changes}
 use Rattle.step_core.specs.declared.leaves.Leaves.{Leaves}
+use Rattle.step_core.proofs.WithoutLowest.{fewer-less, same-rest}
 
 -- ---- words of leaves by any number of transitions at each port
 
@@ -312,7 +313,7 @@ module _ (left : ℕ) (some : 0 < left) (small : left < 2 ^ 32) where
   port = trailing_zeros w32 left
 
   abbrev pub rest : ℕ
-  rest = bit_and left (bit_not w32 (1 * 2 ^ port % 2 ^ 32))
+  rest = bit_and left (left - 1)
 
   pub port-low : port < MAX_PORTS
   port-low = (bit_at-trailing_zeros w32 left some small).0
@@ -321,18 +322,13 @@ module _ (left : ℕ) (some : 0 < left) (small : left < 2 ^ 32) where
   in-left = ap (λ x. x == 1) (bit_at-trailing_zeros w32 left some small).1
 
   not-in-rest : has rest port ≡ false
-  not-in-rest = ap (λ x. x == 1) (bit_at_clear_same w32 left port port-low)
-
-  pub rest-less : rest < left
-  rest-less =
-      ⊎_elim (λ same. absurd (true≢false (sym in-left ∙ ap (λ w. has w port) (sym same) ∙ not-in-rest)))
-      (λ other. omega (arith, and_le_l left (bit_not w32 (1 * 2 ^ port % 2 ^ 32)), other)) (cases_eq rest left)
+  not-in-rest = ap (λ w. has w port) (same-rest w32 left some small) ∙ ap (λ x. x == 1) (bit_at_clear_same w32 left port port-low)
 
   others-in-rest : (k : ℕ) → (k ≡ port → ⊥) → has rest k ≡ has left k
   others-in-rest k other =
       ⊎_elim
-      (λ within. ap (λ x. x == 1) (bit_at_clear_other w32 left port port-low k within other))
-      (λ past. has-above rest 32 k (omega (arith, rest-less, small)) past ∙ sym (has-above left 32 k small past))
+      (λ within. ap (λ w. has w k) (same-rest w32 left some small) ∙ ap (λ x. x == 1) (bit_at_clear_other w32 left port port-low k within other))
+      (λ past. has-above rest 32 k (omega (arith, fewer-less w32 left some small, small)) past ∙ sym (has-above left 32 k small past))
       (cases_lt k 32)
 
   module _ (atom : ℕ) (before after : List ℕ) (old new : List (List ℕ)) (row : IsRecounted atom before after old new) where

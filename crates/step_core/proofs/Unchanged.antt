@@ -1,17 +1,15 @@
 -- Where the same interactions of two states are kept, and each of these has as many choices, as many choices are; and where the same
 -- interactions are possible, and the same rules count, the same are allowed.
-use Rattle.std.proofs.Common.{◌≡◌, ℕ, suc, ◌+◌, refl, sym, ◌∙◌, ap, List, [], ◌∷◌, ◌++◌, length, map, arith, Bool, true, false, cond, ◌&&◌, not, ⊎_elim}
+use Rattle.std.proofs.Common.{◌≡◌, ℕ, suc, ◌+◌, refl, sym, ◌∙◌, ap, List, [], ◌∷◌, ◌++◌, length, arith, Bool, true, false, cond, ⊎_elim}
 use Rattle.std.specs.Prelude.{Some, slice_get}
 use Rattle.std.specs.Option.{option_map_or}
 use Rattle.std.proofs.lemmas.Bool.{cases_Bool}
 use Rattle.std.proofs.lemmas.List.{length-append}
 use Rattle.petri_atom.specs.Definition.{AtomDefinition}
 use Rattle.petri_atom.specs.Local.{Local}
-use Rattle.plant_model.specs.Plant.{PlantDefinition}
-use Rattle.plant_model.specs.Choice.{Interaction, active_in, named, is_possible_at, is_allowed_at, choices_of, flat_from}
+use Rattle.plant_model.specs.Choice.{Interaction, choices_of, flat_from}
 use Rattle.plant_model.specs.Ways.{ways_at}
 use Rattle.step_core.specs.ChoicesIn.{choices_in, choices_where}
-use Rattle.priority_filter.specs.Decided.{is_overruled}
 
 module _ (atoms : List AtomDefinition) (all : List Interaction) (before after : List Local) (old new : ℕ → Bool)
     (same : (n : ℕ) → new n ≡ old n)

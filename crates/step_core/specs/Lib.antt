@@ -10,8 +10,11 @@ pub mod Told
 pub mod Weights
 pub mod Words
 pub mod Standing
+pub mod Alone
+pub mod KeptAlone
 pub mod Renewal
 pub mod Judgement
+pub mod Settling
 pub mod SureJudgement
 pub mod Laws
 pub mod Dispatching

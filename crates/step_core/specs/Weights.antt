@@ -44,6 +44,11 @@ pub record AreWeighed (atoms : List AtomDefinition) (states : List Local) (inter
   pub each : AreWeights atoms states interactions kept w.of_connectors
   pub sums : AreSums w
 
+-- of choices that stand connector by connector, so many of each, the one with a place is the one with another place among those of a connector
+pub record IsAtConnector (weights : List ℕ) (place connector own : ℕ) : Type 0 where
+  pub inside : own < slice_index_or weights connector 0
+  pub behind : place ≡ sum_from weights 0 connector + own
+
 -- the interaction with a number has so many choices, and what is looked for is the one with a place among them
 pub record IsFound (atoms : List AtomDefinition) (states : List Local) (interactions : List Interaction) (choice : Option ChoiceDefinition) (number ways place : ℕ) : Type 0 where
   pub its_ways : ways ≡ ways_at atoms states interactions number

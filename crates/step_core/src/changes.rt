@@ -82,13 +82,14 @@ impl Changes {
         let mut left = ports;
         while left != 0 {
             let port = left.trailing_zeros() as usize;
-            left &= !(1 << port);
+            left &= left - 1;
             let reach = &system.reach.ports[port_row(atom, port as u16)];
             self.tell(reach, before[port], after[port], leaves);
         }
     }
 
-    /// Counts again what the atom offers, which offered the set `before` until now, and tells of the ports whose number changed.
+    /// Counts again what the atom offers, which offered the set `before` until now, and tells of the ports whose number changed. Where it
+    /// offers the same, nothing does.
     fn recount(
         &mut self,
         system: &System,
@@ -108,6 +109,9 @@ impl Changes {
         ensures told { IsTold (plant_of system.now).wires (count_of offers.old.counts) (count_of offers.new.counts) self.old self.new }
     {
         let index = usize::from(atom);
+        if offers.sets[index] == before {
+            return;
+        }
         let old = offers.counts[index];
         let ports = system.atoms[index].recount(
             before,
@@ -118,6 +122,7 @@ impl Changes {
     }
 
     /// Judges again what the atom of the move offers, which fired it.
+    #[inline(always)]
     fn judge_move(
         &mut self,
         system: &System,
@@ -146,15 +151,15 @@ impl Changes {
         if atom.is_quiet(step.transition) {
             return;
         }
-        let before = offers.sets[index];
-        let state = &states.states[index];
-        if let Some(usual) = usual_of(system, step, before, state.places()) {
+        if let Some(usual) = usual_of(system, states, step, offers) {
             self.dirty |= usual.dirty;
             self.heavy |= usual.heavy;
             offers.take(usual, index);
             leaves.put_all(&usual.puts);
             return;
         }
+        let before = offers.sets[index];
+        let state = &states.states[index];
         offers.judge_fired(atom, state, step.transition, index);
         self.recount(system, step.atom, before, offers, leaves);
     }
@@ -191,22 +196,36 @@ impl Changes {
     }
 }
 
-/// What a firing of the move changes, if that was made with the system for where its atom offered this set, and these places are marked
-/// behind it.
-fn usual_of(system: &System, step: Move, offered: TransitionSet, places: u64) -> Option<&Usual>
-    requires { step.atom < length (plant_of system.now).atoms }
+/// What the firing of the move changes, which left these states, if that was made with the system for where its atom offered what is kept
+/// and the places are marked that are marked now. Sets and states are looked at only where something was made.
+fn usual_of<'a>(
+    system: &'a System,
+    states: &PlantState,
+    step: Move,
+    offers: &EnabledTransitions,
+) -> Option<&'a Usual>
+    requires of_plant { IsOf (plant_of system.now) states.now }
+    requires atom { step.atom < length (plant_of system.now).atoms }
+    requires transition { (a : AtomDefinition) → slice_get (plant_of system.now).atoms step.atom ≡ Some a → step.transition < length a.transitions }
     ensures usual { IfSome result (λ usual. (a : AtomDefinition) → slice_get (plant_of system.now).atoms step.atom ≡ Some a → IsUsual a (leaves_of (plant_of system.now).wires) step.atom usual.now) }
-    ensures before { IfSome result (λ usual. usual.now.before ≡ offered) }
-    ensures places { IfSome result (λ usual. usual.now.places ≡ places) }
+    ensures before { IfSome result (λ usual. usual.now.before ≡ slice_index_or offers.now.sets step.atom 0) }
+    ensures places { IfSome result (λ usual. (s : Local) → slice_get states.now step.atom ≡ Some s → s.marking ≡ usual.now.places) }
 {
-    match system.usual[usize::from(step.atom)].get(usize::from(step.transition)) {
-        Some(Some(usual)) if (usual.before == offered) & (usual.places == places) => Some(usual),
-        _ => None,
+    let index = usize::from(step.atom);
+    let Some(usual) = &system.usual[index][usize::from(step.transition)] else {
+        return None;
+    };
+    let state = &states.states[index];
+    if (usual.before == offers.sets[index]) & (usual.places == state.places()) {
+        Some(usual)
+    } else {
+        None
     }
 }
 
 /// Judges again what the atoms of the moves offer, which these fired; what is kept of them is right for the states before, and what is
 /// kept of all others for these states. Tells which connectors that reaches.
+#[inline(always)]
 pub(crate) fn judge_moved(
     system: &System,
     states: &PlantState,

@@ -14,15 +14,15 @@ ghost use Rattle.plant_model.specs.System.{interactions_in, plant_of};
 ghost use Rattle.plant_model.specs.declared.choice.Move.{Move};
 ghost use Rattle.connector_tree.specs.declared.tree.TheConstants.{MAX_LEAVES};
 ghost use Rattle.step_core.specs.ChoicesIn.{choices_in};
-ghost use Rattle.step_core.specs.Judgement.{IsBehind, IsJudgement, IsMovedBehind, IsOffering, IsUnsettled};
+ghost use Rattle.step_core.specs.Judgement.{IsBehind, IsJudgement, IsMovedBehind, IsOffering};
 ghost use Rattle.step_core.specs.Possible.{ArePossible};
 ghost use Rattle.step_core.specs.Weights.{AreSums, AreWeighed, weight_of};
 
-use crate::changes::{Changes, judge_anew, judge_moved};
+use crate::changes::{judge_anew, judge_moved};
 use crate::enabled_transitions::EnabledTransitions;
 use crate::judgement::Judgement;
 use crate::leaves::Leaves;
-use crate::renewal::Renewal;
+use crate::settling::settle;
 use crate::sights::{see_again, see_moved};
 use crate::standing::standing_of;
 use crate::weights::{Weighing, Weights};
@@ -52,7 +52,7 @@ pub fn nth_allowed(system: &System, states: &PlantState, place: u128) -> Choice
 /// What the state offers, judged in full.
 pub(crate) fn judge(system: &System, states: &PlantState) -> Judgement
     requires { IsOf (plant_of system.now) states.now }
-    ensures { IsJudgement (plant_of system.now) (interactions_in system.now) states.now result }
+    ensures { IsJudgement (plant_of system.now) (interactions_in system.now) system.now.ranks states.now result }
 {
     let offers = EnabledTransitions::of(&system.atoms, states);
     let leaves = Leaves::of(system, &offers);
@@ -106,8 +106,8 @@ pub(crate) fn judge_again(
     requires few { length moves.now ≤ MAX_LEAVES }
     requires apart { AreApart moves.now }
     requires there { (k : ℕ) (m : Move) → slice_get moves.now k ≡ Some m → m.atom < length (plant_of system.now).atoms }
-    requires behind { IsMovedBehind (plant_of system.now) (interactions_in system.now) moves.now states.now judgement.old }
-    ensures { IsJudgement (plant_of system.now) (interactions_in system.now) states.now judgement.new }
+    requires behind { IsMovedBehind (plant_of system.now) (interactions_in system.now) system.now.ranks moves.now states.now judgement.old }
+    ensures { IsJudgement (plant_of system.now) (interactions_in system.now) system.now.ranks states.now judgement.new }
 {
     let changes = judge_moved(
         system,
@@ -128,8 +128,8 @@ pub(crate) fn judge_atom_again(
     judgement: &mut Judgement,
 )
     requires of_plant { IsOf (plant_of system.now) states.now }
-    requires behind { IsBehind (plant_of system.now) (interactions_in system.now) (atom ∷ []) states.now judgement.old }
-    ensures { IsJudgement (plant_of system.now) (interactions_in system.now) states.now judgement.new }
+    requires behind { IsBehind (plant_of system.now) (interactions_in system.now) system.now.ranks (atom ∷ []) states.now judgement.old }
+    ensures { IsJudgement (plant_of system.now) (interactions_in system.now) system.now.ranks states.now judgement.new }
 {
     let changes = judge_anew(
         system,
@@ -140,37 +140,6 @@ pub(crate) fn judge_atom_again(
     );
     let is_seen_new = see_again(&system.order, states, &[atom], &mut judgement.seen);
     settle(system, states, changes, is_seen_new, judgement);
-}
-
-/// Judges the connectors again that a change reached.
-fn settle(
-    system: &System,
-    states: &PlantState,
-    changes: Changes,
-    is_seen_new: bool,
-    judgement: &mut Judgement,
-)
-    requires of_plant { IsOf (plant_of system.now) states.now }
-    requires unsettled { IsUnsettled (plant_of system.now) (interactions_in system.now) states.now changes is_seen_new judgement.old }
-    ensures { IsJudgement (plant_of system.now) (interactions_in system.now) states.now judgement.new }
-{
-    let changed = judge_dirty(
-        system,
-        states,
-        &judgement.leaves,
-        changes.dirty,
-        &mut judgement.possible,
-    );
-    let renewal = Renewal {
-        system,
-        seen: &judgement.seen,
-        possible: &judgement.possible,
-        opened: &judgement.possible,
-        changed,
-        is_seen_new,
-    };
-    let told = renewal.keep_again(&mut judgement.standing, &mut judgement.kept);
-    weigh(system, states, changes.heavy | told, judgement);
 }
 
 /// Weighs the connectors again whose bit in the word is set; the weights of all others are right.
@@ -220,7 +189,7 @@ pub(crate) fn judge_dirty(
     let mut left = dirty;
     while left != 0 {
         let connector = left.trailing_zeros() as usize;
-        left &= !(1 << connector);
+        left &= left - 1;
         let off = leaves.off[connector];
         if system.judge_connector(connector as u16, off, states, possible) {
             changed |= 1 << connector;
@@ -294,6 +263,7 @@ pub(crate) fn choice_at(
 }
 
 /// Writes the choice with this place among those of the kept interactions.
+#[inline(always)]
 pub(crate) fn choose(
     system: &System,
     states: &PlantState,

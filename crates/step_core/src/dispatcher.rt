@@ -39,7 +39,7 @@ pub struct Dispatcher<'s> {
     judgement: SureJudgement,
     ghost of_plant: { ArePartsOf (plant_of system.now) parts },
     ghost fits: { AllPresentFit (plant_of system.now) parts },
-    ghost judged: { IsSureJudgement (plant_of system.now) (map interaction_of system.now.interactions.items) parts judgement },
+    ghost judged: { IsSureJudgement (plant_of system.now) (map interaction_of system.now.interactions.items) system.now.ranks parts judgement },
 }
 
 impl<'s> Dispatcher<'s> {

@@ -56,6 +56,14 @@ impl EnabledTransitions {
         }
     }
 
+    /// The same where there is such an atom.
+    pub(crate) fn set_at(&self, atom: u16) -> TransitionSet
+        requires { atom < length self.now.sets }
+        ensures { result ≡ slice_index_or self.now.sets atom 0 }
+    {
+        self.sets[usize::from(atom)]
+    }
+
     /// How many transitions the atom of the port offers there.
     pub(crate) fn count_at(&self, port: &Port) -> u8
         ensures { result ≡ count_at self.now.counts port.now.atom port.now.port }

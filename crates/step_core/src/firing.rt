@@ -23,10 +23,10 @@ pub(crate) fn step(
     delivered: &mut [Delivered; MAX_LEAVES],
 )
     requires of_plant { IsOf (plant_of system.now) states.old }
-    requires judged { IsJudgement (plant_of system.now) (interactions_in system.now) states.old judgement.old }
+    requires judged { IsJudgement (plant_of system.now) (interactions_in system.now) system.now.ranks states.old judgement.old }
     requires allowed { IsAllowed (plant_of system.now) states.old (choice_of choice.now) }
     ensures of_plant { IsOf (plant_of system.now) states.new }
-    ensures judged { IsJudgement (plant_of system.now) (interactions_in system.now) states.new judgement.new }
+    ensures judged { IsJudgement (plant_of system.now) (interactions_in system.now) system.now.ranks states.new judgement.new }
     ensures next { states.new ≡ next (plant_of system.now) states.old (choice_of choice.now) }
     ensures fits { AllFit (plant_of system.now) states.old → AllFit (plant_of system.now) states.new }
     ensures delivered { IsDelivered choice.now.moves (transfer (plant_of system.now) states.old (choice_of choice.now)) delivered.new }

@@ -4,11 +4,12 @@ ghost use Rattle.std.specs.FinSet.{contains};
 ghost use Rattle.priority_filter.specs.Members.{has_bit};
 ghost use Rattle.priority_filter.specs.declared.interaction_set.TheConstants.{ROW_WORDS};
 ghost use Rattle.plant_model.specs.ConnectorRows.{is_of_connector};
-ghost use Rattle.plant_model.specs.Ranks.{is_in_parts};
+ghost use Rattle.plant_model.specs.Ranks.{is_in_parts, is_in_rest};
 ghost use Rattle.plant_model.specs.System.{interactions_in, plant_of};
 ghost use Rattle.plant_model.specs.declared.ranks.Part.{Part};
-ghost use Rattle.step_core.specs.Standing.{IsStanding, is_always_below, is_always_overruled};
+ghost use Rattle.step_core.specs.Standing.{IsFree, IsStanding, is_always_below, is_always_overruled};
 
+use crate::settling::has_connector;
 use crate::standing::Standing;
 use crate::words::put_word;
 use plant_model::{ConnectorRows, Part, Rank, System};
@@ -19,8 +20,9 @@ use priority_filter::InteractionSet;
 pub(crate) struct Keeping<'a> {
     pub(crate) system: &'a System,
     pub(crate) possible: &'a InteractionSet,
+    pub(crate) rivals: &'a InteractionSet,
     pub(crate) standing: &'a Standing,
-    ghost stands: { IsStanding (interactions_in system.now) standing.now },
+    ghost stands: { IsStanding (plant_of system.now) (interactions_in system.now) system.now.ranks (contains rivals.now) standing.now },
 }
 
 impl Keeping<'_> {
@@ -28,7 +30,7 @@ impl Keeping<'_> {
     /// is kept now.
     pub(crate) fn keep_connectors(&self, affected: u64, kept: &mut InteractionSet) -> u64
         requires { (k : ℕ) → length (plant_of self.now.system.now).wires ≤ k → has_bit affected k ≡ false }
-        ensures kept { (n k : ℕ) → is_of_connector (interactions_in self.now.system.now) k n ≡ true → has_bit affected k ≡ true → contains kept.new n ≡ (contains self.now.possible.now n && not (is_always_overruled (plant_of self.now.system.now) (interactions_in self.now.system.now) (contains self.now.standing.now.rivals) n)) }
+        ensures kept { (n k : ℕ) → is_of_connector (interactions_in self.now.system.now) k n ≡ true → has_bit affected k ≡ true → contains kept.new n ≡ (contains self.now.possible.now n && not (is_always_overruled (plant_of self.now.system.now) (interactions_in self.now.system.now) (contains self.now.rivals.now) n)) }
         ensures others { (n k : ℕ) → is_of_connector (interactions_in self.now.system.now) k n ≡ true → has_bit affected k ≡ false → contains kept.new n ≡ contains kept.old n }
         ensures past { (n : ℕ) → length (interactions_in self.now.system.now) ≤ n → contains kept.new n ≡ contains kept.old n }
         ensures within { (k : ℕ) → length (plant_of self.now.system.now).wires ≤ k → has_bit result k ≡ false }
@@ -38,7 +40,7 @@ impl Keeping<'_> {
         let mut left = affected;
         while left != 0 {
             let connector = left.trailing_zeros() as usize;
-            left &= !(1 << connector);
+            left &= left - 1;
             if self.keep_connector(connector, kept) {
                 told |= 1 << connector;
             }
@@ -47,20 +49,17 @@ impl Keeping<'_> {
     }
 
     /// Keeps those of one connector again. Says whether another one is kept now.
-    fn keep_connector(&self, connector: usize, kept: &mut InteractionSet) -> bool
+    pub(crate) fn keep_connector(&self, connector: usize, kept: &mut InteractionSet) -> bool
         requires { connector < length (plant_of self.now.system.now).wires }
-        ensures kept { (n : ℕ) → is_of_connector (interactions_in self.now.system.now) connector n ≡ true → contains kept.new n ≡ (contains self.now.possible.now n && not (is_always_overruled (plant_of self.now.system.now) (interactions_in self.now.system.now) (contains self.now.standing.now.rivals) n)) }
+        ensures kept { (n : ℕ) → is_of_connector (interactions_in self.now.system.now) connector n ≡ true → contains kept.new n ≡ (contains self.now.possible.now n && not (is_always_overruled (plant_of self.now.system.now) (interactions_in self.now.system.now) (contains self.now.rivals.now) n)) }
         ensures others { (n : ℕ) → is_of_connector (interactions_in self.now.system.now) connector n ≡ false → contains kept.new n ≡ contains kept.old n }
         ensures same { result ≡ false → (n : ℕ) → contains kept.new n ≡ contains kept.old n }
     {
         let rows = &self.system.connector_rows[connector];
         let rank = &self.system.ranks.of_connectors[connector];
-        let first = usize::from(rows.first);
-        let low = first / 64;
-        let high = (first + usize::from(rows.count)).div_ceil(64);
         let is_out = self.is_out(connector, rank);
         let mut is_new = false;
-        for place in low..high {
+        for place in usize::from(rows.low)..usize::from(rows.high) {
             let word = if is_out {
                 0
             } else {
@@ -71,24 +70,40 @@ impl Keeping<'_> {
         is_new
     }
 
+    /// Which of the 64 interactions from 64 times the place on are of the connector, possible, and below no rival.
+    #[inline]
+    pub(crate) fn word_again(&self, connector: usize, rows: &ConnectorRows, place: usize) -> u64
+        requires place { place < ROW_WORDS }
+        requires connector { connector < length (plant_of self.now.system.now).wires }
+        requires rows { slice_get self.now.system.now.connector_rows.items connector ≡ Some rows.now }
+        ensures { (n : ℕ) → n / 64 ≡ place → has_bit result (n % 64) ≡ (is_of_connector (interactions_in self.now.system.now) connector n && (contains self.now.possible.now n && not (is_always_overruled (plant_of self.now.system.now) (interactions_in self.now.system.now) (contains self.now.rivals.now) n))) }
+    {
+        let rank = &self.system.ranks.of_connectors[connector];
+        if self.is_out(connector, rank) {
+            0
+        } else {
+            self.word_kept(connector, rows, rank, place)
+        }
+    }
+
     /// Whether a rival is above each interaction of the connector, by what its rank knows to be above all of them.
     #[inline]
     fn is_out(&self, connector: usize, rank: &Rank) -> bool
         requires { slice_get self.now.system.now.ranks.of_connectors.items connector ≡ Some rank.now }
-        ensures out { result ≡ true → (n : ℕ) → is_of_connector (interactions_in self.now.system.now) connector n ≡ true → is_always_overruled (plant_of self.now.system.now) (interactions_in self.now.system.now) (contains self.now.standing.now.rivals) n ≡ true }
-        ensures free { result ≡ false → rank.now.is_same ≡ true → (n m : ℕ) → is_of_connector (interactions_in self.now.system.now) connector n ≡ true → is_of_connector (interactions_in self.now.system.now) connector m ≡ false → contains self.now.standing.now.rivals m ≡ true → is_always_below (plant_of self.now.system.now) (interactions_in self.now.system.now) n m ≡ false }
+        ensures out { result ≡ true → (n : ℕ) → is_of_connector (interactions_in self.now.system.now) connector n ≡ true → is_always_overruled (plant_of self.now.system.now) (interactions_in self.now.system.now) (contains self.now.rivals.now) n ≡ true }
+        ensures free { result ≡ false → IsFree (interactions_in self.now.system.now) self.now.system.now.ranks (contains self.now.rivals.now) connector rank.now }
     {
-        rank.whole & self.standing.live != 0 || self.has_rival_in(&rank.common)
+        rank.whole & self.standing.live != 0 || has_connector(self.standing.over, connector)
     }
 
     /// Whether an interaction in one of the parts is a rival.
     fn has_rival_in(&self, parts: &[Part]) -> bool
         requires { (k : ℕ) (p : Part) → slice_get parts.now k ≡ Some p → p.place < ROW_WORDS }
-        ensures some { result ≡ true → (m : ℕ) × (is_in_parts parts.now m ≡ true) × (contains self.now.standing.now.rivals m ≡ true) }
-        ensures none { result ≡ false → (m : ℕ) → is_in_parts parts.now m ≡ true → contains self.now.standing.now.rivals m ≡ false }
+        ensures some { result ≡ true → (m : ℕ) × (is_in_parts parts.now m ≡ true) × (contains self.now.rivals.now m ≡ true) }
+        ensures none { result ≡ false → (m : ℕ) → is_in_parts parts.now m ≡ true → contains self.now.rivals.now m ≡ false }
     {
         for part in parts {
-            let here = self.standing.rivals.word(usize::from(part.place));
+            let here = self.rivals.word(usize::from(part.place));
             if here & part.word != 0 {
                 return true;
             }
@@ -96,42 +111,42 @@ impl Keeping<'_> {
         false
     }
 
-    /// Which of the 64 interactions from 64 times the place on are of the connector, possible, and below no rival; what its rank knows
-    /// to be above all of the connector's is no rival.
+    /// Which of the 64 interactions from 64 times the place on are of the connector, possible, and below no rival, where what is above all
+    /// of the connector's is no rival.
     #[inline]
     fn word_kept(&self, connector: usize, rows: &ConnectorRows, rank: &Rank, place: usize) -> u64
         requires place { place < ROW_WORDS }
         requires connector { connector < length (plant_of self.now.system.now).wires }
         requires rows { slice_get self.now.system.now.connector_rows.items connector ≡ Some rows.now }
         requires rank { slice_get self.now.system.now.ranks.of_connectors.items connector ≡ Some rank.now }
-        requires free { rank.now.is_same ≡ true → (n m : ℕ) → is_of_connector (interactions_in self.now.system.now) connector n ≡ true → is_of_connector (interactions_in self.now.system.now) connector m ≡ false → contains self.now.standing.now.rivals m ≡ true → is_always_below (plant_of self.now.system.now) (interactions_in self.now.system.now) n m ≡ false }
-        ensures { (n : ℕ) → n / 64 ≡ place → has_bit result (n % 64) ≡ (is_of_connector (interactions_in self.now.system.now) connector n && (contains self.now.possible.now n && not (is_always_overruled (plant_of self.now.system.now) (interactions_in self.now.system.now) (contains self.now.standing.now.rivals) n))) }
+        requires free { IsFree (interactions_in self.now.system.now) self.now.system.now.ranks (contains self.now.rivals.now) connector rank.now }
+        ensures { (n : ℕ) → n / 64 ≡ place → has_bit result (n % 64) ≡ (is_of_connector (interactions_in self.now.system.now) connector n && (contains self.now.possible.now n && not (is_always_overruled (plant_of self.now.system.now) (interactions_in self.now.system.now) (contains self.now.rivals.now) n))) }
     {
         let mut word = self.possible.word(place) & rows.own.word(place);
         if !rank.is_flat {
             word = self.without_lower(connector, rows, place, word);
         }
-        if !rank.is_same {
-            word = self.without_overruled(place, word);
-        }
-        word
+        self.without_overruled(place, word)
     }
 
     /// Those of some of 64 interactions that are below no rival of the connector.
-    fn without_lower(&self, connector: usize, rows: &ConnectorRows, place: usize, word: u64) -> u64
+    pub(crate) fn without_lower(
+        &self,
+        connector: usize,
+        rows: &ConnectorRows,
+        place: usize,
+        word: u64,
+    ) -> u64
         requires place { place < ROW_WORDS }
         requires connector { connector < length (plant_of self.now.system.now).wires }
         requires rows { slice_get self.now.system.now.connector_rows.items connector ≡ Some rows.now }
         ensures within { (k : ℕ) → has_bit word k ≡ false → has_bit result k ≡ false }
-        ensures goes { (n m : ℕ) → n / 64 ≡ place → is_of_connector (interactions_in self.now.system.now) connector m ≡ true → contains self.now.standing.now.rivals m ≡ true → is_always_below (plant_of self.now.system.now) (interactions_in self.now.system.now) n m ≡ true → has_bit result (n % 64) ≡ false }
-        ensures gone { (n : ℕ) → n / 64 ≡ place → has_bit word (n % 64) ≡ true → has_bit result (n % 64) ≡ false → is_always_overruled (plant_of self.now.system.now) (interactions_in self.now.system.now) (contains self.now.standing.now.rivals) n ≡ true }
+        ensures goes { (n m : ℕ) → n / 64 ≡ place → is_of_connector (interactions_in self.now.system.now) connector m ≡ true → contains self.now.rivals.now m ≡ true → is_always_below (plant_of self.now.system.now) (interactions_in self.now.system.now) n m ≡ true → has_bit result (n % 64) ≡ false }
+        ensures gone { (n : ℕ) → n / 64 ≡ place → has_bit word (n % 64) ≡ true → has_bit result (n % 64) ≡ false → is_always_overruled (plant_of self.now.system.now) (interactions_in self.now.system.now) (contains self.now.rivals.now) n ≡ true }
     {
-        let first = usize::from(rows.first);
-        let low = first / 64;
-        let high = (first + usize::from(rows.count)).div_ceil(64);
         let mut here = word;
-        for other in low..high {
-            let rivals = self.standing.rivals.word(other) & rows.own.word(other);
+        for other in usize::from(rows.low)..usize::from(rows.high) {
+            let rivals = self.rivals.word(other) & rows.own.word(other);
             here = self.without_below(other, rivals, place, here);
         }
         here
@@ -139,13 +154,13 @@ impl Keeping<'_> {
 
     /// Those of some of 64 interactions that are below none of the rivals: some of the 64 from 64 times `other` on. It goes from the
     /// highest number down and passes over those that are below one that it has looked at, since what is below these is below that.
-    fn without_below(&self, other: usize, rivals: u64, place: usize, word: u64) -> u64
+    pub(crate) fn without_below(&self, other: usize, rivals: u64, place: usize, word: u64) -> u64
         requires place { place < ROW_WORDS }
         requires other { other < ROW_WORDS }
-        requires rivals { (m : ℕ) → m / 64 ≡ other → has_bit rivals (m % 64) ≡ true → contains self.now.standing.now.rivals m ≡ true }
+        requires rivals { (m : ℕ) → m / 64 ≡ other → has_bit rivals (m % 64) ≡ true → contains self.now.rivals.now m ≡ true }
         ensures within { (k : ℕ) → has_bit word k ≡ false → has_bit result k ≡ false }
         ensures goes { (n m : ℕ) → n / 64 ≡ place → m / 64 ≡ other → has_bit rivals (m % 64) ≡ true → is_always_below (plant_of self.now.system.now) (interactions_in self.now.system.now) n m ≡ true → has_bit result (n % 64) ≡ false }
-        ensures gone { (n : ℕ) → n / 64 ≡ place → has_bit word (n % 64) ≡ true → has_bit result (n % 64) ≡ false → is_always_overruled (plant_of self.now.system.now) (interactions_in self.now.system.now) (contains self.now.standing.now.rivals) n ≡ true }
+        ensures gone { (n : ℕ) → n / 64 ≡ place → has_bit word (n % 64) ≡ true → has_bit result (n % 64) ≡ false → is_always_overruled (plant_of self.now.system.now) (interactions_in self.now.system.now) (contains self.now.rivals.now) n ≡ true }
     {
         let mut here = word;
         let mut left = rivals;
@@ -158,22 +173,20 @@ impl Keeping<'_> {
         here
     }
 
-    /// Those of some of 64 interactions that are below no rival.
+    /// Those of some of 64 interactions that have no rival in their rest.
     fn without_overruled(&self, place: usize, word: u64) -> u64
-        requires { place < ROW_WORDS }
-        ensures { (k : ℕ) → k < 64 → has_bit result k ≡ (has_bit word k && not (is_always_overruled (plant_of self.now.system.now) (interactions_in self.now.system.now) (contains self.now.standing.now.rivals) (64 * place + k))) }
+        requires place { place < ROW_WORDS }
+        requires there { (n : ℕ) → n / 64 ≡ place → has_bit word (n % 64) ≡ true → n < length (interactions_in self.now.system.now) }
+        ensures within { (k : ℕ) → has_bit word k ≡ false → has_bit result k ≡ false }
+        ensures goes { (n m : ℕ) → n / 64 ≡ place → is_in_rest self.now.system.now.ranks n m ≡ true → contains self.now.rivals.now m ≡ true → has_bit result (n % 64) ≡ false }
+        ensures gone { (n : ℕ) → n / 64 ≡ place → has_bit word (n % 64) ≡ true → has_bit result (n % 64) ≡ false → is_always_overruled (plant_of self.now.system.now) (interactions_in self.now.system.now) (contains self.now.rivals.now) n ≡ true }
     {
         let mut here = word;
-        let mut left = word;
+        let mut left = word & self.system.ranks.with_rest.word(place);
         while left != 0 {
             let bit = left.trailing_zeros() as usize;
-            left &= !(1 << bit);
-            let number = (64 * place + bit) as u16;
-            if self
-                .system
-                .order
-                .is_overruled(number, &self.standing.rivals)
-            {
+            left &= left - 1;
+            if self.has_rival_in(&self.system.ranks.rest[64 * place + bit]) {
                 here &= !(1 << bit);
             }
         }

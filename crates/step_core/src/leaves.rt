@@ -75,9 +75,15 @@ impl Leaves {
         ensures many { (right : ℕ → ℕ → Bool) → ((n : ℕ) (p : Put) → slice_get puts.now n ≡ Some p → IsRight right p.many p) → (k leaf : ℕ) → is_set (slice_index_or self.new.many k 0) leaf ≡ (if is_put puts.now k leaf then right k leaf else is_set (slice_index_or self.old.many k 0) leaf) }
     {
         for put in puts {
-            let connector = usize::from(put.connector);
-            self.off[connector] = self.off[connector] & !put.mask | put.off;
-            self.many[connector] = self.many[connector] & !put.mask | put.many;
+            let Put {
+                connector,
+                mask,
+                off,
+                many,
+            } = *put;
+            let index = usize::from(connector);
+            self.off[index] = self.off[index] & !mask | off;
+            self.many[index] = self.many[index] & !mask | many;
         }
     }
 

@@ -12,9 +12,10 @@
 //!   reaches.
 //! - `sights`: what is seen of the atoms, for the conditions of priority rules, seen again after a step.
 //! - `judgement`: what a state offers, as it is kept. `choices`: how a judgement is made, and made again after a step: which interactions are
-//!   possible, and which of these are kept, since no rival is above them.
+//!   possible, and which of these are kept, since no rival is above them. `settling`: what a step reached is judged again, kept and weighed,
+//!   connector by connector. `alone`: so are connectors that no rule ties to others, each by itself.
 //! - `standing`: which connectors have a rival, and what other connectors see of one. `keeping`: which interactions of a connector are kept.
-//!   `renewal`: which are kept again, only where a rival came or went. `words`: sets made right 64 interactions at a time.
+//!   `renewal`: which are kept again where rules have conditions, or atoms are away. `words`: sets made right 64 interactions at a time.
 //! - `weights`: how many choices the kept interactions of each connector have, and the choice with a place among them. `possible`: in how many
 //!   ways an interaction can move. `places`: at which place of the list a choice stands.
 //!
@@ -31,21 +32,23 @@
 //! `laws`: what the definitions say of what is sure.
 //!
 //! The lemmas (`proofs/*.antt`), each named for what it is about:
-//! - One state: `Judging`, `Offering`, `Ruled` (what atoms and interactions offer), `Flattened`, `Counted`, `LowestBits`, `LowestKept`, `Ones`
-//!   (choices in order, by the bits of words), `ConnectorWords`, `ConnectorRange`, `WordChoices`, `SingleChoices`, `FirstRow` (those of one
-//!   connector), `ConnectorChoices`, `Weighed`, `Sums` (those of all connectors), `InOrder`, `PlacesInOrder` (how they stand).
+//! - One state: `Judging`, `Offering` (what atoms and interactions offer), `Flattened`, `Counted`, `WithoutLowest`, `LowestBits`,
+//!   `LowestKept`, `Ones` (choices in order, by the bits of words), `ConnectorWords`, `ConnectorRange`, `WordChoices`, `SingleChoices`,
+//!   `FirstRow` (those of one connector), `ConnectorChoices`, `Weighed`, `Sums` (those of all connectors), `InOrder`, `PlacesInOrder` (how they
+//!   stand).
 //! - What a system keeps: `OfSystem`, `SystemConnectors`, `OwnRange` (the words of a connector's interactions), `Ranked` (what is below what,
 //!   by its ranks).
-//! - Kept again: `Restood`, `ToldConnectors` (rivals that came or went), `Renewed` (what that did not reach), `AnyOf`, `OwnBits`.
+//! - Kept again: `Restood`, `Looked`, `ToldConnectors` (rivals that came or went), `Renewed` (what that did not reach), `AnyOf`, `OwnBits`.
 //! - Judging again: `Recounted`, `Refreshing`, `Written`, `LeafStates`, `Telling`, `Again`, `Putting`, `UsualFirings` (what atoms and leaves offer
-//!   behind a change), `Clean`, `Unchanged` (what a change did not reach), `Behind`, `FiringJudged`, `BitsLeft`, `Settling`, `Judged` (the rest is
-//!   settled), `WordByWord` (sets made right 64 numbers at a time).
+//!   behind a change), `Clean`, `Unchanged` (what a change did not reach), `Behind`, `FiringJudged`, `BitsLeft`, `NextConnector`, `Unsettled`,
+//!   `BoundedWeights`, `OfAlone`, `SettledBut`, `Judged` (the rest is settled), `WordByWord` (sets made right 64 numbers at a time).
 //! - Atoms away: `PartsKept`, `PartsLeft`, `Presence`, `FiringOfParts`, `Queued` (parts, and the jobs that leave), `OfParts`, `Openness`,
 //!   `Present`, `Alike`, `OfSure`, `SureAllowed`, `NoneAway` (what a sure choice is: allowed in the whole state), `ConnectorsOf`, `SureBehind`,
 //!   `SureSettled` (what is sure, settled behind a change).
 //! - `Crossing`: what may go to another thread. `SureRows`: worked examples, computed.
 #![tactic(auto)]
 
+mod alone;
 mod changes;
 mod choices;
 mod dispatcher;
@@ -64,6 +67,7 @@ mod places;
 mod possible;
 mod queue;
 mod renewal;
+mod settling;
 mod sights;
 mod standing;
 mod stepper;

@@ -63,7 +63,7 @@ impl OpenJudge<'_> {
         let mut left = word;
         while left != 0 {
             let bit = left.trailing_zeros() as usize;
-            left &= !(1 << bit);
+            left &= left - 1;
             changed |= self.judge_one(interactions, 64 * place + bit, opened);
         }
         changed

@@ -62,16 +62,13 @@ impl InteractionJudge<'_> {
             [] => 1,
             [first, later @ ..] => {
                 let count = self.move_count(first);
-                if count == 0 {
-                    0
-                } else {
-                    count * self.row_count(later)
-                }
+                count * self.row_count(later)
             }
         }
     }
 
     /// How many rows of one move for each port there are.
+    #[inline]
     pub(crate) fn long_row_count(&self, ports: &[Port]) -> u128
         requires { length ports.now ≤ MAX_LEAVES }
         ensures few { result ≤ 2 ^ (7 * length ports.now) }
@@ -80,6 +77,17 @@ impl InteractionJudge<'_> {
         if ports.len() <= PORTS_IN_A_WORD {
             return u128::from(self.row_count(ports));
         }
+        self.wide_row_count(ports)
+    }
+
+    /// The same for more ports.
+    #[inline(never)]
+    fn wide_row_count(&self, ports: &[Port]) -> u128
+        requires more { PORTS_IN_A_WORD < length ports.now }
+        requires few { length ports.now ≤ MAX_LEAVES }
+        ensures few { result ≤ 2 ^ (7 * length ports.now) }
+        ensures count { result ≡ length (combinations (map (moves_of (judged_atoms self.now) self.now.states.now) ports.now)) }
+    {
         u128::from(self.row_count(&ports[..PORTS_IN_A_WORD]))
             * u128::from(self.row_count(&ports[PORTS_IN_A_WORD..]))
     }
@@ -117,6 +125,18 @@ impl InteractionJudge<'_> {
         }
     }
 
+    /// The first of the moves that the atom of the port can make, of which there is one.
+    fn first_move(&self, port: &Port) -> Move
+        requires { 0 < length (moves_of (judged_atoms self.now) self.now.states.now port.now) }
+        ensures { slice_get (moves_of (judged_atoms self.now) self.now.states.now port.now) 0 ≡ Some result }
+    {
+        let atom = &self.atoms[usize::from(port.atom)];
+        Move {
+            atom: port.atom,
+            transition: atom.first_among(self.offers.set_at(port.atom), port.port),
+        }
+    }
+
     /// Writes the first row of one move for each port: the first move of each.
     pub(crate) fn first_row(&self, ports: &[Port], moves: &mut Moves)
         requires few { length ports.now ≤ MAX_LEAVES }
@@ -125,7 +145,7 @@ impl InteractionJudge<'_> {
     {
         moves.clear();
         for port in ports {
-            moves.push(self.nth_move(port, 0));
+            moves.push(self.first_move(port));
         }
     }
 

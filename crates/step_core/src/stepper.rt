@@ -38,7 +38,7 @@ pub struct Stepper<'s> {
     choice: Choice,
     ghost of_plant: { IsOf (plant_of system.now) states },
     ghost fits: { AllFit (plant_of system.now) states },
-    ghost judged: { IsJudgement (plant_of system.now) (map interaction_of system.now.interactions.items) states judgement },
+    ghost judged: { IsJudgement (plant_of system.now) (map interaction_of system.now.interactions.items) system.now.ranks states judgement },
 }
 
 impl<'s> Stepper<'s> {

@@ -29,25 +29,31 @@ use crate::parts::PlantParts;
 use crate::possible::InteractionJudge;
 use crate::renewal::Renewal;
 use crate::sights::{see_again, see_moved};
+use crate::standing::stand_again;
 use plant_model::{Choice, Move, PlantState, System, port_row};
 use priority_filter::InteractionSet;
 
 /// What is sure while atoms are away. It has what the states that the parts show offer, of which the sure interactions are kept, and
-/// beside it which interactions are open: a participant is away, and each port of one that is present is offered. It is of fixed size and takes no memory.
+/// beside it which interactions are open: a participant is away, and each port of one that is present is offered; and which are rivals: those
+/// that are possible, and those that are open. It is of fixed size and takes no memory.
 #[derive(Drop)]
 pub(crate) struct SureJudgement {
     pub(crate) judgement: Judgement,
     pub(crate) opened: InteractionSet,
+    pub(crate) rivals: InteractionSet,
 }
 
 /// What is sure in a state of which no atom is away, judged in full: what is allowed.
 pub(crate) fn judge_sure(system: &System, states: &PlantState) -> SureJudgement
     requires { IsOf (plant_of system.now) states.now }
-    ensures { IsSureJudgement (plant_of system.now) (interactions_in system.now) (map Some states.now) result }
+    ensures { IsSureJudgement (plant_of system.now) (interactions_in system.now) system.now.ranks (map Some states.now) result }
 {
+    let judgement = judge(system, states);
+    let rivals = judgement.possible.copy();
     SureJudgement {
-        judgement: judge(system, states),
+        judgement,
         opened: InteractionSet::new(),
+        rivals,
     }
 }
 
@@ -62,8 +68,8 @@ pub(crate) fn judge_sure_moved(
     requires few { length moves.now ≤ MAX_LEAVES }
     requires apart { AreApart moves.now }
     requires there { (k : ℕ) (m : Move) → slice_get moves.now k ≡ Some m → m.atom < length (plant_of system.now).atoms }
-    requires behind { IsSureMovedBehind (plant_of system.now) (interactions_in system.now) moves.now parts.now judgement.old }
-    ensures { IsSureJudgement (plant_of system.now) (interactions_in system.now) parts.now judgement.new }
+    requires behind { IsSureMovedBehind (plant_of system.now) (interactions_in system.now) system.now.ranks moves.now parts.now judgement.old }
+    ensures { IsSureJudgement (plant_of system.now) (interactions_in system.now) system.now.ranks parts.now judgement.new }
 {
     let changes = judge_moved(
         system,
@@ -84,8 +90,8 @@ pub(crate) fn judge_sure_flipped(
     judgement: &mut SureJudgement,
 )
     requires of_plant { ArePartsOf (plant_of system.now) parts.now }
-    requires behind { IsSureBehind (plant_of system.now) (interactions_in system.now) flipped.now flipped.now parts.now judgement.old }
-    ensures { IsSureJudgement (plant_of system.now) (interactions_in system.now) parts.now judgement.new }
+    requires behind { IsSureBehind (plant_of system.now) (interactions_in system.now) system.now.ranks flipped.now flipped.now parts.now judgement.old }
+    ensures { IsSureJudgement (plant_of system.now) (interactions_in system.now) system.now.ranks parts.now judgement.new }
 {
     let changes = judge_anew(
         system,
@@ -109,8 +115,8 @@ fn settle_sure(
     judgement: &mut SureJudgement,
 )
     requires of_plant { ArePartsOf (plant_of system.now) parts.now }
-    requires unsettled { IsSureUnsettled (plant_of system.now) (interactions_in system.now) parts.now changes flipped is_seen_new judgement.old }
-    ensures { IsSureJudgement (plant_of system.now) (interactions_in system.now) parts.now judgement.new }
+    requires unsettled { IsSureUnsettled (plant_of system.now) (interactions_in system.now) system.now.ranks parts.now changes flipped is_seen_new judgement.old }
+    ensures { IsSureJudgement (plant_of system.now) (interactions_in system.now) system.now.ranks parts.now judgement.new }
 {
     let states = parts.shown();
     let kept = &mut judgement.judgement;
@@ -131,15 +137,24 @@ fn settle_sure(
         touched,
         &mut judgement.opened,
     );
+    let affected = stand_again(
+        system,
+        &kept.possible,
+        &judgement.opened,
+        changed | opened,
+        &mut judgement.rivals,
+        &mut kept.standing,
+    );
     let renewal = Renewal {
         system,
         seen: &kept.seen,
         possible: &kept.possible,
-        opened: &judgement.opened,
-        changed: changed | opened,
+        rivals: &judgement.rivals,
+        standing: &kept.standing,
+        affected,
         is_seen_new,
     };
-    let told = renewal.keep_again(&mut kept.standing, &mut kept.kept);
+    let told = renewal.keep_again(&mut kept.kept);
     weigh(system, states, changes.heavy | told, kept);
 }
 
@@ -221,7 +236,7 @@ fn interactions_of(system: &System, connectors: u64) -> InteractionSet
     let mut left = connectors;
     while left != 0 {
         let connector = left.trailing_zeros() as usize;
-        left &= !(1 << connector);
+        left &= left - 1;
         all.union_words(&system.connector_rows[connector].own, words);
     }
     all
@@ -233,7 +248,7 @@ pub(crate) fn count_sure_among(
     parts: &PlantParts,
     judgement: &SureJudgement,
 ) -> u128
-    requires { IsSureJudgement (plant_of system.now) (interactions_in system.now) parts.now judgement.now }
+    requires { IsSureJudgement (plant_of system.now) (interactions_in system.now) system.now.ranks parts.now judgement.now }
     ensures { result ≡ length (sure_choices (plant_of system.now) parts.now) }
 {
     judgement.judgement.weights.total
@@ -248,7 +263,7 @@ pub(crate) fn nth_sure_among(
     choice: &mut Choice,
 )
     requires of_plant { ArePartsOf (plant_of system.now) parts.now }
-    requires judged { IsSureJudgement (plant_of system.now) (interactions_in system.now) parts.now judgement.now }
+    requires judged { IsSureJudgement (plant_of system.now) (interactions_in system.now) system.now.ranks parts.now judgement.now }
     requires place { place < length (sure_choices (plant_of system.now) parts.now) }
     ensures entry { slice_get (sure_choices (plant_of system.now) parts.now) place ≡ Some (choice_of choice.new) }
     ensures sure { IsSure (plant_of system.now) parts.now (choice_of choice.new) }

@@ -3,21 +3,21 @@ ghost use Rattle.std.specs.Prelude.{◌≡◌, ◌^◌, ◌+◌, ◌*◌, ◌≤
 ghost use Rattle.std.specs.FinSet.{contains};
 ghost use Rattle.priority_filter.specs.Members.{has_bit};
 ghost use Rattle.priority_filter.specs.declared.interaction_set.TheConstants.{ROW_WORDS};
-ghost use Rattle.plant_model.specs.Choice.{Interaction, choices_of, is_possible_at};
+ghost use Rattle.plant_model.specs.Choice.{Interaction, choices_of};
 ghost use Rattle.plant_model.specs.Chosen.{choice_of};
 ghost use Rattle.plant_model.specs.ConnectorRows.{is_of_connector};
 ghost use Rattle.plant_model.specs.Fitting.{IsOf};
 ghost use Rattle.plant_model.specs.System.{interactions_in, plant_of};
 ghost use Rattle.plant_model.specs.declared.limits.TheConstants.{MAX_WIRES};
 ghost use Rattle.plant_model.specs.Ways.{ways_at};
-ghost use Rattle.step_core.specs.ChoicesIn.{choices_in, choices_in_below, choices_in_from};
-ghost use Rattle.step_core.specs.Judgement.{IsOffering};
-ghost use Rattle.step_core.specs.Weights.{AreSums, AreWeighed, IsFound, choices_of_connector, is_kept_of, weight_of};
+ghost use Rattle.step_core.specs.ChoicesIn.{AreAllPossible, choices_in, choices_in_below, choices_in_from};
+ghost use Rattle.step_core.specs.Judgement.{IsOffers};
+ghost use Rattle.step_core.specs.Weights.{AreSums, AreWeighed, IsAtConnector, IsFound, choices_of_connector, is_kept_of, weight_of};
 
 use crate::enabled_transitions::EnabledTransitions;
 use crate::leaves::Leaves;
 use crate::possible::InteractionJudge;
-use plant_model::{Choice, MAX_WIRES, PlantState, System};
+use plant_model::{Choice, ConnectorRows, MAX_WIRES, PlantState, System};
 use priority_filter::InteractionSet;
 
 /// How many weights a group has.
@@ -68,6 +68,73 @@ impl Weights {
         self.groups[group] = self.groups[group] - old + weight;
         self.total = self.total - old + weight;
     }
+
+    /// The connector of the choice with this place among those of all, and its place among those of that one.
+    fn find(&self, place: u128) -> ConnectorPlace
+        requires sums { AreSums self.now }
+        requires place { place < self.now.total }
+        ensures { IsAtConnector self.now.of_connectors place result.connector result.place }
+    {
+        if self.total <= u128::from(u64::MAX) {
+            self.find_by_word(place as u64)
+        } else {
+            self.find_by_wide_number(place)
+        }
+    }
+
+    /// The same where there are few choices: numbers of 64 bits take half of the time.
+    fn find_by_word(&self, place: u64) -> ConnectorPlace
+        requires sums { AreSums self.now }
+        requires few { self.now.total < 2 ^ 64 }
+        requires place { place < self.now.total }
+        ensures { IsAtConnector self.now.of_connectors place result.connector result.place }
+    {
+        let mut group = 0;
+        let mut left = place;
+        while left >= self.groups[group] as u64 {
+            left -= self.groups[group] as u64;
+            group += 1;
+        }
+        let mut connector = GROUP * group;
+        while left >= self.of_connectors[connector] as u64 {
+            left -= self.of_connectors[connector] as u64;
+            connector += 1;
+        }
+        ConnectorPlace {
+            connector,
+            place: u128::from(left),
+        }
+    }
+
+    /// The same by numbers of 128 bits.
+    fn find_by_wide_number(&self, place: u128) -> ConnectorPlace
+        requires sums { AreSums self.now }
+        requires place { place < self.now.total }
+        ensures { IsAtConnector self.now.of_connectors place result.connector result.place }
+    {
+        let mut group = 0;
+        let mut left = place;
+        while left >= self.groups[group] {
+            left -= self.groups[group];
+            group += 1;
+        }
+        let mut connector = GROUP * group;
+        while left >= self.of_connectors[connector] {
+            left -= self.of_connectors[connector];
+            connector += 1;
+        }
+        ConnectorPlace {
+            connector,
+            place: left,
+        }
+    }
+}
+
+/// A choice of a connector: the one with this place among those of its kept interactions.
+#[derive(Drop)]
+struct ConnectorPlace {
+    connector: usize,
+    place: u128,
 }
 
 /// A state with what its atoms and the leaves of its connectors offer, and the interactions that are kept.
@@ -79,13 +146,14 @@ pub(crate) struct Weighing<'a> {
     pub(crate) leaves: &'a Leaves,
     pub(crate) kept: &'a InteractionSet,
     ghost of_plant: { IsOf (plant_of system.now) states.now },
-    ghost offering: { IsOffering (plant_of system.now) (interactions_in system.now) states.now offers.now.sets offers.now.counts leaves.now (contains kept.now) },
+    ghost offering: { IsOffers (plant_of system.now) states.now offers.now.sets offers.now.counts leaves.now },
 }
 
 impl Weighing<'_> {
     /// Weighs the connectors whose bit in the word is set again; the weights of all others are right.
     pub(crate) fn weigh_again(&self, heavy: u64, weights: &mut Weights)
         requires within { (k : ℕ) → length (plant_of self.now.system.now).wires ≤ k → has_bit heavy k ≡ false }
+        requires possible { AreAllPossible (plant_of self.now.system.now).atoms (plant_of self.now.system.now).wires self.now.states.now (interactions_in self.now.system.now) (contains self.now.kept.now) }
         requires others { (k : ℕ) → has_bit heavy k ≡ false → slice_index_or weights.old.of_connectors k 0 ≡ weight_of (plant_of self.now.system.now).atoms self.now.states.now (interactions_in self.now.system.now) (contains self.now.kept.now) k }
         requires sums { AreSums weights.old }
         requires few { weights.old.total ≤ 2 ^ 122 }
@@ -94,48 +162,59 @@ impl Weighing<'_> {
         let mut left = heavy;
         while left != 0 {
             let connector = left.trailing_zeros() as usize;
-            left &= !(1 << connector);
+            left &= left - 1;
             weights.set(connector, self.weight_of(connector));
         }
     }
 
     /// How many choices the kept interactions of the connector have.
-    fn weight_of(&self, connector: usize) -> u128
-        requires { connector < length (plant_of self.now.system.now).wires }
+    #[inline]
+    pub(crate) fn weight_of(&self, connector: usize) -> u128
+        requires connector { connector < length (plant_of self.now.system.now).wires }
+        requires possible { AreAllPossible (plant_of self.now.system.now).atoms (plant_of self.now.system.now).wires self.now.states.now (interactions_in self.now.system.now) (is_kept_of (interactions_in self.now.system.now) (contains self.now.kept.now) connector) }
         ensures few { result ≤ 2 ^ 122 }
         ensures weight { result ≡ weight_of (plant_of self.now.system.now).atoms self.now.states.now (interactions_in self.now.system.now) (contains self.now.kept.now) connector }
     {
         let rows = &self.system.connector_rows[connector];
-        if rows.count == 1 {
-            return self.weight_of_one(connector, rows.first);
+        if self.leaves.many[connector] == 0 {
+            u128::from(self.kept_count(connector, rows))
+        } else {
+            self.sum_of_ways(connector, rows)
         }
-        let first = usize::from(rows.first);
-        let low = first / 64;
-        let high = (first + usize::from(rows.count)).div_ceil(64);
-        if high == low + 1 {
-            return self.weight_in(connector, low, self.kept_word(connector, low));
-        }
-        let mut sum = 0;
-        for place in low..high {
-            sum += self.weight_in(connector, place, self.kept_word(connector, place));
-        }
-        sum
     }
 
-    /// How many choices the interaction with this number has if it is kept, of the connector of which it is.
-    fn weight_of_one(&self, connector: usize, number: u16) -> u128
+    /// The same where no leaf of the connector offers more than one transition: each of them has one choice.
+    #[inline]
+    fn kept_count(&self, connector: usize, rows: &ConnectorRows) -> u64
         requires connector { connector < length (plant_of self.now.system.now).wires }
-        requires own { is_of_connector (interactions_in self.now.system.now) connector number ≡ true }
-        ensures few { result ≤ 2 ^ 112 }
-        ensures ways { result ≡ (if contains self.now.kept.now number then ways_at (plant_of self.now.system.now).atoms self.now.states.now (interactions_in self.now.system.now) number else 0) }
+        requires rows { slice_get self.now.system.now.connector_rows.items connector ≡ Some rows.now }
+        requires possible { AreAllPossible (plant_of self.now.system.now).atoms (plant_of self.now.system.now).wires self.now.states.now (interactions_in self.now.system.now) (is_kept_of (interactions_in self.now.system.now) (contains self.now.kept.now) connector) }
+        requires single { slice_index_or self.now.leaves.now.many connector 0 ≡ 0 }
+        ensures { result ≡ weight_of (plant_of self.now.system.now).atoms self.now.states.now (interactions_in self.now.system.now) (contains self.now.kept.now) connector }
     {
-        if !self.kept.contains(number) {
-            0
-        } else if self.leaves.many[connector] == 0 {
-            1
-        } else {
-            self.ways_of(usize::from(number))
+        let mut count = 0;
+        for place in usize::from(rows.low)..usize::from(rows.high) {
+            let word = self.kept.word(place) & rows.own.word(place);
+            count += u64::from(word.count_ones());
         }
+        count
+    }
+
+    /// The same wherever: the choices of each are counted. It is called seldom, and the code around it is shorter without it.
+    #[inline(never)]
+    fn sum_of_ways(&self, connector: usize, rows: &ConnectorRows) -> u128
+        requires connector { connector < length (plant_of self.now.system.now).wires }
+        requires rows { slice_get self.now.system.now.connector_rows.items connector ≡ Some rows.now }
+        requires possible { AreAllPossible (plant_of self.now.system.now).atoms (plant_of self.now.system.now).wires self.now.states.now (interactions_in self.now.system.now) (is_kept_of (interactions_in self.now.system.now) (contains self.now.kept.now) connector) }
+        ensures few { result ≤ 2 ^ 122 }
+        ensures weight { result ≡ weight_of (plant_of self.now.system.now).atoms self.now.states.now (interactions_in self.now.system.now) (contains self.now.kept.now) connector }
+    {
+        let mut sum = 0;
+        for place in usize::from(rows.low)..usize::from(rows.high) {
+            let word = self.kept.word(place) & rows.own.word(place);
+            sum += self.weight_in(connector, place, word);
+        }
+        sum
     }
 
     /// Which of the 64 interactions from 64 times the place on are kept and of the connector, bit k for the one with k after these.
@@ -151,25 +230,24 @@ impl Weighing<'_> {
     /// the connector.
     fn weight_in(&self, connector: usize, place: usize, word: u64) -> u128
         requires connector { connector < length (plant_of self.now.system.now).wires }
+        requires possible { AreAllPossible (plant_of self.now.system.now).atoms (plant_of self.now.system.now).wires self.now.states.now (interactions_in self.now.system.now) (is_kept_of (interactions_in self.now.system.now) (contains self.now.kept.now) connector) }
         requires place { place < ROW_WORDS }
         requires word { (n : ℕ) → n / 64 ≡ place → has_bit word (n % 64) ≡ is_kept_of (interactions_in self.now.system.now) (contains self.now.kept.now) connector n }
         ensures few { result ≤ 64 * 2 ^ 112 }
         ensures count { length (choices_in_below (plant_of self.now.system.now).atoms self.now.states.now (interactions_in self.now.system.now) (is_kept_of (interactions_in self.now.system.now) (contains self.now.kept.now) connector) (64 * (place + 1))) ≡ length (choices_in_below (plant_of self.now.system.now).atoms self.now.states.now (interactions_in self.now.system.now) (is_kept_of (interactions_in self.now.system.now) (contains self.now.kept.now) connector) (64 * place)) + result }
     {
-        if self.leaves.many[connector] == 0 {
-            return u128::from(word.count_ones());
-        }
         let mut sum = 0;
         let mut left = word;
         while left != 0 {
             let bit = left.trailing_zeros() as usize;
-            left &= !(1 << bit);
+            left &= left - 1;
             sum += self.ways_of(64 * place + bit);
         }
         sum
     }
 
     /// How many choices the interaction with this number has, which is possible.
+    #[inline]
     fn ways_of(&self, number: usize) -> u128
         requires { number < length self.now.system.now.interactions.items }
         ensures few { result ≤ 2 ^ 112 }
@@ -180,43 +258,35 @@ impl Weighing<'_> {
     }
 
     /// Writes the choice with this place among those of the kept interactions.
+    #[inline(always)]
     pub(crate) fn choose(&self, weights: &Weights, place: u128, choice: &mut Choice)
         requires weights { AreWeighed (plant_of self.now.system.now).atoms self.now.states.now (interactions_in self.now.system.now) (contains self.now.kept.now) weights.now }
+        requires possible { AreAllPossible (plant_of self.now.system.now).atoms (plant_of self.now.system.now).wires self.now.states.now (interactions_in self.now.system.now) (contains self.now.kept.now) }
         requires place { place < length (choices_in (plant_of self.now.system.now).atoms self.now.states.now (interactions_in self.now.system.now) (contains self.now.kept.now)) }
         ensures { slice_get (choices_in (plant_of self.now.system.now).atoms self.now.states.now (interactions_in self.now.system.now) (contains self.now.kept.now)) place ≡ Some (choice_of choice.new) }
     {
-        let mut group = 0;
-        let mut left = place;
-        while left >= weights.groups[group] {
-            left -= weights.groups[group];
-            group += 1;
-        }
-        let mut connector = GROUP * group;
-        while left >= weights.of_connectors[connector] {
-            left -= weights.of_connectors[connector];
-            connector += 1;
-        }
-        if self.leaves.many[connector] == 0 {
-            self.choose_only(self.nth_kept(connector, left as u64), choice);
+        let at = weights.find(place);
+        if self.leaves.many[at.connector] == 0 {
+            self.choose_only(self.nth_kept(at.connector, at.place as u64), choice);
         } else {
-            self.choose_found(self.found(connector, left), choice);
+            self.choose_found(self.found(at.connector, at.place), choice);
         }
     }
 
     /// The number of the interaction with this place among the kept ones of the connector, of which each has one choice.
     fn nth_kept(&self, connector: usize, place: u64) -> usize
         requires connector { connector < length (plant_of self.now.system.now).wires }
+        requires possible { AreAllPossible (plant_of self.now.system.now).atoms (plant_of self.now.system.now).wires self.now.states.now (interactions_in self.now.system.now) (is_kept_of (interactions_in self.now.system.now) (contains self.now.kept.now) connector) }
         requires single { slice_index_or self.now.leaves.now.many connector 0 ≡ 0 }
         requires place { place < weight_of (plant_of self.now.system.now).atoms self.now.states.now (interactions_in self.now.system.now) (contains self.now.kept.now) connector }
         ensures { IsFound (plant_of self.now.system.now).atoms self.now.states.now (interactions_in self.now.system.now) (slice_get (choices_of_connector (plant_of self.now.system.now).atoms self.now.states.now (interactions_in self.now.system.now) (contains self.now.kept.now) connector) place) result 1 0 }
     {
         let rows = &self.system.connector_rows[connector];
-        let first = usize::from(rows.first);
         if rows.count == 1 {
-            return first;
+            return usize::from(rows.first);
         }
-        let low = first / 64;
-        let high = (first + usize::from(rows.count)).div_ceil(64);
+        let low = usize::from(rows.low);
+        let high = usize::from(rows.high);
         let mut left = place;
         for at in low..high {
             let word = self.kept_word(connector, at);
@@ -232,13 +302,13 @@ impl Weighing<'_> {
     /// Where the choice with this place among those of the kept interactions of the connector stands.
     fn found(&self, connector: usize, place: u128) -> Found
         requires connector { connector < length (plant_of self.now.system.now).wires }
+        requires possible { AreAllPossible (plant_of self.now.system.now).atoms (plant_of self.now.system.now).wires self.now.states.now (interactions_in self.now.system.now) (is_kept_of (interactions_in self.now.system.now) (contains self.now.kept.now) connector) }
         requires place { place < weight_of (plant_of self.now.system.now).atoms self.now.states.now (interactions_in self.now.system.now) (contains self.now.kept.now) connector }
         ensures { IsFound (plant_of self.now.system.now).atoms self.now.states.now (interactions_in self.now.system.now) (slice_get (choices_of_connector (plant_of self.now.system.now).atoms self.now.states.now (interactions_in self.now.system.now) (contains self.now.kept.now) connector) place) result.number result.ways result.place }
     {
         let rows = &self.system.connector_rows[connector];
-        let first = usize::from(rows.first);
-        let low = first / 64;
-        let high = (first + usize::from(rows.count)).div_ceil(64);
+        let low = usize::from(rows.low);
+        let high = usize::from(rows.high);
         let mut left = place;
         for at in low..high {
             match self.found_in(connector, at, self.kept_word(connector, at), left) {
@@ -253,6 +323,7 @@ impl Weighing<'_> {
     /// there; else its place among those behind them.
     fn found_in(&self, connector: usize, at: usize, word: u64, place: u128) -> Result<Found, u128>
         requires connector { connector < length (plant_of self.now.system.now).wires }
+        requires possible { AreAllPossible (plant_of self.now.system.now).atoms (plant_of self.now.system.now).wires self.now.states.now (interactions_in self.now.system.now) (is_kept_of (interactions_in self.now.system.now) (contains self.now.kept.now) connector) }
         requires at { at < ROW_WORDS }
         requires word { (n : ℕ) → n / 64 ≡ at → has_bit word (n % 64) ≡ is_kept_of (interactions_in self.now.system.now) (contains self.now.kept.now) connector n }
         ensures here { IfOk result (λ found. IsFound (plant_of self.now.system.now).atoms self.now.states.now (interactions_in self.now.system.now) (slice_get (choices_in_from (plant_of self.now.system.now).atoms self.now.states.now (interactions_in self.now.system.now) (is_kept_of (interactions_in self.now.system.now) (contains self.now.kept.now) connector) (64 * at)) place) found.number found.ways found.place) }
@@ -262,7 +333,7 @@ impl Weighing<'_> {
         let mut bits = word;
         while bits != 0 {
             let bit = bits.trailing_zeros() as usize;
-            bits &= !(1 << bit);
+            bits &= bits - 1;
             let number = 64 * at + bit;
             let ways = self.ways_of(number);
             if left < ways {

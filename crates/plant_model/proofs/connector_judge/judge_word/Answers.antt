@@ -1,45 +1,33 @@
-use Rattle.std.proofs.Common.{◌≡◌, ◌/◌, ◌%◌, ◌&&◌, not, false, ◌∙◌, ⊎_elim, ap, sym, arith}
-use Rattle.std.proofs.lemmas.Bool.{cases_eq}
-use Rattle.priority_filter.specs.Members.{has_bit}
-use Rattle.plant_model.specs.Dependents.{is_in_row}
-use Rattle.plant_model.proofs.WordSets.{bit-kept, bit-put, bit-without}
+use Rattle.std.proofs.Common.{◌≡◌, ◌/◌, ◌%◌, ◌==◌, ◌&&◌, ℕ, true, false, ◌∙◌, ⊎_elim, ap, sym, arith}
+use Rattle.std.specs.FinSet.{contains}
+use Rattle.std.proofs.lemmas.Bool.{and_parts, cases_Bool, cases_eq, both_ways, eq-eqb, eqb-true}
+use Rattle.plant_model.proofs.WordSets.{bit-kept, bit-put}
 use Rattle.plant_model.proofs.connector_judge.judge_word.Goals as goal
 
 pub returns-clause-judged : goal.returns-clause-judged
 returns-clause-judged c =
+    let place = c.args.place in
+    let rows = c.args.rows.now in
     let own = c.word-own in
-    let on = c.word_on in
-    let allowed = c.word_allowed-here in
+    let here = c.word_possible in
     let old = c.word-before in
     let written = c.set_word.ensures in
-    let leaves_are = c.deref.ensures.value in
-    let rows_are = c.deref-2.ensures.value in record {
+    let is : (n : ℕ) → (contains rows.own n && (n / 64 == place)) ≡ true → (contains rows.own n ≡ true) × (n / 64 ≡ place) = λ n its.
+    let parts = and_parts (contains rows.own n) (n / 64 == place) its in
+    (parts.0, eqb-true (n / 64) place parts.1) in record {
       put = λ n its none all_true.
-          let at = c.requires.own n its in
-          written.here n at ∙ bit-put old.result own.result allowed.result (n % 64) (omega arith) (omega arith) (own.ensures n at ∙ its) ∙
-          allowed.ensures.stays n at (λ k clause there inside. all_true k clause there (sym (ap (λ rows. is_in_row rows n k) rows_are) ∙ inside)) ∙
-          bit-without own.result on.result (n % 64) (omega arith) (omega arith) ∙
-          ap (λ x. x && not (has_bit on.result (n % 64))) (own.ensures n at ∙ its) ∙
-          ap not (on.ensures.none n at (λ j set. ap (λ rows. is_in_row rows n j) leaves_are ∙ none j set));
+          let at = is n its in
+          written.here n at.1 ∙ bit-put old.result own.result here.result (n % 64) (omega arith) (omega arith) (own.ensures n at.1 ∙ at.0) ∙ here.ensures.put n at.1 at.0 none all_true;
       blocked = λ n j its set inside.
-          let at = c.requires.own n its in
-          written.here n at ∙ bit-put old.result own.result allowed.result (n % 64) (omega arith) (omega arith) (own.ensures n at ∙ its) ∙
-          allowed.ensures.within (n % 64) (omega arith)
-          (bit-without own.result on.result (n % 64) (omega arith) (omega arith) ∙
-          ap (λ x. x && not (has_bit on.result (n % 64))) (own.ensures n at ∙ its) ∙
-          ap not (on.ensures.one n j at set (ap (λ rows. is_in_row rows n j) leaves_are ∙ inside)));
+          let at = is n its in
+          written.here n at.1 ∙ bit-put old.result own.result here.result (n % 64) (omega arith) (omega arith) (own.ensures n at.1 ∙ at.0) ∙ here.ensures.blocked n j at.1 set inside;
       forbidden = λ n k clause its there inside zero.
-          let at = c.requires.own n its in
-          written.here n at ∙ bit-put old.result own.result allowed.result (n % 64) (omega arith) (omega arith) (own.ensures n at ∙ its) ∙
-          allowed.ensures.goes n k clause at there (ap (λ rows. is_in_row rows n k) rows_are ∙ inside) zero;
+          let at = is n its in
+          written.here n at.1 ∙ bit-put old.result own.result here.result (n % 64) (omega arith) (omega arith) (own.ensures n at.1 ∙ at.0) ∙ here.ensures.forbidden n k clause at.1 there inside zero;
       others = λ n out. ⊎_elim
           (λ at.
-          let none : has_bit own.result (n % 64) ≡ false = own.ensures n at ∙ out in
-          written.here n at ∙
-          bit-kept old.result own.result allowed.result (n % 64) (omega arith) (omega arith) none
-          (allowed.ensures.within (n % 64) (omega arith)
-          (bit-without own.result on.result (n % 64) (omega arith) (omega arith) ∙ ap (λ x. x && not (has_bit on.result (n % 64))) none)) ∙
-          old.ensures n at)
+          let no : contains rows.own n ≡ false = ⊎_elim (λ its. absurd (both_ways (n / 64 == place) (sym (ap (λ b. b && (n / 64 == place)) its) ∙ out) (eq-eqb (n / 64) place at))) (λ no. no) (cases_Bool (contains rows.own n)) in
+          written.here n at ∙ bit-kept old.result own.result here.result (n % 64) (omega arith) (omega arith) (own.ensures n at ∙ no) (here.ensures.within n at no) ∙ old.ensures n at)
           (λ apart. written.others n apart)
-          (cases_eq (n / 64) c.args.place);
+          (cases_eq (n / 64) place);
     }

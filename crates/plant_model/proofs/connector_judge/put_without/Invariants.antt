@@ -1,7 +1,7 @@
 use Rattle.std.proofs.Common.{◌≡◌, ◌<◌, ◌/◌, ℕ, true, false}
 use Rattle.std.specs.FinSet.{contains}
 use Rattle.connector_tree.specs.Masks.{is_set}
-use Rattle.plant_model.specs.Dependents.{is_in_row}
+use Rattle.plant_model.specs.ConnectorRows.{is_in_row}
 use Rattle.plant_model.proofs.connector_judge.put_without.Given as goal
 
 -- the connector's interactions in the words before the place are right, and all others are as they were

@@ -6,7 +6,7 @@ use Rattle.std.proofs.lemmas.Option.{same_Some, slice_get_read, slice_get_within
 use Rattle.petri_atom.specs.Expression.{is_true, value_of}
 use Rattle.plant_model.specs.BoundExpressions.{clause_of}
 use Rattle.plant_model.specs.Values.{value_there}
-use Rattle.plant_model.specs.Dependents.{is_in_row}
+use Rattle.plant_model.specs.ConnectorRows.{is_in_row}
 use Rattle.plant_model.specs.declared.bound_expressions.Clause.{Clause}
 use Rattle.plant_model.proofs.Pushed.{at-row}
 use Rattle.plant_model.proofs.connector_judge.take_forbidden.Goals as goal

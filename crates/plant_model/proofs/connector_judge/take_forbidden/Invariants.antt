@@ -4,7 +4,7 @@ use Rattle.std.specs.Prelude.{Some, slice_get}
 use Rattle.petri_atom.specs.Expression.{is_true, value_of}
 use Rattle.plant_model.specs.BoundExpressions.{clause_of}
 use Rattle.plant_model.specs.Values.{value_there}
-use Rattle.plant_model.specs.Dependents.{is_in_row}
+use Rattle.plant_model.specs.ConnectorRows.{is_in_row}
 use Rattle.plant_model.specs.declared.bound_expressions.Clause.{Clause}
 use Rattle.plant_model.proofs.connector_judge.take_forbidden.Given as goal
 

@@ -4,7 +4,7 @@ use Rattle.petri_atom.specs.Expression.{is_true, value_of}
 use Rattle.priority_filter.specs.Members.{has_bit}
 use Rattle.plant_model.specs.BoundExpressions.{clause_of}
 use Rattle.plant_model.specs.Values.{value_there}
-use Rattle.plant_model.specs.Dependents.{is_in_row}
+use Rattle.plant_model.specs.ConnectorRows.{is_in_row}
 use Rattle.plant_model.specs.declared.bound_expressions.Clause.{Clause}
 use Rattle.plant_model.proofs.connector_judge.word_allowed.Given as goal
 

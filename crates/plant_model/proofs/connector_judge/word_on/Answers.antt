@@ -4,7 +4,7 @@ use Rattle.std.proofs.lemmas.Bool.{cases_eq, or_from, or_left, or_right}
 use Rattle.petri_atom.proofs.Sets.{has-or}
 use Rattle.priority_filter.specs.Members.{has_bit}
 use Rattle.priority_filter.proofs.Words.{rest-less}
-use Rattle.plant_model.specs.Dependents.{is_in_row}
+use Rattle.plant_model.specs.ConnectorRows.{is_in_row}
 use Rattle.plant_model.proofs.Pushed.{at-row}
 use Rattle.plant_model.proofs.WordSets.{lowest-set, rest-in, rest-out}
 use Rattle.plant_model.proofs.connector_judge.word_on.Goals as goal

@@ -1,7 +1,7 @@
 use Rattle.std.proofs.Common.{◌≡◌, ◌/◌, ◌%◌, ℕ, true, false}
 use Rattle.connector_tree.specs.Masks.{is_set}
 use Rattle.priority_filter.specs.Members.{has_bit}
-use Rattle.plant_model.specs.Dependents.{is_in_row}
+use Rattle.plant_model.specs.ConnectorRows.{is_in_row}
 use Rattle.plant_model.proofs.connector_judge.word_on.Given as goal
 
 -- what is left are some of the leaves, the word has what is on the others, and nothing that is on none

@@ -1,6 +1,6 @@
-use Rattle.std.proofs.Common.{◌≡◌, ◌≤◌, ◌+◌, ◌-◌, ◌∙◌, ap, map, nat_lt, arith}
+use Rattle.std.proofs.Common.{◌≡◌, ◌≤◌, ◌+◌, ◌-◌, ◌∙◌, refl, ap, map, nat_lt, arith}
 use Rattle.plant_model.specs.Interaction.{interaction_of}
-use Rattle.plant_model.proofs.ByConnector.{in-range, range-rises, with-none, with-one}
+use Rattle.plant_model.proofs.ByConnector.{in-all-own, in-range, range-rises, with-none, with-one}
 use Rattle.plant_model.proofs.connector_rows.rows_of.Goals as goal
 
 pub row_with_all-own-requires-clause-first : goal.row_with_all-own-requires-clause-first
@@ -13,6 +13,10 @@ rows_of_leaves-requires-clause-first c =
 
 pub rows_of_clauses-requires-clause-first : goal.rows_of_clauses-requires-clause-first
 rows_of_clauses-requires-clause-first c =
+    range-rises (map interaction_of c.args.interactions.now) c.args.connector c.count_before-first.result c.count_before-end.result c.count_before-first.ensures.before c.count_before-end.ensures.before
+
+pub leaves_of_all-requires-clause-first : goal.leaves_of_all-requires-clause-first
+leaves_of_all-requires-clause-first c =
     range-rises (map interaction_of c.args.interactions.now) c.args.connector c.count_before-first.result c.count_before-end.result c.count_before-first.ensures.before c.count_before-end.ensures.before
 
 pub overflow_sub-result : goal.overflow_sub-result
@@ -32,6 +36,13 @@ returns c =
     record {
       begins = begins;
       ends = λ n. ends n ∙ ap (nat_lt n) whole;
+      low = refl;
+      high = omega (arith, rises, c.div_ceil.ensures);
+      must = λ j.
+          let owned = in-all-own all k first end begins ends j in (
+            λ set. let its = (c.leaves_of_all.ensures j).0 set in (its.0, owned.0 its.1),
+            λ is. (c.leaves_of_all.ensures j).1 (is.0, owned.1 is.1),
+          );
       own = λ n. c.row_with_all-own.ensures n ∙ in-range all k first end begins ends 0 n ∙ with-none all c.requires.listed k n;
       leaves = c.in_ok-on_leaf.ensures.as_many;
       on_leaf = λ leaf n below. c.in_ok-on_leaf.ensures.each leaf n below ∙ in-range all k first end begins ends _ n ∙ with-one all c.requires.listed k leaf n (omega (arith, below, c.requires.leaves));

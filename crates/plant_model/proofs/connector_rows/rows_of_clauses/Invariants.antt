@@ -1,7 +1,6 @@
 use Rattle.std.proofs.Common.{◌≡◌, ◌<◌, ◌&&◌, ℕ, map, length}
 use Rattle.std.specs.Prelude.{Some, slice_get}
-use Rattle.plant_model.specs.ConnectorRows.{has_all_at, is_from}
-use Rattle.plant_model.specs.Dependents.{is_in_row}
+use Rattle.plant_model.specs.ConnectorRows.{has_all_at, is_from, is_in_row}
 use Rattle.plant_model.specs.Interaction.{interaction_of}
 use Rattle.plant_model.specs.declared.bound_expressions.Clause.{Clause}
 use Rattle.plant_model.proofs.connector_rows.rows_of_clauses.Given as goal

@@ -1,8 +1,7 @@
 use Rattle.std.proofs.Common.{ℕ, ◌+◌, ◌<◌, ◌^◌, ◌∙◌, ◌&&◌, Bool, ap, map, length, arith, [], ◌∷◌}
 use Rattle.std.proofs.lemmas.List.{length-append}
 use Rattle.std.proofs.lemmas.Nat.{one_shl}
-use Rattle.plant_model.specs.ConnectorRows.{has_all_at, is_from}
-use Rattle.plant_model.specs.Dependents.{is_in_row}
+use Rattle.plant_model.specs.ConnectorRows.{has_all_at, is_from, is_in_row}
 use Rattle.plant_model.specs.Interaction.{interaction_of}
 use Rattle.plant_model.proofs.Pushed.{rows-pushed}
 use Rattle.plant_model.proofs.connector_rows.rows_of_leaves.Goals as goal

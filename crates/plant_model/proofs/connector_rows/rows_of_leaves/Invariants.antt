@@ -1,6 +1,5 @@
 use Rattle.std.proofs.Common.{◌≡◌, ◌<◌, ◌&&◌, ◌^◌, ℕ, map, length}
-use Rattle.plant_model.specs.ConnectorRows.{has_all_at, is_from}
-use Rattle.plant_model.specs.Dependents.{is_in_row}
+use Rattle.plant_model.specs.ConnectorRows.{has_all_at, is_from, is_in_row}
 use Rattle.plant_model.specs.Interaction.{interaction_of}
 use Rattle.plant_model.proofs.connector_rows.rows_of_leaves.Given as goal
 

@@ -1,6 +1,5 @@
 use Rattle.std.proofs.Common.{◌≡◌, ◌++◌, drop, take}
-use Rattle.plant_model.specs.Dependents.{has_row}
-use Rattle.plant_model.specs.Reach.{leaves_from}
+use Rattle.plant_model.specs.Reach.{leaves_from, has_row}
 use Rattle.plant_model.proofs.reach.push_leaves.Given as goal
 
 abbrev pub invariant-loop-leaf : goal.invariant-loop-leaf

@@ -4,9 +4,8 @@ use Rattle.std.proofs.lemmas.List.{length-map}
 use Rattle.std.proofs.lemmas.Option.{slice_get_past}
 use Rattle.connector_tree.specs.Tree.{leaves}
 use Rattle.priority_filter.specs.Members.{has_bit}
-use Rattle.plant_model.specs.Dependents.{has_row}
 use Rattle.plant_model.specs.Plant.{WireDefinition}
-use Rattle.plant_model.specs.Reach.{is_at, leaves_at, leaves_from}
+use Rattle.plant_model.specs.Reach.{is_at, leaves_at, leaves_from, has_row}
 use Rattle.plant_model.specs.Wire.{wire_of}
 use Rattle.plant_model.proofs.ByConnector.{lent-count, lent-leaves}
 use Rattle.plant_model.proofs.Pushed.{some-at}

@@ -16,7 +16,7 @@ use Rattle.step_core.specs.EnabledTransitions.{AreCounted, AreMovable, AreOffere
 use Rattle.step_core.specs.Weights.{is_kept_of}
 use Rattle.step_core.proofs.LeafStates.{off-of}
 use Rattle.step_core.proofs.SystemConnectors.{of-there}
-use Rattle.step_core.proofs.Settling.{allowed-anew, none-past}
+use Rattle.step_core.proofs.Unsettled.{allowed-anew, none-past}
 use Rattle.step_core.proofs.Unchanged.{none-kept}
 use Rattle.step_core.proofs.choices.judge.Goals as goal
 
@@ -78,7 +78,7 @@ returns c =
       leaves = c.of-leaves.ensures;
       possible = c.judge_dirty.ensures.possible;
       seen = seen;
-      standing = λ some. (c.standing_of-standing.ensures.standing, c.standing_of-standing.ensures.rivals);
+      standing = c.standing_of-standing.ensures;
       allowed = allowed-anew (plant_of s) states (interactions_in s) c.seen-seen.result seen c.judge_dirty.new.possible c.keep.new.kept c.judge_dirty.ensures.possible c.keep.ensures.kept;
       weights = c.weigh_again.ensures;
     }

@@ -19,6 +19,6 @@ judge_again-requires c =
       few = c.as_slice.ensures.few;
       apart = subst AreApart (sym moves) (are-apart (plant_of s) before choice s.valid c.requires.allowed);
       there = λ k m at. atom-there s before choice c.requires.allowed k m (ap (λ ms. slice_get ms k) (sym moves) ∙ at);
-      behind = subst (λ ms. IsMovedBehind (plant_of s) (interactions_in s) ms c.fire.new.states c.args.judgement.now) (sym moves)
-          (subst (λ states. IsMovedBehind (plant_of s) (interactions_in s) choice.moves states c.args.judgement.now) (sym c.fire.ensures.next) (moved-behind s before choice c.requires.allowed c.args.judgement.now c.requires.judged));
+      behind = subst (λ ms. IsMovedBehind (plant_of s) (interactions_in s) s.ranks ms c.fire.new.states c.args.judgement.now) (sym moves)
+          (subst (λ states. IsMovedBehind (plant_of s) (interactions_in s) s.ranks choice.moves states c.args.judgement.now) (sym c.fire.ensures.next) (moved-behind s before choice c.requires.allowed c.args.judgement.now c.requires.judged));
     }

@@ -7,7 +7,7 @@ use Rattle.petri_atom.specs.Atom.{definition_of}
 use Rattle.petri_atom.specs.Parts.{port_of}
 use Rattle.petri_atom.proofs.Sets.{has-or}
 use Rattle.priority_filter.specs.Members.{has_bit}
-use Rattle.plant_model.specs.Dependents.{row_of_port}
+use Rattle.plant_model.specs.Reach.{row_of_port}
 use Rattle.plant_model.specs.Reach.{is_at}
 use Rattle.plant_model.specs.Wire.{wire_of}
 use Rattle.step_core.proofs.ConnectorsOf.{at-none, no-leaf, no-leaf-past}

@@ -1,6 +1,6 @@
 use Rattle.std.proofs.Common.{◌≡◌, ◌<◌, ◌≤◌, ℕ, false, length, map}
 use Rattle.priority_filter.specs.Members.{has_bit}
-use Rattle.plant_model.specs.Dependents.{row_of_port}
+use Rattle.plant_model.specs.Reach.{row_of_port}
 use Rattle.plant_model.specs.Reach.{is_at}
 use Rattle.plant_model.specs.Wire.{wire_of}
 use Rattle.step_core.proofs.sure.connectors_of_atom.Given as goal

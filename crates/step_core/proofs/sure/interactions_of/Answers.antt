@@ -5,12 +5,13 @@ use Rattle.std.specs.Vec.{vec_len}
 use Rattle.std.proofs.lemmas.Bool.{cases_eq, cases_lt, false≢true, or_left, or_right}
 use Rattle.std.proofs.lemmas.List.{length-map}
 use Rattle.priority_filter.specs.Members.{has_bit}
-use Rattle.priority_filter.proofs.Words.{rest-less}
 use Rattle.plant_model.specs.ConnectorRows.{is_of_connector}
 use Rattle.plant_model.specs.Interaction.{interaction_of}
 use Rattle.plant_model.specs.System.{interactions_in, plant_of}
 use Rattle.plant_model.proofs.OfInteractions.{within-limits}
-use Rattle.step_core.proofs.ConnectorsOf.{lowest-set, no-bit, of-connector-within, own-row, rest-in, rest-out}
+use Rattle.step_core.proofs.BitsLeft.{fewer-in, fewer-out}
+use Rattle.step_core.proofs.ConnectorsOf.{lowest-set, no-bit, of-connector-within, own-row}
+use Rattle.step_core.proofs.WithoutLowest.{fewer-less}
 use Rattle.step_core.proofs.sure.interactions_of.Goals as goal
 
 pub index-requires : goal.index-requires
@@ -26,7 +27,7 @@ index-requires c =
     (cases_lt low (vec_len system.connector_rows))
 
 pub loop-left-smaller : goal.loop-left-smaller
-loop-left-smaller c = rest-less c.loop-left.left (omega (arith, c.loop-left-test.true)) (omega arith)
+loop-left-smaller c = fewer-less w64 c.loop-left.left (omega (arith, c.loop-left-test.true)) (omega arith)
 
 pub loop-left-preserved : goal.loop-left-preserved
 loop-left-preserved c =
@@ -46,12 +47,12 @@ loop-left-preserved c =
     let low_number : (n k : ℕ) → is_of_connector (interactions_in system) k n ≡ true → n < 64 * c.div_ceil-words.result =
     λ n k its. omega (arith, of-connector-within (interactions_in system) k n its, length-map system.interactions.items interaction_of, c.div_ceil-words.ensures) in
     record {
-      part = λ k inside. before.part k (rest-in left some small k inside);
+      part = λ k inside. before.part k (fewer-in left some small k inside);
       put = λ n k its inside out.
           c.union_words.ensures.within n (low_number n k its) ∙
           ⊎_elim
           (λ same. or_right (contains all n) (contains row.own n) (own-row system low row within c.index.ensures n ∙ ap (λ j. is_of_connector (interactions_in system) j n) (sym same) ∙ its))
-          (λ other. or_left (contains all n) (contains row.own n) (before.put n k its inside (rest-out left some small k other out)))
+          (λ other. or_left (contains all n) (contains row.own n) (before.put n k its inside (fewer-out left some small k other out)))
           (cases_eq k low);
     }
 

@@ -23,11 +23,11 @@ judge_moved-changes-requires-clause-behind c =
     let states = sym c.shown.ensures.states in
     let before = shown_in behind.before in
     record {
-      offered_others = subst (λ ss. AreOfferedBut (atoms_of moves) plant.atoms ss j.judgement.offers.sets) states (offered-others plant all parts c.requires.of_plant (atoms_of moves) [] j behind);
-      movable_others = subst (λ ss. AreMovableBut (atoms_of moves) plant.atoms ss j.judgement.offers.movable) states (movable-others plant all parts c.requires.of_plant (atoms_of moves) [] j behind);
+      offered_others = subst (λ ss. AreOfferedBut (atoms_of moves) plant.atoms ss j.judgement.offers.sets) states (offered-others plant all c.args.system.now.ranks parts c.requires.of_plant (atoms_of moves) [] j behind);
+      movable_others = subst (λ ss. AreMovableBut (atoms_of moves) plant.atoms ss j.judgement.offers.movable) states (movable-others plant all c.args.system.now.ranks parts c.requires.of_plant (atoms_of moves) [] j behind);
       fired = λ k m a s at known there.
           let b : Local = get_or before m.atom some_state in
-          let was = slice_get-get_or before m.atom some_state (omega (arith, c.requires.there k m at, before-of-plant plant all parts c.requires.of_plant (atoms_of moves) [] j behind)) in
+          let was = slice_get-get_or before m.atom some_state (omega (arith, c.requires.there k m at, before-of-plant plant all c.args.system.now.ranks parts c.requires.of_plant (atoms_of moves) [] j behind)) in
           let fired = c.requires.behind.fired k m a b s at known was (ap (λ ss. slice_get ss m.atom) states ∙ there) in
           record {
             before = b;
@@ -44,7 +44,7 @@ see_moved-is_seen_new-requires-clause-few c at past = unmarked-past c.args.parts
 
 pub see_moved-is_seen_new-requires-clause-others : goal.see_moved-is_seen_new-requires-clause-others
 see_moved-is_seen_new-requires-clause-others c =
-    seen-others (plant_of c.args.system.now) (interactions_in c.args.system.now) c.args.parts.now c.requires.of_plant (atoms_of c.args.moves.now) [] c.args.judgement.now c.requires.behind.behind
+    seen-others (plant_of c.args.system.now) (interactions_in c.args.system.now) c.args.system.now.ranks c.args.parts.now c.requires.of_plant (atoms_of c.args.moves.now) [] c.args.judgement.now c.requires.behind.behind
 
 pub settle_sure-requires-clause-unsettled : goal.settle_sure-requires-clause-unsettled
 settle_sure-requires-clause-unsettled c =
@@ -52,7 +52,7 @@ settle_sure-requires-clause-unsettled c =
     let judged = c.judge_moved-changes in
     let sights = c.see_moved-is_seen_new in
     let states = c.shown.ensures.states in
-    unsettled plant (interactions_in c.args.system.now) c.args.parts.now c.requires.of_plant (atoms_of c.args.moves.now) [] c.args.judgement.now c.requires.behind.behind
+    unsettled plant (interactions_in c.args.system.now) c.args.system.now.ranks c.args.parts.now c.requires.of_plant (atoms_of c.args.moves.now) [] c.args.judgement.now c.requires.behind.behind
     judged.result 0 sights.result judged.new.offers judged.new.leaves sights.new.seen
     (λ k atom none its. absurd (false≢true its)) (λ k past. no-bit k)
     (subst (λ ss. AreOffered plant.atoms ss judged.new.offers.sets) states judged.ensures.offered) (subst (λ ss. AreMovable plant.atoms ss judged.new.offers.movable) states judged.ensures.movable)

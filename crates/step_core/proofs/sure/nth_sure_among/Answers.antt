@@ -23,9 +23,11 @@ choose-requires-clause-offering c =
     let judged = c.requires.judged in
     let shown = c.shown.ensures.states in
     record {
-      offered = subst (λ ss. AreOffered plant.atoms ss j.offers.sets) (sym shown) judged.offered;
-      counted = judged.counted;
-      leaves = judged.leaves;
+      offers = record {
+        offered = subst (λ ss. AreOffered plant.atoms ss j.offers.sets) (sym shown) judged.offered;
+        counted = judged.counted;
+        leaves = judged.leaves;
+      };
       kept = λ n yes_.
           ap (λ ss. is_possible_at plant.atoms plant.wires ss all n) shown ∙
           sure-possible plant (well_formed system.atoms.items) parts all n (sym (judged.sure n) ∙ yes_);

@@ -1,7 +1,7 @@
-use Rattle.std.proofs.Common.{◌≡◌, ◌∙◌, ◌||◌, ℕ, false, ap, sym, subst, arith, length}
+use Rattle.std.proofs.Common.{◌≡◌, ◌∙◌, ◌||◌, ℕ, false, ap, sym, subst, arith, length, ⊎_elim}
 use Rattle.std.specs.Prelude.{bit_or, slice_index_or}
 use Rattle.std.specs.FinSet.{contains}
-use Rattle.std.proofs.lemmas.Bool.{or_from, or_parts}
+use Rattle.std.proofs.lemmas.Bool.{cases_Bool, false≢true, or_from, or_parts}
 use Rattle.petri_atom.proofs.Sets.{has-or}
 use Rattle.priority_filter.specs.Members.{has_bit}
 use Rattle.plant_model.specs.Choice.{is_possible_at}
@@ -13,13 +13,13 @@ use Rattle.plant_model.proofs.RulesKept.{well_formed}
 use Rattle.step_core.specs.EnabledTransitions.{AreCounted, AreMovable, AreOffered}
 use Rattle.step_core.specs.Leaves.{AreLeaves}
 use Rattle.step_core.specs.Parts.{may_be_marked_in, shown_in}
-use Rattle.step_core.specs.Standing.{StandsFor}
+use Rattle.step_core.specs.Standing.{IsStanding}
 use Rattle.step_core.specs.Sure.{is_sure_at}
 use Rattle.step_core.specs.Weights.{AreWeighed, weight_of}
 use Rattle.step_core.specs.declared.enabled_transitions.EnabledTransitions.{EnabledTransitions}
 use Rattle.step_core.proofs.LeafStates.{off-of}
 use Rattle.step_core.proofs.Openness.{none-possible, sure-possible}
-use Rattle.step_core.proofs.SureSettled.{few-before, kept-behind, none-opened, of_shown, open-here, opened-past, possible-here, possible-past, sure-anew, touched-within, weights-here}
+use Rattle.step_core.proofs.SureSettled.{few-before, kept-behind, none-opened, of_shown, open-here, opened-past, possible-here, possible-past, rivals-here, sure-anew, touched-within, weights-here}
 use Rattle.step_core.proofs.sure.settle_sure.Goals as goal
 
 pub judge_dirty-changed-requires-clause-off : goal.judge_dirty-changed-requires-clause-off
@@ -66,32 +66,63 @@ can c n =
     let plant = plant_of c.args.system.now in
     c.judge_dirty-changed.ensures.possible n ∙ ap (λ states. is_possible_at plant.atoms plant.wires states (interactions_in c.args.system.now) n) c.shown-states.ensures.states
 
-pub keep_again-told-requires-clause-within : goal.keep_again-told-requires-clause-within
-keep_again-told-requires-clause-within c k past =
+pub stand_again-affected-requires-clause-within : goal.stand_again-affected-requires-clause-within
+stand_again-affected-requires-clause-within c k past =
     let first = c.judge_dirty-changed.result in
     let second = c.open_again-opened.result in
     has-or first second k ∙ or_from (has_bit first k) (has_bit second k) (c.judge_dirty-changed.ensures.changed_within k past) (c.open_again-opened.ensures.changed_within k past)
+
+pub stand_again-affected-requires-clause-standing : goal.stand_again-affected-requires-clause-standing
+stand_again-affected-requires-clause-standing c = c.requires.unsettled.standing
+
+pub stand_again-affected-requires-clause-others : goal.stand_again-affected-requires-clause-others
+stand_again-affected-requires-clause-others c =
+    let first = c.judge_dirty-changed.result in
+    let second = c.open_again-opened.result in
+    let both : (k : ℕ) → has_bit (bit_or first second) k ≡ false → (has_bit first k ≡ false) × (has_bit second k ≡ false) = λ k out. or_parts (has_bit first k) (has_bit second k) (sym (has-or first second k) ∙ out) in
+    rivals-here c.args.system.now c.args.parts.now c.requires.of_plant c.args.changes c.args.flipped c.args.is_seen_new c.args.judgement.now c.requires.unsettled
+    (bit_or first second) c.judge_dirty-changed.new.possible c.open_again-opened.new.opened
+    (λ n k its out. c.judge_dirty-changed.ensures.same n k its (both k out).0)
+    (λ n k its out. c.open_again-opened.ensures.same n k its (both k out).1)
+
+pub keep_again-told-requires-clause-within : goal.keep_again-told-requires-clause-within
+keep_again-told-requires-clause-within c = c.stand_again-affected.ensures.within
 
 pub keep_again-told-requires-clause-past : goal.keep_again-told-requires-clause-past
 keep_again-told-requires-clause-past c n past =
     c.judge_dirty-changed.ensures.possible n ∙ none-possible (plant_of c.args.system.now) c.shown-states.result.now (interactions_in c.args.system.now) n past
 
+pub keep_again-told-requires-clause-standing : goal.keep_again-told-requires-clause-standing
+keep_again-told-requires-clause-standing c = c.stand_again-affected.ensures.standing
+
 pub keep_again-told-requires-clause-behind : goal.keep_again-told-requires-clause-behind
 keep_again-told-requires-clause-behind c =
     let first = c.judge_dirty-changed.result in
     let second = c.open_again-opened.result in
-    let both : (k : ℕ) → has_bit (bit_or first second) k ≡ false → (has_bit first k ≡ false) × (has_bit second k ≡ false) = λ k out. or_parts (has_bit first k) (has_bit second k) (sym (has-or first second k) ∙ out) in
-    kept-behind c.args.system.now c.args.parts.now c.requires.of_plant c.args.changes c.args.flipped c.args.is_seen_new c.args.judgement.now c.requires.unsettled
-    (bit_or first second) (contains c.judge_dirty-changed.new.possible) (contains c.open_again-opened.new.opened)
+    let stood = c.stand_again-affected in
+    let possible = c.judge_dirty-changed.new.possible in
+    let opened = c.open_again-opened.new.opened in
+    let old = c.args.judgement.now in
+    -- what is not affected did not change
+    let both : (k : ℕ) → has_bit stood.result k ≡ false → (has_bit first k ≡ false) × (has_bit second k ≡ false) = λ k out.
+    or_parts (has_bit first k) (has_bit second k) (sym (has-or first second k) ∙ ⊎_elim
+    (λ inside. absurd (false≢true (sym out ∙ stood.ensures.changed k inside)))
+    (λ none. none)
+    (cases_Bool (has_bit (bit_or first second) k))) in
+    kept-behind c.args.system.now c.args.parts.now c.requires.of_plant c.args.changes c.args.flipped c.args.is_seen_new old c.requires.unsettled
+    stood.result possible stood.new.rivals
     (λ n k its out. c.judge_dirty-changed.ensures.same n k its (both k out).0)
-    (λ n k its out. c.open_again-opened.ensures.same n k its (both k out).1)
+    (λ n k its out.
+    stood.ensures.rivals n k its ∙ ap (λ b. b || contains opened n) (c.judge_dirty-changed.ensures.same n k its (both k out).0) ∙
+    ap (λ b. contains old.judgement.possible n || b) (c.open_again-opened.ensures.same n k its (both k out).1) ∙ sym (c.requires.unsettled.rivals n k its))
+    stood.ensures.told
 
 -- what is kept is sure
 sure : (c : goal.After-struct_known-2-1) (n : ℕ) → contains c.keep_again-told.new.kept n ≡ is_sure_at (plant_of c.args.system.now) c.args.parts.now (interactions_in c.args.system.now) n
 sure c =
     sure-anew c.args.system.now c.args.parts.now c.requires.of_plant c.args.changes c.args.flipped c.args.is_seen_new c.args.judgement.now c.requires.unsettled
-    (contains c.judge_dirty-changed.new.possible) (contains c.open_again-opened.new.opened) (contains c.keep_again-told.new.kept)
-    (can c) c.open_again-opened.ensures.opened c.keep_again-told.ensures.kept
+    c.judge_dirty-changed.new.possible c.open_again-opened.new.opened c.stand_again-affected.new.rivals c.keep_again-told.new.kept
+    (can c) c.open_again-opened.ensures.opened c.stand_again-affected.ensures.rivals c.keep_again-told.ensures.kept
 
 pub weigh-requires-clause-offering : goal.weigh-requires-clause-offering
 weigh-requires-clause-offering c =
@@ -101,9 +132,11 @@ weigh-requires-clause-offering c =
     let states = sym c.shown-states.ensures.states in
     let sets = c.args.judgement.now.judgement.offers.sets in
     record {
-      offered = subst (λ ss. AreOffered plant.atoms ss sets) states u.offered;
-      counted = u.counted;
-      leaves = u.leaves;
+      offers = record {
+        offered = subst (λ ss. AreOffered plant.atoms ss sets) states u.offered;
+        counted = u.counted;
+        leaves = u.leaves;
+      };
       kept = λ n yes_.
           ap (λ ss. is_possible_at plant.atoms plant.wires ss (interactions_in system) n) c.shown-states.ensures.states ∙
           sure-possible plant (well_formed system.atoms.items) c.args.parts.now (interactions_in system) n (sym (sure c n) ∙ yes_);
@@ -152,8 +185,8 @@ returns c =
       possible = λ n. ap (λ set. contains set n) told.possible ∙ can c.before n;
       seen = subst (λ rows. AreSeen plant.rules (may_be_marked_in parts) rows) (sym told.seen) u.seen;
       opened = c.open_again-opened.ensures.opened;
-      standing = subst (λ set. StandsFor plant all (λ n. contains set n || contains opened n) new.standing) (sym told.possible)
-          (subst (StandsFor plant all (λ n. contains c.judge_dirty-changed.new.possible n || contains opened n)) (sym told.standing) c.keep_again-told.ensures.standing);
+      rivals = λ n k its. c.stand_again-affected.ensures.rivals n k its ∙ ap (λ set. contains set n || contains opened n) (sym told.possible);
+      standing = subst (IsStanding plant all system.ranks (contains c.stand_again-affected.new.rivals)) (sym told.standing) c.stand_again-affected.ensures.standing;
       sure = λ n. ap (λ set. contains set n) told.kept ∙ sure c.before n;
       weights = subst (λ ss. AreWeighed plant.atoms ss all (contains new.kept) new.weights) c.shown-states.ensures.states told.weights;
     }

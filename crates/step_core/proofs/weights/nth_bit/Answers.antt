@@ -2,8 +2,8 @@ use Rattle.std.proofs.Common.{◌≡◌, ◌+◌, ◌<◌, ◌≤◌, ◌^◌, �
 use Rattle.std.specs.Int.{trailing_zeros}
 use Rattle.std.proofs.lemmas.Bool.{cases_eq}
 use Rattle.priority_filter.specs.Members.{has_bit}
-use Rattle.step_core.proofs.LowestBits.{IsRest, bit-below}
-use Rattle.step_core.proofs.Ones.{counted-all, counted-next, lowest-place, lowest-set, ones_below, without-lowest}
+use Rattle.step_core.proofs.LowestBits.{IsRest, bit-below, fewer-next}
+use Rattle.step_core.proofs.Ones.{counted-all, counted-next, lowest-place, lowest-set, ones_below}
 use Rattle.step_core.proofs.weights.nth_bit.Goals as goal
 
 -- while fewer are counted than there are, one is left
@@ -22,7 +22,7 @@ loop-preserved c =
     let some : 0 < c.loop.left = some-left c.args.word c.args.place c.loop.left before.0 c.loop.counter before.1 (omega arith) before.2 before.3 (omega (arith, c.loop-test.true, c.requires)) in (
       trailing_zeros w64 c.loop.left + 1,
       omega (arith, bit-below (has_bit c.args.word) c.loop.left before.0 some (omega arith) before.2),
-      without-lowest c.loop.left some (omega arith) (has_bit c.args.word) before.0 before.2,
+      fewer-next (has_bit c.args.word) c.loop.left before.0 some (omega arith) before.2,
       omega (arith, counted-next c.args.word c.loop.left before.0 before.2 some (omega arith), before.3),
     )
 

@@ -1,17 +1,18 @@
-use Rattle.std.proofs.Common.{◌≡◌, ⊎_elim, ℕ, ◌+◌, ◌==◌, ◌<◌, ◌≤◌, ◌∙◌, ap, sym, subst, refl, get_or, length, nat_lt, List, true, false, not, ◌&&◌, arith}
+use Rattle.std.proofs.Common.{◌≡◌, ⊎_elim, ℕ, ◌+◌, ◌/◌, ◌==◌, ◌<◌, ◌≤◌, ◌∙◌, ap, sym, subst, refl, get_or, length, nat_lt, List, true, false, not, ◌&&◌, arith}
 use Rattle.std.specs.Ordering.{nat_cmp}
 use Rattle.std.specs.FinSet.{FinSet, contains}
 use Rattle.std.specs.Prelude.{Option, Some, None, slice_get}
 use Rattle.std.specs.Option.{option_map_or}
-use Rattle.std.proofs.lemmas.Bool.{and_parts, cases_lt, eqb-true, false≢true, ltb-false, ltb-true, not-true}
+use Rattle.std.proofs.lemmas.Bool.{and_parts, cases_Bool, cases_lt, eq-eqb, eqb-true, false≢true, ltb-false, ltb-true, not-true}
 use Rattle.std.proofs.lemmas.List.{length-map}
 use Rattle.std.proofs.lemmas.Option.{same_Some, slice_get_past, slice_get_read}
+use Rattle.connector_tree.specs.Masks.{is_set}
 use Rattle.connector_tree.specs.Tree.{leaves}
 use Rattle.petri_atom.specs.Local.{Local}
+use Rattle.priority_filter.specs.declared.interaction_set.TheConstants.{ROW_WORDS}
 use Rattle.plant_model.specs.BoundExpressions.{has_all}
 use Rattle.plant_model.specs.Choice.{Interaction, is_offered_port, is_possible_at}
-use Rattle.plant_model.specs.ConnectorRows.{AreByConnector, AreRowsOf, IsJudged, IsOff, is_leaf_off, is_of_connector, is_with_all}
-use Rattle.plant_model.specs.Dependents.{is_in_row}
+use Rattle.plant_model.specs.ConnectorRows.{AreByConnector, AreRowsOf, IsJudged, IsOff, is_leaf_off, is_of_connector, is_with_all, is_in_row}
 use Rattle.plant_model.specs.Plant.{WireDefinition}
 use Rattle.plant_model.specs.Rules.{early_fault, fault_of_order, first_of, late_fault}
 use Rattle.plant_model.specs.System.{interactions_in, plant_of}
@@ -22,6 +23,7 @@ use Rattle.plant_model.specs.declared.connector_rows.ConnectorRows.{ConnectorRow
 use Rattle.plant_model.specs.declared.limits.TheConstants.{MAX_INTERACTIONS}
 use Rattle.plant_model.specs.declared.system.System.{System}
 use Rattle.plant_model.proofs.ByConnector.{by-connector, in-own-range, range-within}
+use Rattle.plant_model.proofs.JudgedWords.{judged-as}
 use Rattle.plant_model.proofs.OfConnector.{possible-by-rows}
 use Rattle.plant_model.proofs.OfInteractions.{within-limits}
 use Rattle.plant_model.proofs.Pushed.{some-at}
@@ -48,11 +50,20 @@ module _ (system : System) (k : ℕ) (within : k < length (plant_of system).wire
   few : r.first + r.count ≤ MAX_INTERACTIONS
   few = omega (arith, range-within all k r (length (leaves wire.0.connector)) found.0.clauses.items right, (within-limits (plant_of system) system.valid).interactions, ap length system.listed)
 
+  few-words : r.high ≤ ROW_WORDS
+  few-words = omega (arith, few, right.high)
+
   -- its interactions stand in the words of its range
-  in-words : (n : ℕ) → is_of_connector all k n ≡ true → (r.first ≤ n) × (n < r.first + r.count)
+  in-words : (n : ℕ) → contains r.own n ≡ true → (r.low ≤ n / 64) × (n / 64 < r.high)
   in-words n own =
-      let parts = and_parts (not (nat_lt n r.first)) (nat_lt n (r.first + r.count)) (in-own-range all k r (length (leaves wire.0.connector)) found.0.clauses.items right n ∙ own) in
-      (ltb-false n r.first (not-true (nat_lt n r.first) parts.0), ltb-true n (r.first + r.count) parts.1)
+      let parts = and_parts (not (nat_lt n r.first)) (nat_lt n (r.first + r.count)) (in-own-range all k r (length (leaves wire.0.connector)) found.0.clauses.items right n ∙ sym (right.own n) ∙ own) in (
+        omega (arith, ltb-false n r.first (not-true (nat_lt n r.first) parts.0), right.low),
+        omega (arith, ltb-true n (r.first + r.count) parts.1, right.high),
+      )
+
+  -- each of them is in the row of a leaf that takes part in all
+  in-must-row : (n j : ℕ) → contains r.own n ≡ true → is_set r.must j ≡ true → is_in_row r.on_leaf.items n j ≡ true
+  in-must-row n j own set = let its = (right.must j).0 set in right.on_leaf j n its.0 ∙ its.1 n (sym (right.own n) ∙ own)
 
   -- an interaction in the row of a clause is one of them
   in-row-own : (j n : ℕ) → is_in_row r.under_clause.items n j ≡ true → is_of_connector all k n ≡ true
@@ -88,7 +99,7 @@ module _ (system : System) (k : ℕ) (within : k < length (plant_of system).wire
 
   -- what is right of a set at its interactions, and what stays at all others
   module _ (states : List Local) (off : ℕ) (leaves_off : IsOff (plant_of system).atoms (plant_of system).wires states k off) (clauses : List Clause) (of_found : clauses ≡ found.0.clauses.items)
-      (old new : FinSet nat_cmp) (judged : IsJudged r off clauses states old new) where
+      (old new : FinSet nat_cmp) (judged : IsJudged (contains r.own) r off clauses states old new) where
     judged-one : (n : ℕ) → is_of_connector all k n ≡ true → contains new n ≡ is_possible_at (plant_of system).atoms (plant_of system).wires states all n
     judged-one n own = each (slice_get all n) refl
       where
@@ -108,6 +119,16 @@ module _ (system : System) (k : ℕ) (within : k < length (plant_of system).wire
     others-stay : (n : ℕ) → is_of_connector all k n ≡ false → contains new n ≡ contains old n
     others-stay n other = judged.others n (right.own n ∙ other)
 
+  -- where they stand in one word, all are judged with those of that
+  in-one-word : (states : List Local) (off : ℕ) (clauses : List Clause) (old new : FinSet nat_cmp) (low : ℕ) → low ≡ r.low → r.high ≡ low + 1
+      → IsJudged (λ n. contains r.own n && (n / 64 == low)) r off clauses states old new → IsJudged (contains r.own) r off clauses states old new
+  in-one-word states off clauses old new low begins ends =
+      judged-as r off clauses states (λ n. contains r.own n && (n / 64 == low)) (contains r.own) old new
+      (λ n. ⊎_elim
+      (λ own. let words = in-words n own in ap (λ b. b && (n / 64 == low)) own ∙ eq-eqb (n / 64) low (omega (arith, words.0, words.1, begins, ends)) ∙ sym own)
+      (λ no. ap (λ b. b && (n / 64 == low)) no ∙ sym no)
+      (cases_Bool (contains r.own n)))
+
 -- the place of the rows, and of what is found of the wire
 rows-at : (system : System) (number connector : ℕ) (r : ConnectorRows) → number ≡ connector → r ≡ get_or system.connector_rows.items number r → r ≡ get_or system.connector_rows.items connector r
 rows-at system number connector r same is = is ∙ ap (λ m. get_or system.connector_rows.items m r) same
@@ -117,29 +138,21 @@ clauses-at : (system : System) (connector : ℕ) (within : connector < length (p
 clauses-at system connector within number same b at clauses lent r is =
     lent ∙ ap (λ (x : BoundExpressions). x.clauses.items) (own-clauses system connector within r is b (at ∙ ap (λ m. get_or system.bound.items m b) same))
 
-pub overflow_add-first : goal.overflow_add-first
-overflow_add-first c =
-    let its = rows-at c.args.self.now c.from-number.result c.args.connector c.index-rows.result.now c.from-number.ensures c.index-rows.ensures in
-    omega (arith, few c.args.self.now c.args.connector c.requires.connector c.index-rows.result.now its, c.from-first.ensures, c.from.ensures)
-
 pub judge_word-requires-clause-place : goal.judge_word-requires-clause-place
 judge_word-requires-clause-place c =
-    let its = rows-at c.args.self.now c.from-number.result c.args.connector c.index-rows.result.now c.from-number.ensures c.index-rows.ensures in
-    omega (arith, few c.args.self.now c.args.connector c.requires.connector c.index-rows.result.now its, c.from-first.ensures, c.from.ensures, c.div_ceil-high.ensures, c.if-high-low.true)
-
-pub judge_words-requires-clause-words : goal.judge_words-requires-clause-words
-judge_words-requires-clause-words c =
-    let its = rows-at c.args.self.now c.from-number.result c.args.connector c.index-rows.result.now c.from-number.ensures c.index-rows.ensures in
-    omega (arith, few c.args.self.now c.args.connector c.requires.connector c.index-rows.result.now its, c.from-first.ensures, c.from.ensures, c.div_ceil-high.ensures)
-
-pub judge_word-requires-clause-own : goal.judge_word-requires-clause-own
-judge_word-requires-clause-own c n own =
     let system = c.args.self.now in
     let k = c.args.connector in
     let r = c.index-rows.result.now in
     let its = rows-at system c.from-number.result k r c.from-number.ensures c.index-rows.ensures in
-    let words = in-words system k c.requires.connector r its n (sym ((right system k c.requires.connector r its).own n) ∙ own) in
-    omega (arith, words.0, words.1, c.from-first.ensures, c.from.ensures, c.div_ceil-high.ensures, c.if-high-low.true)
+    omega (arith, few-words system k c.requires.connector r its, c.from-low.ensures, c.from-high.ensures, c.if-high-low.true)
+
+pub judge_words-requires-clause-words : goal.judge_words-requires-clause-words
+judge_words-requires-clause-words c =
+    let system = c.args.self.now in
+    let k = c.args.connector in
+    let r = c.index-rows.result.now in
+    let its = rows-at system c.from-number.result k r c.from-number.ensures c.index-rows.ensures in
+    omega (arith, few-words system k c.requires.connector r its, c.from-high.ensures)
 
 pub judge_words-requires-clause-own : goal.judge_words-requires-clause-own
 judge_words-requires-clause-own c n own =
@@ -147,8 +160,24 @@ judge_words-requires-clause-own c n own =
     let k = c.args.connector in
     let r = c.index-rows.result.now in
     let its = rows-at system c.from-number.result k r c.from-number.ensures c.index-rows.ensures in
-    let words = in-words system k c.requires.connector r its n (sym ((right system k c.requires.connector r its).own n) ∙ own) in
-    (omega (arith, words.0, c.from-first.ensures), omega (arith, words.1, c.from-first.ensures, c.from.ensures, c.div_ceil-high.ensures))
+    let words = in-words system k c.requires.connector r its n own in
+    (omega (arith, words.0, c.from-low.ensures), omega (arith, words.1, c.from-high.ensures))
+
+pub judge_word-requires-clause-must : goal.judge_word-requires-clause-must
+judge_word-requires-clause-must c =
+    let system = c.args.self.now in
+    let k = c.args.connector in
+    let r = c.index-rows.result.now in
+    let its = rows-at system c.from-number.result k r c.from-number.ensures c.index-rows.ensures in
+    in-must-row system k c.requires.connector r its
+
+pub judge_words-requires-clause-must : goal.judge_words-requires-clause-must
+judge_words-requires-clause-must c =
+    let system = c.args.self.now in
+    let k = c.args.connector in
+    let r = c.index-rows.result.now in
+    let its = rows-at system c.from-number.result k r c.from-number.ensures c.index-rows.ensures in
+    in-must-row system k c.requires.connector r its
 
 pub judge_words-requires-clause-under : goal.judge_words-requires-clause-under
 judge_words-requires-clause-under c j n inside =
@@ -194,7 +223,8 @@ returns-then-high-low-clause-judged c =
     let its = rows-at system c.from-number.result k r c.from-number.ensures c.index-rows.ensures in
     judged-one system k c.requires.connector r its c.args.states.now c.args.off c.requires.off c.deref-clauses.result.now
     (clauses-at system k c.requires.connector c.from-number.result c.from-number.ensures c.index.result.now c.index.ensures c.deref-clauses.result.now c.deref-clauses.ensures.value r its)
-    c.args.possible.now c.judge_word.new.possible c.judge_word.ensures.judged
+    c.args.possible.now c.judge_word.new.possible (in-one-word system k c.requires.connector r its c.args.states.now c.args.off c.deref-clauses.result.now c.args.possible.now c.judge_word.new.possible c.from-low.result
+    c.from-low.ensures (omega (arith, c.from-high.ensures, c.if-high-low.true)) c.judge_word.ensures.judged)
 
 pub returns-else-high-low-clause-judged : goal.returns-else-high-low-clause-judged
 returns-else-high-low-clause-judged c =
@@ -214,7 +244,8 @@ returns-then-high-low-clause-others c =
     let its = rows-at system c.from-number.result k r c.from-number.ensures c.index-rows.ensures in
     others-stay system k c.requires.connector r its c.args.states.now c.args.off c.requires.off c.deref-clauses.result.now
     (clauses-at system k c.requires.connector c.from-number.result c.from-number.ensures c.index.result.now c.index.ensures c.deref-clauses.result.now c.deref-clauses.ensures.value r its)
-    c.args.possible.now c.judge_word.new.possible c.judge_word.ensures.judged
+    c.args.possible.now c.judge_word.new.possible (in-one-word system k c.requires.connector r its c.args.states.now c.args.off c.deref-clauses.result.now c.args.possible.now c.judge_word.new.possible c.from-low.result
+    c.from-low.ensures (omega (arith, c.from-high.ensures, c.if-high-low.true)) c.judge_word.ensures.judged)
 
 pub returns-else-high-low-clause-others : goal.returns-else-high-low-clause-others
 returns-else-high-low-clause-others c =

@@ -7,13 +7,10 @@ use Rattle.connector_tree.specs.declared.tree.TheConstants.{MAX_LEAVES}
 use Rattle.priority_filter.specs.Decided.{order_fault}
 use Rattle.plant_model.specs.Choice.{interactions_from, named, plant_interactions}
 use Rattle.plant_model.specs.Interaction.{interaction_of}
-use Rattle.plant_model.specs.Ways.{each_fits_word, fits_word}
-use Rattle.std.proofs.lemmas.List.Folds.{list_all-map}
 use Rattle.plant_model.specs.BoundExpressions.{AreGuarding, AreDelivering}
 use Rattle.plant_model.specs.Wire.{wire_of}
 use Rattle.plant_model.specs.Made.{plant_by}
 use Rattle.plant_model.specs.Rules.{early_fault, first_fault, fault_of, fault_of_count, fault_of_wires}
-use Rattle.plant_model.specs.Dependents.{AreDependents, AreOnPorts}
 use Rattle.plant_model.specs.ConnectorRows.{AreByConnector, AreConnectorRows}
 use Rattle.plant_model.specs.Plant.{WireDefinition}
 use Rattle.plant_model.specs.Choice as choice
@@ -109,13 +106,8 @@ returns-in_err-order-clause-fault c =
     order-told plant c.in_err-order.field-0.0 c.from_residual-in_err-order.result
     (no_fault c.args.atoms.items c.deref.result.now c.args.wires.items c.deref-2.result.now c.args.rules.now c.first_fault.result c.deref.ensures.value c.deref-2.ensures.value c.first_fault.ensures c.in_default.is)
     (ap fault_of_count count ∙ sym c.fault_of_count.ensures ∙ c.in_default-fault_of_count.is)
-    (subst (λ xs. c.in_err-order.field-0.0 ≢ order.Memory → order_fault rules (map named xs) ≡ Some c.in_err-order.field-0.0) (ap (map interaction_of) c.deref-8.ensures.value ∙ listed) c.in_err-order.ensures.fault)
+    (subst (λ xs. c.in_err-order.field-0.0 ≢ order.Memory → order_fault rules (map named xs) ≡ Some c.in_err-order.field-0.0) (ap (map interaction_of) c.deref-7.ensures.value ∙ listed) c.in_err-order.ensures.fault)
     c.from_residual-in_err-order.ensures.1
-
-pub returns-in_err-dependents-clause-fault : goal.returns-in_err-dependents-clause-fault
-returns-in_err-dependents-clause-fault c =
-    memory-told (plant_by c.args.atoms.items c.args.wires.items c.args.rules.now) c.from_residual-in_err-dependents.result
-    (no_fault c.args.atoms.items c.deref.result.now c.args.wires.items c.deref-2.result.now c.args.rules.now c.first_fault.result c.deref.ensures.value c.deref-2.ensures.value c.first_fault.ensures c.in_default.is) c.from_residual-in_err-dependents.ensures.1
 
 pub returns-in_err-connector_rows-clause-fault : goal.returns-in_err-connector_rows-clause-fault
 returns-in_err-connector_rows-clause-fault c =
@@ -143,28 +135,19 @@ returns-clause-made c = ap (plant_by c.args.atoms.items c.args.wires.items) c.in
 pub returns-clause-digest : goal.returns-clause-digest
 returns-clause-digest c = refl
 
-pub dependent_rows-requires-clause-atoms : goal.dependent_rows-requires-clause-atoms
-dependent_rows-requires-clause-atoms c =
-    let atoms = c.args.atoms.items in
-    let wires = c.args.wires.items in
-    let plant = plant_by atoms wires c.args.rules.now in
-    let none : first_fault plant ≡ None =
-    ap (λ xs. first_fault (plant_by xs wires c.args.rules.now)) (sym c.deref.ensures.value) ∙ ap (λ ws. first_fault (plant_by c.deref.result.now ws c.args.rules.now)) (sym c.deref-2.ensures.value) ∙ sym c.first_fault.ensures ∙ c.in_default.is in
-    omega (arith, few_atoms plant (first_none (early_fault plant) (fault_of_wires plant) none), length-map atoms definition_of, c.len-3.ensures, c.args.atoms.ok.0)
-
 pub connector_rows-requires-clause-few_wires : goal.connector_rows-requires-clause-few_wires
 connector_rows-requires-clause-few_wires c =
-    lent_few c.args.atoms.items c.args.wires.items c.deref-12.result.now c.args.rules.now c.deref-12.ensures.value
+    lent_few c.args.atoms.items c.args.wires.items c.deref-8.result.now c.args.rules.now c.deref-8.ensures.value
     (no_fault c.args.atoms.items c.deref.result.now c.args.wires.items c.deref-2.result.now c.args.rules.now c.first_fault.result c.deref.ensures.value c.deref-2.ensures.value c.first_fault.ensures c.in_default.is)
 
 pub connector_rows-requires-clause-few_leaves : goal.connector_rows-requires-clause-few_leaves
 connector_rows-requires-clause-few_leaves c =
-    lent_leaves c.args.atoms.items c.args.wires.items c.deref-12.result.now c.args.rules.now c.deref-12.ensures.value
+    lent_leaves c.args.atoms.items c.args.wires.items c.deref-8.result.now c.args.rules.now c.deref-8.ensures.value
     (no_fault c.args.atoms.items c.deref.result.now c.args.wires.items c.deref-2.result.now c.args.rules.now c.first_fault.result c.deref.ensures.value c.deref-2.ensures.value c.first_fault.ensures c.in_default.is)
 
 pub connector_rows-requires-clause-bound : goal.connector_rows-requires-clause-bound
 connector_rows-requires-clause-bound c =
-    ap length c.deref-14.ensures.value ∙ c.in_ok-bound.ensures.as_many ∙ ap length c.deref-5.ensures.value ∙ sym (ap length c.deref-12.ensures.value)
+    ap length c.deref-10.ensures.value ∙ c.in_ok-bound.ensures.as_many ∙ ap length c.deref-5.ensures.value ∙ sym (ap length c.deref-8.ensures.value)
 
 pub connector_rows-requires-clause-listed : goal.connector_rows-requires-clause-listed
 connector_rows-requires-clause-listed c =
@@ -172,9 +155,9 @@ connector_rows-requires-clause-listed c =
     let wires = c.args.wires.items in
     let rules = c.args.rules.now in
     let all = c.in_ok-interactions.interactions in
-    kept_order atoms wires c.deref-12.result.now rules c.deref-12.ensures.value
+    kept_order atoms wires c.deref-8.result.now rules c.deref-8.ensures.value
     (no_fault atoms c.deref.result.now wires c.deref-2.result.now rules c.first_fault.result c.deref.ensures.value c.deref-2.ensures.value c.first_fault.ensures c.in_default.is)
-    all.items c.deref-15.result.now c.deref-15.ensures.value
+    all.items c.deref-11.result.now c.deref-11.ensures.value
     (listed-all atoms wires c.deref-6.result.now rules c.len.result all.items (omega (arith, c.len.ensures, c.args.atoms.ok.0)) c.deref-6.ensures.value c.in_ok-interactions.ensures)
 
 pub reach_of-requires-clause-atoms : goal.reach_of-requires-clause-atoms
@@ -183,16 +166,16 @@ reach_of-requires-clause-atoms c =
     let wires = c.args.wires.items in
     let plant = plant_by atoms wires c.args.rules.now in
     let none = no_fault atoms c.deref.result.now wires c.deref-2.result.now c.args.rules.now c.first_fault.result c.deref.ensures.value c.deref-2.ensures.value c.first_fault.ensures c.in_default.is in
-    omega (arith, few_atoms plant (first_none (early_fault plant) (fault_of_wires plant) none), length-map atoms definition_of, c.len-4.ensures, c.args.atoms.ok.0)
+    omega (arith, few_atoms plant (first_none (early_fault plant) (fault_of_wires plant) none), length-map atoms definition_of, c.len-3.ensures, c.args.atoms.ok.0)
 
 pub reach_of-requires-clause-few_wires : goal.reach_of-requires-clause-few_wires
 reach_of-requires-clause-few_wires c =
-    lent_few c.args.atoms.items c.args.wires.items c.deref-16.result.now c.args.rules.now c.deref-16.ensures.value
+    lent_few c.args.atoms.items c.args.wires.items c.deref-12.result.now c.args.rules.now c.deref-12.ensures.value
     (no_fault c.args.atoms.items c.deref.result.now c.args.wires.items c.deref-2.result.now c.args.rules.now c.first_fault.result c.deref.ensures.value c.deref-2.ensures.value c.first_fault.ensures c.in_default.is)
 
 pub reach_of-requires-clause-few_leaves : goal.reach_of-requires-clause-few_leaves
 reach_of-requires-clause-few_leaves c =
-    lent_leaves c.args.atoms.items c.args.wires.items c.deref-16.result.now c.args.rules.now c.deref-16.ensures.value
+    lent_leaves c.args.atoms.items c.args.wires.items c.deref-12.result.now c.args.rules.now c.deref-12.ensures.value
     (no_fault c.args.atoms.items c.deref.result.now c.args.wires.items c.deref-2.result.now c.args.rules.now c.first_fault.result c.deref.ensures.value c.deref-2.ensures.value c.first_fault.ensures c.in_default.is)
 
 pub usual_of-requires-clause-atoms : goal.usual_of-requires-clause-atoms
@@ -200,15 +183,15 @@ usual_of-requires-clause-atoms c =
     let atoms = c.args.atoms.items in
     let plant = plant_by atoms c.args.wires.items c.args.rules.now in
     let none = no_fault atoms c.deref.result.now c.args.wires.items c.deref-2.result.now c.args.rules.now c.first_fault.result c.deref.ensures.value c.deref-2.ensures.value c.first_fault.ensures c.in_default.is in
-    omega (arith, few_atoms plant (first_none (early_fault plant) (fault_of_wires plant) none), length-map atoms definition_of, ap length c.deref-18.ensures.value)
+    omega (arith, few_atoms plant (first_none (early_fault plant) (fault_of_wires plant) none), length-map atoms definition_of, ap length c.deref-14.ensures.value)
 
 pub usual_of-requires-clause-few_connectors : goal.usual_of-requires-clause-few_connectors
 usual_of-requires-clause-few_connectors c =
     let wires = c.args.wires.items in
-    let lists = lent-lists c.in_ok-ports.ports.items c.deref-19.result.now wires c.deref-3.result.now c.deref-19.ensures.value c.deref-3.ensures.value c.in_ok-ports.ensures in
+    let lists = lent-lists c.in_ok-ports.ports.items c.deref-15.result.now wires c.deref-3.result.now c.deref-15.ensures.value c.deref-3.ensures.value c.in_ok-ports.ensures in
     omega (
       arith,
-      as-many-lists c.deref-19.result.now wires lists,
+      as-many-lists c.deref-15.result.now wires lists,
       lent_few c.args.atoms.items wires wires c.args.rules.now refl
           (no_fault c.args.atoms.items c.deref.result.now wires c.deref-2.result.now c.args.rules.now c.first_fault.result c.deref.ensures.value c.deref-2.ensures.value c.first_fault.ensures c.in_default.is),
     )
@@ -216,8 +199,8 @@ usual_of-requires-clause-few_connectors c =
 pub usual_of-requires-clause-few_leaves : goal.usual_of-requires-clause-few_leaves
 usual_of-requires-clause-few_leaves c k ps there =
     let wires = c.args.wires.items in
-    let lists = lent-lists c.in_ok-ports.ports.items c.deref-19.result.now wires c.deref-3.result.now c.deref-19.ensures.value c.deref-3.ensures.value c.in_ok-ports.ensures in
-    let own = of-wires (map (λ list. list.items) c.deref-19.result.now) (map wire_of wires) lists k ps there in
+    let lists = lent-lists c.in_ok-ports.ports.items c.deref-15.result.now wires c.deref-3.result.now c.deref-15.ensures.value c.deref-3.ensures.value c.in_ok-ports.ensures in
+    let own = of-wires (map (λ list. list.items) c.deref-15.result.now) (map wire_of wires) lists k ps there in
     omega (
       arith,
       ap length own.2,
@@ -228,11 +211,11 @@ usual_of-requires-clause-few_leaves c k ps there =
 pub ranks_of-requires-clause-few_rows : goal.ranks_of-requires-clause-few_rows
 ranks_of-requires-clause-few_rows c =
     let none = no_fault c.args.atoms.items c.deref.result.now c.args.wires.items c.deref-2.result.now c.args.rules.now c.first_fault.result c.deref.ensures.value c.deref-2.ensures.value c.first_fault.ensures c.in_default.is in
-    omega (arith, lent_few c.args.atoms.items c.args.wires.items c.deref-12.result.now c.args.rules.now c.deref-12.ensures.value none, ap length c.deref-20.ensures.value, c.in_ok-connector_rows.ensures.as_many, length-map c.deref-12.result.now wire_of)
+    omega (arith, lent_few c.args.atoms.items c.args.wires.items c.deref-8.result.now c.args.rules.now c.deref-8.ensures.value none, ap length c.deref-16.ensures.value, c.in_ok-connector_rows.ensures.as_many, length-map c.deref-8.result.now wire_of)
 
 pub ranks_of-requires-clause-ordered : goal.ranks_of-requires-clause-ordered
 ranks_of-requires-clause-ordered c =
-    c.in_ok-order.ensures.interactions ∙ ap (λ xs. map named (map interaction_of xs)) (c.deref-8.ensures.value ∙ sym c.deref-21.ensures.value)
+    c.in_ok-order.ensures.interactions ∙ ap (λ xs. map named (map interaction_of xs)) (c.deref-7.ensures.value ∙ sym c.deref-17.ensures.value)
 
 pub ranks_of-requires-clause-ranges : goal.ranks_of-requires-clause-ranges
 ranks_of-requires-clause-ranges c =
@@ -244,13 +227,13 @@ ranks_of-requires-clause-ranges c =
     let bound = c.in_ok-bound.bound.items in
     let rows = c.in_ok-connector_rows.connector_rows.items in
     let listed = listed-all atoms wires c.deref-6.result.now rules c.len.result all.items (omega (arith, c.len.ensures, c.args.atoms.ok.0)) c.deref-6.ensures.value c.in_ok-interactions.ensures in
-    let are : AreConnectorRows (map wire_of wires) bound (map interaction_of all.items) rows = kept-rows c.args.wires.items c.deref-12.result.now bound c.deref-14.result.now all.items c.deref-15.result.now rows c.deref-12.ensures.value c.deref-14.ensures.value c.deref-15.ensures.value c.in_ok-connector_rows.ensures in
+    let are : AreConnectorRows (map wire_of wires) bound (map interaction_of all.items) rows = kept-rows c.args.wires.items c.deref-8.result.now bound c.deref-10.result.now all.items c.deref-11.result.now rows c.deref-8.ensures.value c.deref-10.ensures.value c.deref-11.ensures.value c.in_ok-connector_rows.ensures in
     let as_many : length bound ≡ length (map wire_of wires) = c.in_ok-bound.ensures.as_many ∙ ap length c.deref-5.ensures.value ∙ sym (length-map wires wire_of) in
     let known : (n : ℕ) (i : choice.Interaction) → slice_get (map interaction_of all.items) n ≡ Some i → i.connector < length (map wire_of wires) = λ n i at. known-from plant n i (ap (λ xs. slice_get xs n) (sym listed) ∙ at) in
     let few : length (map interaction_of all.items) ≤ MAX_INTERACTIONS =
     omega (arith, c.len-2.ensures, all.ok.0, length-map all.items interaction_of, count-kept c.len-2.result (sym c.fault_of_count.ensures ∙ c.in_default-fault_of_count.is)) in
-    subst (λ is. AreRanges (map interaction_of is) c.deref-20.result.now) (sym c.deref-21.ensures.value)
-    (subst (AreRanges (map interaction_of all.items)) (sym c.deref-20.ensures.value) (ranges-from (map wire_of wires) bound (map interaction_of all.items) rows as_many few known are))
+    subst (λ is. AreRanges (map interaction_of is) c.deref-16.result.now) (sym c.deref-17.ensures.value)
+    (subst (AreRanges (map interaction_of all.items)) (sym c.deref-16.ensures.value) (ranges-from (map wire_of wires) bound (map interaction_of all.items) rows as_many few known are))
 
 pub invariant_of-result : goal.invariant_of-result
 invariant_of-result c =
@@ -261,14 +244,13 @@ invariant_of-result c =
     let all = c.in_ok-interactions.interactions in
     let bound = c.in_ok-bound.bound.items in
     let order = c.in_ok-order in
-    let rows = c.in_ok-dependents.dependents.items in
     let connectors = c.in_ok-connector_rows.connector_rows.items in
     let reach = c.in_ok-reach.reach in
     let rows_of : Vec (Option Usual) Global → List (Option Usual) = λ row. row.items in
     let usual = map rows_of c.in_ok-usual.usual.items in
     let ranks = c.in_ok-ranks.ranks in
-    let are : AreConnectorRows (map wire_of wires) bound (map interaction_of all.items) connectors = kept-rows wires c.deref-12.result.now bound c.deref-14.result.now all.items c.deref-15.result.now connectors c.deref-12.ensures.value c.deref-14.ensures.value c.deref-15.ensures.value c.in_ok-connector_rows.ensures in
-    let as_many : c.len-4.result ≡ length atoms = omega (arith, c.len-4.ensures, c.args.atoms.ok.0) in
+    let are : AreConnectorRows (map wire_of wires) bound (map interaction_of all.items) connectors = kept-rows wires c.deref-8.result.now bound c.deref-10.result.now all.items c.deref-11.result.now connectors c.deref-8.ensures.value c.deref-10.ensures.value c.deref-11.ensures.value c.in_ok-connector_rows.ensures in
+    let as_many : c.len-3.result ≡ length atoms = omega (arith, c.len-3.ensures, c.args.atoms.ok.0) in
     let none : first_fault plant ≡ None =
     ap (λ xs. first_fault (plant_by xs wires rules)) (sym c.deref.ensures.value) ∙ ap (λ ws. first_fault (plant_by c.deref.result.now ws rules)) (sym c.deref-2.ensures.value) ∙ sym c.first_fault.ensures ∙ c.in_default.is in
     let listed = listed-all atoms wires c.deref-6.result.now rules c.len.result all.items (omega (arith, c.len.ensures, c.args.atoms.ok.0)) c.deref-6.ensures.value c.in_ok-interactions.ensures in
@@ -276,25 +258,20 @@ invariant_of-result c =
     omega (arith, c.len-2.ensures, all.ok.0, length-map all.items interaction_of, ap length listed) in
     record {
       valid = subst (λ rs. fault_of (plant_by atoms wires rs) ≡ None) (sym order.ensures.rules)
-          (none-told plant none (ap fault_of_count count ∙ sym c.fault_of_count.ensures ∙ c.in_default-fault_of_count.is) (subst (λ xs. order_fault rules (map named xs) ≡ None) (ap (map interaction_of) c.deref-8.ensures.value ∙ listed) order.ensures.sound));
+          (none-told plant none (ap fault_of_count count ∙ sym c.fault_of_count.ensures ∙ c.in_default-fault_of_count.is) (subst (λ xs. order_fault rules (map named xs) ≡ None) (ap (map interaction_of) c.deref-7.ensures.value ∙ listed) order.ensures.sound));
       leaves = c.in_ok-ports.ensures ∙ ap (map (λ w. leaves (wire_of w).connector)) c.deref-3.ensures.value;
       guarding = subst (λ ws. AreGuarding (map definition_of atoms) (map wire_of ws) bound) c.deref-5.ensures.value
           (subst (λ xs. AreGuarding (map definition_of xs) (map wire_of c.deref-5.result.now) bound) c.deref-4.ensures.value c.in_ok-bound.ensures.guarding);
       delivering = subst (λ ws. AreDelivering (map definition_of atoms) (map wire_of ws) bound) c.deref-5.ensures.value
           (subst (λ xs. AreDelivering (map definition_of xs) (map wire_of c.deref-5.result.now) bound) c.deref-4.ensures.value c.in_ok-bound.ensures.delivering);
       listed = listed;
-      fitting = c.fit_words-fit_words.ensures ∙ sym (list_all-map fits_word interaction_of c.deref-7.result.now) ∙ ap (λ xs. each_fits_word (map interaction_of xs)) c.deref-7.ensures.value;
-      ordered = order.ensures.interactions ∙ ap (λ xs. map named (map interaction_of xs)) c.deref-8.ensures.value;
-      rows = omega (arith, c.in_ok-dependents.ensures.rows, c.len-3.ensures, c.args.atoms.ok.0);
-      touched = subst (λ ws. AreDependents (map wire_of ws) (map interaction_of all.items) rows) c.deref-9.ensures.value
-          (subst (λ is. AreDependents (map wire_of c.deref-9.result.now) (map interaction_of is) rows) c.deref-11.ensures.value c.in_ok-dependents.ensures.dependents);
-      on_ports = subst (λ is. AreOnPorts (map interaction_of is) rows) c.deref-11.ensures.value c.in_ok-dependents.ensures.only;
+      ordered = order.ensures.interactions ∙ ap (λ xs. map named (map interaction_of xs)) c.deref-7.ensures.value;
       all_bound = c.in_ok-bound.ensures.as_many ∙ ap length c.deref-5.ensures.value;
       in_rows = are;
-      reached = subst (λ ws. IsReach (length atoms) (map wire_of ws) reach) c.deref-16.ensures.value
-          (subst (λ m. IsReach m (map wire_of c.deref-16.result.now) reach) as_many c.in_ok-reach.ensures);
-      foretold = subst (λ ps. AreUsual (map definition_of atoms) ps usual) (lent-lists c.in_ok-ports.ports.items c.deref-19.result.now wires c.deref-3.result.now c.deref-19.ensures.value c.deref-3.ensures.value c.in_ok-ports.ensures)
-          (subst (λ xs. AreUsual (map definition_of xs) (map (λ list. list.items) c.deref-19.result.now) usual) c.deref-18.ensures.value c.in_ok-usual.ensures);
-      ranked = subst (λ k. AreRanks k order.order.rules (map interaction_of all.items) ranks) (ap length c.deref-20.ensures.value ∙ are.as_many ∙ length-map wires wire_of)
-          (subst (λ is. AreRanks (length c.deref-20.result.now) order.order.rules (map interaction_of is) ranks) c.deref-21.ensures.value c.in_ok-ranks.ensures);
+      reached = subst (λ ws. IsReach (length atoms) (map wire_of ws) reach) c.deref-12.ensures.value
+          (subst (λ m. IsReach m (map wire_of c.deref-12.result.now) reach) as_many c.in_ok-reach.ensures);
+      foretold = subst (λ ps. AreUsual (map definition_of atoms) ps usual) (lent-lists c.in_ok-ports.ports.items c.deref-15.result.now wires c.deref-3.result.now c.deref-15.ensures.value c.deref-3.ensures.value c.in_ok-ports.ensures)
+          (subst (λ xs. AreUsual (map definition_of xs) (map (λ list. list.items) c.deref-15.result.now) usual) c.deref-14.ensures.value c.in_ok-usual.ensures);
+      ranked = subst (λ k. AreRanks k order.order.rules (map interaction_of all.items) ranks) (ap length c.deref-16.ensures.value ∙ are.as_many ∙ length-map wires wire_of)
+          (subst (λ is. AreRanks (length c.deref-16.result.now) order.order.rules (map interaction_of is) ranks) c.deref-17.ensures.value c.in_ok-ranks.ensures);
     }

@@ -16,11 +16,22 @@ use Rattle.step_core.specs.Leaves.{AreLeaves, count_of}
 use Rattle.step_core.specs.Puts.{IsRight, is_put}
 use Rattle.step_core.specs.Told.{IsTold}
 use Rattle.step_core.specs.declared.changes.Changes.{Changes}
-use Rattle.step_core.proofs.OfSystem.{atom-read, could-fire, few-atoms, few-connectors, none-reads, quiet-right, read-right, readers-are, some-at, state-read}
+use Rattle.step_core.proofs.OfSystem.{atom-read, could-fire, few-atoms, few-connectors, none-reads, offered-within, quiet-right, read-right, readers-are, some-at, state-read}
 use Rattle.step_core.proofs.Recounted.{counted-alike, put-back, written-at}
 use Rattle.step_core.proofs.Telling.{more-told, told-alike, told-more, told-then}
 use Rattle.step_core.proofs.UsualFirings.{all-leaves, all-told, usual-counted}
 use Rattle.step_core.proofs.changes.Changes.judge_move.Goals as goal
+
+-- what was fired is one of the atom's transitions
+pub is_quiet-requires : goal.is_quiet-requires
+is_quiet-requires c =
+    let s = c.args.system.now in
+    let k = c.args.step.atom in
+    let item = c.index-atom.result.now in
+    let known = atom-read s c.from-index.result k item c.from-index.ensures c.requires.atom c.index-atom.ensures in
+    let state = some-at c.args.states.now k (omega (arith, c.requires.of_plant, c.requires.atom)) in
+    let was = c.requires.fired (definition_of item) state.0 known state.1 in
+    offered-within (definition_of item) was.before c.args.step.transition was.could
 
 pub returns-then-is_quiet-clause-offered : goal.returns-then-is_quiet-clause-offered
 returns-then-is_quiet-clause-offered c a s known there =
@@ -136,6 +147,12 @@ returns-clause-read c k out =
     let readers = readers-are s c.from-index.result c.args.step.atom c.index.result.now c.from-index.ensures c.requires.atom c.index.ensures in
     sym (readers k) ∙ more-told wires (count_of c.args.offers.now.counts) c.args.self.now _ c.index.result.now refl refl k (c.recount.ensures.told.not_dirty k out)
 
+pub usual_of-requires-clause-transition : goal.usual_of-requires-clause-transition
+usual_of-requires-clause-transition c a known =
+    let state = some-at c.args.states.now c.args.step.atom (omega (arith, c.requires.of_plant, c.requires.atom)) in
+    let was = c.requires.fired a state.0 known state.1 in
+    offered-within a was.before c.args.step.transition was.could
+
 pub put_all-requires : goal.put_all-requires
 put_all-requires c n p there =
     let s = c.args.system.now in
@@ -147,34 +164,24 @@ put_all-requires c n p there =
     omega (arith, (usual.right n p (ap (λ ps. slice_get ps n) (sym c.deref.ensures.value) ∙ there)).there, length-map wires (λ w. leaves w.connector), few-connectors s)
 
 pub returns-in-Some-clause-offered : goal.returns-in-Some-clause-offered
-returns-in-Some-clause-offered c =
+returns-in-Some-clause-offered c a state known there =
     let s = c.args.system.now in
     let k = c.args.step.atom in
     let i = c.from-index.result in
-    let same = c.from-index.ensures in
-    let item = c.index-atom.result.now in
-    let state = c.index-state.result.now in
     let words = c.args.offers.now.sets in
-    let within : i < length words = omega (arith, c.requires.atom, few-atoms s, same) in
-    let usual = c.in-Some.ensures.usual (definition_of item) (atom-read s i k item same c.requires.atom c.index-atom.ensures) in
-    read-right s offered_set c.args.states.now i k item state (get_or c.take.new.self.sets k 0) c.requires.of_plant same c.requires.atom c.index-atom.ensures
-    (c.index-state.ensures ∙ ap (λ xs. get_or xs i state) c.states.view_is)
-    (ap (λ xs. get_or xs k 0) c.take.ensures.sets ∙ written-at words i k c.in-Some.usual.now.after same within ∙ sym (usual.offered state (sym c.places.ensures ∙ sym c.in-Some.ensures.places)))
+    let within : i < length words = omega (arith, c.requires.atom, few-atoms s, c.from-index.ensures) in
+    ap (λ xs. get_or xs k 0) c.take.ensures.sets ∙ written-at words i k c.in-Some.usual.now.after c.from-index.ensures within ∙
+    sym ((c.in-Some.ensures.usual a known).offered state (c.in-Some.ensures.places state there))
 
 pub returns-in-Some-clause-movable : goal.returns-in-Some-clause-movable
-returns-in-Some-clause-movable c =
+returns-in-Some-clause-movable c a state known there =
     let s = c.args.system.now in
     let k = c.args.step.atom in
     let i = c.from-index.result in
-    let same = c.from-index.ensures in
-    let item = c.index-atom.result.now in
-    let state = c.index-state.result.now in
     let words = c.args.offers.now.movable in
-    let within : i < length words = omega (arith, c.requires.atom, few-atoms s, same) in
-    let usual = c.in-Some.ensures.usual (definition_of item) (atom-read s i k item same c.requires.atom c.index-atom.ensures) in
-    read-right s movable_set c.args.states.now i k item state (get_or c.take.new.self.movable k 0) c.requires.of_plant same c.requires.atom c.index-atom.ensures
-    (c.index-state.ensures ∙ ap (λ xs. get_or xs i state) c.states.view_is)
-    (ap (λ xs. get_or xs k 0) c.take.ensures.movable ∙ written-at words i k c.in-Some.usual.now.after same within ∙ sym (usual.movable state (sym c.places.ensures ∙ sym c.in-Some.ensures.places)))
+    let within : i < length words = omega (arith, c.requires.atom, few-atoms s, c.from-index.ensures) in
+    ap (λ xs. get_or xs k 0) c.take.ensures.movable ∙ written-at words i k c.in-Some.usual.now.after c.from-index.ensures within ∙
+    sym ((c.in-Some.ensures.usual a known).movable state (c.in-Some.ensures.places state there))
 
 pub returns-in-Some-clause-counted : goal.returns-in-Some-clause-counted
 returns-in-Some-clause-counted c =
@@ -191,8 +198,7 @@ returns-in-Some-clause-counted c =
     let counts = c.args.offers.now.counts in
     let in-sets : k < length sets = omega (arith, c.requires.atom, few-atoms s) in
     let in-counts : k < length counts = omega (arith, c.requires.atom, few-atoms s) in
-    let within : c.from-index.result < length sets = omega (arith, in-sets, c.from-index.ensures) in
-    let before : u.before ≡ get_or sets k 0 = c.in-Some.ensures.before ∙ get_or_default sets c.from-index.result c.index-offers-index.result 0 within ∙ ap (λ j. get_or sets j 0) c.from-index.ensures in
+    let before : u.before ≡ get_or sets k 0 = c.in-Some.ensures.before in
     subst (λ cs. AreCounted atoms c.take.new.self.sets cs) (sym (c.take.ensures.counts ∙ ap (λ j. set counts j u.counts) c.from-index.ensures))
     (subst (λ xs. AreCounted atoms xs (set counts k u.counts)) (sym (c.take.ensures.sets ∙ ap (λ j. set sets j u.after) c.from-index.ensures))
     (usual-counted atoms wires found.0 k found.1 u usual sets counts c.requires.counted was.before was.offered before in-sets in-counts))
@@ -212,8 +218,7 @@ returns-in-Some-clause-leaves c =
     let counts = c.args.offers.now.counts in
     let in-sets : k < length sets = omega (arith, c.requires.atom, few-atoms s) in
     let in-counts : k < length counts = omega (arith, c.requires.atom, few-atoms s) in
-    let within : c.from-index.result < length sets = omega (arith, in-sets, c.from-index.ensures) in
-    let before : u.before ≡ get_or sets k 0 = c.in-Some.ensures.before ∙ get_or_default sets c.from-index.result c.index-offers-index.result 0 within ∙ ap (λ j. get_or sets j 0) c.from-index.ensures in
+    let before : u.before ≡ get_or sets k 0 = c.in-Some.ensures.before in
     let kept = c.args.leaves.now in
     let now = c.put_all.new.self in
     subst (λ cs. AreLeaves wires cs now) (sym (c.take.ensures.counts ∙ ap (λ j. set counts j u.counts) c.from-index.ensures))
@@ -236,8 +241,7 @@ returns-in-Some-clause-told c =
     let counts = c.args.offers.now.counts in
     let in-sets : k < length sets = omega (arith, c.requires.atom, few-atoms s) in
     let in-counts : k < length counts = omega (arith, c.requires.atom, few-atoms s) in
-    let within : c.from-index.result < length sets = omega (arith, in-sets, c.from-index.ensures) in
-    let before : u.before ≡ get_or sets k 0 = c.in-Some.ensures.before ∙ get_or_default sets c.from-index.result c.index-offers-index.result 0 within ∙ ap (λ j. get_or sets j 0) c.from-index.ensures in
+    let before : u.before ≡ get_or sets k 0 = c.in-Some.ensures.before in
     let readers = readers-are s c.from-index.result k c.index.result.now c.from-index.ensures c.requires.atom c.index.ensures in
     let own = c.args.self.now in
     let read : Changes = record { dirty = bit_or own.dirty c.index.result.now; heavy = own.heavy } in

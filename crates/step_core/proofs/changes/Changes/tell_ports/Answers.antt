@@ -2,11 +2,12 @@ use Rattle.std.proofs.Common.{◌≡◌, ◌<◌, ◌^◌, refl, get_or, arith, 
 use Rattle.std.specs.Int.{trailing_zeros}
 use Rattle.connector_tree.specs.Masks.{is_set}
 use Rattle.connector_tree.specs.declared.tree.TheConstants.{MAX_LEAVES}
-use Rattle.plant_model.specs.Dependents.{row_of_port}
+use Rattle.plant_model.specs.Reach.{row_of_port}
 use Rattle.plant_model.specs.System.{plant_of}
 use Rattle.step_core.specs.Leaves.{count_of, is_many, is_none}
 use Rattle.step_core.proofs.OfSystem.{few-connectors, few-its-leaves, row-reach, row-there}
-use Rattle.step_core.proofs.Telling.{all-left, leaves-alike, leaves-by, leaves-of, left-before, mixed, none-left, none-told, others-alike, port-low, port-told, rest, rest-after, rest-less, small-leaf, there-listed, told-alike, told-then, word-told}
+use Rattle.step_core.proofs.Telling.{all-left, leaves-alike, leaves-by, leaves-of, left-before, mixed, none-left, none-told, others-alike, port-low, port-told, rest, rest-after, small-leaf, there-listed, told-alike, told-then, word-told}
+use Rattle.step_core.proofs.WithoutLowest.{fewer-less}
 use Rattle.step_core.proofs.changes.Changes.tell_ports.Goals as goal
 
 pub loop-left-init : goal.loop-left-init
@@ -35,7 +36,7 @@ tell-requires c =
     }
 
 pub loop-left-smaller : goal.loop-left-smaller
-loop-left-smaller c = rest-less c.loop-left.left (omega (arith, c.loop-left-test.true)) (omega arith)
+loop-left-smaller c = fewer-less w32 c.loop-left.left (omega (arith, c.loop-left-test.true)) (omega arith)
 
 pub loop-left-preserved : goal.loop-left-preserved
 loop-left-preserved c =

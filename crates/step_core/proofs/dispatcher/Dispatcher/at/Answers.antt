@@ -13,5 +13,5 @@ invariant_of-result c =
     record {
       of_plant = ap length c.all.ensures ∙ length-map c.args.states Some ∙ c.requires.of_plant;
       fits = subst (AllPresentFit (plant_of system)) (sym c.all.ensures) (all-fit (plant_of system) c.args.states c.requires.fits);
-      judged = subst (λ parts. IsSureJudgement (plant_of system) (interactions_in system) parts c.judge_sure-judgement.result) (sym c.all.ensures) c.judge_sure-judgement.ensures;
+      judged = subst (λ parts. IsSureJudgement (plant_of system) (interactions_in system) system.ranks parts c.judge_sure-judgement.result) (sym c.all.ensures) c.judge_sure-judgement.ensures;
     }

@@ -1,5 +1,5 @@
-use Rattle.std.proofs.Common.{◌≡◌, ◌+◌, ◌*◌, ◌/◌, ◌%◌, ◌<◌, ◌^◌, ◌&&◌, ◌==◌, ◌∙◌, ℕ, ap, sym, get_or, length, true, false, arith, ⊎_elim, w64}
-use Rattle.std.specs.Prelude.{Some, bit_and, slice_get}
+use Rattle.std.proofs.Common.{◌≡◌, ◌+◌, ◌*◌, ◌/◌, ◌%◌, ◌<◌, ◌^◌, ◌==◌, ◌∙◌, ℕ, ap, sym, get_or, arith, ⊎_elim, w64}
+use Rattle.std.specs.Prelude.{bit_and, slice_get}
 use Rattle.std.specs.FinSet.{contains}
 use Rattle.std.specs.Int.{trailing_zeros}
 use Rattle.std.proofs.lemmas.Bool.{and_from, and_parts, cases_Bool, cases_eq, eq-eqb, eqb-true, false≢true}
@@ -56,7 +56,7 @@ loop-part-preserved c k m p below at inside =
     sym (ap (λ w. has_bit w (m % 64)) c.if-here-part-ne0.false ∙ no-bit (m % 64)) ∙ bit-and word q.word (m % 64) ∙
     and_from (has_bit word (m % 64)) (has_bit q.word (m % 64)) (c.word-here.ensures m here ∙ rival) bits.1)))
     (λ none. none)
-    (cases_Bool (contains c.args.self.now.standing.now.rivals m)))
+    (cases_Bool (contains c.args.self.now.rivals.now m)))
     (λ other. c.loop-part.invariant k m p (omega (arith, below, other)) at inside)
     (cases_eq k index)
 

@@ -1,4 +1,4 @@
-use Rattle.std.proofs.Common.{◌≡◌, ◌+◌, ◌*◌, ◌/◌, ◌%◌, ◌<◌, ◌≤◌, ◌^◌, ◌&&◌, ◌∙◌, not, ℕ, Bool, refl, ap, sym, true, false, arith, ⊎_elim}
+use Rattle.std.proofs.Common.{◌≡◌, ◌+◌, ◌*◌, ◌/◌, ◌%◌, ◌<◌, ◌^◌, ◌&&◌, ◌∙◌, not, ℕ, Bool, refl, ap, sym, true, false, arith, ⊎_elim}
 use Rattle.std.specs.FinSet.{contains}
 use Rattle.std.proofs.lemmas.Bool.{cases_Bool, cases_eq, cases_lt, or_parts}
 use Rattle.priority_filter.specs.Members.{has_bit}
@@ -8,20 +8,14 @@ use Rattle.plant_model.specs.System.{interactions_in, plant_of}
 use Rattle.step_core.specs.Standing.{is_always_overruled}
 use Rattle.step_core.specs.declared.keeping.Keeping.{Keeping}
 use Rattle.step_core.proofs.BitsLeft.{no-bit}
-use Rattle.step_core.proofs.OwnRange.{in-words, own-of, range-end, row-at}
+use Rattle.step_core.proofs.OwnRange.{few-words, own-of, own-words, row-at}
 use Rattle.step_core.proofs.Ranked.{rank-at}
 use Rattle.step_core.proofs.keeping.Keeping.keep_connector.Goals.{Joined-is_out, then-is_out, else-is_out}
 use Rattle.step_core.proofs.keeping.Keeping.keep_connector.Goals as goal
 
 -- what is kept of the possible interactions
 abbrev kept_by : Keeping → ℕ → Bool
-kept_by k n = contains k.possible.now n && not (is_always_overruled (plant_of k.system.now) (interactions_in k.system.now) (contains k.standing.now.rivals) n)
-
-pub overflow_add-first : goal.overflow_add-first
-overflow_add-first c =
-    let system = c.args.self.now.system.now in
-    let r = c.index-rows.result.now in
-    omega (arith, range-end system c.args.connector r c.requires (row-at system c.args.connector r c.requires c.index-rows.ensures), c.from-first.ensures, c.from.ensures)
+kept_by k n = contains k.possible.now n && not (is_always_overruled (plant_of k.system.now) (interactions_in k.system.now) (contains k.rivals.now) n)
 
 pub is_out-is_out-requires : goal.is_out-is_out-requires
 is_out-is_out-requires c = rank-at c.args.self.now.system.now c.args.connector c.index-rank.result.now c.requires c.index-rank.ensures
@@ -35,7 +29,8 @@ loop-place-init c =
       kept = λ n own below. absurd (omega (
         arith,
         below,
-        (in-words system c.args.connector r c.requires its (c.from-first.result / 64) c.div_ceil-high.result n (omega (arith, c.from-first.ensures)) (omega (arith, c.div_ceil-high.ensures, c.from-first.ensures, c.from.ensures)) own).0,
+        (own-words system c.args.connector r c.requires its n own).0,
+        c.from-place.ensures,
       ));
       others = λ n out. refl;
       same = λ _ n. refl;
@@ -43,7 +38,7 @@ loop-place-init c =
 
 pub word_kept-word-requires-clause-place : goal.word_kept-word-requires-clause-place
 word_kept-word-requires-clause-place c =
-    omega (arith, c.loop-place-test.true, c.div_ceil-high.ensures, range-end c.args.self.now.system.now c.args.connector c.index-rows.result.now c.requires (row-at c.args.self.now.system.now c.args.connector c.index-rows.result.now c.requires c.index-rows.ensures), c.from-first.ensures, c.from.ensures)
+    omega (arith, c.loop-place-test.true, c.from-place-end.ensures, few-words c.args.self.now.system.now c.args.connector c.index-rows.result.now c.requires (row-at c.args.self.now.system.now c.args.connector c.index-rows.result.now c.requires c.index-rows.ensures))
 
 pub word_kept-word-requires-clause-rows : goal.word_kept-word-requires-clause-rows
 word_kept-word-requires-clause-rows c = row-at c.args.self.now.system.now c.args.connector c.index-rows.result.now c.requires c.index-rows.ensures
@@ -56,11 +51,11 @@ word_kept-word-requires-clause-free c = c.is_out-is_out.ensures.free c.if-is_out
 
 pub word-requires : goal.word-requires
 word-requires c =
-    omega (arith, c.loop-place-test.true, c.div_ceil-high.ensures, range-end c.args.self.now.system.now c.args.connector c.index-rows.result.now c.requires (row-at c.args.self.now.system.now c.args.connector c.index-rows.result.now c.requires c.index-rows.ensures), c.from-first.ensures, c.from.ensures)
+    omega (arith, c.loop-place-test.true, c.from-place-end.ensures, few-words c.args.self.now.system.now c.args.connector c.index-rows.result.now c.requires (row-at c.args.self.now.system.now c.args.connector c.index-rows.result.now c.requires c.index-rows.ensures))
 
 pub put_word-is_new-requires-clause-place : goal.put_word-is_new-requires-clause-place
 put_word-is_new-requires-clause-place c =
-    omega (arith, c.loop-place-test.true, c.div_ceil-high.ensures, range-end c.args.self.now.system.now c.args.connector c.index-rows.result.now c.requires (row-at c.args.self.now.system.now c.args.connector c.index-rows.result.now c.requires c.index-rows.ensures), c.from-first.ensures, c.from.ensures)
+    omega (arith, c.loop-place-test.true, c.from-place-end.ensures, few-words c.args.self.now.system.now c.args.connector c.index-rows.result.now c.requires (row-at c.args.self.now.system.now c.args.connector c.index-rows.result.now c.requires c.index-rows.ensures))
 
 none-of : (own can : Bool) → (own && (can && false)) ≡ false
 none-of true true = refl
@@ -72,7 +67,7 @@ word-is : (c : Joined-is_out) (n : ℕ) → n / 64 ≡ c.loop-place.place → ha
 word-is c n here =
     let k = c.args.self.now in
     let own = is_of_connector (interactions_in k.system.now) c.args.connector n in
-    let over = is_always_overruled (plant_of k.system.now) (interactions_in k.system.now) (contains k.standing.now.rivals) n in
+    let over = is_always_overruled (plant_of k.system.now) (interactions_in k.system.now) (contains k.rivals.now) n in
     elim c.if-is_out.branch [
       | then-is_out w ↦
           ap (λ x. has_bit x (n % 64)) w.word-is ∙ no-bit (n % 64) ∙
@@ -133,5 +128,4 @@ returns-clause-kept c n own =
     let system = c.args.self.now.system.now in
     let r = c.index-rows.result.now in
     let its = row-at system c.args.connector r c.requires c.index-rows.ensures in
-    let words = in-words system c.args.connector r c.requires its (c.from-first.result / 64) c.div_ceil-high.result n (omega (arith, c.from-first.ensures)) (omega (arith, c.div_ceil-high.ensures, c.from-first.ensures, c.from.ensures)) own in
-    c.loop-place.invariant.kept n own (omega (arith, words.1, c.loop-place-test.false))
+    c.loop-place.invariant.kept n own (omega (arith, (own-words system c.args.connector r c.requires its n own).1, c.from-place-end.ensures, c.loop-place-test.false))

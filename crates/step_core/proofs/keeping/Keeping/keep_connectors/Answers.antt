@@ -3,23 +3,23 @@ use Rattle.std.specs.FinSet.{FinSet, contains}
 use Rattle.std.specs.Ordering.{nat_cmp}
 use Rattle.std.specs.Int.{trailing_zeros}
 use Rattle.std.specs.Option.{option_map_or}
-use Rattle.std.proofs.lemmas.Bool.{cases_Bool, cases_eq, cases_lt, false≢true}
+use Rattle.std.proofs.lemmas.Bool.{cases_eq, cases_lt, false≢true}
 use Rattle.std.proofs.lemmas.Option.{slice_get_past}
 use Rattle.priority_filter.specs.Members.{has_bit}
-use Rattle.priority_filter.proofs.Words.{rest-less}
 use Rattle.plant_model.specs.Choice.{Interaction}
 use Rattle.plant_model.specs.ConnectorRows.{is_of_connector}
 use Rattle.plant_model.specs.System.{interactions_in, plant_of}
 use Rattle.plant_model.specs.declared.system.System.{System}
 use Rattle.step_core.specs.declared.keeping.Keeping.{Keeping}
 use Rattle.step_core.specs.Standing.{is_always_overruled}
-use Rattle.step_core.proofs.BitsLeft.{lowest-set, no-bit, rest, rest-in, rest-out}
+use Rattle.step_core.proofs.BitsLeft.{fewer, fewer-in, fewer-out, lowest-set, no-bit}
 use Rattle.step_core.proofs.ToldConnectors.{elsewhere, told-more, told-still, within-more}
+use Rattle.step_core.proofs.WithoutLowest.{fewer-less}
 use Rattle.step_core.proofs.keeping.Keeping.keep_connectors.Goals as goal
 
 -- what is kept of the possible interactions
 abbrev kept_by : Keeping → ℕ → Bool
-kept_by k n = contains k.possible.now n && not (is_always_overruled (plant_of k.system.now) (interactions_in k.system.now) (contains k.standing.now.rivals) n)
+kept_by k n = contains k.possible.now n && not (is_always_overruled (plant_of k.system.now) (interactions_in k.system.now) (contains k.rivals.now) n)
 
 pub loop-left-init : goal.loop-left-init
 loop-left-init c = record {
@@ -44,10 +44,10 @@ keep_connector-requires c =
     lowest-there (length (plant_of c.args.self.now.system.now).wires) c.args.affected c.loop-left.left (omega (arith, c.loop-left-test.true)) (omega arith) c.requires c.loop-left.invariant.part
 
 pub loop-left-smaller-then-keep_connector : goal.loop-left-smaller-then-keep_connector
-loop-left-smaller-then-keep_connector c = rest-less c.loop-left.left (omega (arith, c.loop-left-test.true)) (omega arith)
+loop-left-smaller-then-keep_connector c = fewer-less w64 c.loop-left.left (omega (arith, c.loop-left-test.true)) (omega arith)
 
 pub loop-left-smaller : goal.loop-left-smaller
-loop-left-smaller c = rest-less c.loop-left.left (omega (arith, c.loop-left-test.true)) (omega arith)
+loop-left-smaller c = fewer-less w64 c.loop-left.left (omega (arith, c.loop-left-test.true)) (omega arith)
 
 -- what holds of one more connector, whether it is told or not
 module _ (k : Keeping) (affected left told : ℕ) (some : 0 < left) (small : left < 2 ^ 64) (old between new : FinSet nat_cmp) (connector : ℕ) (is : connector ≡ trailing_zeros w64 left)
@@ -62,11 +62,11 @@ module _ (k : Keeping) (affected left told : ℕ) (some : 0 < left) (small : lef
   all = interactions_in system
 
   kept-more : ((n j : ℕ) → is_of_connector all j n ≡ true → has_bit affected j ≡ true → has_bit left j ≡ false → contains between n ≡ kept_by k n)
-      → (n j : ℕ) → is_of_connector all j n ≡ true → has_bit affected j ≡ true → has_bit (rest left some small) j ≡ false → contains new n ≡ kept_by k n
+      → (n j : ℕ) → is_of_connector all j n ≡ true → has_bit affected j ≡ true → has_bit (fewer left some small) j ≡ false → contains new n ≡ kept_by k n
   kept-more so_far n j its inside out =
       ⊎_elim
       (λ same. right n (ap (λ e. is_of_connector all e n) (sym same) ∙ its))
-      (λ other. elsewhere system told connector there old between new apart told_so_far n j its other ∙ so_far n j its inside (rest-out left some small j (λ same. other (same ∙ sym is)) out))
+      (λ other. elsewhere system told connector there old between new apart told_so_far n j its other ∙ so_far n j its inside (fewer-out left some small j (λ same. other (same ∙ sym is)) out))
       (cases_eq j connector)
 
   others-more : ((n j : ℕ) → is_of_connector all j n ≡ true → has_bit affected j ≡ false → contains between n ≡ contains old n)
@@ -92,7 +92,7 @@ loop-left-preserved-then-keep_connector c =
     let there = lowest-there (length (plant_of k.system.now).wires) c.args.affected left some small c.requires before.part in
     let affects = before.part connector (lowest-set left some small) in
     record {
-      part = λ j inside. before.part j (rest-in left some small j inside);
+      part = λ j inside. before.part j (fewer-in left some small j inside);
       kept = kept-more k c.args.affected left told some small old between one.new.kept connector refl there affects one.ensures.kept one.ensures.others before.told before.kept;
       others = others-more k c.args.affected left told some small old between one.new.kept connector refl there affects one.ensures.kept one.ensures.others before.told before.others;
       past = past-more k c.args.affected left told some small old between one.new.kept connector refl there affects one.ensures.kept one.ensures.others before.told before.past;
@@ -115,7 +115,7 @@ loop-left-preserved c =
     let there = lowest-there (length (plant_of k.system.now).wires) c.args.affected left some small c.requires before.part in
     let affects = before.part connector (lowest-set left some small) in
     record {
-      part = λ j inside. before.part j (rest-in left some small j inside);
+      part = λ j inside. before.part j (fewer-in left some small j inside);
       kept = kept-more k c.args.affected left told some small old between one.new.kept connector refl there affects one.ensures.kept one.ensures.others before.told before.kept;
       others = others-more k c.args.affected left told some small old between one.new.kept connector refl there affects one.ensures.kept one.ensures.others before.told before.others;
       past = past-more k c.args.affected left told some small old between one.new.kept connector refl there affects one.ensures.kept one.ensures.others before.told before.past;

@@ -11,7 +11,7 @@ abbrev pub invariant-loop-left : goal.invariant-loop-left
 invariant-loop-left l = record {
   part : (k : ℕ) → has_bit l.left k ≡ true → has_bit l.affected k ≡ true;
   kept : (n k : ℕ) → is_of_connector (interactions_in l.self.system.now) k n ≡ true → has_bit l.affected k ≡ true → has_bit l.left k ≡ false
-      → contains l.kept n ≡ (contains l.self.possible.now n && not (is_always_overruled (plant_of l.self.system.now) (interactions_in l.self.system.now) (contains l.self.standing.now.rivals) n));
+      → contains l.kept n ≡ (contains l.self.possible.now n && not (is_always_overruled (plant_of l.self.system.now) (interactions_in l.self.system.now) (contains l.self.rivals.now) n));
   others : (n k : ℕ) → is_of_connector (interactions_in l.self.system.now) k n ≡ true → has_bit l.affected k ≡ false → contains l.kept n ≡ contains l.fn.kept n;
   past : (n : ℕ) → length (interactions_in l.self.system.now) ≤ n → contains l.kept n ≡ contains l.fn.kept n;
   within : (k : ℕ) → length (plant_of l.self.system.now).wires ≤ k → has_bit l.told k ≡ false;

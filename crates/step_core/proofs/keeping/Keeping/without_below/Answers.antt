@@ -1,4 +1,4 @@
-use Rattle.std.proofs.Common.{◌≡◌, ◌+◌, ◌*◌, ◌/◌, ◌%◌, ◌<◌, ◌^◌, ◌&&◌, ◌∙◌, not, ℕ, Bool, refl, ap, sym, eqb, map, true, false, arith, ⊎_elim, w64}
+use Rattle.std.proofs.Common.{◌≡◌, ◌+◌, ◌*◌, ◌/◌, ◌%◌, ◌<◌, ◌^◌, ◌&&◌, ◌∙◌, not, ℕ, Bool, refl, ap, sym, true, false, arith, ⊎_elim, w64}
 use Rattle.std.specs.Prelude.{bit_and}
 use Rattle.std.specs.FinSet.{contains}
 use Rattle.std.specs.Int.{bit_not}
@@ -65,7 +65,7 @@ loop-left-preserved c =
     let k = c.args.self.now in
     let system = k.system.now in
     let all = interactions_in system in
-    let rivals = contains k.standing.now.rivals in
+    let rivals = contains k.rivals.now in
     let left = c.loop-left.left in
     let here = c.loop-left.here in
     let some : 0 < left = omega (arith, c.loop-left-test.true) in

@@ -13,7 +13,7 @@ invariant-loop-left l = record {
   goes : (n m : ℕ) → n / 64 ≡ l.place → m / 64 ≡ l.other → has_bit l.rivals (m % 64) ≡ true → has_bit l.left (m % 64) ≡ false
       → is_always_below (plant_of l.self.system.now) (interactions_in l.self.system.now) n m ≡ true → has_bit l.here (n % 64) ≡ false;
   gone : (n : ℕ) → n / 64 ≡ l.place → has_bit l.word (n % 64) ≡ true → has_bit l.here (n % 64) ≡ false
-      → is_always_overruled (plant_of l.self.system.now) (interactions_in l.self.system.now) (contains l.self.standing.now.rivals) n ≡ true;
+      → is_always_overruled (plant_of l.self.system.now) (interactions_in l.self.system.now) (contains l.self.rivals.now) n ≡ true;
 }
 
 abbrev pub decreases-loop-left : goal.decreases-loop-left

@@ -1,23 +1,17 @@
-use Rattle.std.proofs.Common.{◌≡◌, ◌+◌, ◌*◌, ◌/◌, ◌%◌, ◌<◌, ◌≤◌, ◌&&◌, ◌∙◌, ℕ, refl, ap, sym, true, false, arith, ⊎_elim}
-use Rattle.std.specs.Prelude.{bit_and}
-use Rattle.std.specs.FinSet.{contains}
+use Rattle.std.proofs.Common.{◌≡◌, ◌/◌, ◌%◌, ◌<◌, ◌∙◌, ℕ, sym, true, arith, ⊎_elim}
 use Rattle.std.proofs.lemmas.Bool.{and_from, and_parts, cases_Bool, cases_eq, true≢false}
 use Rattle.priority_filter.specs.Members.{has_bit}
 use Rattle.priority_filter.proofs.Words.{bit-and}
 use Rattle.plant_model.specs.ConnectorRows.{is_of_connector}
-use Rattle.plant_model.specs.System.{interactions_in, plant_of}
-use Rattle.step_core.proofs.OwnRange.{in-words, own-of, range-end}
+use Rattle.plant_model.specs.System.{interactions_in}
+use Rattle.step_core.proofs.OwnRange.{few-words, own-of, own-words}
 use Rattle.step_core.proofs.keeping.Keeping.without_lower.Goals as goal
-
-pub overflow_add-first : goal.overflow_add-first
-overflow_add-first c =
-    omega (arith, range-end c.args.self.now.system.now c.args.connector c.args.rows.now c.requires.connector c.requires.rows, c.from-first.ensures, c.from.ensures)
 
 pub loop-other-init : goal.loop-other-init
 loop-other-init c =
     let system = c.args.self.now.system.now in
-    let before : (m : ℕ) → is_of_connector (interactions_in system) c.args.connector m ≡ true → m / 64 < c.from-first.result / 64 → ⊥ =
-    λ m own below. omega (arith, below, (in-words system c.args.connector c.args.rows.now c.requires.connector c.requires.rows (c.from-first.result / 64) c.div_ceil-high.result m (omega (arith, c.from-first.ensures)) (omega (arith, c.div_ceil-high.ensures, c.from-first.ensures, c.from.ensures)) own).0) in
+    let before : (m : ℕ) → is_of_connector (interactions_in system) c.args.connector m ≡ true → m / 64 < c.from-other.result → ⊥ =
+    λ m own below. omega (arith, below, (own-words system c.args.connector c.args.rows.now c.requires.connector c.requires.rows m own).0, c.from-other.ensures) in
     record {
       within = λ k out. out;
       goes = λ n m here own below rival up. absurd (before m own below);
@@ -26,15 +20,15 @@ loop-other-init c =
 
 pub word-requires : goal.word-requires
 word-requires c =
-    omega (arith, c.loop-other-test.true, c.div_ceil-high.ensures, range-end c.args.self.now.system.now c.args.connector c.args.rows.now c.requires.connector c.requires.rows, c.from-first.ensures, c.from.ensures)
+    omega (arith, c.loop-other-test.true, c.from-other-end.ensures, few-words c.args.self.now.system.now c.args.connector c.args.rows.now c.requires.connector c.requires.rows)
 
 pub word-requires-in-loop-other : goal.word-requires-in-loop-other
 word-requires-in-loop-other c =
-    omega (arith, c.loop-other-test.true, c.div_ceil-high.ensures, range-end c.args.self.now.system.now c.args.connector c.args.rows.now c.requires.connector c.requires.rows, c.from-first.ensures, c.from.ensures)
+    omega (arith, c.loop-other-test.true, c.from-other-end.ensures, few-words c.args.self.now.system.now c.args.connector c.args.rows.now c.requires.connector c.requires.rows)
 
 pub without_below-here-requires-clause-other : goal.without_below-here-requires-clause-other
 without_below-here-requires-clause-other c =
-    omega (arith, c.loop-other-test.true, c.div_ceil-high.ensures, range-end c.args.self.now.system.now c.args.connector c.args.rows.now c.requires.connector c.requires.rows, c.from-first.ensures, c.from.ensures)
+    omega (arith, c.loop-other-test.true, c.from-other-end.ensures, few-words c.args.self.now.system.now c.args.connector c.args.rows.now c.requires.connector c.requires.rows)
 
 pub without_below-here-requires-clause-rivals : goal.without_below-here-requires-clause-rivals
 without_below-here-requires-clause-rivals c m here inside =
@@ -67,5 +61,5 @@ loop-other-preserved c =
 
 pub returns-clause-goes : goal.returns-clause-goes
 returns-clause-goes c n m at its rival up =
-    let words = in-words c.args.self.now.system.now c.args.connector c.args.rows.now c.requires.connector c.requires.rows (c.from-first.result / 64) c.div_ceil-high.result m (omega (arith, c.from-first.ensures)) (omega (arith, c.div_ceil-high.ensures, c.from-first.ensures, c.from.ensures)) its in
-    c.loop-other.invariant.goes n m at its (omega (arith, words.1, c.loop-other-test.false)) rival up
+    c.loop-other.invariant.goes n m at its
+    (omega (arith, (own-words c.args.self.now.system.now c.args.connector c.args.rows.now c.requires.connector c.requires.rows m its).1, c.from-other-end.ensures, c.loop-other-test.false)) rival up

@@ -1,14 +1,20 @@
-use Rattle.std.proofs.Common.{◌≡◌, ℕ, ◌+◌, ◌*◌, ◌<◌, ◌&&◌, ◌||◌, not}
+use Rattle.std.proofs.Common.{◌≡◌, ◌/◌, ◌%◌, ℕ, true, false}
 use Rattle.std.specs.FinSet.{contains}
 use Rattle.priority_filter.specs.Members.{has_bit}
+use Rattle.plant_model.specs.Ranks.{is_in_rest}
 use Rattle.plant_model.specs.System.{interactions_in, plant_of}
 use Rattle.step_core.specs.Standing.{is_always_overruled}
 use Rattle.step_core.proofs.keeping.Keeping.without_overruled.Given as goal
 
--- those that are not left to be asked for are there if no rival is above them
+-- what is left are some of the word; what is not left and has a rival in its rest has gone, and what has gone is overruled
 abbrev pub invariant-loop-left : goal.invariant-loop-left
-invariant-loop-left l =
-    (k : ℕ) → k < 64 → has_bit l.here k ≡ (has_bit l.word k && (has_bit l.left k || not (is_always_overruled (plant_of l.self.system.now) (interactions_in l.self.system.now) (contains l.self.standing.now.rivals) (64 * l.place + k))))
+invariant-loop-left l = record {
+  part : (k : ℕ) → has_bit l.left k ≡ true → has_bit l.word k ≡ true;
+  within : (k : ℕ) → has_bit l.word k ≡ false → has_bit l.here k ≡ false;
+  goes : (n m : ℕ) → n / 64 ≡ l.place → is_in_rest l.self.system.now.ranks n m ≡ true → contains l.self.rivals.now m ≡ true → has_bit l.left (n % 64) ≡ false → has_bit l.here (n % 64) ≡ false;
+  gone : (n : ℕ) → n / 64 ≡ l.place → has_bit l.word (n % 64) ≡ true → has_bit l.here (n % 64) ≡ false
+      → is_always_overruled (plant_of l.self.system.now) (interactions_in l.self.system.now) (contains l.self.rivals.now) n ≡ true;
+}
 
 abbrev pub decreases-loop-left : goal.decreases-loop-left
 decreases-loop-left l = l.left

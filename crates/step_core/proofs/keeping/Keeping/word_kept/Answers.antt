@@ -1,28 +1,26 @@
-use Rattle.std.proofs.Common.{◌≡◌, ◌+◌, ◌*◌, ◌/◌, ◌%◌, ◌<◌, ◌&&◌, ◌∙◌, not, ℕ, Bool, refl, ap, sym, true, false, arith, ⊎_elim}
+use Rattle.std.proofs.Common.{◌≡◌, ◌/◌, ◌%◌, ◌&&◌, ◌||◌, ◌∙◌, not, ℕ, Bool, refl, ap, sym, true, false, ⊎_elim}
 use Rattle.std.specs.Prelude.{bit_and}
 use Rattle.std.specs.FinSet.{contains}
-use Rattle.std.proofs.lemmas.Bool.{and_right, cases_Bool, false≢true, true≢false}
+use Rattle.std.proofs.lemmas.Bool.{and_right, cases_Bool, false≢true, or_cases, true≢false}
 use Rattle.priority_filter.specs.Members.{has_bit}
 use Rattle.priority_filter.proofs.Words.{bit-and}
 use Rattle.plant_model.specs.ConnectorRows.{is_of_connector}
+use Rattle.plant_model.specs.Ranks.{is_head_of, is_in_rest}
 use Rattle.plant_model.specs.System.{interactions_in, plant_of}
-use Rattle.step_core.specs.Standing.{is_always_overruled}
+use Rattle.step_core.specs.Standing.{is_always_below, is_always_overruled}
 use Rattle.step_core.proofs.OwnRange.{own-of}
-use Rattle.step_core.proofs.Ranked.{flat-none, over-none}
+use Rattle.step_core.proofs.Ranked.{above-by, connector-of, flat-none, over-none, under-there}
+use Rattle.step_core.proofs.SystemConnectors.{of-one}
 use Rattle.step_core.proofs.keeping.Keeping.word_kept.Goals.{Joined-not-rank, then-not-rank, else-not-rank}
 use Rattle.step_core.proofs.keeping.Keeping.word_kept.Goals as goal
 
--- an interaction of which a bit is left tells so where all that went is overruled, and what is left is asked for, or not overruled
-asked : (own can over bit : Bool) → ((can && own) ≡ false → bit ≡ false) → ((can && own) ≡ true → bit ≡ false → over ≡ true) → (bit && not over) ≡ (own && (can && not over))
-asked true true over true within gone = refl
-asked true true over false within gone = ap not (sym (gone refl refl))
-asked true false over bit within gone = ap (λ b. b && not over) (within refl)
-asked false true over bit within gone = ap (λ b. b && not over) (within refl)
-asked false false over bit within gone = ap (λ b. b && not over) (within refl)
-
-unasked : (own can over bit : Bool) → ((can && own) ≡ false → bit ≡ false) → ((can && own) ≡ true → bit ≡ false → over ≡ true) → (bit ≡ true → over ≡ false) → bit ≡ (own && (can && not over))
-unasked own can over true within gone free = sym (ap not (free refl)) ∙ asked own can over true within gone
-unasked own can over false within gone free = asked own can over false within gone
+-- where all that is not left of the connector's possible ones is overruled, and what is left is not, the bits tell which are kept
+told : (own can over bit : Bool) → ((can && own) ≡ false → bit ≡ false) → ((can && own) ≡ true → bit ≡ false → over ≡ true) → (bit ≡ true → over ≡ false) → bit ≡ (own && (can && not over))
+told true true over true within gone free = sym (ap not (free refl))
+told true true over false within gone free = sym (ap not (gone refl refl))
+told true false over bit within gone free = within refl
+told false true over bit within gone free = within refl
+told false false over bit within gone free = within refl
 
 -- the possible ones of the connector
 possible-own : (c : Joined-not-rank) (n : ℕ) → n / 64 ≡ c.args.place → has_bit (bit_and c.word.result c.word-2.result) (n % 64) ≡ (contains c.args.self.now.possible.now n && is_of_connector (interactions_in c.args.self.now.system.now) c.args.connector n)
@@ -38,45 +36,64 @@ within c n here out =
     ]
 
 gone : (c : Joined-not-rank) (n : ℕ) → n / 64 ≡ c.args.place → (contains c.args.self.now.possible.now n && is_of_connector (interactions_in c.args.self.now.system.now) c.args.connector n) ≡ true → has_bit c.if-not-rank.word (n % 64) ≡ false
-    → is_always_overruled (plant_of c.args.self.now.system.now) (interactions_in c.args.self.now.system.now) (contains c.args.self.now.standing.now.rivals) n ≡ true
+    → is_always_overruled (plant_of c.args.self.now.system.now) (interactions_in c.args.self.now.system.now) (contains c.args.self.now.rivals.now) n ≡ true
 gone c n here inside out =
     elim c.if-not-rank.branch [
       | then-not-rank w ↦ w.without_lower-word.ensures.gone n here (possible-own c n here ∙ inside) (sym (ap (λ x. has_bit x (n % 64)) w.word-is) ∙ out)
       | else-not-rank w ↦ absurd (true≢false (sym (ap (λ x. has_bit x (n % 64)) w.word-is ∙ possible-own c n here ∙ inside) ∙ out))
     ]
 
--- where the same is above each, none that is left is below a rival
-free : (c : Joined-not-rank) → c.args.rank.now.is_same ≡ true → (n : ℕ) → n / 64 ≡ c.args.place → has_bit c.if-not-rank.word (n % 64) ≡ true
-    → is_always_overruled (plant_of c.args.self.now.system.now) (interactions_in c.args.self.now.system.now) (contains c.args.self.now.standing.now.rivals) n ≡ false
-free c same n here left =
+-- what is left is of the connector
+owned : (c : Joined-not-rank) (n : ℕ) → n / 64 ≡ c.args.place → has_bit c.if-not-rank.word (n % 64) ≡ true → is_of_connector (interactions_in c.args.self.now.system.now) c.args.connector n ≡ true
+owned c n here left =
+    let own = is_of_connector (interactions_in c.args.self.now.system.now) c.args.connector n in
+    ⊎_elim
+    (λ its. its)
+    (λ no_. absurd (false≢true (sym (within c n here (and_right (contains c.args.self.now.possible.now n) own no_)) ∙ left)))
+    (cases_Bool own)
+
+-- and no rival of the connector is above it
+unbeaten : (c : Joined-not-rank) (n m : ℕ) → n / 64 ≡ c.args.place → has_bit c.if-not-rank.word (n % 64) ≡ true
+    → is_of_connector (interactions_in c.args.self.now.system.now) c.args.connector m ≡ true → contains c.args.self.now.rivals.now m ≡ true
+    → is_always_below (plant_of c.args.self.now.system.now) (interactions_in c.args.self.now.system.now) n m ≡ true → ⊥
+unbeaten c n m here left its rival up =
+    elim c.if-not-rank.branch [
+      | then-not-rank w ↦ false≢true (sym (ap (λ x. has_bit x (n % 64)) w.word-is ∙ w.without_lower-word.ensures.goes n m here its rival up) ∙ left)
+      | else-not-rank w ↦ false≢true (sym (flat-none c.args.self.now.system.now c.args.connector c.args.rank.now c.requires.rank w.if-not-rank.false n m (owned c n here left) its) ∙ up)
+    ]
+
+pub without_overruled-requires-clause-there : goal.without_overruled-requires-clause-there
+without_overruled-requires-clause-there c n here left = of-one c.args.self.now.system.now n c.args.connector (owned c n here left)
+
+pub returns : goal.returns
+returns c n here =
     let system = c.args.self.now.system.now in
     let all = interactions_in system in
-    let own : is_of_connector all c.args.connector n ≡ true = ⊎_elim (λ its. its)
-    (λ no_. absurd (false≢true (sym (within c n here (and_right (contains c.args.self.now.possible.now n) (is_of_connector all c.args.connector n) no_)) ∙ left)))
-    (cases_Bool (is_of_connector all c.args.connector n)) in
-    over-none system (contains c.args.self.now.standing.now.rivals) n
+    let rivals = contains c.args.self.now.rivals.now in
+    let connector = c.args.connector in
+    let rank = c.args.rank.now in
+    let word = c.if-not-rank.word in
+    let rest = c.without_overruled in
+    told (is_of_connector all connector n) (contains c.args.self.now.possible.now n) (is_always_overruled (plant_of system) all rivals n) (has_bit rest.result (n % 64))
+    (λ out. rest.ensures.within (n % 64) (within c.before n here out))
+    (λ inside out. ⊎_elim
+    (λ still. rest.ensures.gone n here still out)
+    (λ went. gone c.before n here inside went)
+    (cases_Bool (has_bit word (n % 64))))
+    (λ left.
+    let still : has_bit word (n % 64) ≡ true = ⊎_elim (λ yes_. yes_) (λ no_. absurd (false≢true (sym (rest.ensures.within (n % 64) no_) ∙ left))) (cases_Bool (has_bit word (n % 64))) in
+    let own = owned c.before n here still in
+    over-none system rivals n
     (λ m rival up. ⊎_elim
-    (λ its. elim c.if-not-rank.branch [
-      | then-not-rank w ↦ false≢true (sym (ap (λ x. has_bit x (n % 64)) w.word-is ∙ w.without_lower-word.ensures.goes n m here its rival up) ∙ left)
-      | else-not-rank w ↦ false≢true (sym (flat-none system c.args.connector c.args.rank.now c.requires.rank w.if-not-rank.false n m own its) ∙ up)
-    ])
-    (λ apart. false≢true (sym (c.requires.free same n m own apart rival) ∙ up))
-    (cases_Bool (is_of_connector all c.args.connector m)))
-
-pub returns-then-not-rank-2 : goal.returns-then-not-rank-2
-returns-then-not-rank-2 c n here =
-    let system = c.args.self.now.system.now in
-    let rivals = contains c.args.self.now.standing.now.rivals in
-    let low : n % 64 < 64 = omega arith in
-    let number : 64 * c.args.place + n % 64 ≡ n = omega (arith, here) in
-    c.without_overruled-word.ensures (n % 64) low ∙
-    ap (λ m. has_bit c.if-not-rank.word (n % 64) && not (is_always_overruled (plant_of system) (interactions_in system) rivals m)) number ∙
-    asked (is_of_connector (interactions_in system) c.args.connector n) (contains c.args.self.now.possible.now n) (is_always_overruled (plant_of system) (interactions_in system) rivals n) (has_bit c.if-not-rank.word (n % 64))
-    (within c.before.before n here) (gone c.before.before n here)
-
-pub returns-else-not-rank-2 : goal.returns-else-not-rank-2
-returns-else-not-rank-2 c n here =
-    let system = c.args.self.now.system.now in
-    let rivals = contains c.args.self.now.standing.now.rivals in
-    unasked (is_of_connector (interactions_in system) c.args.connector n) (contains c.args.self.now.possible.now n) (is_always_overruled (plant_of system) (interactions_in system) rivals n) (has_bit c.if-not-rank.word (n % 64))
-    (within c.before n here) (gone c.before n here) (free c.before c.if-not-rank-2.false n here)
+    (λ its. unbeaten c.before n m here still its rival up)
+    (λ apart.
+    let of = connector-of system m (under-there system n m up) in
+    let other : of.0 ≡ connector → ⊥ = λ is. false≢true (sym apart ∙ ap (λ j. is_of_connector all j m) (sym is) ∙ of.2) in
+    ⊎_elim
+    (λ wholly. false≢true (sym (c.requires.free.whole of.0 n m own wholly of.2) ∙ rival))
+    (λ beside. ⊎_elim
+    (λ head. false≢true (sym (c.requires.free.heads n m own head) ∙ rival))
+    (λ inside. false≢true (sym (rest.ensures.goes n m here inside rival) ∙ left))
+    (or_cases (is_head_of system.ranks m connector) (is_in_rest system.ranks n m) beside))
+    (or_cases (has_bit rank.whole of.0) (is_head_of system.ranks m connector || is_in_rest system.ranks n m) (above-by system connector rank c.requires.rank of.0 n m other own of.2 up)))
+    (cases_Bool (is_of_connector all connector m))))

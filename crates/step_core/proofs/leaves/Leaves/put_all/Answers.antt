@@ -15,17 +15,17 @@ loop-put-preserved c =
     let none : Put = record { connector = 0; mask = 0; off = 0; many = 0 } in
     let p = get_or puts i none in
     let there : slice_get puts i ≡ Some p = slice_get-get_or puts i none c.loop-put-test.true in
-    let n = c.from-connector.result in
+    let n = c.from-index.result in
     let off = c.loop-put.self.off in
     let many = c.loop-put.self.many in
     let low = c.requires i p there in
     record {
       off = λ right all k leaf.
           one-put puts i p there right (λ j b. is_set (get_or c.args.self.now.off j 0) b) (λ j b. is_set (get_or off j 0) b) _ (c.loop-put.invariant.off right all)
-          (put-in-words off n p p.off (get_or off n 0) right (omega (arith, low, c.from-connector.ensures)) c.from-connector.ensures refl (omega arith) (omega arith) (all i p there)) k leaf;
+          (put-in-words off n p p.off (get_or off n 0) right (omega (arith, low, c.from-index.ensures)) c.from-index.ensures refl (omega arith) (omega arith) (all i p there)) k leaf;
       many = λ right all k leaf.
           one-put puts i p there right (λ j b. is_set (get_or c.args.self.now.many j 0) b) (λ j b. is_set (get_or many j 0) b) _ (c.loop-put.invariant.many right all)
-          (put-in-words many n p p.many (get_or many n 0) right (omega (arith, low, c.from-connector.ensures)) c.from-connector.ensures refl (omega arith) (omega arith) (all i p there)) k leaf;
+          (put-in-words many n p p.many (get_or many n 0) right (omega (arith, low, c.from-index.ensures)) c.from-index.ensures refl (omega arith) (omega arith) (all i p there)) k leaf;
     }
 
 pub returns-clause-off : goal.returns-clause-off

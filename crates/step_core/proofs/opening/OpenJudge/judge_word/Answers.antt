@@ -3,10 +3,10 @@ use Rattle.std.specs.Int.{trailing_zeros}
 use Rattle.std.specs.FinSet.{contains}
 use Rattle.std.proofs.lemmas.Bool.{or_parts, cases_eq, false≢true}
 use Rattle.petri_atom.specs.Atom.{definition_of}
-use Rattle.priority_filter.proofs.Words.{rest-less}
 use Rattle.plant_model.specs.Interaction.{interaction_of}
 use Rattle.step_core.specs.Sure.{is_open_at}
 use Rattle.step_core.specs.Words.{in_word}
+use Rattle.step_core.proofs.WithoutLowest.{fewer-less, same-rest}
 use Rattle.step_core.proofs.WordByWord.{lowest-inside, rest-inside, others-inside, none-inside}
 use Rattle.step_core.proofs.opening.OpenJudge.judge_word.Goals as goal
 
@@ -19,7 +19,7 @@ loop-left-init c = record {
 }
 
 pub loop-left-smaller : goal.loop-left-smaller
-loop-left-smaller c = rest-less c.loop-left.left (omega (arith, c.loop-left-test.true)) (omega arith)
+loop-left-smaller c = fewer-less w64 c.loop-left.left (omega (arith, c.loop-left-test.true)) (omega arith)
 
 pub loop-left-preserved : goal.loop-left-preserved
 loop-left-preserved c =
@@ -32,11 +32,12 @@ loop-left-preserved c =
     let before = c.loop-left.invariant in
     let new = contains c.judge_one-changed.new.opened in
     let one = c.judge_one-changed.ensures in
+    let is-rest = same-rest w64 left some small in
     record {
-      part = λ n inside. before.part n (rest-inside place left some small n inside);
+      part = λ n inside. before.part n (rest-inside place left some small n (sym (ap (λ w. in_word place w n) is-rest) ∙ inside));
       right = λ n inside outside. ⊎_elim
           (λ same. ap new same ∙ one.here ∙ ap is (sym same))
-          (λ other. one.others n other ∙ before.right n inside (sym (others-inside place left some small n other) ∙ outside))
+          (λ other. one.others n other ∙ before.right n inside (sym (ap (λ w. in_word place w n) is-rest ∙ others-inside place left some small n other) ∙ outside))
           (cases_eq n number);
       others = λ n outside.
           one.others n (λ same. false≢true (sym outside ∙ ap (in_word place c.args.word) same ∙ before.part number (lowest-inside place left some small))) ∙ before.others n outside;

@@ -13,12 +13,12 @@ overflow_mul-result t c =
     let bound : c.move_count-count.result * c.row_count.result ≤ 2 ^ 63 = le_trans few (pow_mono bits) in
     omega arith
 
-pub returns-else-count-eq0-clause-few : goal.returns-else-count-eq0-clause-few
-returns-else-count-eq0-clause-few t c =
+pub returns-in-len1-up-clause-few : goal.returns-in-len1-up-clause-few
+returns-in-len1-up-clause-few t c =
     let ports = c.args.ports.now in
     product-bound c.move_count-count.result c.row_count.result (length (take (length ports - 1) (drop 1 ports))) (length ports) c.move_count-count.ensures.few c.row_count.ensures.few (length-later ports c.in-len1-up.len_at_least)
 
-pub returns-else-count-eq0-clause-count : goal.returns-else-count-eq0-clause-count
-returns-else-count-eq0-clause-count t c =
+pub returns-in-len1-up-clause-count : goal.returns-in-len1-up-clause-count
+returns-in-len1-up-clause-count t c =
     let judged = c.args.self.now in
     count-by-first (moves_of (map definition_of judged.atoms.now) judged.states.now) c.args.ports.now (record { atom = 0; port = 0 }) c.in-len1-up.len_at_least c.move_count-count.result c.row_count.result c.move_count-count.ensures.count c.row_count.ensures.count

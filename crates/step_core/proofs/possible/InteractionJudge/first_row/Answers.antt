@@ -6,8 +6,8 @@ use Rattle.step_core.specs.Judges.{judged_atoms}
 use Rattle.step_core.proofs.FirstRow.{first, first-more, first-row, some-each}
 use Rattle.step_core.proofs.possible.InteractionJudge.first_row.Goals as goal
 
-pub nth_move-requires : goal.nth_move-requires
-nth_move-requires c =
+pub first_move-requires : goal.first_move-requires
+first_move-requires c =
     let judged = c.args.self.now in
     some-each (moves_of (judged_atoms judged) judged.states.now) (record { atom = 0; transition = 0 }) c.args.ports.now c.loop-port.port-index _ c.loop-port-test.true c.requires.some
 
@@ -16,8 +16,8 @@ loop-port-preserved c =
     let judged = c.args.self.now in
     let moves = moves_of (judged_atoms judged) judged.states.now in
     let none : Move = record { atom = 0; transition = 0 } in
-    c.push.ensures ∙ ap (λ ms. ms ++ c.nth_move.result ∷ []) c.loop-port.invariant ∙
-    sym (first-more moves none c.args.ports.now c.loop-port.port-index _ c.nth_move.result c.loop-port-test.true c.nth_move.ensures)
+    c.push.ensures ∙ ap (λ ms. ms ++ c.first_move.result ∷ []) c.loop-port.invariant ∙
+    sym (first-more moves none c.args.ports.now c.loop-port.port-index _ c.first_move.result c.loop-port-test.true c.first_move.ensures)
 
 pub returns : goal.returns
 returns c =

@@ -1,19 +1,20 @@
-use Rattle.std.proofs.Common.{◌≡◌, ◌<◌, ◌≤◌, ◌+◌, ◌-◌, ◌*◌, ◌%◌, ◌^◌, ℕ, suc, List, length, ap, eqb, sym, ◌∙◌, false, arith, ⊎_elim, w64}
+use Rattle.std.proofs.Common.{◌≡◌, ◌<◌, ◌≤◌, ◌+◌, ◌-◌, ◌^◌, ℕ, suc, List, length, ap, sym, ◌∙◌, false, arith, ⊎_elim, w64}
 use Rattle.std.specs.Prelude.{bit_and, slice_index_or, slice_set}
 use Rattle.std.specs.FinSet.{contains}
-use Rattle.std.specs.Int.{bit_not, trailing_zeros}
+use Rattle.std.specs.Int.{trailing_zeros}
 use Rattle.std.proofs.lemmas.Bool.{cases_eq, cases_lt, true≢false}
 use Rattle.std.proofs.lemmas.List.{get_or-set_other, get_or-set_same}
-use Rattle.std.proofs.lemmas.Nat.Bits.{bit_at_clear_other}
 use Rattle.priority_filter.specs.Members.{has_bit}
-use Rattle.priority_filter.proofs.Words.{no-bit-past, rest-less}
 use Rattle.plant_model.specs.System.{interactions_in, plant_of}
 use Rattle.step_core.specs.Weights.{sum_of, weight_of}
 use Rattle.step_core.specs.declared.weights.Weighing.{Weighing}
+use Rattle.step_core.proofs.BitsLeft.{fewer-out}
 use Rattle.step_core.proofs.ConnectorRange.{few-interactions}
-use Rattle.step_core.proofs.LowestBits.{IsRest, bit-below, bit-from, bit-passes, rest-next}
+use Rattle.step_core.proofs.ConnectorWords.{all-possible}
+use Rattle.step_core.proofs.LowestBits.{IsRest, bit-below, bit-from, bit-passes, fewer-next}
 use Rattle.step_core.proofs.Sums.{sum-set}
 use Rattle.step_core.proofs.Weighed.{few-choices, few-of-each, is_kept_before, lighter, lighter-more, lighter-rises}
+use Rattle.step_core.proofs.WithoutLowest.{fewer-less}
 use Rattle.step_core.proofs.weights.Weighing.weigh_again.Goals as goal
 
 module _ (w : Weighing) where
@@ -53,23 +54,21 @@ module _ (w : Weighing) where
 
     -- without it, all others are weighed
     weighed : (weights : List ℕ) (new : ℕ) → length weights ≡ 64 → new ≡ weight lowest → ((j : ℕ) → has_bit left j ≡ false → slice_index_or weights j 0 ≡ weight j)
-        → (j : ℕ) → has_bit (bit_and left (bit_not w64 (1 * 2 ^ lowest % 2 ^ 64))) j ≡ false → slice_index_or (slice_set weights lowest new) j 0 ≡ weight j
+        → (j : ℕ) → has_bit (bit_and left (left - 1)) j ≡ false → slice_index_or (slice_set weights lowest new) j 0 ≡ weight j
     weighed weights new long is so_far j unset =
         let below : lowest < 64 = bit-below (has_bit heavy) left k some small rest in
         ⊎_elim
         (λ same. ap (λ n. slice_index_or (slice_set weights lowest new) n 0) same ∙ get_or-set_same weights lowest new 0 (omega (arith, below, long)) ∙ is ∙ ap weight (sym same))
-        (λ other. get_or-set_other weights lowest j new 0 other ∙
-        so_far j
-        (⊎_elim
-        (λ low. ap (λ x. eqb x 1) (sym (bit_at_clear_other w64 left lowest below j low other)) ∙ unset)
-        (λ past. no-bit-past left j small past)
-        (cases_lt j 64)))
+        (λ other. get_or-set_other weights lowest j new 0 other ∙ so_far j (fewer-out left some small j other unset))
         (cases_eq j lowest)
 
-pub weight_of-requires : goal.weight_of-requires
-weight_of-requires c =
+pub weight_of-requires-clause-connector : goal.weight_of-requires-clause-connector
+weight_of-requires-clause-connector c =
     let told = c.loop-left.invariant in
     lowest-there c.args.self.now c.args.heavy c.loop-left.left told.0 (omega (arith, c.loop-left-test.true)) (omega arith) told.2 c.requires.within
+
+pub weight_of-requires-clause-possible : goal.weight_of-requires-clause-possible
+weight_of-requires-clause-possible c = all-possible c.args.self.now (trailing_zeros w64 c.loop-left.left) c.requires.possible
 
 pub set-requires-clause-connector : goal.set-requires-clause-connector
 set-requires-clause-connector c =
@@ -85,7 +84,7 @@ set-requires-clause-few c =
     omega (arith, told.5, few-before c.args.self.now told.0, c.weight_of.ensures.few)
 
 pub loop-left-smaller : goal.loop-left-smaller
-loop-left-smaller c = rest-less c.loop-left.left (omega (arith, c.loop-left-test.true)) (omega arith)
+loop-left-smaller c = fewer-less w64 c.loop-left.left (omega (arith, c.loop-left-test.true)) (omega arith)
 
 pub loop-left-preserved : goal.loop-left-preserved
 loop-left-preserved c =
@@ -101,7 +100,7 @@ loop-left-preserved c =
     let sum : c.set.new.self.total ≡ sum_of (slice_set old.of_connectors lowest new) = c.set.ensures.sums.total ∙ ap sum_of c.set.ensures.weights in (
       lowest + 1,
       omega (arith, below),
-      rest-next (has_bit c.args.heavy) c.loop-left.left told.0 some (omega arith) told.2,
+      fewer-next (has_bit c.args.heavy) c.loop-left.left told.0 some (omega arith) told.2,
       λ j unset. ap (λ ws. slice_index_or ws j 0) c.set.ensures.weights ∙ weighed w c.args.heavy c.loop-left.left told.0 some (omega arith) told.2 old.of_connectors new long c.weight_of.ensures.weight told.3 j unset,
       c.set.ensures.sums,
       omega (arith, set, sum, told.4.total, told.5, before-next w told.0 lowest (bit-from (has_bit c.args.heavy) c.loop-left.left told.0 some (omega arith) told.2), c.weight_of.ensures.weight),

@@ -1,0 +1,23 @@
+use Rattle.std.proofs.Common.{◌≡◌, ◌+◌, ◌-◌, ◌*◌, arith}
+use Rattle.std.specs.Prelude.{slice_index_or}
+use Rattle.step_core.specs.Weights.{sum_from}
+use Rattle.step_core.proofs.Sums.{small-connector, small-group, sum-before-group, sum-before-next}
+use Rattle.step_core.proofs.weights.Weights.find_by_wide_number.Goals as goal
+
+pub loop-group-preserved : goal.loop-group-preserved
+loop-group-preserved c =
+    let w = c.args.self.now in
+    let group = c.loop-group.group in
+    let left = c.loop-group.left in
+    let behind : c.args.place ≡ sum_from w.of_connectors 0 (8 * (group + 1)) + (left - slice_index_or w.groups group 0) =
+    omega (arith, c.loop-group.invariant.1, c.loop-group-test.true, sum-before-group w.of_connectors group, c.requires.sums.groups group) in
+    (small-group w c.requires.sums (group + 1) (left - slice_index_or w.groups group 0) c.args.place c.requires.place behind, behind)
+
+pub loop-connector-preserved : goal.loop-connector-preserved
+loop-connector-preserved c =
+    let w = c.args.self.now in
+    let connector = c.loop-connector.connector in
+    let left = c.loop-connector.left in
+    let behind : c.args.place ≡ sum_from w.of_connectors 0 (connector + 1) + (left - slice_index_or w.of_connectors connector 0) =
+    omega (arith, c.loop-connector.invariant.1, c.loop-connector-test.true, sum-before-next w.of_connectors connector) in
+    (small-connector w c.requires.sums (connector + 1) (left - slice_index_or w.of_connectors connector 0) c.args.place c.requires.place behind, behind)
