@@ -1,7 +1,7 @@
 """The must-fail edits: wrong bodies that the prover must refuse. They stand where a wrong body moves a device or loses what was acknowledged, and nowhere else.
 
 Each costs every run of the gate 10 to 30 processor seconds. In the crates that are not listed the contracts say the exact text or result, and what the program
-prints is shown by the cases of tests/. That the prover refuses each edit, only `rt ci` tells.
+prints is shown by the cases of tests/; what `plant_model` promises is what `step_core` proves its own promises from. That the prover refuses each edit, only `rt ci` tells.
 """
 
 import unittest
@@ -15,7 +15,6 @@ WITH_EDITS = {
     "petri_atom": "fires a transition that is not offered, or leaves another state",
     "connector_tree": "lets ports act together that may not",
     "priority_filter": "lets a move go before one that goes first",
-    "plant_model": "leaves another state, or delivers other values",
     "step_core": "makes another choice, or takes what is not sure",
     "step_executor": "fires what is not sure while atoms are away, or never has one back",
     "plant_text": "makes another plant than the text means",
@@ -33,7 +32,7 @@ WITH_EDITS = {
     "recovery": "goes on from another state",
     "file_disk": "works past the end of the image, or counts what it did otherwise",
 }
-MOST_EDITS = 187
+MOST_EDITS = 169
 
 
 def edits_of(crate):

@@ -36,7 +36,9 @@ mod Pushed
 pub mod Reaching
 mod Putting
 pub mod OfConnector
-mod WordSets
+pub mod WithoutLowest
+pub mod BitsLeft
+pub mod WordSets
 mod JudgedWords
 pub mod ByConnector
 mod Ranking

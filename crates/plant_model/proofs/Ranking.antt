@@ -35,7 +35,8 @@ use Rattle.plant_model.proofs.FirstFault.{both}
 use Rattle.plant_model.proofs.Membership.{entry-in}
 use Rattle.plant_model.proofs.OfInteractions.{of-wire}
 use Rattle.plant_model.proofs.Pushed.{get-last, get-pushed, some-at}
-use Rattle.plant_model.proofs.WordSets.{bit-without, lowest-set, no-bit}
+use Rattle.plant_model.proofs.BitsLeft.{lowest-set, no-bit}
+use Rattle.plant_model.proofs.WordSets.{bit-without}
 
 -- ---- the range of a connector
 

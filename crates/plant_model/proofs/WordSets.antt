@@ -1,16 +1,11 @@
 -- Words as sets: what is put in and taken out, bit by bit.
-use Rattle.std.proofs.Common.{◌≡◌, ℕ, ◌%◌, ◌*◌, ◌^◌, ◌<◌, refl, sym, ◌∙◌, ap, Bool, true, false, not, ◌&&◌, ◌||◌, eqb, ⊎_elim, w64}
+use Rattle.std.proofs.Common.{◌≡◌, ℕ, ◌^◌, ◌<◌, refl, sym, ◌∙◌, ap, Bool, true, false, not, ◌&&◌, ◌||◌, w64}
 use Rattle.std.specs.Prelude.{bit_and, bit_or}
-use Rattle.std.specs.Int.{bit_not, trailing_zeros}
-use Rattle.std.proofs.lemmas.Bool.{and_parts, cases_lt}
-use Rattle.std.proofs.lemmas.Nat.Bits.{bit_at-trailing_zeros, bit_at-zero, bit_at_clear_other}
+use Rattle.std.specs.Int.{bit_not}
 use Rattle.petri_atom.proofs.Sets.{has-or}
 use Rattle.priority_filter.specs.Members.{has_bit}
-use Rattle.priority_filter.proofs.Words.{bit-and, bit-not, no-bit-past}
-
--- no bit of 0 is set
-pub no-bit : (k : ℕ) → has_bit 0 k ≡ false
-no-bit k = ap (λ x. eqb x 1) (bit_at-zero k)
+use Rattle.priority_filter.proofs.Words.{bit-and, bit-not}
+use Rattle.plant_model.proofs.BitsLeft.{no-bit}
 
 -- two words without a common bit
 pub no-common : (a b k : ℕ) → bit_and a b ≡ 0 → has_bit a k ≡ true → has_bit b k ≡ false
@@ -48,18 +43,3 @@ module _ (a own out k : ℕ) (small : own < 2 ^ 64) (fits : out < 2 ^ 64) (low :
   bit-stays its =
       bit-kept a own (bit_and own (bit_not w64 out)) k small low its
       (bit-without own out k fits low ∙ ap (λ x. x && not (has_bit out k)) its)
-
--- the lowest bit, and the others
-module _ (left : ℕ) (some : 0 < left) (small : left < 2 ^ 64) where
-  pub lowest-set : has_bit left (trailing_zeros w64 left) ≡ true
-  lowest-set = ap (λ x. eqb x 1) (bit_at-trailing_zeros w64 left some small).1
-
-  pub rest-in : (k : ℕ) → has_bit (bit_and left (bit_not w64 (1 * 2 ^ trailing_zeros w64 left % 2 ^ 64))) k ≡ true → has_bit left k ≡ true
-  rest-in k inside = (and_parts (has_bit left k) _ (sym (bit-and left (bit_not w64 (1 * 2 ^ trailing_zeros w64 left % 2 ^ 64)) k) ∙ inside)).0
-
-  pub rest-out : (k : ℕ) → (k ≡ trailing_zeros w64 left → ⊥) → has_bit (bit_and left (bit_not w64 (1 * 2 ^ trailing_zeros w64 left % 2 ^ 64))) k ≡ false → has_bit left k ≡ false
-  rest-out k other out =
-      ⊎_elim
-      (λ low. sym (ap (λ x. eqb x 1) (bit_at_clear_other w64 left (trailing_zeros w64 left) (bit_at-trailing_zeros w64 left some small).0 k low other)) ∙ out)
-      (λ past. no-bit-past left k small past)
-      (cases_lt k 64)

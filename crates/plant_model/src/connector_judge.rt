@@ -238,8 +238,8 @@ fn word_on(on_leaf: &[InteractionSet], off: Mask, place: usize) -> u64
     let mut left = u64::from(off);
     while left != 0 {
         let leaf = left.trailing_zeros() as usize;
+        left &= left - 1;
         word |= on_leaf[leaf].word(place);
-        left &= !(1 << leaf);
     }
     word
 }

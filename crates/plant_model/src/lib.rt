@@ -35,7 +35,8 @@
 //! - Interactions: `Ports` (the ports of a mask), `OfInteractions` (what each is), `Noting` (sets of them, as they grow).
 //! - Connectors: `ByConnector` (the range and the rows of a connector's interactions), `OfConnector` (an interaction is possible
 //!   exactly where the rows say so), `JudgedWords` (a set made right word by word), `Reaching` (what stands on a port), `Ranking`,
-//!   `RankTables` (how it is found where connectors stand), `Pushed`, `WordSets` (lists that grow, and words as sets).
+//!   `RankTables` (how it is found where connectors stand), `Pushed`, `WordSets` (lists that grow, and words as sets), `WithoutLowest`,
+//!   `BitsLeft` (a word without its lowest bit).
 //! - What is found of names: `FirstFault`, `Found` (the first of a list, as a walk finds it), `Resolving`, `Guarding`, `Delivering` (guards
 //!   and transfers with their variables found say what was written), `Copying` (rows of copies say what their transfers say).
 //! - Choices: `Judging` (an atom and its state, by number), `Sighted` (what is seen of an atom), `Combinations`, `Membership`, `OfPorts`,

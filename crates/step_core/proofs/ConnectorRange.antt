@@ -1,5 +1,5 @@
 -- The range of a connector's interactions, in words of 64.
-use Rattle.std.proofs.Common.{◌≡◌, ℕ, zero, suc, ◌+◌, ◌*◌, ◌/◌, ◌%◌, ◌<◌, ◌≤◌, refl, sym, ◌∙◌, ap, List, [], ◌∷◌, length, get_or, nat_lt, arith, bit_and, Bool, true, false, cond, not, ◌&&◌, ⊎_elim}
+use Rattle.std.proofs.Common.{◌≡◌, ℕ, zero, suc, ◌+◌, ◌*◌, ◌/◌, ◌%◌, ◌<◌, ◌≤◌, refl, sym, ◌∙◌, ap, List, [], ◌∷◌, length, get_or, nat_lt, arith, bit_and, Bool, true, false, not, ◌&&◌, ⊎_elim}
 use Rattle.std.specs.Prelude.{Some, slice_get, slice_index_or}
 use Rattle.std.specs.FinSet.{contains}
 use Rattle.std.proofs.lemmas.Bool.{and_right, cases_Bool, cases_lt, le-ltb, lt-ltb}
@@ -101,17 +101,6 @@ module _ (w : Weighing) (connector : ℕ) (rows : ConnectorRows) (within : conne
   -- ---- where its kept interactions are possible
 
   module _ (possible : AreAllPossible (plant_of w.system.now).atoms (plant_of w.system.now).wires w.states.now (interactions_in w.system.now) (its w connector)) where
-    -- none is counted before the range, and behind it all are
-    pub counted-start : (low : ℕ) → low ≡ rows.first / 64 → counted w connector possible (64 * low) ≡ 0
-    counted-start low is_low =
-        count-skips (plant_of w.system.now).atoms (plant_of w.system.now).wires w.states.now (interactions_in w.system.now) (its w connector) possible 0 (64 * low) (omega arith)
-        (λ m from below. none-before m (omega (arith, below, is_low)))
-
-    pub counted-end : (high : ℕ) → rows.first + rows.count ≤ 64 * high → counted w connector possible (64 * high) ≡ weight_of (plant_of w.system.now).atoms w.states.now (interactions_in w.system.now) (contains w.kept.now) connector
-    counted-end high past =
-        count-all (plant_of w.system.now).atoms (plant_of w.system.now).wires w.states.now (interactions_in w.system.now) (its w connector) possible (64 * high)
-        (λ m from. none-behind m (omega (arith, from, past)))
-
     -- the choices of the connector are those from the first word of the range on, and none is behind it
     pub entries-start : (low : ℕ) → low ≡ rows.first / 64 → choices_of_connector (plant_of w.system.now).atoms w.states.now (interactions_in w.system.now) (contains w.kept.now) connector ≡ entries w connector possible (64 * low)
     entries-start low is_low =
@@ -174,13 +163,6 @@ module _ (w : Weighing) (connector : ℕ) (rows : ConnectorRows) (within : conne
                 (λ m from below. let e : m ≡ rows.first = omega (arith, from, below) in ap (its w connector) e ∙ its-first ∙ not_kept),
             counted-first,
           )
-
-      pub weight-first : weight_of (plant_of w.system.now).atoms w.states.now (interactions_in w.system.now) (contains w.kept.now) connector ≡ cond (contains w.kept.now rows.first) (ways w connector rows.first) 0
-      weight-first =
-          ⊎_elim
-          (λ kept. weight-kept kept ∙ sym (ap (λ b. cond b (ways w connector rows.first) 0) kept))
-          (λ not_kept. weight-none not_kept ∙ sym (ap (λ b. cond b (ways w connector rows.first) 0) not_kept))
-          (cases_Bool (contains w.kept.now rows.first))
 
       -- a choice of the connector is its
       pub found-first : (place : ℕ) → slice_index_or w.leaves.now.many connector 0 ≡ 0 → place < weight_of (plant_of w.system.now).atoms w.states.now (interactions_in w.system.now) (contains w.kept.now) connector

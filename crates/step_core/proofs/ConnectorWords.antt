@@ -143,10 +143,6 @@ module _ (w : Weighing) (connector : ℕ) (possible : AreAllPossible (plant_of w
       bit-kept j low set =
           single.at-bit (plant_of w.system.now).atoms (plant_of w.system.now).wires w.states.now (interactions_in w.system.now) (its w connector) possible at word bits one-each j low ∙ set
 
-      -- the bits are as many as their choices
-      pub counted-word : word < 2 ^ 64 → counted (64 * (at + 1)) ≡ counted (64 * at) + count_ones word
-      counted-word = single.counted-word (plant_of w.system.now).atoms (plant_of w.system.now).wires w.states.now (interactions_in w.system.now) (its w connector) possible at word bits one-each
-
       pub entry-behind : word < 2 ^ 64 → (place : ℕ) → count_ones word ≤ place → slice_get (entries (64 * at)) place ≡ slice_get (entries (64 * (at + 1))) (place - count_ones word)
       entry-behind = single.entry-later (plant_of w.system.now).atoms (plant_of w.system.now).wires w.states.now (interactions_in w.system.now) (its w connector) possible at word bits one-each
 

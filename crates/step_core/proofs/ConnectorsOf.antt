@@ -1,21 +1,16 @@
 -- Connectors as the bits of words, and which of them have leaves of an atom, and which interactions.
-use Rattle.std.proofs.Common.{◌≡◌, ℕ, zero, suc, ◌==◌, ◌*◌, ◌%◌, ◌^◌, ◌<◌, ◌≤◌, refl, sym, ◌∙◌, ap, List, [], ◌∷◌, length, get_or, nat_lt, Contains, arith, true, false, eqb, ◌||◌, ⊎_elim, w64}
-use Rattle.std.specs.Prelude.{Option, Some, None, slice_get, bit_and}
+use Rattle.std.proofs.Common.{◌≡◌, ℕ, zero, suc, ◌==◌, ◌<◌, ◌≤◌, refl, sym, ◌∙◌, ap, List, [], ◌∷◌, length, get_or, nat_lt, Contains, arith, true, false, ◌||◌, ⊎_elim}
+use Rattle.std.specs.Prelude.{Option, Some, None, slice_get}
 use Rattle.std.specs.FinSet.{contains}
-use Rattle.std.specs.Int.{bit_not, trailing_zeros}
 use Rattle.std.specs.List.{list_all}
 use Rattle.std.specs.Option.{option_map_or}
 use Rattle.std.proofs.lemmas.Bool.{and_parts, cases_lt, eq-eqb, eqb-true, false_from_ne_true, false≢true, ltb-true, or_from, or_parts, or_right}
 use Rattle.std.proofs.lemmas.List.{length-map}
-use Rattle.std.proofs.lemmas.Nat.Bits.{bit_at-trailing_zeros, bit_at-zero, bit_at_clear_other}
 use Rattle.std.proofs.lemmas.Option.{slice_get_past, slice_get_read}
 use Rattle.petri_atom.specs.Atom.{definition_of}
 use Rattle.petri_atom.specs.Definition.{AtomDefinition}
-use Rattle.petri_atom.proofs.Sets.{has-and}
 use Rattle.connector_tree.specs.Tree.{leaves}
 use Rattle.connector_tree.specs.declared.tree.Port.{Port}
-use Rattle.priority_filter.specs.Members.{has_bit}
-use Rattle.priority_filter.proofs.Words.{no-bit-past}
 use Rattle.plant_model.specs.Choice.{Interaction, plant_interactions}
 use Rattle.plant_model.specs.ConnectorRows.{is_of_connector}
 use Rattle.plant_model.specs.Reach.{at_port, has_row, row_of_port}
@@ -29,33 +24,6 @@ use Rattle.plant_model.specs.declared.system.System.{System}
 use Rattle.plant_model.proofs.Membership.{entry-in, here-or-later, in-entry}
 use Rattle.plant_model.proofs.OfInteractions.{interaction-of, known-leaves}
 use Rattle.step_core.specs.SureJudgement.{has_leaf_of}
-
--- ---- words
-
--- no bit of 0 is set
-pub no-bit : (k : ℕ) → has_bit 0 k ≡ false
-no-bit k = ap (λ x. eqb x 1) (bit_at-zero k)
-
--- the lowest bit, and the others
-module _ (left : ℕ) (some : 0 < left) (small : left < 2 ^ 64) where
-  abbrev lowest : ℕ
-  lowest = trailing_zeros w64 left
-
-  abbrev rest : ℕ
-  rest = bit_and left (bit_not w64 (1 * 2 ^ lowest % 2 ^ 64))
-
-  pub lowest-set : has_bit left lowest ≡ true
-  lowest-set = ap (λ x. eqb x 1) (bit_at-trailing_zeros w64 left some small).1
-
-  pub rest-in : (k : ℕ) → has_bit rest k ≡ true → has_bit left k ≡ true
-  rest-in k inside = (and_parts (has_bit left k) _ (sym (has-and left (bit_not w64 (1 * 2 ^ lowest % 2 ^ 64)) k) ∙ inside)).0
-
-  pub rest-out : (k : ℕ) → (k ≡ lowest → ⊥) → has_bit rest k ≡ false → has_bit left k ≡ false
-  rest-out k other out =
-      ⊎_elim
-      (λ low. sym (ap (λ x. eqb x 1) (bit_at_clear_other w64 left lowest (bit_at-trailing_zeros w64 left some small).0 k low other)) ∙ out)
-      (λ past. no-bit-past left k small past)
-      (cases_lt k 64)
 
 -- ---- lists
 

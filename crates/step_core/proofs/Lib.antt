@@ -14,8 +14,6 @@ mod WordByWord
 mod Recounted
 mod Unchanged
 mod Clean
-mod BitsLeft
-mod WithoutLowest
 mod SystemConnectors
 mod Behind
 mod FiringJudged

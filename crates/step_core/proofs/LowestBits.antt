@@ -5,7 +5,7 @@ use Rattle.std.specs.Int.{bit_not, trailing_zeros}
 use Rattle.std.proofs.lemmas.Bool.{cases_eq, cases_lt, false≢true}
 use Rattle.std.proofs.lemmas.Nat.Bits.{bit_at-zero, bit_at_clear_same, bit_at_clear_other, bit_at-trailing_zeros}
 use Rattle.priority_filter.specs.Members.{has_bit}
-use Rattle.step_core.proofs.WithoutLowest.{same-rest}
+use Rattle.plant_model.proofs.WithoutLowest.{same-rest}
 
 -- what is left are the bits from a number on for which a test is passed
 abbrev pub IsRest : (ℕ → Bool) → ℕ → ℕ → Type 0

@@ -11,7 +11,7 @@ use Rattle.plant_model.specs.Choice.{Interaction}
 use Rattle.plant_model.specs.ConnectorRows.{is_of_connector}
 use Rattle.plant_model.specs.System.{interactions_in}
 use Rattle.plant_model.specs.declared.system.System.{System}
-use Rattle.step_core.proofs.BitsLeft.{fewer, fewer-in, fewer-out}
+use Rattle.plant_model.proofs.BitsLeft.{fewer, fewer-in, fewer-out}
 use Rattle.step_core.proofs.Ranked.{of-no-other}
 
 module _ (system : System) (can : ℕ → Bool) (left : ℕ) (some : 0 < left) (small : left < 2 ^ 64) (between new : FinSet nat_cmp)

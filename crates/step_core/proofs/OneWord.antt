@@ -9,7 +9,7 @@ use Rattle.plant_model.specs.Plant.{PlantDefinition}
 use Rattle.plant_model.specs.Ways.{ways_at}
 use Rattle.step_core.specs.ChoicesIn.{AreAllPossible}
 use Rattle.step_core.specs.Weights.{is_kept_of, weight_of}
-use Rattle.step_core.proofs.BitsLeft.{no-bit}
+use Rattle.plant_model.proofs.BitsLeft.{no-bit}
 use Rattle.step_core.proofs.Counted.{count-all, count-skips}
 use Rattle.step_core.proofs.WordChoices as single
 

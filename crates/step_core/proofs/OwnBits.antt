@@ -1,7 +1,7 @@
 -- Words in which the bits at some places are replaced, what two words have in common, and the highest bit of a word.
-use Rattle.std.proofs.Common.{◌≡◌, ℕ, ◌+◌, ◌-◌, ◌*◌, ◌/◌, ◌%◌, ◌^◌, ◌<◌, ◌≤◌, refl, sym, ◌∙◌, ap, arith, Bool, true, false, not, ◌&&◌, ◌||◌, eqb, suc, ⊎_elim, w64}
+use Rattle.std.proofs.Common.{◌≡◌, ℕ, ◌+◌, ◌-◌, ◌*◌, ◌/◌, ◌%◌, ◌^◌, ◌<◌, ◌≤◌, sym, ◌∙◌, ap, arith, Bool, true, false, ◌||◌, eqb, suc, ⊎_elim, w64}
 use Rattle.std.specs.Prelude.{bit_and, bit_or}
-use Rattle.std.specs.Int.{bit_at, bit_not, leading_zeros, trailing_zeros}
+use Rattle.std.specs.Int.{bit_at, leading_zeros, trailing_zeros}
 use Rattle.std.specs.Int.Bits.{bit_xor}
 use Rattle.std.proofs.Math.Nat.{pow-succ'}
 use Rattle.std.proofs.lemmas.Bool.{and_parts, cases_lt, false≢true}
@@ -10,8 +10,8 @@ use Rattle.std.proofs.lemmas.Nat.{and_le_l, leading_top}
 use Rattle.std.proofs.lemmas.Nat.Bits.{bit_at-lt, bit_at_cat_high, bit_at_set_other, bit_at_set_same, bit_at_xor}
 use Rattle.petri_atom.proofs.Sets.{has-or}
 use Rattle.priority_filter.specs.Members.{has_bit}
-use Rattle.priority_filter.proofs.Words.{bit-and, bit-not}
-use Rattle.step_core.proofs.BitsLeft.{lowest-below, lowest-set, no-bit}
+use Rattle.priority_filter.proofs.Words.{bit-and}
+use Rattle.plant_model.proofs.BitsLeft.{lowest-below, lowest-set, no-bit}
 
 -- a word with a bit that is set is not 0, and one that is not 0 has one
 pub not-zero : (word k : ℕ) → has_bit word k ≡ true → 0 < word
@@ -40,29 +40,6 @@ alone-here k low = alone-is k k ∙ bit-set 0 k low
 
 pub alone-other : (k j : ℕ) → k < 64 → (j ≡ k → ⊥) → has_bit (alone k) j ≡ false
 alone-other k j low other = alone-is k j ∙ bit-unset 0 k j low other ∙ no-bit j
-
--- a word without the bits of another
-pub bit-without : (a b k : ℕ) → b < 2 ^ 64 → k < 64 → has_bit (bit_and a (bit_not w64 b)) k ≡ (has_bit a k && not (has_bit b k))
-bit-without a b k small low = bit-and a (bit_not w64 b) k ∙ ap (λ x. has_bit a k && x) (bit-not b k small low)
-
-never : (x : Bool) → (x && false) ≡ false
-never true = refl
-never false = refl
-
-as-it-is : (x : Bool) → ((x && true) || false) ≡ x
-as-it-is true = refl
-as-it-is false = refl
-
--- of some places the bits are those of another word, and all others stay
-module _ (a own here k : ℕ) (small : own < 2 ^ 64) (low : k < 64) where
-  bit-changed : has_bit (bit_or (bit_and a (bit_not w64 own)) here) k ≡ ((has_bit a k && not (has_bit own k)) || has_bit here k)
-  bit-changed = has-or (bit_and a (bit_not w64 own)) here k ∙ ap (λ x. x || has_bit here k) (bit-without a own k small low)
-
-  pub bit-put : has_bit own k ≡ true → has_bit (bit_or (bit_and a (bit_not w64 own)) here) k ≡ has_bit here k
-  bit-put its = bit-changed ∙ ap (λ x. (has_bit a k && not x) || has_bit here k) its ∙ ap (λ x. x || has_bit here k) (never (has_bit a k))
-
-  pub bit-kept : has_bit own k ≡ false → has_bit here k ≡ false → has_bit (bit_or (bit_and a (bit_not w64 own)) here) k ≡ has_bit a k
-  bit-kept out none = bit-changed ∙ ap (λ x. (has_bit a k && not x) || has_bit here k) out ∙ ap (λ x. (has_bit a k && true) || x) none ∙ as-it-is (has_bit a k)
 
 -- the highest bit of a word
 module _ (left : ℕ) (some : 0 < left) (small : left < 2 ^ 64) where
@@ -98,11 +75,7 @@ no-difference a b k = grind (arith, nat_tests, bit_at_xor a b k, bit_at-lt a k, 
 pub no-bit-differs : (a b k : ℕ) → has_bit a k ≡ false → has_bit b k ≡ false → has_bit (bit_xor a b) k ≡ false
 no-bit-differs a b k none no_other = grind (arith, nat_tests, bit_at_xor a b k, bit_at-lt a k, bit_at-lt b k, none, no_other)
 
--- two words without a common bit
-pub no-common : (a b k : ℕ) → bit_and a b ≡ 0 → has_bit a k ≡ true → has_bit b k ≡ false
-no-common a b k none here = ap (λ x. x && has_bit b k) (sym here) ∙ sym (bit-and a b k) ∙ ap (λ w. has_bit w k) none ∙ no-bit k
-
--- and two that have one, which stand for sets of numbers
+-- two words that have a common bit, and stand for sets of numbers
 pub common-in : (place a b : ℕ) (p q : ℕ → Bool) → ((n : ℕ) → n / 64 ≡ place → has_bit a (n % 64) ≡ p n) → ((n : ℕ) → n / 64 ≡ place → has_bit b (n % 64) ≡ q n) → a < 2 ^ 64 → 0 < bit_and a b
     → (n : ℕ) × (n / 64 ≡ place) × (p n ≡ true) × (q n ≡ true)
 common-in place a b p q one other small some =

@@ -25,7 +25,7 @@ use Rattle.plant_model.specs.declared.system.System.{System}
 use Rattle.plant_model.proofs.ByConnector.{by-connector, in-own-range}
 use Rattle.plant_model.proofs.OfConnector.{possible-by-rows}
 use Rattle.plant_model.proofs.TreeRules.{early_trees, first_none}
-use Rattle.step_core.proofs.BitsLeft.{lowest-set, no-bit}
+use Rattle.plant_model.proofs.BitsLeft.{lowest-set, no-bit}
 use Rattle.step_core.proofs.OfSystem.{some-at}
 use Rattle.step_core.proofs.OwnRange.{in-range}
 

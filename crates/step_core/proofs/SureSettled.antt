@@ -32,7 +32,8 @@ use Rattle.step_core.specs.Weights.{weight_of}
 use Rattle.step_core.specs.declared.changes.Changes.{Changes}
 use Rattle.step_core.specs.declared.sure.SureJudgement.{SureJudgement}
 use Rattle.step_core.proofs.Clean.{possible-as-before, weight-as-before}
-use Rattle.step_core.proofs.ConnectorsOf.{no-bit, port-has-leaf, port-leaf}
+use Rattle.plant_model.proofs.BitsLeft.{no-bit}
+use Rattle.step_core.proofs.ConnectorsOf.{port-has-leaf, port-leaf}
 use Rattle.step_core.proofs.Judging.{counted-moves}
 use Rattle.step_core.proofs.Openness.{kept-sure, open-past, open-stays, whole-not-open, whole-present}
 use Rattle.step_core.proofs.Ranked.{rivals-alike}

@@ -21,11 +21,11 @@ use Rattle.plant_model.specs.declared.reach.ConnectorLeaf.{ConnectorLeaf}
 use Rattle.plant_model.specs.declared.reach.PortReach.{PortReach}
 use Rattle.plant_model.proofs.Membership.{entry-in, in-entry}
 use Rattle.plant_model.proofs.Reaching.{leaf-is-at, leaf-listed, listed-leaf}
+use Rattle.plant_model.proofs.WithoutLowest.{fewer-less, same-rest}
 use Rattle.step_core.specs.Leaves.{AreLeaves, count_of, is_many, is_none}
 use Rattle.step_core.specs.Told.{IsRecounted, IsTold}
 use Rattle.step_core.specs.declared.changes.Changes.{Changes}
 use Rattle.step_core.specs.declared.leaves.Leaves.{Leaves}
-use Rattle.step_core.proofs.WithoutLowest.{fewer-less, same-rest}
 
 -- ---- words of leaves by any number of transitions at each port
 

@@ -82,7 +82,7 @@ struct Apart<'a> {
 }
 
 impl Apart<'_> {
-    /// Judges the interactions of the connector again, and keeps and weighs them. It passes over one of which none was possible and none is.
+    /// Judges the interactions of the connector again, and keeps and weighs them.
     fn settle(
         &self,
         connector: usize,
@@ -160,7 +160,8 @@ impl Apart<'_> {
         possible.word(low) & rows.own.word(low) == 0
     }
 
-    /// Judges the interactions of the connector again, if it is dirty, and keeps them. Says how many are kept now, if others are.
+    /// Judges the interactions of the connector again, if it is dirty, and keeps them. Says how many are kept now, and need not where these
+    /// are the same.
     fn judge(
         &self,
         connector: usize,
@@ -222,7 +223,8 @@ impl Apart<'_> {
         count_where(is_new | self.is_heavy, u64::from(word.count_ones()))
     }
 
-    /// Judges the interactions of the connector again, which stand in one word, and keeps them.
+    /// Judges the interactions of the connector again, which stand in one word, and keeps them. It passes over one of which none was possible
+    /// and none is.
     fn judge_in_word(
         &self,
         connector: usize,
@@ -284,7 +286,8 @@ impl Apart<'_> {
         self.keep_top(connector, rows, possible, kept)
     }
 
-    /// Keeps those of the connector's possible interactions that none of them is above. Says how many these are, if others are kept now.
+    /// Keeps those of the connector's possible interactions that none of them is above. Says how many these are, and need not where
+    /// the same were kept.
     fn keep_top(
         &self,
         connector: usize,

@@ -32,15 +32,15 @@
 //! `laws`: what the definitions say of what is sure.
 //!
 //! The lemmas (`proofs/*.antt`), each named for what it is about:
-//! - One state: `Judging`, `Offering` (what atoms and interactions offer), `Flattened`, `Counted`, `WithoutLowest`, `LowestBits`,
-//!   `LowestKept`, `Ones` (choices in order, by the bits of words), `ConnectorWords`, `ConnectorRange`, `WordChoices`, `SingleChoices`,
+//! - One state: `Judging`, `Offering` (what atoms and interactions offer), `Flattened`, `Counted`, `LowestBits`, `LowestKept`,
+//!   `Ones` (choices in order, by the bits of words), `ConnectorWords`, `ConnectorRange`, `WordChoices`, `SingleChoices`,
 //!   `FirstRow` (those of one connector), `ConnectorChoices`, `Weighed`, `Sums` (those of all connectors), `InOrder`, `PlacesInOrder` (how they
 //!   stand).
 //! - What a system keeps: `OfSystem`, `SystemConnectors`, `OwnRange` (the words of a connector's interactions), `Ranked` (what is below what,
 //!   by its ranks).
 //! - Kept again: `Restood`, `Looked`, `ToldConnectors` (rivals that came or went), `Renewed` (what that did not reach), `AnyOf`, `OwnBits`.
 //! - Judging again: `Recounted`, `Refreshing`, `Written`, `LeafStates`, `Telling`, `Again`, `Putting`, `UsualFirings` (what atoms and leaves offer
-//!   behind a change), `Clean`, `Unchanged` (what a change did not reach), `Behind`, `FiringJudged`, `BitsLeft`, `NextConnector`, `Unsettled`,
+//!   behind a change), `Clean`, `Unchanged` (what a change did not reach), `Behind`, `FiringJudged`, `NextConnector`, `Unsettled`,
 //!   `BoundedWeights`, `OfAlone`, `SettledBut`, `Judged` (the rest is settled), `WordByWord` (sets made right 64 numbers at a time).
 //! - Atoms away: `PartsKept`, `PartsLeft`, `Presence`, `FiringOfParts`, `Queued` (parts, and the jobs that leave), `OfParts`, `Openness`,
 //!   `Present`, `Alike`, `OfSure`, `SureAllowed`, `NoneAway` (what a sure choice is: allowed in the whole state), `ConnectorsOf`, `SureBehind`,

@@ -122,6 +122,7 @@ fn settle_others(system: &System, states: &PlantState, changes: Changes, judgeme
 
 /// Judges the interactions of the connectors in `dirty` again, which are the rivals. Tells those connectors of which another one is possible
 /// now, and those of which a possible one is overruled now that was not, or the other way round, by the rules without a condition.
+#[inline(always)]
 fn judge_standing(
     system: &System,
     states: &PlantState,
@@ -164,7 +165,7 @@ fn judge_standing(
 }
 
 /// Judges the interactions of a connector again. If another one is possible now, it says what other connectors see of it.
-#[inline]
+#[inline(always)]
 fn judge_own(
     system: &System,
     states: &PlantState,
@@ -190,7 +191,7 @@ fn judge_own(
 }
 
 /// Does so for a connector all of whose interactions stand in the word with this place.
-#[inline]
+#[inline(always)]
 fn judge_in_word(
     system: &System,
     states: &PlantState,

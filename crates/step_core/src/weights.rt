@@ -200,7 +200,7 @@ impl Weighing<'_> {
         count
     }
 
-    /// The same wherever: the choices of each are counted. It is called seldom, and the code around it is shorter without it.
+    /// The same for any connector: the choices of each are counted. Most connectors need no such sum, and their way is shorter without it.
     #[inline(never)]
     fn sum_of_ways(&self, connector: usize, rows: &ConnectorRows) -> u128
         requires connector { connector < length (plant_of self.now.system.now).wires }

@@ -7,7 +7,8 @@ use Rattle.connector_tree.specs.Masks.{is_set}
 use Rattle.priority_filter.specs.Members.{has_bit}
 use Rattle.priority_filter.proofs.Words.{bit-and}
 use Rattle.plant_model.specs.ConnectorRows.{is_in_row}
-use Rattle.plant_model.proofs.WordSets.{bit-without, lowest-set}
+use Rattle.plant_model.proofs.BitsLeft.{lowest-set}
+use Rattle.plant_model.proofs.WordSets.{bit-without}
 use Rattle.plant_model.proofs.connector_judge.word_possible.Goals as goal
 
 -- two masks that have a bit in common

@@ -9,7 +9,7 @@ use Rattle.priority_filter.specs.Members.{has_bit}
 use Rattle.plant_model.specs.Ranks.{IsAbove, is_own}
 use Rattle.plant_model.specs.declared.connector_rows.ConnectorRows.{ConnectorRows}
 use Rattle.plant_model.proofs.Ranking.{above-as, few-words, heads-more, in-words, mark-added, mark-none, mark-passed, own-at, own-within, read-at}
-use Rattle.plant_model.proofs.WordSets.{no-bit}
+use Rattle.plant_model.proofs.BitsLeft.{no-bit}
 use Rattle.plant_model.proofs.ranks.shared_of.Goals as goal
 use Rattle.plant_model.proofs.ranks.shared_of.Goals.{then-is_whole_in, else-is_whole_in}
 

@@ -4,10 +4,10 @@ use Rattle.std.proofs.lemmas.Bool.{and_parts, cases_Bool, cases_eq, eq-eqb, or_f
 use Rattle.petri_atom.proofs.Sets.{has-and, has-or}
 use Rattle.priority_filter.specs.Members.{has_bit}
 use Rattle.plant_model.specs.System.{plant_of}
+use Rattle.plant_model.proofs.WithoutLowest.{fewer-less}
 use Rattle.step_core.specs.Settling.{but}
-use Rattle.step_core.proofs.BitsLeft.{fewer-in, fewer-out, lowest-set, lowest-there, no-bit}
+use Rattle.plant_model.proofs.BitsLeft.{fewer-in, fewer-out, lowest-set, lowest-there, no-bit}
 use Rattle.step_core.proofs.SettledBut.{fewer, one-settled}
-use Rattle.step_core.proofs.WithoutLowest.{fewer-less}
 use Rattle.step_core.proofs.alone.settle_alone.Goals as goal
 
 never : (b : Bool) → (b && false) ≡ false

@@ -1,6 +1,6 @@
 use Rattle.std.proofs.Common.{◌∙◌, ◌&&◌, ap, sym}
 use Rattle.priority_filter.specs.Members.{has_bit}
-use Rattle.step_core.proofs.BitsLeft.{no-bit}
+use Rattle.plant_model.proofs.BitsLeft.{no-bit}
 use Rattle.step_core.proofs.alone.word_where.Goals as goal
 
 pub returns-then-is_so : goal.returns-then-is_so

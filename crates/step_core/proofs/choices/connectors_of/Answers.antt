@@ -13,7 +13,7 @@ use Rattle.plant_model.specs.declared.connector_rows.ConnectorRows.{ConnectorRow
 use Rattle.plant_model.specs.declared.interaction.Interaction.{Interaction}
 use Rattle.plant_model.specs.declared.system.System.{System}
 use Rattle.plant_model.proofs.OfConnector.{one-connector}
-use Rattle.step_core.proofs.BitsLeft.{lowest-below, lowest-set}
+use Rattle.plant_model.proofs.BitsLeft.{lowest-below, lowest-set}
 use Rattle.step_core.proofs.SystemConnectors.{connector-there, few-connectors, interaction-count, is-of-own, of-one, own-row, row-count}
 use Rattle.step_core.proofs.choices.connectors_of.Goals as goal
 

@@ -8,10 +8,10 @@ use Rattle.plant_model.specs.Choice.{is_possible, is_possible_at}
 use Rattle.plant_model.specs.ConnectorRows.{is_of_connector}
 use Rattle.plant_model.specs.System.{interactions_in, plant_of}
 use Rattle.plant_model.proofs.OfConnector.{has-connector}
-use Rattle.step_core.proofs.BitsLeft.{lowest-there, no-bit}
+use Rattle.plant_model.proofs.WithoutLowest.{fewer-less}
+use Rattle.plant_model.proofs.BitsLeft.{lowest-there, no-bit}
 use Rattle.step_core.proofs.NextConnector.{left-within, past-next, right-next}
 use Rattle.step_core.proofs.ToldConnectors.{told-more, told-still, within-more}
-use Rattle.step_core.proofs.WithoutLowest.{fewer-less}
 use Rattle.step_core.proofs.choices.judge_dirty.Goals as goal
 
 pub loop-left-init : goal.loop-left-init

@@ -11,7 +11,7 @@ use Rattle.priority_filter.specs.Decided.{is_overruled}
 use Rattle.priority_filter.specs.Members.{has_bit}
 use Rattle.plant_model.specs.Choice.{named}
 use Rattle.plant_model.specs.System.{interactions_in, plant_of}
-use Rattle.step_core.proofs.BitsLeft.{no-bit}
+use Rattle.plant_model.proofs.BitsLeft.{no-bit}
 use Rattle.step_core.proofs.SystemConnectors.{interaction-count, of-one}
 use Rattle.step_core.proofs.choices.keep.Goals as goal
 

@@ -7,7 +7,7 @@ use Rattle.priority_filter.proofs.Words.{bit-and}
 use Rattle.plant_model.specs.ConnectorRows.{is_of_connector}
 use Rattle.plant_model.specs.System.{interactions_in}
 use Rattle.step_core.proofs.Looked.{all-looked, look-next, none-looked}
-use Rattle.step_core.proofs.OwnBits.{no-common}
+use Rattle.plant_model.proofs.WordSets.{no-common}
 use Rattle.step_core.proofs.OwnRange.{own-of, row-at}
 use Rattle.step_core.proofs.OwnRows.{common-bit, none-possible}
 use Rattle.step_core.proofs.settling.judge_in_word.Goals as goal

@@ -10,8 +10,9 @@ use Rattle.priority_filter.specs.Members.{has_bit}
 use Rattle.plant_model.specs.Choice.{is_possible_at}
 use Rattle.plant_model.specs.ConnectorRows.{is_of_connector}
 use Rattle.plant_model.specs.System.{interactions_in, plant_of}
+use Rattle.plant_model.proofs.WithoutLowest.{fewer-less}
 use Rattle.step_core.specs.Standing.{AreLive, IsStanding, but_heads, is_always_overruled}
-use Rattle.step_core.proofs.BitsLeft.{lowest-there, no-bit}
+use Rattle.plant_model.proofs.BitsLeft.{lowest-there, no-bit}
 use Rattle.step_core.proofs.NextConnector.{left-within, past-next, right-next}
 use Rattle.step_core.proofs.OwnBits.{bit-set, bit-unset}
 use Rattle.step_core.proofs.Ranked.{connector-of}
@@ -19,7 +20,6 @@ use Rattle.step_core.proofs.Restood.{affected-within, stands-anew, stands-still,
 use Rattle.step_core.proofs.SystemConnectors.{few-connectors}
 use Rattle.step_core.proofs.ToldConnectors.{told-more, within-more}
 use Rattle.step_core.proofs.Openness.{none-possible}
-use Rattle.step_core.proofs.WithoutLowest.{fewer-less}
 use Rattle.step_core.proofs.settling.judge_standing.Goals.{Joined-is_head_new, then-is_head_new, else-is_head_new}
 use Rattle.step_core.proofs.settling.judge_standing.Goals as goal
 

@@ -6,8 +6,8 @@ use Rattle.std.proofs.lemmas.Nat.{and_le_l}
 use Rattle.petri_atom.proofs.Sets.{has-or}
 use Rattle.priority_filter.specs.Members.{has_bit}
 use Rattle.priority_filter.proofs.Words.{no-bit-past}
-use Rattle.step_core.proofs.BitsLeft.{no-bit}
-use Rattle.step_core.proofs.OwnBits.{bit-without}
+use Rattle.plant_model.proofs.BitsLeft.{no-bit}
+use Rattle.plant_model.proofs.WordSets.{bit-without}
 use Rattle.step_core.proofs.Ranked.{stands-alone}
 use Rattle.step_core.proofs.SettledBut.{fewer, judged}
 use Rattle.step_core.proofs.Unsettled.{settled-but}

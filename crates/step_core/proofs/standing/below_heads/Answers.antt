@@ -7,9 +7,9 @@ use Rattle.std.proofs.lemmas.Option.{same_Some, slice_get-get_or, slice_get_read
 use Rattle.petri_atom.proofs.Sets.{has-or}
 use Rattle.priority_filter.specs.Members.{has_bit}
 use Rattle.plant_model.specs.declared.system.System.{System}
-use Rattle.step_core.proofs.BitsLeft.{fewer-in, fewer-out, lowest-below, lowest-set, no-bit}
+use Rattle.plant_model.proofs.WithoutLowest.{fewer-less}
+use Rattle.plant_model.proofs.BitsLeft.{fewer-in, fewer-out, lowest-below, lowest-set, no-bit}
 use Rattle.step_core.proofs.Ranked.{head-there}
-use Rattle.step_core.proofs.WithoutLowest.{fewer-less}
 use Rattle.step_core.proofs.standing.below_heads.Goals as goal
 
 pub loop-left-init : goal.loop-left-init

@@ -3,7 +3,8 @@ use Rattle.std.specs.FinSet.{contains}
 use Rattle.std.proofs.lemmas.Bool.{cases_Bool, cases_eq, false≢true}
 use Rattle.plant_model.specs.ConnectorRows.{is_of_connector}
 use Rattle.plant_model.specs.System.{interactions_in}
-use Rattle.step_core.proofs.OwnBits.{common-in, no-common}
+use Rattle.plant_model.proofs.WordSets.{no-common}
+use Rattle.step_core.proofs.OwnBits.{common-in}
 use Rattle.step_core.proofs.OwnRange.{few-words, own-of, own-words, row-at}
 use Rattle.step_core.proofs.standing.has_rival.Goals as goal
 

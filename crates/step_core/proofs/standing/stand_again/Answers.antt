@@ -9,11 +9,11 @@ use Rattle.petri_atom.proofs.Sets.{has-or}
 use Rattle.priority_filter.specs.Members.{has_bit}
 use Rattle.plant_model.specs.ConnectorRows.{is_of_connector}
 use Rattle.plant_model.specs.System.{interactions_in, plant_of}
-use Rattle.step_core.proofs.BitsLeft.{fewer-in, fewer-out, lowest-set, lowest-there, no-bit}
+use Rattle.plant_model.proofs.WithoutLowest.{fewer-less}
+use Rattle.plant_model.proofs.BitsLeft.{fewer-in, fewer-out, lowest-set, lowest-there, no-bit}
 use Rattle.step_core.proofs.Ranked.{of-no-other}
 use Rattle.step_core.specs.Standing.{IsStanding, is_always_overruled}
 use Rattle.step_core.proofs.Restood.{affected-within, stands-anew, stands-still, told-affected, told-anew, told-still, within-anew}
-use Rattle.step_core.proofs.WithoutLowest.{fewer-less}
 use Rattle.step_core.proofs.standing.stand_again.Goals.{Joined-is_head_new, then-is_head_new, else-is_head_new}
 use Rattle.step_core.proofs.standing.stand_again.Goals as goal
 

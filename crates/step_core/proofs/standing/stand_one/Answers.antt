@@ -3,7 +3,7 @@ use Rattle.std.proofs.lemmas.Bool.{cases_Bool, false≢true, or_from, or_parts}
 use Rattle.petri_atom.proofs.Sets.{has-or}
 use Rattle.priority_filter.specs.Members.{has_bit}
 use Rattle.plant_model.specs.System.{plant_of}
-use Rattle.step_core.proofs.BitsLeft.{no-bit}
+use Rattle.plant_model.proofs.BitsLeft.{no-bit}
 use Rattle.step_core.proofs.Ranked.{below-rest-there, below-whole-there, rank-at}
 use Rattle.step_core.proofs.Restood.{stands, told}
 use Rattle.step_core.proofs.standing.stand_one.Goals.{After-with_bit-now, then-rivalry, else-rivalry}

@@ -6,7 +6,7 @@ use Rattle.petri_atom.proofs.Sets.{has-or}
 use Rattle.priority_filter.specs.Members.{has_bit}
 use Rattle.plant_model.specs.System.{plant_of}
 use Rattle.step_core.specs.SureJudgement.{has_leaf_of}
-use Rattle.step_core.proofs.ConnectorsOf.{no-bit}
+use Rattle.plant_model.proofs.BitsLeft.{no-bit}
 use Rattle.step_core.proofs.sure.connectors_of_atoms.Goals as goal
 
 pub loop-atom-init : goal.loop-atom-init

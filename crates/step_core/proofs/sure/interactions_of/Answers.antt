@@ -9,9 +9,9 @@ use Rattle.plant_model.specs.ConnectorRows.{is_of_connector}
 use Rattle.plant_model.specs.Interaction.{interaction_of}
 use Rattle.plant_model.specs.System.{interactions_in, plant_of}
 use Rattle.plant_model.proofs.OfInteractions.{within-limits}
-use Rattle.step_core.proofs.BitsLeft.{fewer-in, fewer-out}
-use Rattle.step_core.proofs.ConnectorsOf.{lowest-set, no-bit, of-connector-within, own-row}
-use Rattle.step_core.proofs.WithoutLowest.{fewer-less}
+use Rattle.plant_model.proofs.WithoutLowest.{fewer-less}
+use Rattle.plant_model.proofs.BitsLeft.{fewer-in, fewer-out, lowest-set, no-bit}
+use Rattle.step_core.proofs.ConnectorsOf.{of-connector-within, own-row}
 use Rattle.step_core.proofs.sure.interactions_of.Goals as goal
 
 pub index-requires : goal.index-requires

@@ -7,7 +7,7 @@ use Rattle.plant_model.specs.System.{interactions_in, plant_of}
 use Rattle.plant_model.proofs.Judging.{some_state}
 use Rattle.step_core.specs.EnabledTransitions.{AreMovable, AreMovableBut, AreOffered, AreOfferedBut, atoms_of}
 use Rattle.step_core.specs.Parts.{shown_in}
-use Rattle.step_core.proofs.ConnectorsOf.{no-bit}
+use Rattle.plant_model.proofs.BitsLeft.{no-bit}
 use Rattle.step_core.proofs.Openness.{unmarked-past}
 use Rattle.step_core.proofs.SureBehind.{before-of-plant, movable-others, offered-others, seen-others, unsettled}
 use Rattle.step_core.proofs.sure.judge_sure_moved.Goals as goal

@@ -11,7 +11,8 @@ use Rattle.plant_model.specs.Interaction.{interaction_of}
 use Rattle.plant_model.specs.System.{interactions_in, plant_of}
 use Rattle.plant_model.specs.declared.system.System.{System}
 use Rattle.step_core.specs.Sure.{is_open_at}
-use Rattle.step_core.proofs.ConnectorsOf.{no-bit, own-connector}
+use Rattle.plant_model.proofs.BitsLeft.{no-bit}
+use Rattle.step_core.proofs.ConnectorsOf.{own-connector}
 use Rattle.step_core.proofs.Openness.{none-open, open-past, whole-present}
 use Rattle.step_core.proofs.sure.open_again.Goals as goal
 

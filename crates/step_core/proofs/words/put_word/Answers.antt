@@ -1,5 +1,5 @@
 use Rattle.std.proofs.Common.{◌%◌, ◌∙◌, arith}
-use Rattle.step_core.proofs.OwnBits.{bit-kept, bit-put}
+use Rattle.plant_model.proofs.WordSets.{bit-kept, bit-put}
 use Rattle.step_core.proofs.words.put_word.Goals as goal
 
 pub returns-clause-here : goal.returns-clause-here

@@ -4,7 +4,7 @@ use Rattle.std.proofs.lemmas.Bool.{eqb-true}
 use Rattle.priority_filter.specs.Members.{has_bit}
 use Rattle.priority_filter.proofs.Words.{bit-and}
 use Rattle.plant_model.specs.System.{plant_of}
-use Rattle.step_core.proofs.BitsLeft.{no-bit}
+use Rattle.plant_model.proofs.BitsLeft.{no-bit}
 use Rattle.step_core.proofs.LeafStates.{off-of}
 use Rattle.step_core.proofs.OwnRows.{common-bit, none-possible}
 use Rattle.step_core.proofs.OwnWord.{in-place, own-bit, place-low}

@@ -1,16 +1,10 @@
 use Rattle.std.proofs.Common.{◌<◌, ◌≤◌, ◌*◌, ◌^◌, sym, subst, length, arith}
 use Rattle.std.specs.FinSet.{contains}
-use Rattle.std.specs.Prelude.{slice_index_or}
-use Rattle.std.proofs.lemmas.Bool.{and_parts}
-use Rattle.std.proofs.lemmas.List.{get_or-set_other, get_or-set_same}
-use Rattle.plant_model.specs.ConnectorRows.{is_of_connector}
-use Rattle.plant_model.specs.System.{interactions_in, plant_of}
+use Rattle.plant_model.specs.System.{interactions_in}
 use Rattle.step_core.specs.Settling.{AreBounded, own_count}
-use Rattle.step_core.specs.Standing.{is_always_overruled}
 use Rattle.step_core.proofs.BoundedWeights.{bounded-set, few-together, weight-bounded}
 use Rattle.step_core.proofs.OwnRange.{row-at}
 use Rattle.step_core.proofs.SystemConnectors.{few-connectors}
-use Rattle.step_core.proofs.TopAlone.{weight-empty}
 use Rattle.step_core.proofs.alone.Apart.settle.Goals as goal
 
 pub judge-requires-clause-rows : goal.judge-requires-clause-rows

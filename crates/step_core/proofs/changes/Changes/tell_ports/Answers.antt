@@ -4,10 +4,10 @@ use Rattle.connector_tree.specs.Masks.{is_set}
 use Rattle.connector_tree.specs.declared.tree.TheConstants.{MAX_LEAVES}
 use Rattle.plant_model.specs.Reach.{row_of_port}
 use Rattle.plant_model.specs.System.{plant_of}
+use Rattle.plant_model.proofs.WithoutLowest.{fewer-less}
 use Rattle.step_core.specs.Leaves.{count_of, is_many, is_none}
 use Rattle.step_core.proofs.OfSystem.{few-connectors, few-its-leaves, row-reach, row-there}
 use Rattle.step_core.proofs.Telling.{all-left, leaves-alike, leaves-by, leaves-of, left-before, mixed, none-left, none-told, others-alike, port-low, port-told, rest, rest-after, small-leaf, there-listed, told-alike, told-then, word-told}
-use Rattle.step_core.proofs.WithoutLowest.{fewer-less}
 use Rattle.step_core.proofs.changes.Changes.tell_ports.Goals as goal
 
 pub loop-left-init : goal.loop-left-init

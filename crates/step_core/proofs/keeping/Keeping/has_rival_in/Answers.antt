@@ -10,7 +10,7 @@ use Rattle.priority_filter.proofs.Words.{bit-and}
 use Rattle.plant_model.specs.Ranks.{is_in_part}
 use Rattle.plant_model.specs.declared.ranks.Part.{Part}
 use Rattle.step_core.proofs.AnyOf.{any-at, any-found}
-use Rattle.step_core.proofs.BitsLeft.{lowest-below, lowest-set, no-bit}
+use Rattle.plant_model.proofs.BitsLeft.{lowest-below, lowest-set, no-bit}
 use Rattle.step_core.proofs.keeping.Keeping.has_rival_in.Goals as goal
 
 pub loop-part-init : goal.loop-part-init

@@ -10,7 +10,7 @@ use Rattle.priority_filter.specs.Members.{has_bit}
 use Rattle.priority_filter.proofs.Words.{bit-and}
 use Rattle.plant_model.specs.System.{interactions_in, plant_of}
 use Rattle.step_core.specs.Standing.{IsTied, is_always_below, is_always_overruled}
-use Rattle.step_core.proofs.BitsLeft.{lowest-set, no-bit}
+use Rattle.plant_model.proofs.BitsLeft.{lowest-set, no-bit}
 use Rattle.step_core.proofs.Ranked.{head-above, over-by, whole-above, whole-there}
 use Rattle.step_core.proofs.keeping.Keeping.is_out.Goals as goal
 

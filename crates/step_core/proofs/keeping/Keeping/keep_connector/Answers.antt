@@ -7,7 +7,7 @@ use Rattle.plant_model.specs.ConnectorRows.{is_of_connector}
 use Rattle.plant_model.specs.System.{interactions_in, plant_of}
 use Rattle.step_core.specs.Standing.{is_always_overruled}
 use Rattle.step_core.specs.declared.keeping.Keeping.{Keeping}
-use Rattle.step_core.proofs.BitsLeft.{no-bit}
+use Rattle.plant_model.proofs.BitsLeft.{no-bit}
 use Rattle.step_core.proofs.OwnRange.{few-words, own-of, own-words, row-at}
 use Rattle.step_core.proofs.Ranked.{rank-at}
 use Rattle.step_core.proofs.keeping.Keeping.keep_connector.Goals.{Joined-is_out, then-is_out, else-is_out}

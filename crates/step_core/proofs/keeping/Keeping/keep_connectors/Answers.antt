@@ -10,11 +10,11 @@ use Rattle.plant_model.specs.Choice.{Interaction}
 use Rattle.plant_model.specs.ConnectorRows.{is_of_connector}
 use Rattle.plant_model.specs.System.{interactions_in, plant_of}
 use Rattle.plant_model.specs.declared.system.System.{System}
+use Rattle.plant_model.proofs.WithoutLowest.{fewer-less}
 use Rattle.step_core.specs.declared.keeping.Keeping.{Keeping}
 use Rattle.step_core.specs.Standing.{is_always_overruled}
-use Rattle.step_core.proofs.BitsLeft.{fewer, fewer-in, fewer-out, lowest-set, no-bit}
+use Rattle.plant_model.proofs.BitsLeft.{fewer, fewer-in, fewer-out, lowest-set, no-bit}
 use Rattle.step_core.proofs.ToldConnectors.{elsewhere, told-more, told-still, within-more}
-use Rattle.step_core.proofs.WithoutLowest.{fewer-less}
 use Rattle.step_core.proofs.keeping.Keeping.keep_connectors.Goals as goal
 
 -- what is kept of the possible interactions

@@ -10,7 +10,8 @@ use Rattle.priority_filter.specs.Members.{has_bit}
 use Rattle.priority_filter.proofs.Words.{bit-and, bit-not}
 use Rattle.plant_model.specs.System.{interactions_in, plant_of}
 use Rattle.step_core.specs.Standing.{is_always_below}
-use Rattle.step_core.proofs.OwnBits.{alone-here, alone-other, bit-without, highest, highest-below, highest-set}
+use Rattle.plant_model.proofs.WordSets.{bit-without}
+use Rattle.step_core.proofs.OwnBits.{alone-here, alone-other, highest, highest-below, highest-set}
 use Rattle.step_core.proofs.Ranked.{over-by, under-trans}
 use Rattle.step_core.proofs.keeping.Keeping.without_below.Goals as goal
 

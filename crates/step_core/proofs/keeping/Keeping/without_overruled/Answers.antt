@@ -11,12 +11,13 @@ use Rattle.priority_filter.proofs.Words.{bit-and}
 use Rattle.plant_model.specs.Ranks.{is_in_parts, is_in_rest, rest_of}
 use Rattle.plant_model.specs.System.{interactions_in, plant_of}
 use Rattle.plant_model.specs.declared.ranks.Part.{Part}
+use Rattle.plant_model.proofs.WithoutLowest.{fewer-less}
 use Rattle.step_core.specs.Standing.{is_always_overruled}
 use Rattle.step_core.specs.declared.keeping.Keeping.{Keeping}
-use Rattle.step_core.proofs.BitsLeft.{fewer-in, fewer-out, lowest-below, lowest-set}
-use Rattle.step_core.proofs.OwnBits.{alone-here, alone-other, bit-without}
+use Rattle.plant_model.proofs.BitsLeft.{fewer-in, fewer-out, lowest-below, lowest-set}
+use Rattle.plant_model.proofs.WordSets.{bit-without}
+use Rattle.step_core.proofs.OwnBits.{alone-here, alone-other}
 use Rattle.step_core.proofs.Ranked.{has-rest, over-by, part-low, rest-above, rest-count}
-use Rattle.step_core.proofs.WithoutLowest.{fewer-less}
 use Rattle.step_core.proofs.keeping.Keeping.without_overruled.Goals as goal
 
 pub loop-left-smaller-then-has_rival_in : goal.loop-left-smaller-then-has_rival_in

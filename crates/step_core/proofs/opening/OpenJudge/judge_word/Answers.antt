@@ -4,9 +4,9 @@ use Rattle.std.specs.FinSet.{contains}
 use Rattle.std.proofs.lemmas.Bool.{or_parts, cases_eq, false≢true}
 use Rattle.petri_atom.specs.Atom.{definition_of}
 use Rattle.plant_model.specs.Interaction.{interaction_of}
+use Rattle.plant_model.proofs.WithoutLowest.{fewer-less, same-rest}
 use Rattle.step_core.specs.Sure.{is_open_at}
 use Rattle.step_core.specs.Words.{in_word}
-use Rattle.step_core.proofs.WithoutLowest.{fewer-less, same-rest}
 use Rattle.step_core.proofs.WordByWord.{lowest-inside, rest-inside, others-inside, none-inside}
 use Rattle.step_core.proofs.opening.OpenJudge.judge_word.Goals as goal
 

@@ -2,7 +2,7 @@ use Rattle.std.proofs.Common.{◌∙◌, ap}
 use Rattle.std.specs.FinSet.{contains}
 use Rattle.priority_filter.specs.Active.{may_be_marked}
 use Rattle.priority_filter.specs.Members.{has_bit}
-use Rattle.step_core.proofs.BitsLeft.{no-bit}
+use Rattle.plant_model.proofs.BitsLeft.{no-bit}
 use Rattle.step_core.proofs.Renewed.{all-still, by-connectors}
 use Rattle.step_core.proofs.renewal.Renewal.keep_again.Goals as goal
 

@@ -10,13 +10,13 @@ use Rattle.priority_filter.specs.Members.{has_bit}
 use Rattle.plant_model.specs.Choice.{Interaction}
 use Rattle.plant_model.specs.ConnectorRows.{is_of_connector}
 use Rattle.plant_model.specs.System.{interactions_in, plant_of}
+use Rattle.plant_model.proofs.WithoutLowest.{fewer-less}
 use Rattle.step_core.specs.Standing.{is_always_overruled}
 use Rattle.step_core.specs.Weights.{weight_of}
-use Rattle.step_core.proofs.BitsLeft.{fewer, fewer-in, fewer-out, lowest-there, no-bit}
+use Rattle.plant_model.proofs.BitsLeft.{fewer, fewer-in, fewer-out, lowest-there, no-bit}
 use Rattle.step_core.proofs.BoundedWeights.{weight-same}
 use Rattle.step_core.proofs.Openness.{none-possible}
 use Rattle.step_core.proofs.Ranked.{connector-of, of-no-other}
-use Rattle.step_core.proofs.WithoutLowest.{fewer-less}
 use Rattle.step_core.proofs.settling.Settling.settle_all.Goals as goal
 
 pub loop-left-init : goal.loop-left-init

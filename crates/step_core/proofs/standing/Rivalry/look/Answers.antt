@@ -5,8 +5,9 @@ use Rattle.std.specs.Int.Bits.{bit_xor}
 use Rattle.std.proofs.lemmas.Bool.{cases_eq, eq-eqb, eqb-true, ne_eqb, not-false, or_cases, or_left, or_parts, or_right, true≢false}
 use Rattle.std.proofs.lemmas.Nat.{and_comm}
 use Rattle.priority_filter.specs.Members.{has_bit}
-use Rattle.step_core.proofs.BitsLeft.{lowest-below, lowest-set}
-use Rattle.step_core.proofs.OwnBits.{no-common, no-difference, not-zero}
+use Rattle.plant_model.proofs.BitsLeft.{lowest-below, lowest-set}
+use Rattle.plant_model.proofs.WordSets.{no-common}
+use Rattle.step_core.proofs.OwnBits.{no-difference, not-zero}
 use Rattle.step_core.proofs.standing.Rivalry.look.Goals as goal
 
 -- a word is 0 where it is not told that it is another

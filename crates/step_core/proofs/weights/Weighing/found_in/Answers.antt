@@ -1,9 +1,9 @@
 use Rattle.std.proofs.Common.{◌≡◌, ◌<◌, ◌+◌, ◌*◌, ap, ◌∙◌, arith, w64}
 use Rattle.std.specs.Prelude.{slice_get}
 use Rattle.std.specs.Int.{trailing_zeros}
+use Rattle.plant_model.proofs.WithoutLowest.{fewer-less}
 use Rattle.step_core.proofs.ConnectorWords.{entries, entries-over, entry-its, entry-later, found-there, its, next, next-within}
 use Rattle.step_core.proofs.LowestKept.{all-left}
-use Rattle.step_core.proofs.WithoutLowest.{fewer-less}
 use Rattle.step_core.proofs.weights.Weighing.found_in.Goals as goal
 
 pub loop-bits-init : goal.loop-bits-init

@@ -6,15 +6,15 @@ use Rattle.std.proofs.lemmas.Bool.{cases_eq, cases_lt, true≢false}
 use Rattle.std.proofs.lemmas.List.{get_or-set_other, get_or-set_same}
 use Rattle.priority_filter.specs.Members.{has_bit}
 use Rattle.plant_model.specs.System.{interactions_in, plant_of}
+use Rattle.plant_model.proofs.WithoutLowest.{fewer-less}
 use Rattle.step_core.specs.Weights.{sum_of, weight_of}
 use Rattle.step_core.specs.declared.weights.Weighing.{Weighing}
-use Rattle.step_core.proofs.BitsLeft.{fewer-out}
+use Rattle.plant_model.proofs.BitsLeft.{fewer-out}
 use Rattle.step_core.proofs.ConnectorRange.{few-interactions}
 use Rattle.step_core.proofs.ConnectorWords.{all-possible}
 use Rattle.step_core.proofs.LowestBits.{IsRest, bit-below, bit-from, bit-passes, fewer-next}
 use Rattle.step_core.proofs.Sums.{sum-set}
 use Rattle.step_core.proofs.Weighed.{few-choices, few-of-each, is_kept_before, lighter, lighter-more, lighter-rises}
-use Rattle.step_core.proofs.WithoutLowest.{fewer-less}
 use Rattle.step_core.proofs.weights.Weighing.weigh_again.Goals as goal
 
 module _ (w : Weighing) where

@@ -1,8 +1,8 @@
 use Rattle.std.proofs.Common.{◌≡◌, ◌<◌, ◌+◌, ◌*◌, ap, ◌∙◌, arith, w64}
 use Rattle.std.specs.Int.{trailing_zeros}
+use Rattle.plant_model.proofs.WithoutLowest.{fewer-less}
 use Rattle.step_core.proofs.ConnectorWords.{counted, counted-next, counted-over, its, next, next-within}
 use Rattle.step_core.proofs.LowestKept.{all-left}
-use Rattle.step_core.proofs.WithoutLowest.{fewer-less}
 use Rattle.step_core.proofs.weights.Weighing.weight_in.Goals as goal
 
 pub loop-left-init : goal.loop-left-init

@@ -1,4 +1,3 @@
-use Rattle.std.proofs.Common.{◌∙◌}
 use Rattle.step_core.proofs.OwnRange.{row-at}
 use Rattle.step_core.proofs.weights.Weighing.weight_of.Goals as goal
 

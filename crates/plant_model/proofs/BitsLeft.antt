@@ -6,7 +6,7 @@ use Rattle.std.proofs.lemmas.Bool.{and_parts, cases_lt, false≢true}
 use Rattle.std.proofs.lemmas.Nat.Bits.{bit_at-trailing_zeros, bit_at-zero, bit_at_clear_other}
 use Rattle.priority_filter.specs.Members.{has_bit}
 use Rattle.priority_filter.proofs.Words.{bit-and, no-bit-past}
-use Rattle.step_core.proofs.WithoutLowest.{same-rest}
+use Rattle.plant_model.proofs.WithoutLowest.{same-rest}
 
 -- no bit of 0 is set
 pub no-bit : (k : ℕ) → has_bit 0 k ≡ false
