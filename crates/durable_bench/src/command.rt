@@ -2,6 +2,7 @@
 ghost use Rattle.std.specs.Prelude.{◌≤◌};
 ghost use Rattle.parallel_replay.specs.declared.workers.TheConstants.{MOST_WORKERS};
 
+use crate::stepping::Presence;
 use plant_words::read_decimal;
 use recovery::MOST_WORKERS;
 
@@ -11,6 +12,8 @@ pub(crate) const USAGE: &str =
 durable_bench front PLANT STEPS         fires them through a seat, alone and while four threads read how far the plant is
 durable_bench work PLANT STEPS THREADS  threads with a seat each fire them, the updates outside the lock and then under it
 durable_bench boot PLANT IMAGE WORKERS  boots the image, and reads its file once
+durable_bench there PLANT STEPS         fires random choices of a plant that keeps no record, with all atoms there
+durable_bench away PLANT STEPS          the same with atoms away half of the time: of two choices one begins, and the other is fired meanwhile
 PLANT is a file, or - for the standard input; IMAGE is a file; STEPS, THREADS and WORKERS are in digits, the last two 1 to 16.
 ";
 
@@ -33,6 +36,8 @@ pub(crate) enum Task<'a> {
     Work(u64, Crew),
     /// Booting the image at the path.
     Boot(&'a str, Crew),
+    /// Firing so many choices of a plant that keeps no record.
+    Step(u64, Presence),
 }
 
 /// A task, and where the text of its plant stands.
@@ -78,6 +83,8 @@ fn task_alone<'a>(name: &str, steps: u64) -> Option<Task<'a>> {
     match name {
         "fire" => Some(Task::Fire(steps)),
         "front" => Some(Task::Front(steps)),
+        "there" => Some(Task::Step(steps, Presence::AllThere)),
+        "away" => Some(Task::Step(steps, Presence::HalfAway)),
         _ => None,
     }
 }

@@ -4,6 +4,7 @@ use crate::command::Crew;
 use crate::course::Course;
 use crate::opening::{Fired, Read, atoms_of, fire_and_read, fire_both, fire_shared, first_plant};
 use crate::report::{Ratio, Seconds};
+use crate::stepping::{Presence, time_steps};
 use crate::working::{Plan, Way};
 use bare_disk::BareDisk;
 use engine_host::name;
@@ -152,6 +153,23 @@ pub(crate) fn print_booting<R: Clock + Files<File = File> + Print + Threads + Sy
             to: read.as_nanos()
         },
         boot.records()
+    )
+    .ok()
+}
+
+/// Prints how fast a plant that keeps no record fires, with all atoms there or with atoms away half of the time, if nothing failed.
+pub(crate) fn print_stepping<R: Clock + Print + AllocGlobal>(
+    rt: &R,
+    system: &System,
+    steps: u64,
+    presence: Presence,
+) -> Option<()> {
+    let course = time_steps(rt, system, steps, presence)?;
+    println!(rt;
+        "steps {} {}_per_s {}",
+        course.fired,
+        presence.word(),
+        course.rate()
     )
     .ok()
 }

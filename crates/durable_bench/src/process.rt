@@ -1,6 +1,6 @@
 //! The program in its process: words, files, the clock, the standard output and error.
 use crate::command::{Command, Task, USAGE, read_command};
-use crate::printing::{print_booting, print_firing, print_reading, print_working};
+use crate::printing::{print_booting, print_firing, print_reading, print_stepping, print_working};
 use plant_text::read_plant;
 use std::fs::File;
 use std::io::Read;
@@ -92,6 +92,7 @@ fn measure<
         Task::Front(steps) => print_reading(rt, &system, steps),
         Task::Work(steps, crew) => print_working(rt, &system, steps, crew),
         Task::Boot(image, crew) => print_booting(rt, &system, image, crew),
+        Task::Step(steps, presence) => print_stepping(rt, &system, steps, presence),
     };
     printed.ok_or(Ending::System)
 }
