@@ -1,7 +1,8 @@
 """Losses of power: what a disk may hold at any moment of a run, worked out from the calls that the program makes on its image.
 
-The calls are watched, none fails. By the disk model of docs/MODEL.md each byte that was written since the last sync may then be the old one, the new
-one or another; all others are as they were written. So for each moment between two calls images are made by several patterns, and each has to
+The calls are watched, none fails. The program writes whole blocks, also where it changed one byte of them. As crates/file_disk supposes of a file, a
+byte that a write since the last sync changed may then be the old one, the new one or another; all others are as that sync left them, also those
+that were written as they were. So for each moment between two calls images are made by several patterns, and each has to
 stand for what was fired up to some place, no earlier than what the output told as flushed. The second reader of images says what it stands for, and
 `recover` has to say the same of one in some of them. So it is shown that the program asks its file for what its proofs ask of a device.
 """
@@ -16,6 +17,8 @@ from reference import CELL, OPEN, Image
 from sample import FORMATTED, OnImage, end, fired_behind, image_of, standing, text, told
 from stops import state_behind
 
+# The program writes whole blocks of so many bytes.
+BLOCK = 512
 # An image of the first layout that an earlier version of the program made, behind five firings.
 FIRST_IMAGE = sample.ROOT / "tests" / "migrate" / "trimmed" / "image"
 
@@ -38,6 +41,7 @@ class Disk:
 
     def take(self, call):
         if call.name == "pwrite64":
+            assert call.place % BLOCK == 0, f"a write from within a block: {call.place}"
             data = call.data[: call.answer]
             self.read[call.place : call.place + len(data)] = data
             self.writes.append((call.place, data))
@@ -46,7 +50,12 @@ class Disk:
             self.writes = []
 
     def pending(self):
-        return sorted({place for start, data in self.writes for place in range(start, start + len(data))})
+        """The bytes that a write changed. One that was written as it is on the disk stays as it is."""
+        return sorted({place for start, data in self.writes for place, byte in enumerate(data, start) if byte != self.synced[place]})
+
+    def blocks(self):
+        """The blocks of each write."""
+        return [[(start + place, data[place : place + BLOCK]) for place in range(0, len(data), BLOCK)] for start, data in self.writes]
 
 
 def all_old(disk, _):
@@ -83,15 +92,26 @@ def new_bodies(disk, chosen):
     return with_bytes(disk, lambda place: chosen.choice([0, OPEN]) if place % CELL == 0 else disk.read[place])
 
 
-def some_writes(disk, chosen):
-    """Each write is there or not, in no order."""
+def with_blocks(disk, blocks):
+    """The bytes of the last sync, with these blocks over them, one after the other."""
     left = bytearray(disk.synced)
-    for place, data in chosen.sample(disk.writes, chosen.randrange(len(disk.writes) + 1)):
+    for place, data in blocks:
         left[place : place + len(data)] = data
     return bytes(left)
 
 
-PATTERNS = [all_old, all_new, all_open, new_gates, new_bodies, *3 * [some_writes, any_bytes]]
+def new_fronts(disk, _):
+    """Of each write the first half of its blocks is there."""
+    return with_blocks(disk, [block for blocks in disk.blocks() for block in blocks[: len(blocks) // 2]])
+
+
+def some_blocks(disk, chosen):
+    """Each block of each write is there or not, in no order."""
+    written = [block for blocks in disk.blocks() for block in blocks]
+    return with_blocks(disk, chosen.sample(written, chosen.randrange(len(written) + 1)))
+
+
+PATTERNS = [all_old, all_new, all_open, new_gates, new_bodies, new_fronts, *3 * [some_blocks, any_bytes]]
 
 
 def moments(data, made):

@@ -51,6 +51,16 @@ status_of (Err (Stopped line refusal)) = if is_failure refusal then 3 else 1
 status_of (Err LongText) = 1
 status_of (Err Doubted) = 1
 
+-- the ending where the file of the image is not opened or made
+abbrev pub of_image_file : FileFault → Ending
+of_image_file file.Memory = Image (image.Refused (refused.Image fault.Memory))
+of_image_file why = ImageUnopened why
+
+-- the ending where the file of a new image is not opened or made
+abbrev pub of_new_file : FileFault → Ending
+of_new_file file.Memory = Image (image.Refused (refused.Image fault.Memory))
+of_new_file why = NewUnopened why
+
 -- the ending where an exploration has no answer
 abbrev pub of_exploring : ExploreEnding → Ending
 of_exploring exploring.Memory = OfPlant Memory

@@ -24,7 +24,7 @@ pub(crate) fn work_alone<R: Files<File = File> + AllocGlobal, W: Write>(
 }
 
 /// Copies the image at the path into a new file.
-fn back_up<R: Files<File = File>, W: Write>(
+fn back_up<R: Files<File = File> + AllocGlobal, W: Write>(
     rt: &R,
     image: &str,
     copy: &str,
@@ -32,7 +32,7 @@ fn back_up<R: Files<File = File>, W: Write>(
 ) -> Result<(), Ending> {
     // The file of the copy is made where an image stands on the other, and only there.
     let (view, front) = check_image(view_at(rt, image)?)?;
-    let made = FileDisk::create(rt, copy, CELL * front.cells).map_err(Ending::NewUnopened)?;
+    let made = FileDisk::create(rt, copy, CELL * front.cells).map_err(Ending::of_new_file)?;
     copy_image(view, made, front, output)?;
     Ok(())
 }

@@ -46,6 +46,32 @@ pub(crate) enum Ending {
     LongText,
 }
 
+impl Ending {
+    ghost use Rattle.bip_image.specs.Ending.{of_image_file, of_new_file};
+
+    /// The ending where the image's file is not opened or made. Want of memory is told as of any image.
+    pub(crate) fn of_image_file(fault: FileFault) -> Self
+        ensures { result ≡ of_image_file fault }
+    {
+        match fault {
+            FileFault::Memory => {
+                Ending::Image(ImageEnding::Refused(ImageRefusal::Image(ImageFault::Memory)))
+            }
+            _ => Ending::ImageUnopened(fault),
+        }
+    }
+
+    /// The ending where the file of a new image is not opened or made. Want of memory is told as of any image.
+    pub(crate) fn of_new_file(fault: FileFault) -> Self
+        ensures { result ≡ of_new_file fault }
+    {
+        match fault {
+            FileFault::Memory => Ending::of_image_file(fault),
+            _ => Ending::NewUnopened(fault),
+        }
+    }
+}
+
 /// What more is printed if a stop left what is not right.
 const NOT_RIGHT: &str =
     "a power cut left what it must not leave: '--list' tells which; keep the plant and the script, and run this plant on no image";

@@ -8,12 +8,12 @@ use std::io;
 use std::rt::Files;
 
 /// The image that is at the path. Why its file fails is put aside.
-pub(crate) fn device_at<'a, R: Files<File = File>>(
+pub(crate) fn device_at<'a, R: Files<File = File> + AllocGlobal>(
     rt: &R,
     path: &str,
     failure: &'a Cell<Option<io::Error>>,
 ) -> Result<WatchedDisk<'a>, Ending> {
-    let disk = FileDisk::open(rt, path).map_err(Ending::ImageUnopened)?;
+    let disk = FileDisk::open(rt, path).map_err(Ending::of_image_file)?;
     Ok(WatchedDisk::new(disk, failure))
 }
 
@@ -23,7 +23,7 @@ pub(crate) fn view_at<R: Files<File = File>>(rt: &R, path: &str) -> Result<FileV
 }
 
 /// The file at the path, which is to be an image of so many bytes: it is made, full of zeros, where nothing is there.
-pub(crate) fn device_to_format<R: Files<File = File>>(
+pub(crate) fn device_to_format<R: Files<File = File> + AllocGlobal>(
     rt: &R,
     path: &str,
     bytes: u64,

@@ -94,7 +94,7 @@ fn format<R: Files<File = File> + AllocGlobal, W: Write>(
         IfThere::Formatted => device_to_format(rt, image, bytes),
         IfThere::Refused => FileDisk::create(rt, image, bytes),
     }
-    .map_err(Ending::ImageUnopened)?;
+    .map_err(Ending::of_image_file)?;
     note_sizes(alloc, disk.size(), bytes, &mut aside.reason);
     let disk = WatchedDisk::new(disk, &aside.device);
     format_image(alloc, system, ring.records, disk, output)?;
@@ -130,7 +130,7 @@ fn migrate<R: Files<File = File> + AllocGlobal + Threads + Sync, W: Write>(
     // The old image is open, and locked, before anything is done to the new one.
     let old = device_at(rt, image, &aside.device)?;
     let bytes = image_bytes(system, ring.records);
-    let mut new = device_to_format(rt, made, bytes).map_err(Ending::NewUnopened)?;
+    let mut new = device_to_format(rt, made, bytes).map_err(Ending::of_new_file)?;
     note_sizes(alloc, new.size(), bytes, &mut aside.reason);
     let new = WatchedDisk::new(new, &aside.made);
     migrate_image(rt, alloc, system, ring.records, old, new, output)?;
@@ -170,7 +170,7 @@ fn run_events<
         }
         Asking::Shared(WorkerCount { workers }) => {
             // A device that threads share notes nothing.
-            let disk = FileDisk::open(rt, image).map_err(Ending::ImageUnopened)?;
+            let disk = FileDisk::open(rt, image).map_err(Ending::of_image_file)?;
             let progress = WorkersLine::new(rt, events.len(), is_terminal);
             run_by_workers(
                 rt,

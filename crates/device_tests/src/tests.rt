@@ -6,4 +6,5 @@ mod common;
 mod devices;
 mod files;
 mod first_layout;
+mod gathering;
 mod slots;

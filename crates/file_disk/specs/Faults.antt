@@ -2,7 +2,7 @@
 use Rattle.std.specs.Prelude.{◌≡◌, ◌<◌, ◌≤◌, ℕ, Bool, true}
 use Rattle.file_disk.specs.declared.marks.TheConstants.{LARGEST_IMAGE}
 use Rattle.file_disk.specs.declared.fault.FileFault.{FileFault}
-use Rattle.file_disk.specs.declared.fault.FileFault.TheVariants.{TooLarge, AlreadyThere, NotThere, NotAllowed, NotAFile, Unopened, InUse, Unlocked, Unmade, Unsynced}
+use Rattle.file_disk.specs.declared.fault.FileFault.TheVariants.{TooLarge, AlreadyThere, NotThere, NotAllowed, NotAFile, Unopened, Memory, InUse, Unlocked, Unmade, Unsynced}
 
 -- a fault if the system does not open a file; that a name is taken is one only if the file is to be new
 abbrev pub IsOfSystem : Bool → FileFault → Type 0
@@ -43,7 +43,8 @@ StopsOpening AlreadyThere = ⊥
 StopsOpening Unmade = ⊥
 StopsOpening fault = Unit {0}
 
--- A fault that a file may have when it is opened to be read: nothing is put onto the disk then.
+-- A fault that a file may have when it is opened to be read: nothing is put onto the disk then, and no memory taken.
 abbrev pub StopsReading : FileFault → Type 0
 StopsReading Unsynced = ⊥
+StopsReading Memory = ⊥
 StopsReading fault = StopsOpening fault

@@ -1,8 +1,18 @@
 -- What a `FileDisk` shows.
+use Rattle.std.specs.Prelude.{ℕ, Bool, List, Option}
 use Rattle.disk_model.specs.DiskState.{DiskState}
+use Rattle.file_disk.specs.Gathered.{held_in, marks_on}
 use Rattle.file_disk.specs.Opened.{opened}
 use Rattle.file_disk.specs.declared.disk.FileDisk.{FileDisk}
 
 -- the device that it is: it has a size and its counts, and of its bytes nothing is known
 abbrev pub state_of : {F : Type 0} → FileDisk F → DiskState
 state_of d = record (opened d.size) { failures = d.failures; syncs = d.syncs }
+
+-- all bytes of the file, with what was written since they were read; nothing before that, and never of a file past the largest image
+abbrev pub held_by : {F : Type 0} → FileDisk F → Option (List ℕ)
+held_by d = held_in d.gathered
+
+-- for each block whether the disk may not have each byte of it
+abbrev pub unsaved_by : {F : Type 0} → FileDisk F → List Bool
+unsaved_by d = marks_on d.gathered

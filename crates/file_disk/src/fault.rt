@@ -18,6 +18,8 @@ pub enum FileFault {
     NotAFile,
     /// The system did not open it for another reason.
     Unopened,
+    /// There is no memory for its bytes. To create: nothing was made.
+    Memory,
     /// It is open already, in another program or in this one.
     InUse,
     /// It could not be asked whether it is in use.
@@ -42,6 +44,7 @@ impl fmt::Display for FileFault {
             FileFault::NotAllowed => f.write_str("no right to read and write it"),
             FileFault::NotAFile => f.write_str("not a plain file"),
             FileFault::Unopened => f.write_str("the system could not open it"),
+            FileFault::Memory => f.write_str("no memory for its bytes"),
             FileFault::InUse => f.write_str("in use: end the program that has it open"),
             FileFault::Unlocked => {
                 f.write_str("no lock on it: its file system may have none, choose another one")

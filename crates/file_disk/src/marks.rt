@@ -1,89 +1,107 @@
-//! What was written to a file since its last successful sync.
-ghost use Rattle.std.specs.Prelude.{◌+◌, ◌≤◌};
+//! Which blocks of a file were written since its last successful sync.
+ghost use Rattle.std.specs.Prelude.{◌≡◌, ℕ, ◌-◌, ◌<◌, ◌≤◌, true, false, length, replicate, IfOk, IfSome, IfNone};
+ghost use Rattle.disk_model.specs.DiskState.{overwritten};
+ghost use Rattle.file_disk.specs.Blocks.{is_marked, IsNext, IsRun, NoneFrom};
 
-use std::io;
-use std::os::unix::fs::FileExt;
+use std::alloc::{AllocError, Global};
+use std::vec;
 
 /// The bytes of the largest image that a plant can have: two slots for each of 64 atoms, a ring of 4,096 records and three
 /// cells more, each of 1,024 bytes.
 pub const LARGEST_IMAGE: u64 = 4_227 * 1_024;
 
-/// The bytes of a block.
-const BLOCK: u64 = 512;
+/// The blocks from number `first` up to, but not with, number `end`.
+#[derive(Clone, Copy)]
+pub(crate) struct Run {
+    pub(crate) first: usize,
+    pub(crate) end: usize,
+}
 
-/// Each block has two parts.
-const PARTS: u64 = 2 * (LARGEST_IMAGE / BLOCK);
-
-const WORDS: usize = PARTS as usize / 64 + 1;
-
-/// Marks on the parts of an image of which a byte was written. A block's first byte is one part, of even number, and the
-/// bytes after it are the other.
-//
-// A part that is written again must hold no byte that is not pending, since a stop may then leave any byte of it. A cell
-// starts with a block, has its gate in the first byte, and all bytes after the gate are written together. So a part is
-// written whole or not at all, and one mark for it is exact. Under other writes a mark may say too much.
+/// Marks on the blocks of a file.
 #[derive(Drop)]
 pub(crate) struct Marks {
-    words: [u64; WORDS],
+    blocks: Vec<bool>,
+    /// No block before this one is marked.
+    start: usize,
+    /// No block from this one on is marked.
+    end: usize,
+    ghost below: { (i : ℕ) → i < start → is_marked blocks.items i ≡ false },
+    ghost above: { (i : ℕ) → end ≤ i → is_marked blocks.items i ≡ false },
+    ghost within: { end ≤ length blocks.items },
 }
 
 impl Marks {
-    pub(crate) fn new() -> Self {
-        Marks { words: [0; WORDS] }
+    ghost use Rattle.file_disk.specs.Marks.{marked_in};
+
+    /// So many blocks, and no mark.
+    pub(crate) fn new(alloc: Global, count: usize) -> Result<Marks, AllocError>
+        ensures { IfOk result (λ marks. marked_in marks ≡ replicate count false) }
+    {
+        Ok(Marks {
+            blocks: vec![in alloc; false; count]?,
+            start: count,
+            end: 0,
+        })
     }
 
-    /// Marks each part that has a byte among these.
-    pub(crate) fn add(&mut self, at: u64, count: u64)
-        requires { at + count ≤ LARGEST_IMAGE }
+    /// Marks the blocks of the run.
+    pub(crate) fn add(&mut self, run: Run)
+        requires ordered { run.first ≤ run.end }
+        requires within { run.end ≤ length (marked_in self.old) }
+        ensures { marked_in self.new ≡ overwritten run.first (replicate (run.end - run.first) true) (marked_in self.old) }
     {
-        let end = at + count;
-        for block in at / BLOCK..end.div_ceil(BLOCK) {
-            let first = BLOCK * block;
-            if at <= first {
-                self.mark(2 * block);
-            }
-            if end > first + 1 {
-                self.mark(2 * block + 1);
+        self.blocks[run.first..run.end].fill(true);
+        self.start = self.start.min(run.first);
+        self.end = self.end.max(run.end);
+    }
+
+    /// Takes all marks away.
+    pub(crate) fn clear(&mut self)
+        ensures { marked_in self.new ≡ replicate (length (marked_in self.old)) false }
+    {
+        self.blocks.fill(false);
+        self.start = self.blocks.len();
+        self.end = 0;
+    }
+
+    /// The first run from this block on of blocks that go out together: one that is not marked may lie between two that are.
+    pub(crate) fn run_from(&self, block: usize) -> Option<Run>
+        ensures found { IfSome result (IsRun (marked_in self.now) block) }
+        ensures none { IfNone result (NoneFrom (marked_in self.now) block) }
+    {
+        let first = self.next_from(block)?;
+        Some(Run {
+            first,
+            end: self.end_of(first),
+        })
+    }
+
+    /// The first marked block from this one on.
+    fn next_from(&self, block: usize) -> Option<usize>
+        ensures found { IfSome result (IsNext (marked_in self.now) block) }
+        ensures none { IfNone result (NoneFrom (marked_in self.now) block) }
+    {
+        for next in block.max(self.start)..self.end {
+            if self.blocks[next] {
+                return Some(next);
             }
         }
+        None
     }
 
-    fn mark(&mut self, part: u64)
-        requires { part + 1 ≤ PARTS }
+    /// Where the run ends that begins with this marked block.
+    fn end_of(&self, first: usize) -> usize
+        requires { is_marked (marked_in self.now) first ≡ true }
+        ensures { IsRun (marked_in self.now) first (record { first = first; end = result }) }
     {
-        self.words[(part / 64) as usize] |= 1 << (part % 64);
-    }
-
-    fn is_marked(&self, part: u64) -> bool
-        requires { part + 1 ≤ PARTS }
-    {
-        self.words[(part / 64) as usize] >> (part % 64) & 1 == 1
-    }
-
-    /// Writes each marked part of a file of so many bytes as a read gives it.
-    pub(crate) fn write_again<F: FileExt>(&self, file: &F, size: u64) -> io::Result<()> {
-        for part in 0..PARTS {
-            if self.is_marked(part) {
-                rewrite(file, part, size)?;
+        let mut end = first + 1;
+        for block in end..self.end {
+            if self.blocks[block] {
+                end = block + 1;
+            } else if block > end {
+                break;
             }
         }
-        Ok(())
+        end
     }
-}
-
-/// Reads a part and writes it back. A read gives what was last written there, so that nothing of it changes; and each of its
-/// bytes is pending already, so that a stop meanwhile leaves nothing that it could not leave before.
-fn rewrite<F: FileExt>(file: &F, part: u64, size: u64) -> io::Result<()>
-    requires { part + 1 ≤ PARTS }
-{
-    let (at, most) = if part % 2 == 0 {
-        (BLOCK * (part / 2), 1)
-    } else {
-        (BLOCK * (part / 2) + 1, BLOCK - 1)
-    };
-    // The last block of a file may be cut.
-    let count = size.saturating_sub(at).min(most) as usize;
-    let mut bytes = [0; BLOCK as usize];
-    file.read_exact_at(&mut bytes[..count], at)?;
-    file.write_all_at(&bytes[..count], at)
 }

@@ -7,6 +7,7 @@ ghost use Rattle.file_disk.specs.Faults.{IsOfSystem, IsOfKind, IsOfLock, IsOfMak
 ghost use Rattle.disk_model.specs.DiskState.{size_of};
 ghost use Rattle.file_disk.specs.declared.fault.FileFault.TheVariants.{TooLarge};
 
+use crate::disk::room_for;
 use crate::{FileDisk, FileFault, FileView, LARGEST_IMAGE};
 use std::fs;
 use std::fs::{File, OpenOptions, TryLockError};
@@ -24,7 +25,7 @@ impl FileDisk {
     /// disk.
     //
     // The zeros are written, and not left out as they may be: so the disk has the room, and no later write asks for it.
-    pub fn create<R: Files<File = File>>(
+    pub fn create<R: Files<File = File> + AllocGlobal>(
         files: &R,
         path: &str,
         bytes: u64,
@@ -36,6 +37,7 @@ impl FileDisk {
         if bytes > LARGEST_IMAGE {
             return Err(FileFault::TooLarge);
         }
+        let gathered = room_for(files.alloc(), bytes).map_err(|_| FileFault::Memory)?;
         let file = open_file(files, path, true)?;
         if let Err(fault) = make(files, path, &file, bytes) {
             if fault != FileFault::InUse {
@@ -44,11 +46,14 @@ impl FileDisk {
             }
             return Err(fault);
         }
-        Ok(FileDisk::over(file, bytes))
+        Ok(FileDisk::with(file, bytes, gathered))
     }
 
     /// Opens the file at the path.
-    pub fn open<R: Files<File = File>>(files: &R, path: &str) -> Result<FileDisk, FileFault>
+    pub fn open<R: Files<File = File> + AllocGlobal>(
+        files: &R,
+        path: &str,
+    ) -> Result<FileDisk, FileFault>
         ensures device { IfOk result (λ disk. state_of disk ≡ opened (size_of (state_of disk))) }
         ensures cause { IfErr result StopsOpening }
     {
@@ -59,7 +64,8 @@ impl FileDisk {
         if file.sync_all().is_err() {
             return Err(FileFault::Unsynced);
         }
-        Ok(FileDisk::over(file, bytes))
+        let gathered = room_for(files.alloc(), bytes).map_err(|_| FileFault::Memory)?;
+        Ok(FileDisk::with(file, bytes, gathered))
     }
 }
 

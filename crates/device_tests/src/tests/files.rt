@@ -2,6 +2,7 @@
 use disk_model::{BODY, CELL, Cells, Disk};
 use file_disk::{FileDisk, FileFault, LARGEST_IMAGE};
 use record_codec::ring::device_cells;
+use std::alloc::Global;
 use std::cell::Cell;
 use std::fs::{File, Metadata, OpenFile, OpenOptions};
 use std::os::unix::fs::FileExt;
@@ -27,12 +28,16 @@ fn ends(disk: &mut FileDisk, bytes: u64) -> Result<[u8; 8], Fail> {
 }
 
 /// Why a file of so many bytes is not created, or `None` if it is.
-fn refused_new(rt: &impl Files<File = File>, path: &str, bytes: u64) -> Option<FileFault> {
+fn refused_new<R: Files<File = File> + AllocGlobal>(
+    rt: &R,
+    path: &str,
+    bytes: u64,
+) -> Option<FileFault> {
     FileDisk::create(rt, path, bytes).err()
 }
 
 /// Why the file is not opened, or `None` if it is.
-fn refused(rt: &impl Files<File = File>, path: &str) -> Option<FileFault> {
+fn refused<R: Files<File = File> + AllocGlobal>(rt: &R, path: &str) -> Option<FileFault> {
     FileDisk::open(rt, path).err()
 }
 
@@ -111,7 +116,11 @@ fn sent<T: Send>(device: T) -> T {
 }
 
 /// Why the file is not opened beside the device that has it open. That one is closed then.
-fn refused_beside(rt: &impl Files<File = File>, path: &str, device: FileDisk) -> Option<FileFault> {
+fn refused_beside<R: Files<File = File> + AllocGlobal>(
+    rt: &R,
+    path: &str,
+    device: FileDisk,
+) -> Option<FileFault> {
     let fault = refused(rt, path);
     drop(device);
     fault
@@ -140,7 +149,7 @@ fn set_length(rt: &impl Files<File = File>, path: &str, bytes: u64) -> Result<()
 }
 
 /// A new file of the largest image, of which the last byte is written.
-fn new_largest(rt: &impl Files<File = File>, path: &str) -> Result<(), Fail> {
+fn new_largest<R: Files<File = File> + AllocGlobal>(rt: &R, path: &str) -> Result<(), Fail> {
     let mut disk = FileDisk::create(rt, path, LARGEST_IMAGE)?;
     if disk.size()? != LARGEST_IMAGE {
         return Err(Fail::new("another size"));
@@ -369,9 +378,9 @@ fn is_right(
 }
 
 /// The number of the first round that is not right.
-fn first_wrong(rounds: &[Round]) -> Result<Option<usize>, Fail> {
+fn first_wrong(alloc: Global, rounds: &[Round]) -> Result<Option<usize>, Fail> {
     let file = Forgetful::new();
-    let mut disk = FileDisk::over(&file, SIZE as u64);
+    let mut disk = FileDisk::over(alloc, &file, SIZE as u64)?;
     for (number, round) in rounds.iter().enumerate() {
         if !is_right(&mut disk, &file, round)? {
             return Ok(Some(number));
@@ -380,29 +389,29 @@ fn first_wrong(rounds: &[Round]) -> Result<Option<usize>, Fail> {
     Ok(None)
 }
 
-/// After failed syncs the next one writes again what was written since the last that succeeded, and no other byte: the body
-/// of block 1, and both parts of block 2, of which the file has 76 bytes.
+/// After failed syncs the next one writes again each block that was written since the last that succeeded, and no other: block 1, and
+/// block 2, of which the file has 76 bytes.
 #[test]
 fn what_a_failed_sync_forgets_is_written_again(rt: HostRuntime) -> Result<(), Fail> {
     let rounds = [
         Round::new(0, &[1; 512], false, (0, 512)),
         Round::new(513, &[2; 511], true, (0, 512)),
         Round::new(1_024, &[3], true, (0, 512)),
-        Round::new(1_099, &[4], false, (513, SIZE)),
+        Round::new(1_099, &[4], false, (512, SIZE)),
         Round::new(0, &[], false, (0, 0)),
     ];
-    assert_eq!(rt; first_wrong(&rounds)?, None);
+    assert_eq!(rt; first_wrong(rt.alloc(), &rounds)?, None);
     Ok(())
 }
 
-/// A gate is written again without the body behind it, which is not pending.
+/// A gate is written again with its block.
 #[test]
-fn a_gate_is_written_again_alone(rt: HostRuntime) -> Result<(), Fail> {
+fn a_gate_is_written_again_with_its_block(rt: HostRuntime) -> Result<(), Fail> {
     let rounds = [
         Round::new(512, &[0xA5], true, (0, 0)),
-        Round::new(0, &[], false, (512, 513)),
+        Round::new(0, &[], false, (512, 1_024)),
     ];
-    assert_eq!(rt; first_wrong(&rounds)?, None);
+    assert_eq!(rt; first_wrong(rt.alloc(), &rounds)?, None);
     Ok(())
 }
 
@@ -411,6 +420,7 @@ fn a_gate_is_written_again_alone(rt: HostRuntime) -> Result<(), Fail> {
 fn a_fault_is_printed(rt: HostRuntime) -> Result<(), Fail> {
     for (fault, text) in [
         (FileFault::TooLarge, "an image has at most 4328448 bytes"),
+        (FileFault::Memory, "no memory for its bytes"),
         (FileFault::InUse, "in use: end the program that has it open"),
     ] {
         let said = fault.to_string(rt.alloc())?;
