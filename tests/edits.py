@@ -32,7 +32,7 @@ WITH_EDITS = {
     "recovery": "goes on from another state",
     "file_disk": "works past the end of the image, or counts what it did otherwise",
 }
-MOST_EDITS = 169
+MOST_EDITS = 166
 
 
 def edits_of(crate):
