@@ -59,7 +59,10 @@ impl Marks {
     pub(crate) fn clear(&mut self)
         ensures { marked_in self.new ≡ replicate (length (marked_in self.old)) false }
     {
-        self.blocks.fill(false);
+        // To go over all blocks of a large image would take longer than its writes.
+        for block in self.start..self.end {
+            self.blocks[block] = false;
+        }
         self.start = self.blocks.len();
         self.end = 0;
     }
