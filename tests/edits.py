@@ -30,7 +30,7 @@ WITH_EDITS = {
     "front_word": "tells a front that is none, or forgets what was told",
     "engine_host": "answers what the history does not say, or counts other firings than there were",
     "recovery": "goes on from another state",
-    "file_disk": "works past the end of the image, or counts what it did otherwise",
+    "file_disk": "loses what was written, or gives what was not",
 }
 MOST_EDITS = 166
 
