@@ -1,6 +1,7 @@
 -- What a `FileDisk` shows.
-use Rattle.std.specs.Prelude.{ℕ, Bool, List, Option}
+use Rattle.std.specs.Prelude.{◌≡◌, ℕ, Bool, List, Option, None}
 use Rattle.disk_model.specs.DiskState.{DiskState}
+use Rattle.file_disk.specs.Blocks.{NoneFrom}
 use Rattle.file_disk.specs.Gathered.{held_in, marks_on}
 use Rattle.file_disk.specs.Opened.{opened}
 use Rattle.file_disk.specs.declared.disk.FileDisk.{FileDisk}
@@ -16,3 +17,8 @@ held_by d = held_in d.gathered
 -- for each block whether the disk may not have each byte of it
 abbrev pub unsaved_by : {F : Type 0} → FileDisk F → List Bool
 unsaved_by d = marks_on d.gathered
+
+-- No byte of the file is held, and none waits for a sync.
+pub record IsUnread {F : Type 0} (d : FileDisk F) : Type 0 where
+  pub held : held_by d ≡ None
+  pub unsaved : NoneFrom (unsaved_by d) 0

@@ -41,7 +41,7 @@ pub(crate) fn room_for(alloc: Global, size: u64) -> Result<Gathered, AllocError>
 
 impl<F: FileExt + OpenFile> FileDisk<F> {
     ghost use Rattle.std.specs.Prelude.{false, is_err};
-    ghost use Rattle.file_disk.specs.FileDisk.{state_of, held_by, unsaved_by};
+    ghost use Rattle.file_disk.specs.FileDisk.{state_of, held_by, unsaved_by, IsUnread};
 
     /// A device over a file that is open and has so many bytes. It takes no lock: that nothing else writes to the file is the
     /// caller's to see to.
@@ -49,7 +49,7 @@ impl<F: FileExt + OpenFile> FileDisk<F> {
     where
         F: Drop,
         ensures device { IfOk result (λ disk. state_of disk ≡ opened size) }
-        ensures held { IfOk result (λ disk. held_by disk ≡ None) }
+        ensures unread { IfOk result IsUnread }
     {
         Ok(FileDisk::with(file, size, room_for(alloc, size)?))
     }
@@ -59,7 +59,7 @@ impl<F: FileExt + OpenFile> FileDisk<F> {
         requires size { size ≤ LARGEST_IMAGE → size_in gathered ≡ size }
         requires held { held_in gathered ≡ None }
         ensures device { state_of result ≡ opened size }
-        ensures held { held_by result ≡ None }
+        ensures unread { IsUnread result }
     {
         FileDisk {
             file,

@@ -1,6 +1,6 @@
 //! How a file becomes a device.
 ghost use Rattle.std.specs.Prelude.{◌≡◌, ◌<◌, false, IfOk, IfErr, Err};
-ghost use Rattle.file_disk.specs.FileDisk.{state_of};
+ghost use Rattle.file_disk.specs.FileDisk.{state_of, IsUnread};
 ghost use Rattle.file_disk.specs.FileView.{view_of};
 ghost use Rattle.file_disk.specs.Opened.{opened};
 ghost use Rattle.file_disk.specs.Faults.{IsOfSystem, IsOfKind, IsOfLock, IsOfMaking, StopsCreating, StopsOpening, StopsReading};
@@ -31,6 +31,7 @@ impl FileDisk {
         bytes: u64,
     ) -> Result<FileDisk, FileFault>
         ensures device { IfOk result (λ disk. state_of disk ≡ opened bytes) }
+        ensures unread { IfOk result IsUnread }
         ensures too_large { LARGEST_IMAGE < bytes → result ≡ Err TooLarge }
         ensures cause { IfErr result (StopsCreating bytes) }
     {
@@ -55,6 +56,7 @@ impl FileDisk {
         path: &str,
     ) -> Result<FileDisk, FileFault>
         ensures device { IfOk result (λ disk. state_of disk ≡ opened (size_of (state_of disk))) }
+        ensures unread { IfOk result IsUnread }
         ensures cause { IfErr result StopsOpening }
     {
         let file = open_file(files, path, false)?;

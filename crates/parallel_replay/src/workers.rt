@@ -3,6 +3,7 @@ ghost use Rattle.std.specs.Prelude.{◌≡◌, ◌≤◌, IfOk};
 ghost use Rattle.plant_model.specs.System.{digest_of, plant_of};
 ghost use Rattle.plant_image.specs.Faults.{fault_of, leading_fault};
 ghost use Rattle.plant_image.specs.Reading.{IsLed, IsSound, IsStanding, Tells, contents_in};
+ghost use Rattle.record_replay.specs.Parts.{AreParts};
 ghost use Rattle.parallel_replay.specs.Shares.{AreShares, IsShare};
 ghost use Rattle.parallel_replay.specs.declared.workers.TheConstants.{MOST_WORKERS};
 
@@ -10,7 +11,7 @@ use crate::gathering::gather;
 use crate::share::{Share, replay_share};
 use crate::turn::Turn;
 use disk_model::BODY;
-use plant_image::{Held, ImageFault, Standing, judge_standing, read_cells};
+use plant_image::{Held, ImageFault, Standing, judge_standing, parts_of, read_cells};
 use plant_model::System;
 use std::alloc::{AllocError, Global};
 use std::thread;
@@ -70,9 +71,10 @@ fn replay_shares<R: Threads + Sync, T: Turn>(
     requires sound { IsSound (plant_of system.now) (contents_in held.now) }
     ensures { IfOk result (λ shares. AreShares (plant_of system.now) (contents_in held.now) workers shares.items) }
 {
+    let parts = parts_of(alloc, &held.records)?;
     let replay = |worker: usize| -> Result<Share, AllocError>
-        requires { (1 ≤ workers) × IsSound (plant_of system.now) (contents_in held.now) }
+        requires { (1 ≤ workers) × IsSound (plant_of system.now) (contents_in held.now) × AreParts held.now.records.items parts.items }
         ensures { IsShare (plant_of system.entry.now) (contents_in held.entry.now) workers worker result }
-    { replay_share(alloc, system, held, workers, worker, turn) };
+    { replay_share(alloc, system, held, &parts, workers, worker, turn) };
     thread::map_indices(rt, alloc, workers, &replay)
 }

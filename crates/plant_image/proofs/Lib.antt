@@ -1,5 +1,6 @@
 pub mod FirstFault
 mod NumberFaults
+mod PartWords
 pub mod ByAtoms
 pub mod SavedFits
 pub mod SoFar

@@ -1,5 +1,6 @@
 -- The cells of records in a row: which are live, and what is wrong with these and with the one that ends them.
-use Rattle.std.proofs.Common.{◌≡◌, ℕ, zero, suc, ◌+◌, List, [], ◌∷◌, length, map, take, Option, Some, None, refl, sym, ◌∙◌, ap, subst}
+use Rattle.std.proofs.Common.{◌≡◌, ℕ, zero, suc, ◌+◌, List, [], ◌∷◌, length, map, take, Option, Some, None, is_some, true, false, refl, sym, ◌∙◌, ap, subst}
+use Rattle.std.proofs.lemmas.Bool.{false≢true, true≢false}
 use Rattle.std.specs.List.{range_with_len}
 use Rattle.disk_model.specs.Cells.{Cell, cell}
 use Rattle.gated_journal.specs.Live.{record_in}
@@ -10,6 +11,15 @@ use Rattle.plant_model.specs.Plant.{PlantDefinition}
 use Rattle.plant_model.specs.Rules.{first_of}
 use Rattle.plant_image.specs.Faults.{first_fault, numbers_fault, record_fault}
 use Rattle.plant_image.specs.declared.fault.ImageFault.{ImageFault}
+
+-- a test whether something is there says what is
+pub none_there : {X : Type 0} (o : Option X) → is_some o ≡ false → o ≡ None
+none_there None none = refl
+none_there (Some x) none = absurd (true≢false none)
+
+pub some_there : {X : Type 0} (o : Option X) → is_some o ≡ true → (x : X) × (o ≡ Some x)
+some_there None some = absurd (false≢true some)
+some_there (Some x) some = (x, refl)
 
 -- the record with a number, if its cell holds it
 abbrev pub record_at : PlantDefinition → List Cell → ℕ → ℕ → Option FiredFields

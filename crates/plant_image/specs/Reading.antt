@@ -1,9 +1,10 @@
 -- What reading an image answers.
-use Rattle.std.specs.Prelude.{◌≡◌, ℕ, ◌+◌, ◌≤◌, true, List, Option, None, Some, Result, Ok, Err, length, slice_get, slice_index_or}
+use Rattle.std.specs.Prelude.{◌≡◌, ℕ, ◌+◌, ◌≤◌, ◌++◌, true, List, [], ◌∷◌, Option, None, Some, Result, Ok, Err, length, slice_get, slice_index_or}
 use Rattle.petri_atom.specs.Definition.{AtomDefinition}
 use Rattle.plant_model.specs.Fitting.{IsOf, AllFit}
 use Rattle.plant_model.specs.Plant.{PlantDefinition}
 use Rattle.disk_model.specs.Cells.{Cell}
+use Rattle.record_codec.specs.Fired.{FiredFields}
 use Rattle.record_codec.specs.declared.layout.TheConstants.{LAST_NUMBER, LEAST_RING}
 use Rattle.gated_journal.specs.Rings.{IsReadFor, IsRing}
 use Rattle.record_replay.specs.Records.{count_of}
@@ -23,6 +24,11 @@ IsFault found fault = found ≡ Some fault
 abbrev pub Tells : {V : Type 0} → Option ImageFault → (V → Type 0) → Result V ImageFault → Type 0
 Tells found P (Ok value) = (found ≡ None) × P value
 Tells found P (Err fault) = IsFault found fault
+
+-- records with one more behind them, where there is one
+abbrev pub added : List FiredFields → Option FiredFields → List FiredFields
+added records None = records
+added records (Some fired) = records ++ fired ∷ []
 
 -- what was read, as contents
 abbrev pub contents_in : Held → Contents

@@ -10,7 +10,7 @@
 //! appending records of a run, saving a state of an atom, letting records go, cleaning; and what each of them leaves in the cells (`laws`).
 //!
 //! - `image`: the whole reading. `identity`, `bases`, `slots`, `records`: one kind of cell each. `bodies`: the body of one cell.
-//!   `replaying`: where the records bring each atom.
+//!   `replaying`: where the records bring each atom. `parts`: which atoms have a part in which records.
 //! - `standing`: what the cells say, and what they stand for. `fault`: why they stand for nothing. `laws`: what becomes of what an image stands
 //!   for.
 #![tactic(auto)]
@@ -21,6 +21,7 @@ mod fault;
 mod identity;
 mod image;
 pub mod laws;
+mod parts;
 mod records;
 mod replaying;
 mod slots;
@@ -28,6 +29,7 @@ mod standing;
 
 pub use fault::ImageFault;
 pub use image::{judge_standing, read_cells, read_image};
+pub use parts::parts_of;
 pub use replaying::{Reached, replay_saved};
 pub use standing::{Held, Standing};
 

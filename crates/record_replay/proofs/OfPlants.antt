@@ -35,7 +35,7 @@ any-of f (y ∷ ys) zero x there passes = or_left (f y) (list_any f ys) (ap f (s
 any-of f (y ∷ ys) (suc k) x there passes = or_right (f y) (list_any f ys) (any-of f ys k x there passes)
 
 -- there is an element at each place below the length
-there-at : {X : Type 0} (xs : List X) (k : ℕ) → k < length xs → (x : X) × (slice_get xs k ≡ Some x)
+pub there-at : {X : Type 0} (xs : List X) (k : ℕ) → k < length xs → (x : X) × (slice_get xs k ≡ Some x)
 there-at [] k within = absurd (omega arith)
 there-at (x ∷ xs) zero within = (x, refl)
 there-at (x ∷ xs) (suc k) within = there-at xs k (omega arith)

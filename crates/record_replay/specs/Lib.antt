@@ -1,4 +1,6 @@
 pub mod Records
 pub mod Replay
+pub mod Parts
 pub mod OfPlant
+pub mod Finding
 pub mod Fault

@@ -6,6 +6,8 @@ ghost use Rattle.plant_model.specs.Laws.{is_of_port};
 ghost use Rattle.plant_model.specs.System.{plant_of};
 ghost use Rattle.record_replay.specs.OfPlant.{has_none_past, is_part_at, are_parts_at, is_of_interaction, is_record_of};
 
+use crate::finding::{find_interaction, leaves_of};
+use crate::parts::atoms_in;
 use connector_tree::Port;
 use petri_atom::Atom;
 use plant_model::{Interaction, System};
@@ -16,14 +18,15 @@ use record_codec::{Entry, Fired, MOST_EXPORTED};
 pub fn is_record_of(system: &System, fired: &Fired) -> bool
     ensures { result ≡ is_record_of (plant_of system.now) fired.now }
 {
-    let atoms = system.atoms();
-    let interactions = system.interactions();
-    for interaction in interactions {
-        if is_of_interaction(atoms, fired, interaction) {
-            return true;
-        }
+    let Some(leaves) = system.ports.get(usize::from(fired.connector())) else {
+        return false;
+    };
+    // An atom stands once in a connector, so an interaction with these atoms has this mask.
+    let mask = leaves_of(leaves, atoms_in(fired));
+    match find_interaction(system, fired.connector(), mask) {
+        Some(interaction) => is_of_interaction(system.atoms(), fired, interaction),
+        None => false,
     }
-    false
 }
 
 /// Whether the record is one of the interaction.

@@ -10,17 +10,21 @@
 //! No device is known here, and nothing takes memory.
 //!
 //! - `records`: the record of a step, and how often each atom has taken part. `fitting`: whether a record can be of a plant.
-//! - `replay`: the replay of one atom. `fault`: why it ends. `laws`: what these say of one another.
+//!   `finding`: the interaction that such a record names.
+//! - `replay`: the replay of one atom. `parts`: which atoms have a part in a record. `fault`: why it ends. `laws`: what these say of one another.
 #![tactic(auto)]
 
 mod fault;
+mod finding;
 mod fitting;
 pub mod laws;
+mod parts;
 mod records;
 mod replay;
 
 pub use fault::ReplayFault;
 pub use fitting::is_record_of;
+pub use parts::atoms_in;
 pub use records::{count_participants, record_of};
 pub use replay::replay_atom;
 

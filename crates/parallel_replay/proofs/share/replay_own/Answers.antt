@@ -3,15 +3,17 @@ use Rattle.std.specs.Prelude.{slice_get}
 use Rattle.std.proofs.lemmas.List.{get_or_default, length-map}
 use Rattle.petri_atom.specs.Atom.{definition_of}
 use Rattle.petri_atom.specs.Definition.{AtomDefinition}
+use Rattle.record_codec.specs.Fired.{FiredFields}
 use Rattle.record_codec.specs.Saved.{SavedFields}
+use Rattle.record_replay.specs.Parts.{AreParts}
 use Rattle.plant_model.specs.System.{plant_of}
 use Rattle.plant_image.specs.Contents.{unsaved}
 use Rattle.plant_image.specs.Faults.{is_of_atom}
 use Rattle.plant_image.proofs.FirstFault.{mapped_at}
 use Rattle.parallel_replay.proofs.share.replay_own.Goals as goal
 
-pub replay_saved-requires : goal.replay_saved-requires
-replay_saved-requires g c =
+pub replay_saved-requires-clause-of_atom : goal.replay_saved-requires-clause-of_atom
+replay_saved-requires-clause-of_atom g c =
     let n : ℕ = c.args.number in
     let slots : List SavedFields = c.args.held.now.slots.items in
     let atoms = (plant_of c.args.system.now).atoms in
@@ -20,3 +22,6 @@ replay_saved-requires g c =
     let within : n < length slots = omega (arith, c.requires.sound.as_many, c.requires.there) in
     let is : get_or slots n (unsaved n) ≡ c.index.result.now = get_or_default slots n (unsaved n) c.index.result.now within ∙ sym c.index.ensures in
     subst (λ (s : SavedFields). is_of_atom n (definition_of c.index-atoms-number.result) s ≡ true) is (c.requires.sound.of_atoms n (definition_of c.index-atoms-number.result) at)
+
+pub replay_saved-requires-clause-parts : goal.replay_saved-requires-clause-parts
+replay_saved-requires-clause-parts g c = subst (λ (rs : List FiredFields). AreParts rs c.args.parts.now) (sym c.deref.ensures.value) c.requires.parts
