@@ -9,6 +9,8 @@ mod Copies
 pub mod Saving
 mod NextSlots
 mod Stored
+mod Behind
+mod AllStored
 pub mod Marking
 mod Trimmed
 mod Taken

@@ -45,7 +45,7 @@ known-own [] atom mark within = absurd (omega (arith, within))
 known-own (m ∷ ms) zero mark within = refl
 known-own (m ∷ ms) (suc atom) mark within = known-own ms atom mark (omega (arith, within))
 
-known-other : (known : List SavedAt) (atom i : ℕ) (mark : SavedAt) → i ≢ atom → saved_count (set known atom mark) i ≡ saved_count known i
+pub known-other : (known : List SavedAt) (atom i : ℕ) (mark : SavedAt) → i ≢ atom → saved_count (set known atom mark) i ≡ saved_count known i
 known-other [] atom i mark other = refl
 known-other (m ∷ ms) zero zero mark other = absurd (other refl)
 known-other (m ∷ ms) zero (suc i) mark other = refl

@@ -13,6 +13,7 @@ use crate::snapshots::Snapshots;
 use disk_model::{BODY, Cells, Disk};
 use gated_journal::Journal;
 use plant_model::{Choice, MAX_ATOMS};
+use snapshot_writer::Batch;
 use step_executor::Executor;
 use trimmer::Mark;
 
@@ -30,9 +31,8 @@ pub struct Plant<'s, D: Disk> {
     pub(crate) acked_counts: [u64; MAX_ATOMS],
     /// The number of the last record that is acknowledged.
     pub(crate) number: u64,
-    /// The choices that were fired since. Calls ask only how many there are: the choices themselves, and the acknowledged state in the executor, are
-    /// there for contracts alone, which say that the acknowledged state leads to the present one by these choices, and that a stop leaves what
-    /// stands for one on that way.
+    /// The choices that were fired since. Calls ask only how many there are: the choices themselves are there for contracts alone, which say that the
+    /// acknowledged state leads to the present one by these choices, and that a stop leaves what stands for one on that way.
     pub(crate) tail: Vec<Choice>,
     /// The bodies of their records, which a flush writes.
     pub(crate) bodies: Vec<[u8; BODY]>,
@@ -42,6 +42,8 @@ pub struct Plant<'s, D: Disk> {
     pub(crate) marks: Vec<Mark>,
     /// What is known of the saved states of the atoms.
     pub(crate) snapshots: Snapshots,
+    /// Room for the states that a save stores.
+    pub(crate) batch: Batch,
     /// The device.
     pub(crate) cells: Cells<D>,
     /// The device failed in a call, or a call of it runs.

@@ -114,4 +114,14 @@ impl Snapshots {
         self.kept[atom] = None;
         self.next_slots[atom] = Some(1 - slot);
     }
+
+    /// The states of the batch are stored, each in its slot.
+    pub(crate) fn all_stored(&mut self, batch: &Batch)
+        requires { (i : ℕ) (s : SlottedFields) → slice_get batch.now i ≡ Some s → s.saved.atom < length self.old.kept }
+        ensures { self.new ≡ with_slots batch.now self.old }
+    {
+        for i in 0..batch.len() {
+            self.stored(batch.get(i));
+        }
+    }
 }

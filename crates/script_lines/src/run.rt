@@ -64,7 +64,7 @@ pub fn answer<'s, D: Disk, W: Write>(
     match event {
         Event::Fire(_) | Event::FireChoice(_) | Event::Ask(_) | Event::Begin(_) | Event::Back(_) =>
             tell(plant, hands, event, output),
-        Event::Flush | Event::Put(_) | Event::Trim => {
+        Event::Flush | Event::Put(_) | Event::Save | Event::Trim => {
             hand_on(output)?;
             let happened = tell(plant, hands, event, output)?;
             hand_on(output)?;
@@ -105,6 +105,7 @@ pub fn has_failed(happened: &Happened) -> bool
             answer,
         ),
         Happened::Ask(_, answer) => is_disk(answer),
+        Happened::Save(answer) => is_disk(answer),
         Happened::Back(_, answer) => is_disk(answer),
         Happened::Empty(_) | Happened::Idle(_) => false,
     }
