@@ -176,7 +176,7 @@ fn add_if_behind<D: Disk>(
         return Ok(());
     }
     let free = free_slot(cells, snapshots.next_slot(atom), atom)?;
-    batch.push(free, &committed_copy(executor, counts, number, atom));
+    batch.push(free, committed_copy(executor, counts, number, atom));
     Ok(())
 }
 

@@ -1,10 +1,11 @@
 //! What a durable plant knows of the saved states of its atoms.
-ghost use Rattle.std.specs.Prelude.{◌≡◌, ◌<◌, ◌↔◌, Some, IsTrue, IfOk, IfSome, length};
+ghost use Rattle.std.specs.Prelude.{◌≡◌, ◌<◌, ◌↔◌, ℕ, Some, IsTrue, IfOk, IfSome, length, slice_get};
+ghost use Rattle.snapshot_writer.specs.Batches.{SlottedFields};
 ghost use Rattle.trimmer.specs.Covered.{saved_count};
-ghost use Rattle.plant_core.specs.Snapshots.{held_at, next_slot, nothing_kept, with_copy, with_slot};
+ghost use Rattle.plant_core.specs.Snapshots.{held_at, next_slot, nothing_kept, with_copy, with_slot, with_slots};
 
 use record_codec::Saved;
-use snapshot_writer::Parcel;
+use snapshot_writer::{Batch, Parcel};
 use std::alloc::{AllocError, Global};
 use std::marker::Model;
 use trimmer::SavedAt;
@@ -121,7 +122,7 @@ impl Snapshots {
         ensures { self.new ≡ with_slots batch.now self.old }
     {
         for i in 0..batch.len() {
-            self.stored(batch.get(i));
+            self.stored(batch.parcel(i), batch.slot(i));
         }
     }
 }
