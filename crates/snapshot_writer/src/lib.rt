@@ -16,16 +16,18 @@
 //! - `laws`: which state is the newest, before a store and after it.
 #![tactic(auto)]
 
+mod batch;
 mod encoded;
 pub mod laws;
 mod parcel;
 mod reading;
 mod storing;
 
+pub use batch::Batch;
 pub use encoded::{Encoded, encode};
 pub use parcel::Parcel;
-pub use reading::{read_newest, read_slot, slot_to_write};
-pub use storing::store;
+pub use reading::{FreeSlot, read_newest, read_slot, slot_to_write};
+pub use storing::{store, store_batch};
 
 // The cells of the device and the bodies that are written into them have one length.
 const _: () = prove!(disk_model::BODY == record_codec::BODY);
