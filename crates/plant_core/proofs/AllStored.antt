@@ -1,16 +1,13 @@
 -- The states of a batch are stored: it is as if they were stored one after another.
-use Rattle.std.proofs.Common.{◌≡◌, ◌≢◌, inl, inr, ⊎_elim, ◌+◌, ◌≤◌, ◌<◌, ℕ, zero, suc, refl, sym, ◌∙◌, ap, subst, List, [], ◌∷◌, length, map, get_or, slice_get, arith, Bool, Option, None, Some, true}
-use Rattle.std.proofs.lemmas.List.{same_lists}
-use Rattle.std.proofs.lemmas.Option.{slice_get-get_or}
+use Rattle.std.proofs.Common.{◌≡◌, ◌≢◌, ◌+◌, ◌≤◌, ◌<◌, ℕ, suc, refl, sym, ◌∙◌, ap, subst, List, [], ◌∷◌, length, slice_get, arith, Bool, Option, Some}
 use Rattle.petri_atom.specs.Local.{Local}
 use Rattle.disk_model.specs.Cells.{Cell, cell}
 use Rattle.gated_journal.specs.declared.ring.Ring.{Ring}
-use Rattle.record_codec.specs.Ring.{slot_cell}
 use Rattle.record_codec.specs.Saved.{SavedFields}
 use Rattle.record_replay.specs.Records.{count_of}
-use Rattle.snapshot_writer.specs.Batches.{HaveStored, SlottedFields}
+use Rattle.snapshot_writer.specs.Batches.{HaveStored, SlottedFields, cell_of, with_first}
 use Rattle.snapshot_writer.specs.Storing.{HasStored, HoldsSaved}
-use Rattle.snapshot_writer.proofs.Batches.{have-first}
+use Rattle.snapshot_writer.proofs.Batched.{first_is_last, first_stored, nothing_stored, rest_stored}
 use Rattle.plant_model.specs.Plant.{PlantDefinition}
 use Rattle.plant_model.specs.declared.choice.Choice.{Choice}
 use Rattle.step_core.specs.Job.{JobDefinition}
@@ -20,7 +17,6 @@ use Rattle.plant_core.specs.Invariant.{FitsTogether}
 use Rattle.plant_core.specs.Saves.{states_in}
 use Rattle.plant_core.specs.Snapshots.{SnapshotFields, known_of, with_slot, with_slots}
 use Rattle.plant_core.specs.View.{View, view_by, with_all_stored, with_stored}
-use Rattle.plant_core.proofs.NextSlots.{other-small}
 use Rattle.plant_core.proofs.Saving.{known-other, stored-fits}
 use Rattle.plant_core.proofs.Stored.{IsDue, IsNewer, Matches, Stands, still-due, still-matches, still-stands}
 
@@ -39,32 +35,20 @@ rise-rest s rest rise i j t u less first second = rise (suc i) (suc j) t u (omeg
 rise-apart : (s : SlottedFields) (rest : List SlottedFields) → Rise (s ∷ rest) → (i : ℕ) (t : SlottedFields) → slice_get rest i ≡ Some t → t.saved.atom ≢ s.saved.atom
 rise-apart s rest rise i t at same = absurd (omega (arith, rise 0 (suc i) s t (omega arith) refl at, same))
 
--- cells of which none differs are the same
-same-cells : (before cells : List Cell) → length cells ≡ length before → ((k : ℕ) → cell cells k ≡ cell before k) → cells ≡ before
-same-cells before cells long same = same_lists cells before long (λ k d within.
-    let here : Some (get_or cells k d) ≡ Some (get_or before k d) = sym (slice_get-get_or cells k d within) ∙ slice_get-get_or cells k None within ∙ ap (λ (c : Cell). Some c) (same k) ∙ sym (slice_get-get_or before k None (omega (arith, within, long))) ∙ slice_get-get_or before k d (omega (arith, within, long)) in
-    cc)
-
-none-stored : (before cells : List Cell) → HaveStored [] before cells → cells ≡ before
-none-stored before cells left = same-cells before cells left.count (λ k. left.others k (λ i s at. absurd (let at = at in cc)))
-
 -- ---- what stands at a stop
 
 module _ (plant : PlantDefinition) (digest : List ℕ) (bytes : ℕ) (acked : List Local) (counts : List ℕ) (number : ℕ) where
   pub all-stand : (batch : List SlottedFields) (before cells : List Cell) → Rise batch → Stands plant digest bytes acked counts number before → OfEach (λ s. IsDue plant s.slot s.saved before) batch → HaveStored batch before cells
       → Stands plant digest bytes acked counts number cells
-  all-stand [] before cells rise stands due left = subst (Stands plant digest bytes acked counts number) (sym (none-stored before cells left)) stands
+  all-stand [] before cells rise stands due left = subst (Stands plant digest bytes acked counts number) (sym (nothing_stored before cells left)) stands
   all-stand (s ∷ rest) before cells rise stands due left =
-      let first = have-first s rest before cells rise (small due) left in
-      let mid : List Cell = first.0 in
+      let mid : List Cell = with_first s before cells in
+      let one : HasStored s.slot s.saved before mid = first_stored s rest before cells left in
       let here : IsDue plant s.slot s.saved before = due 0 s refl in
       all-stand rest mid cells (rise-rest s rest rise)
-      (still-stands plant digest bytes acked counts number before stands s.slot s.saved here mid first.1)
-      (λ i t at. still-due plant digest bytes acked counts number before stands s.slot s.saved here mid first.1 t.slot t.saved (rise-apart s rest rise i t at) (due (suc i) t at))
-      first.2
-    where
-      small : OfEach (λ t. IsDue plant t.slot t.saved before) (s ∷ rest) → OfEach (λ t. t.slot < 2) (s ∷ rest)
-      small each i t at = subst (λ (n : ℕ). n < 2) (sym (each i t at).other) (other-small t.saved.atom before)
+      (still-stands plant digest bytes acked counts number before stands s.slot s.saved here mid one)
+      (λ i t at. still-due plant digest bytes acked counts number before stands s.slot s.saved here mid one t.slot t.saved (rise-apart s rest rise i t at) (due (suc i) t at))
+      (rest_stored s rest before cells left)
 
 -- ---- what the plant knows in the end
 
@@ -93,19 +77,17 @@ module _ (acked : List Local) (acked_counts : List ℕ) (number : ℕ) (tail : L
 
     -- and all that it knows is so on the cells
     pub all-match : (digest : List ℕ) (bytes : ℕ) (batch : List SlottedFields) (s : SnapshotFields) (before cells : List Cell) → Rise batch → OfEach (λ t. IsDue plant t.slot t.saved before) batch → OfEach (λ t. IsNewer (knowing s) t.saved) batch
-        → Matches plant digest bytes j bodies (knowing s) s.next_slots before → HaveStored batch before cells → OfEach (λ t. HoldsSaved t.saved (cell cells (slot_cell t.saved.atom t.slot))) batch
+        → Matches plant digest bytes j bodies (knowing s) s.next_slots before → HaveStored batch before cells → OfEach (λ t. HoldsSaved t.saved (cell cells (cell_of t))) batch
         → Matches plant digest bytes j bodies (knowing (with_slots batch s)) (with_slots batch s).next_slots cells
-    all-match digest bytes [] s before cells rise due new were left here = subst (Matches plant digest bytes j bodies (knowing s) s.next_slots) (sym (none-stored before cells left)) were
+    all-match digest bytes [] s before cells rise due new were left here = subst (Matches plant digest bytes j bodies (knowing s) s.next_slots) (sym (nothing_stored before cells left)) were
     all-match digest bytes (t ∷ rest) s before cells rise due new were left here =
-        let first = have-first t rest before cells rise (small due) left in
-        let mid : List Cell = first.0 in
+        let mid : List Cell = with_first t before cells in
+        let one : HasStored t.slot t.saved before mid = first_stored t rest before cells left in
+        let last : cell mid (cell_of t) ≡ cell cells (cell_of t) = first_is_last t rest before cells left in
         let its : IsDue plant t.slot t.saved before = due 0 t refl in
         all-match digest bytes rest (with_slot t.saved t.slot s) mid cells (rise-rest t rest rise)
-        (λ i u at. still-due plant digest bytes acked acked_counts number before were.stands t.slot t.saved its mid first.1 u.slot u.saved (rise-apart t rest rise i u at) (due (suc i) u at))
+        (λ i u at. still-due plant digest bytes acked acked_counts number before were.stands t.slot t.saved its mid one u.slot u.saved (rise-apart t rest rise i u at) (due (suc i) u at))
         (λ i u at. newer-beside s t u (rise-apart t rest rise i u at) (new (suc i) u at))
-        (still-matches plant digest bytes j bodies (knowing s) s.next_slots before were t.slot t.saved its (new 0 t refl) mid first.1 (subst (HoldsSaved t.saved) (sym first.3) (here 0 t refl)))
-        first.2
+        (still-matches plant digest bytes j bodies (knowing s) s.next_slots before were t.slot t.saved its (new 0 t refl) mid one (subst (HoldsSaved t.saved) (sym last) (here 0 t refl)))
+        (rest_stored t rest before cells left)
         (λ i u at. here (suc i) u at)
-      where
-        small : OfEach (λ u. IsDue plant u.slot u.saved before) (t ∷ rest) → OfEach (λ u. u.slot < 2) (t ∷ rest)
-        small each i u at = subst (λ (n : ℕ). n < 2) (sym (each i u at).other) (other-small u.saved.atom before)

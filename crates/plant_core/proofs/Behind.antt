@@ -1,10 +1,11 @@
 -- The states of the atoms that are behind: which they are, and that they may go in their slots.
-use Rattle.std.proofs.Common.{◌≡◌, ◌⊎◌, inl, inr, ◌+◌, ◌≤◌, ◌<◌, ℕ, zero, suc, refl, sym, ◌∙◌, ap, subst, List, [], ◌∷◌, ◌++◌, length, slice_get, arith, nat_lt, Bool, Option, None, Some, true, false, cond, if◌then◌else◌}
+use Rattle.std.proofs.Common.{◌≡◌, ◌⊎◌, inl, inr, ◌+◌, ◌≤◌, ◌<◌, ℕ, zero, suc, refl, sym, ◌∙◌, ap, subst, List, [], ◌∷◌, ◌++◌, length, slice_get, arith, nat_lt, Bool, Option, None, Some, true, false, cond, if◌then◌else◌, is_some, ⊎_elim, ◌^◌}
 use Rattle.std.specs.List.{cons_option, filter_map, range_with_len}
 use Rattle.std.specs.Option.{option_map, option_to_list}
-use Rattle.std.proofs.lemmas.Bool.{ltb-true}
-use Rattle.std.proofs.lemmas.Option.{none-some, same_Some, slice_get_within}
-use Rattle.petri_atom.specs.Local.{Local}
+use Rattle.std.proofs.lemmas.Bool.{cases_eq, cases_lt, false≢true, ltb-true}
+use Rattle.std.proofs.lemmas.Option.{none-some, same_Some, slice_get_past, slice_get_within}
+use Rattle.petri_atom.specs.Local.{Local, has}
+use Rattle.petri_atom.proofs.Sets.{has-above, same_numbers}
 use Rattle.disk_model.specs.Cells.{Cell}
 use Rattle.record_codec.specs.Saved.{SavedFields}
 use Rattle.record_replay.specs.Records.{count_of}
@@ -15,12 +16,13 @@ use Rattle.plant_model.specs.Plant.{PlantDefinition}
 use Rattle.plant_image.specs.Contents.{contents_of}
 use Rattle.plant_image.specs.Faults.{is_of_atom}
 use Rattle.plant_image.specs.Standing.{IsOnTheWay, Leads}
+use Rattle.plant_image.proofs.ByAtoms.{element_at}
 use Rattle.plant_image.proofs.SavedFits.{fitting_passes}
 use Rattle.trimmer.specs.Covered.{saved_count}
 use Rattle.trimmer.specs.declared.saved.SavedAt.{SavedAt}
 use Rattle.plant_core.specs.Invariant.{FitsTogether}
 use Rattle.plant_core.specs.Snapshots.{copies_below, copies_behind, copy_among, copy_if_behind}
-use Rattle.plant_core.specs.View.{View, behind_state, behind_states}
+use Rattle.plant_core.specs.View.{View, behind_state, behind_states, is_behind}
 use Rattle.plant_core.proofs.Copies.{way-whole}
 use Rattle.plant_core.proofs.Stored.{IsDue, IsNewer}
 
@@ -131,3 +133,75 @@ module _ (plant : PlantDefinition) (v : View) (bodies : List (List ℕ)) (kept :
 -- the atoms of these states rise
 pub behind-rise : (v : View) (i j : ℕ) (s t : SavedFields) → i < j → slice_get (behind_states v) i ≡ Some s → slice_get (behind_states v) j ≡ Some t → s.atom < t.atom
 behind-rise v i j s t before first second = picked-rise (behind_state v) (λ k x is. behind-own v.saved v.acked_counts v.number v.acked k x is) 0 (length v.acked) i j s t before first second
+
+-- those of one atom more
+pub below-more : (known : List SavedAt) (counts : List ℕ) (number : ℕ) (states : List Local) (i : ℕ) → copies_below known counts number states (i + 1) ≡ copies_below known counts number states i ++ option_to_list (copy_if_behind known counts number states i)
+below-more known counts number states i =
+    let pick : ℕ → Option SavedFields = copy_if_behind known counts number states in
+    let one : i + 1 ≡ suc i = omega arith in
+    let none : 0 + i ≡ i = omega arith in
+    ap (copies_below known counts number states) one ∙ pick-more pick 0 i ∙ ap (λ (k : ℕ). copies_below known counts number states i ++ option_to_list (pick k)) none
+
+-- each is of an atom before that
+pub below-within : (known : List SavedAt) (counts : List ℕ) (number : ℕ) (states : List Local) (atoms i : ℕ) (x : SavedFields) → slice_get (copies_below known counts number states atoms) i ≡ Some x → x.atom < atoms
+below-within known counts number states atoms i x at =
+    let found = picked (copy_if_behind known counts number states) (λ k y is. behind-own known counts number states k y is) 0 atoms i x at in
+    omega (arith, found.1)
+
+-- ---- whether there are any
+
+module _ (pick : ℕ → Option SavedFields) where
+  -- nothing is picked
+  pub none-picked : (from many : ℕ) → ((k : ℕ) → is_some (pick k) ≡ false) → filter_map pick (range_with_len from many) ≡ []
+  none-picked from zero none = refl
+  none-picked from (suc many) none = by (pick from) (none from)
+    where
+      by : (o : Option SavedFields) → is_some o ≡ false → cons_option o (filter_map pick (range_with_len (from + 1) many)) ≡ []
+      by None is = none-picked (from + 1) many none
+      by (Some x) is = absurd (false≢true (sym is))
+
+  -- and the other way round
+  pub picked-none : (from many k : ℕ) → filter_map pick (range_with_len from many) ≡ [] → from ≤ k → k < from + many → is_some (pick k) ≡ false
+  picked-none from zero k none low high = absurd (omega (arith, low, high))
+  picked-none from (suc many) k none low high = by (pick from) refl none
+    where
+      by : (o : Option SavedFields) → pick from ≡ o → cons_option o (filter_map pick (range_with_len (from + 1) many)) ≡ [] → is_some (pick k) ≡ false
+      by None is rest = ⊎_elim
+          (λ same. ap (λ (n : ℕ). is_some (pick n)) same ∙ ap (λ (o : Option SavedFields). is_some o) is)
+          (λ apart. picked-none (from + 1) many k rest (omega (arith, low, apart)) (omega (arith, high)))
+          (cases_eq k from)
+      by (Some x) is rest = absurd (let rest = rest in cc)
+
+module _ (v : View) where
+  -- an atom that is there is to be saved if it is behind
+  pub told-behind : (atom : ℕ) → atom < length v.acked → is_some (behind_state v atom) ≡ is_behind atom v
+  told-behind atom within = by (is_behind atom v)
+    where
+      some : is_some (copy_among v.acked_counts v.number v.acked atom) ≡ true
+      some = ap (λ (o : Option Local). is_some (option_map (saved_by atom (count_of v.acked_counts atom) v.number) o)) (element_at v.acked atom within).1
+
+      by : (b : Bool) → is_some (if b then copy_among v.acked_counts v.number v.acked atom else None) ≡ b
+      by true = some
+      by false = refl
+
+  -- past them there is none
+  pub none-behind : (atom : ℕ) → length v.acked ≤ atom → is_some (behind_state v atom) ≡ false
+  none-behind atom past = by (is_behind atom v)
+    where
+      none : is_some (copy_among v.acked_counts v.number v.acked atom) ≡ false
+      none = ap (λ (o : Option Local). is_some (option_map (saved_by atom (count_of v.acked_counts atom) v.number) o)) (slice_get_past v.acked atom past)
+
+      by : (b : Bool) → is_some (if b then copy_among v.acked_counts v.number v.acked atom else None) ≡ false
+      by true = none
+      by false = refl
+
+  -- the set of the atoms that are behind has no atom exactly if there is no state to save
+  module _ (set : ℕ) (are : (atom : ℕ) → has set atom ≡ is_some (behind_state v atom)) where
+    pub empty-none : set ≡ 0 → behind_states v ≡ []
+    empty-none is = none-picked (behind_state v) 0 (length v.acked) (λ k. sym (are k) ∙ ap (λ (n : ℕ). has n k) is ∙ has-above 0 0 k (omega arith) (omega arith))
+
+    pub none-empty : behind_states v ≡ [] → set ≡ 0
+    none-empty none = same_numbers set 0 (λ k. are k ∙ ⊎_elim
+        (λ within. picked-none (behind_state v) 0 (length v.acked) k none (omega arith) (omega (arith, within)))
+        (λ past. none-behind k past)
+        (cases_lt k (length v.acked)) ∙ sym (has-above 0 0 k (omega arith) (omega arith)))

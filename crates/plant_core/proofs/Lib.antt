@@ -11,6 +11,7 @@ mod NextSlots
 mod Stored
 mod Behind
 mod AllStored
+mod SavedAll
 pub mod Marking
 mod Trimmed
 mod Taken

@@ -56,15 +56,16 @@ impl<'s, D: Disk> Plant<'s, D> {
         }
         self.broken = true;
         // A stop here leaves of each atom the newest state as it was, or the whole acknowledged one in its place: each of them leads to what is acknowledged.
-        let stored = store_behind(
+        if store_behind(
             &self.executor,
             &self.acked_counts,
             self.number,
             &self.snapshots,
             &mut self.batch,
             &mut self.cells,
-        );
-        if stored.is_err() {
+        )
+        .is_err()
+        {
             return Err(Refused::Disk);
         }
         self.snapshots.all_stored(&self.batch);
@@ -84,9 +85,7 @@ impl<'s, D: Disk> Plant<'s, D> {
         self.executor.system().keeps_its_rules();
         let mut atoms = 0;
         for atom in 0..self.executor.len() {
-            if self.is_behind(atom as u16) {
-                atoms |= 1 << atom;
-            }
+            atoms |= u64::from(self.is_behind(atom as u16)) << atom;
         }
         atoms
     }
