@@ -47,6 +47,13 @@ pub record IsBatch (batch : List SlottedFields) : Type 0 where
   pub rise : AllPairs IsBelow batch
   pub slotted : All IsSlotted batch
 
+-- These are the cells of a batch of states, those of them that are full, and the bodies that go in them.
+pub record AreOfBatch (batch : List SlottedFields) (cells full : List ℕ) (bodies : List (List ℕ)) : Type 0 where
+  pub batch_is : IsBatch batch
+  pub cells_are : cells ≡ cells_of batch
+  pub full_are : full ≡ full_cells_of batch
+  pub bodies_are : bodies ≡ bodies_of batch
+
 -- none of these states goes in cell k
 abbrev pub IsNoCellOf : List SlottedFields → ℕ → Type 0
 IsNoCellOf batch k = (i : ℕ) (s : SlottedFields) → slice_get batch i ≡ Some s → k ≢ cell_of s

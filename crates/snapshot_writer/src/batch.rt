@@ -30,7 +30,7 @@ impl Model for Slotted {
 /// a state of each atom that a plant may have.
 #[derive(Drop)]
 pub struct Batch {
-    /// The states and their slots. No call reads them: they are there for contracts alone.
+    /// The states and their slots.
     states: Vec<Slotted>,
     /// The cells of the slots.
     pub(crate) cells: Vec<u64>,
@@ -42,23 +42,20 @@ pub struct Batch {
 
 // Clauses see the states with their slots.
 impl Model for Batch {
-    ghost use Rattle.std.specs.Prelude.{◌≡◌, ◌≤◌, List, vec_capacity};
+    ghost use Rattle.std.specs.Prelude.{◌≤◌, List, vec_capacity};
     ghost use Rattle.record_codec.specs.declared.layout.TheConstants.{MOST_ATOMS};
-    ghost use Rattle.snapshot_writer.specs.Batches.{SlottedFields, IsBatch, cells_of, full_cells_of, bodies_of};
+    ghost use Rattle.snapshot_writer.specs.Batches.{SlottedFields, AreOfBatch};
 
     ghost Value = { List SlottedFields };
 
     ghost view = { λ b. b.states.items };
 
     ghost invariant = { λ b. record {
-        batch : IsBatch b.states.items;
-        cells_are : b.cells.items ≡ cells_of b.states.items;
-        full_are : b.full.items ≡ full_cells_of b.states.items;
-        bodies_are : b.bodies.items ≡ bodies_of b.states.items;
-        room_of_states : MOST_ATOMS ≤ vec_capacity b.states;
-        room_of_cells : MOST_ATOMS ≤ vec_capacity b.cells;
-        room_of_full : MOST_ATOMS ≤ vec_capacity b.full;
-        room_of_bodies : MOST_ATOMS ≤ vec_capacity b.bodies;
+      parts : AreOfBatch b.states.items b.cells.items b.full.items b.bodies.items;
+      room_of_states : MOST_ATOMS ≤ vec_capacity b.states;
+      room_of_cells : MOST_ATOMS ≤ vec_capacity b.cells;
+      room_of_full : MOST_ATOMS ≤ vec_capacity b.full;
+      room_of_bodies : MOST_ATOMS ≤ vec_capacity b.bodies;
     } };
 }
 
@@ -100,6 +97,25 @@ impl Batch {
         self.states.is_empty()
     }
 
+    /// The state with the number.
+    pub fn parcel(&self, i: usize) -> &Parcel
+        requires { i < length self.now }
+        ensures { (s : SlottedFields) → slice_get self.now i ≡ Some s → result.now ≡ s.saved }
+    {
+        let state = &self.states[i];
+        &state.parcel
+    }
+
+    /// The slot in which it goes.
+    pub fn slot(&self, i: usize) -> u8
+        requires { i < length self.now }
+        ensures is { (s : SlottedFields) → slice_get self.now i ≡ Some s → result ≡ s.slot }
+        ensures in_range { result < 2 }
+    {
+        let state = &self.states[i];
+        state.free.slot
+    }
+
     /// Takes the state of one more atom, which goes in this slot of it. Its body is spelled, and no memory taken.
     pub fn push(&mut self, free: FreeSlot, parcel: Parcel)
         requires slot { free.slot < 2 }
@@ -108,10 +124,10 @@ impl Batch {
     {
         let cell = slot_cell(parcel.atom(), free.slot);
         self.cells.push_reserved(cell);
+        self.bodies.push_reserved(parcel.to_saved().to_body());
+        self.states.push_reserved(Slotted { free, parcel });
         if free.full {
             self.full.push_reserved(cell);
         }
-        self.bodies.push_reserved(parcel.to_saved().to_body());
-        self.states.push_reserved(Slotted { free, parcel });
     }
 }
