@@ -7,8 +7,8 @@ use Rattle.step_executor.proofs.Standing.{states-many}
 use Rattle.step_executor.proofs.Wholes.{committed-at, committed-long}
 use Rattle.step_executor.proofs.executor.Executor.committed.Goals as goal
 
-pub state-requires : goal.state-requires
-state-requires c =
+pub state-requires-in-None : goal.state-requires-in-None
+state-requires-in-None c =
     let run = c.args.self.now in
     omega (arith, c.requires, committed-long run.committed (states_in run), run.behind.many, states-many run)
 
@@ -28,4 +28,4 @@ returns-in-None c =
     let within : n < length run.committed = omega (arith, c.requires, committed-long run.committed (states_in run)) in
     committed-at run.committed (states_in run) n within ∙
     ap (λ o. Some (unwrap_or o (get_or (states_in run) n nothing_shown))) (sym c.in-None.ensures) ∙
-    ap Some (get_or_from_slice_get (states_in run) n c.state-2.result nothing_shown c.state-2.ensures.state)
+    ap Some (get_or_from_slice_get (states_in run) n c.state-in-None.result nothing_shown c.state-in-None.ensures.state)
