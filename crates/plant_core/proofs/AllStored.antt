@@ -17,7 +17,7 @@ use Rattle.plant_core.specs.Invariant.{FitsTogether}
 use Rattle.plant_core.specs.Saves.{states_in}
 use Rattle.plant_core.specs.Snapshots.{SnapshotFields, known_of, with_slot, with_slots}
 use Rattle.plant_core.specs.View.{View, view_by, with_all_stored, with_stored}
-use Rattle.plant_core.proofs.Saving.{known-other, stored-fits}
+use Rattle.plant_core.proofs.Noted.{known-other, stored-fits}
 use Rattle.plant_core.proofs.Stored.{IsDue, IsNewer, Matches, Stands, still-due, still-matches, still-stands}
 
 -- something holds of each entry of a batch

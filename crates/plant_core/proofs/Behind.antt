@@ -1,5 +1,5 @@
 -- The states of the atoms that are behind: which they are, and that they may go in their slots.
-use Rattle.std.proofs.Common.{◌≡◌, ◌⊎◌, inl, inr, ◌+◌, ◌≤◌, ◌<◌, ℕ, zero, suc, refl, sym, ◌∙◌, ap, subst, List, [], ◌∷◌, ◌++◌, length, slice_get, arith, nat_lt, Bool, Option, None, Some, true, false, cond, if◌then◌else◌, is_some, ⊎_elim, ◌^◌}
+use Rattle.std.proofs.Common.{◌≡◌, ◌≢◌, ◌⊎◌, inl, inr, ◌+◌, ◌≤◌, ◌<◌, ℕ, zero, suc, refl, sym, ◌∙◌, ap, subst, List, [], ◌∷◌, ◌++◌, length, slice_get, arith, nat_lt, Bool, Option, None, Some, true, false, cond, if◌then◌else◌, is_some, ⊎_elim, ◌^◌}
 use Rattle.std.specs.List.{cons_option, filter_map, range_with_len}
 use Rattle.std.specs.Option.{option_map, option_to_list}
 use Rattle.std.proofs.lemmas.Bool.{cases_eq, cases_lt, false≢true, ltb-true}
@@ -52,36 +52,36 @@ module _ (pick : ℕ → Option SavedFields) (own : (k : ℕ) (x : SavedFields) 
   -- each is picked at its own number
   pub picked : (from many i : ℕ) (x : SavedFields) → slice_get (filter_map pick (range_with_len from many)) i ≡ Some x → (from ≤ x.atom) × (x.atom < from + many) × (pick x.atom ≡ Some x)
   picked from zero i x there = absurd (none-some x there)
-  picked from (suc many) i x there = by (pick from) refl i there
+  picked from (suc many) i x there = by (λ j at. later (picked (from + 1) many j x at)) (pick from) refl i there
     where
-      later : (j : ℕ) → slice_get (filter_map pick (range_with_len (from + 1) many)) j ≡ Some x → (from ≤ x.atom) × (x.atom < from + suc many) × (pick x.atom ≡ Some x)
-      later j at =
-          let found = picked (from + 1) many j x at in
-          (omega (arith, found.0), omega (arith, found.1), found.2)
+      later : (from + 1 ≤ x.atom) × (x.atom < (from + 1) + many) × (pick x.atom ≡ Some x) → (from ≤ x.atom) × (x.atom < from + suc many) × (pick x.atom ≡ Some x)
+      later found = (omega (arith, found.0), omega (arith, found.1), found.2)
 
-      by : (o : Option SavedFields) → pick from ≡ o → (j : ℕ) → slice_get (cons_option o (filter_map pick (range_with_len (from + 1) many))) j ≡ Some x → (from ≤ x.atom) × (x.atom < from + suc many) × (pick x.atom ≡ Some x)
-      by None is j at = later j at
-      by (Some y) is zero at =
+      by : ((j : ℕ) → slice_get (filter_map pick (range_with_len (from + 1) many)) j ≡ Some x → (from ≤ x.atom) × (x.atom < from + suc many) × (pick x.atom ≡ Some x)) → (o : Option SavedFields) → pick from ≡ o → (j : ℕ)
+          → slice_get (cons_option o (filter_map pick (range_with_len (from + 1) many))) j ≡ Some x → (from ≤ x.atom) × (x.atom < from + suc many) × (pick x.atom ≡ Some x)
+      by rest None is j at = rest j at
+      by rest (Some y) is zero at =
           let same : y ≡ x = same_Some y x at in
           let here : pick from ≡ Some x = is ∙ ap (λ (s : SavedFields). Some s) same in
           let atom : x.atom ≡ from = own from x here in
           (omega (arith, atom), omega (arith, atom), ap pick atom ∙ here)
-      by (Some y) is (suc j) at = later j at
+      by rest (Some y) is (suc j) at = rest j at
 
   -- and they rise
   pub picked-rise : (from many i j : ℕ) (x y : SavedFields) → i < j → slice_get (filter_map pick (range_with_len from many)) i ≡ Some x → slice_get (filter_map pick (range_with_len from many)) j ≡ Some y → x.atom < y.atom
   picked-rise from zero i j x y before first second = absurd (none-some x first)
-  picked-rise from (suc many) i j x y before first second = by (pick from) refl i j before first second
+  picked-rise from (suc many) i j x y before first second = by (λ m n less at_m at_n. picked-rise (from + 1) many m n x y less at_m at_n) (pick from) refl i j before first second
     where
-      by : (o : Option SavedFields) → pick from ≡ o → (m n : ℕ) → m < n → slice_get (cons_option o (filter_map pick (range_with_len (from + 1) many))) m ≡ Some x
+      by : ((m n : ℕ) → m < n → slice_get (filter_map pick (range_with_len (from + 1) many)) m ≡ Some x → slice_get (filter_map pick (range_with_len (from + 1) many)) n ≡ Some y → x.atom < y.atom)
+          → (o : Option SavedFields) → pick from ≡ o → (m n : ℕ) → m < n → slice_get (cons_option o (filter_map pick (range_with_len (from + 1) many))) m ≡ Some x
           → slice_get (cons_option o (filter_map pick (range_with_len (from + 1) many))) n ≡ Some y → x.atom < y.atom
-      by None is m n less at_m at_n = picked-rise (from + 1) many m n x y less at_m at_n
-      by (Some z) is m zero less at_m at_n = absurd (omega (arith, less))
-      by (Some z) is zero (suc n) less at_m at_n =
+      by rest None is m n less at_m at_n = rest m n less at_m at_n
+      by rest (Some z) is m zero less at_m at_n = absurd (omega (arith, less))
+      by rest (Some z) is zero (suc n) less at_m at_n =
           let same : z ≡ x = same_Some z x at_m in
           let atom : x.atom ≡ from = own from x (is ∙ ap (λ (s : SavedFields). Some s) same) in
           omega (arith, atom, (picked (from + 1) many n y at_n).0)
-      by (Some z) is (suc m) (suc n) less at_m at_n = picked-rise (from + 1) many m n x y (omega (arith, less)) at_m at_n
+      by rest (Some z) is (suc m) (suc n) less at_m at_n = rest m n (omega (arith, less)) at_m at_n
 
 -- ---- the states of the atoms that are behind
 
@@ -154,23 +154,23 @@ module _ (pick : ℕ → Option SavedFields) where
   -- nothing is picked
   pub none-picked : (from many : ℕ) → ((k : ℕ) → is_some (pick k) ≡ false) → filter_map pick (range_with_len from many) ≡ []
   none-picked from zero none = refl
-  none-picked from (suc many) none = by (pick from) (none from)
+  none-picked from (suc many) none = by (none-picked (from + 1) many none) (pick from) (none from)
     where
-      by : (o : Option SavedFields) → is_some o ≡ false → cons_option o (filter_map pick (range_with_len (from + 1) many)) ≡ []
-      by None is = none-picked (from + 1) many none
-      by (Some x) is = absurd (false≢true (sym is))
+      by : filter_map pick (range_with_len (from + 1) many) ≡ [] → (o : Option SavedFields) → is_some o ≡ false → cons_option o (filter_map pick (range_with_len (from + 1) many)) ≡ []
+      by rest None is = rest
+      by rest (Some x) is = absurd (false≢true (sym is))
 
   -- and the other way round
   pub picked-none : (from many k : ℕ) → filter_map pick (range_with_len from many) ≡ [] → from ≤ k → k < from + many → is_some (pick k) ≡ false
   picked-none from zero k none low high = absurd (omega (arith, low, high))
-  picked-none from (suc many) k none low high = by (pick from) refl none
+  picked-none from (suc many) k none low high = by (λ rest apart. picked-none (from + 1) many k rest (omega (arith, low, apart)) (omega (arith, high))) (pick from) refl none
     where
-      by : (o : Option SavedFields) → pick from ≡ o → cons_option o (filter_map pick (range_with_len (from + 1) many)) ≡ [] → is_some (pick k) ≡ false
-      by None is rest = ⊎_elim
+      by : (filter_map pick (range_with_len (from + 1) many) ≡ [] → k ≢ from → is_some (pick k) ≡ false) → (o : Option SavedFields) → pick from ≡ o → cons_option o (filter_map pick (range_with_len (from + 1) many)) ≡ [] → is_some (pick k) ≡ false
+      by later None is rest = ⊎_elim
           (λ same. ap (λ (n : ℕ). is_some (pick n)) same ∙ ap (λ (o : Option SavedFields). is_some o) is)
-          (λ apart. picked-none (from + 1) many k rest (omega (arith, low, apart)) (omega (arith, high)))
+          (λ apart. later rest apart)
           (cases_eq k from)
-      by (Some x) is rest = absurd (let rest = rest in cc)
+      by later (Some x) is rest = absurd (let rest = rest in cc)
 
 module _ (v : View) where
   -- an atom that is there is to be saved if it is behind

@@ -6,7 +6,7 @@ mod AtRest
 pub mod EventRuns
 pub mod EventByEvent
 mod Copies
-pub mod Saving
+pub mod Noted
 mod NextSlots
 mod Stored
 mod Behind

@@ -1,11 +1,11 @@
 -- A plant saves all that is behind: what a stop leaves then, and what it keeps after it.
-use Rattle.std.proofs.Common.{◌≡◌, ◌+◌, ◌*◌, ◌≤◌, ◌<◌, ℕ, refl, sym, ◌∙◌, ap, subst, List, [], length, slice_get, arith, Bool, Option, None, Some, true, false}
+use Rattle.std.proofs.Common.{◌≡◌, ◌⊎◌, inl, inr, ◌+◌, ◌*◌, ◌≤◌, ◌<◌, ℕ, zero, suc, ◌∷◌, ◌++◌, refl, sym, ◌∙◌, ap, subst, List, [], length, slice_get, arith, Bool, Option, None, Some, true, false}
 use Rattle.std.specs.Option.{option_map}
 use Rattle.std.proofs.lemmas.Option.{none-some, same_Some, slice_get-map}
 use Rattle.petri_atom.specs.Local.{Local}
-use Rattle.disk_model.specs.Cells.{Cell, Leaves, cell, seen_cells}
-use Rattle.disk_model.specs.DiskState.{DiskState, size_of}
-use Rattle.disk_model.specs.Moments.{leaves_weaker}
+use Rattle.disk_model.specs.Cells.{Cell, Leaves, MayBe, cell, seen_cells}
+use Rattle.disk_model.specs.DiskState.{DiskState, IsSettled, size_of}
+use Rattle.disk_model.specs.Moments.{leaves_weaker, settled_cells}
 use Rattle.disk_model.specs.declared.cells.TheConstants.{BODY}
 use Rattle.gated_journal.specs.declared.ring.Ring.{Ring}
 use Rattle.record_codec.specs.Ring.{slot_cell}
@@ -34,12 +34,23 @@ made-of cells states i s at = by (slice_get states i) refl (sym (slice_get-map (
     by None is found = absurd (none-some s found)
     by (Some x) is found = (x, is, same_Some (to_other_slot cells x) s found)
 
+-- an entry of a batch with one more is one of it, or the one more
+pub last-or-before : (batch : List SlottedFields) (last s : SlottedFields) (i : ℕ) → slice_get (batch ++ last ∷ []) i ≡ Some s → (slice_get batch i ≡ Some s) ⊎ (last ≡ s)
+last-or-before [] last s zero at = inr (same_Some last s at)
+last-or-before [] last s (suc i) at = absurd (none-some s at)
+last-or-before (t ∷ rest) last s zero at = inl at
+last-or-before (t ∷ rest) last s (suc i) at = last-or-before rest last s i at
+
 -- the state of an entry
 pub state-of : (batch : List SlottedFields) (states : List SavedFields) → states_in batch ≡ states → (i : ℕ) (s : SlottedFields) → slice_get batch i ≡ Some s → slice_get states i ≡ Some s.saved
 state-of batch states are i s at =
     ap (λ (l : List SavedFields). slice_get l i) (sym are) ∙
     slice_get-map (λ (t : SlottedFields). t.saved) batch i ∙
     ap (option_map (λ (t : SlottedFields). t.saved)) at
+
+-- before anything is stored
+pub none-stored-yet : (batch : List SlottedFields) (s : DiskState) → IsSettled s.now → (cells : List Cell) → MayBe (BODY + 1) s cells → HaveStored batch (seen_cells (BODY + 1) s) cells
+none-stored-yet batch s settled cells may = subst (HaveStored batch (seen_cells (BODY + 1) s)) (sym (settled_cells (BODY + 1) s cells settled may)) (record { count = refl; each = λ i t at. inl refl; others = λ k none. refl })
 
 module _ (plant : PlantDefinition) (v : View) (bodies : List (List ℕ)) (kept : FitsTogether plant v bodies) where
   -- whatever slots the states go in, they are of atoms of the plant, and include acknowledged firings alone

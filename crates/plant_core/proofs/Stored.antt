@@ -40,7 +40,7 @@ use Rattle.plant_core.specs.View.{View, with_stored}
 use Rattle.plant_core.proofs.Copies.{way-beside, ways-stored}
 use Rattle.plant_core.proofs.Marking.{count-known}
 use Rattle.plant_core.proofs.NextSlots.{other-same, other-small, slots-stored}
-use Rattle.plant_core.proofs.Saving.{stored-fits}
+use Rattle.plant_core.proofs.Noted.{stored-fits}
 
 -- Nothing is wrong with these cells of a device of so many bytes, and they lead to this state, these counts and this number.
 pub record Stands (plant : PlantDefinition) (digest : List ℕ) (bytes : ℕ) (acked : List Local) (counts : List ℕ) (number : ℕ) (cells : List Cell) : Type 0 where

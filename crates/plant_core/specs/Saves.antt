@@ -1,5 +1,5 @@
 -- How states of several atoms go to slots together, and which may be saved.
-use Rattle.std.specs.Prelude.{◌≡◌, ℕ, ◌≤◌, List, map, is_some}
+use Rattle.std.specs.Prelude.{◌≡◌, ℕ, ◌≤◌, ◌<◌, List, Some, map, is_some, slice_get}
 use Rattle.petri_atom.specs.Local.{Local}
 use Rattle.disk_model.specs.Cells.{Cell, cell}
 use Rattle.plant_model.specs.Fitting.{AllFit, IsOf}
@@ -24,6 +24,10 @@ batch_of cells states = map (to_other_slot cells) states
 -- the states of a batch
 abbrev pub states_in : List SlottedFields → List SavedFields
 states_in batch = map (λ (s : SlottedFields). s.saved) batch
+
+-- Each slot is 0 or 1.
+abbrev pub AreSmall : List SlottedFields → Type 0
+AreSmall batch = (i : ℕ) (s : SlottedFields) → slice_get batch i ≡ Some s → s.slot < 2
 
 -- Each of these states of the plant, with its count and the number of the last record, may be saved: it fits its atom, and no atom has taken part more
 -- often than there were records.

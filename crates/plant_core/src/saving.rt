@@ -10,7 +10,7 @@ ghost use Rattle.step_executor.specs.Executing.{committed_in, plant_in};
 ghost use Rattle.plant_core.specs.Events.{IsEvent, is_disk};
 ghost use Rattle.plant_core.specs.Invariant.{AreNextSlots};
 ghost use Rattle.plant_core.specs.Plants.{definition_of, device_of, text_digest, view_of};
-ghost use Rattle.plant_core.specs.Saves.{AreSavable, batch_of, states_in};
+ghost use Rattle.plant_core.specs.Saves.{AreSavable, AreSmall, batch_of, states_in};
 ghost use Rattle.plant_core.specs.Snapshots.{copies_behind, copies_below, copy_among, copy_if_behind};
 ghost use Rattle.plant_core.specs.Stops.{StandsForAcked};
 ghost use Rattle.plant_core.specs.View.{behind_state, behind_states};
@@ -83,6 +83,7 @@ impl<'s, D: Disk> Plant<'s, D> {
         ensures some { behind_states (view_of self.now) ≡ [] → result ≡ 0 }
     {
         self.executor.system().keeps_its_rules();
+        self.executor.fits();
         let mut atoms = 0;
         for atom in 0..self.executor.len() {
             atoms |= u64::from(self.is_behind(atom as u16)) << atom;
@@ -132,6 +133,7 @@ fn gather<D: Disk>(
     ensures states { OnOk result (states_in batch.new ≡ copies_behind snapshots.now.saved counts.now number (committed_in executor.now)) }
     ensures batch { cells.old.keeps ≡ true → OnOk result
         (batch.new ≡ batch_of (seen_cells (BODY + 1) cells.old) (copies_behind snapshots.now.saved counts.now number (committed_in executor.now))) }
+    ensures small { AreSmall batch.new }
     ensures reads { Reads (is_err result) cells.old cells.new }
 {
     executor.system().keeps_its_rules();
@@ -166,9 +168,11 @@ fn add_if_behind<D: Disk>(
     requires known { cells.old.keeps ≡ true → AreNextSlots (plant_in executor.now) snapshots.now.next_slots (seen_cells (BODY + 1) cells.old) }
     requires inside { 3 + 2 * length (plant_in executor.now).atoms ≤ cell_count (BODY + 1) cells.old }
     requires rises { (i : ℕ) (s : SlottedFields) → slice_get batch.old i ≡ Some s → s.saved.atom < atom }
+    requires small { AreSmall batch.old }
     ensures states { OnOk result (states_in batch.new ≡ states_in batch.old ++ option_to_list (copy_if_behind snapshots.now.saved counts.now number (committed_in executor.now) atom)) }
     ensures batch { cells.old.keeps ≡ true → OnOk result
         (batch.new ≡ batch.old ++ batch_of (seen_cells (BODY + 1) cells.old) (option_to_list (copy_if_behind snapshots.now.saved counts.now number (committed_in executor.now) atom))) }
+    ensures small { AreSmall batch.new }
     ensures reads { Reads (is_err result) cells.old cells.new }
 {
     if snapshots.saved_count(atom) >= counts[usize::from(atom)] {

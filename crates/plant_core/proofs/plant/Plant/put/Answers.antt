@@ -19,7 +19,7 @@ use Rattle.plant_core.proofs.AtRest.{acked-front, acked-now, front-of, rest-fron
 use Rattle.plant_core.proofs.EventByEvent.{not-true}
 use Rattle.plant_core.proofs.Flushing.{journal-of-failed, noted-fits}
 use Rattle.plant_core.proofs.NextSlots.{other-small, slot-known}
-use Rattle.plant_core.proofs.Saving.{stored-fits}
+use Rattle.plant_core.proofs.Noted.{stored-fits}
 use Rattle.plant_core.proofs.Stored.{Matches, rest-matches, rest-stored}
 use Rattle.plant_core.proofs.Taken.{atom-within, taken-matches, taken-stops}
 use Rattle.plant_core.proofs.plant.Plant.put.Goals as goal
