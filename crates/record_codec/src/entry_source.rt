@@ -16,6 +16,7 @@ pub trait EntrySource {
 
     /// How many there are.
     fn count(&self) -> usize
+        requires { kept self.now }
         ensures { result ≡ length (entries self.now) };
 
     /// The one at this place.

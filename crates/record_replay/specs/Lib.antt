@@ -4,3 +4,4 @@ pub mod Parts
 pub mod OfPlant
 pub mod Finding
 pub mod Fault
+pub mod Steps
