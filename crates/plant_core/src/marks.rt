@@ -22,8 +22,7 @@ pub fn marks_of(alloc: Global, records: &[Fired], ring: u32) -> Result<Vec<Mark>
 
 /// The mark of the record with the number that has these entries.
 pub(crate) fn mark_of<E: EntrySource>(number: u64, entries: &E) -> Mark
-    requires kept { E.kept entries.now }
-    requires few { length (E.entries entries.now) ≤ MOST_PARTICIPANTS }
+    requires { length (E.entries entries.now) ≤ MOST_PARTICIPANTS }
     ensures { result ≡ record { number = number; participations = map participation_in (E.entries entries.now) } }
 {
     let mut mark = Mark::new(number);

@@ -11,17 +11,12 @@ pub trait EntrySource {
     /// The entries, in their order.
     ghost entries: { Self → List Entry };
 
-    /// What it has to keep, so that each of them can be made.
-    ghost kept: { Self → Type 0 };
-
     /// How many there are.
     fn count(&self) -> usize
-        requires { kept self.now }
         ensures { result ≡ length (entries self.now) };
 
     /// The one at this place.
     fn entry(&self, place: usize) -> Entry
-        requires kept { kept self.now }
-        requires there { place < length (entries self.now) }
+        requires { place < length (entries self.now) }
         ensures { slice_get (entries self.now) place ≡ Some result };
 }

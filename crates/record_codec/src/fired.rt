@@ -149,8 +149,6 @@ impl Fired {
 impl EntrySource for Fired {
     ghost entries = { λ f. f.entries };
 
-    ghost kept = { λ _. Unit {0} };
-
     fn count(&self) -> usize {
         self.entries().len()
     }
@@ -162,8 +160,7 @@ impl EntrySource for Fired {
 
 /// The body of a cell that holds the record with the number, of an interaction of the connector, with these entries.
 pub fn spell<E: EntrySource>(number: u64, connector: u16, entries: &E) -> [u8; BODY]
-    requires kept { E.kept entries.now }
-    requires in_range { IsFired (record { number = number; connector = connector; entries = E.entries entries.now }) }
+    requires { IsFired (record { number = number; connector = connector; entries = E.entries entries.now }) }
     ensures { fired_in result ≡ Some (record { number = number; connector = connector; entries = E.entries entries.now }) }
 {
     spelled(number, connector, entries)
@@ -175,7 +172,6 @@ fn spelled<E: EntrySource, const LENGTH: usize>(
     connector: u16,
     entries: &E,
 ) -> [u8; LENGTH]
-    requires kept { E.kept entries.now }
     requires in_range { IsFired (record { number = number; connector = connector; entries = E.entries entries.now }) }
     requires room { 11 + LONGEST_ENTRY * length (E.entries entries.now) ≤ LENGTH }
     requires within { LENGTH ≤ BODY }

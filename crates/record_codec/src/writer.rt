@@ -145,8 +145,7 @@ impl<const LENGTH: usize> Writer<LENGTH> {
 
     /// Writes the entries of a record, one after the other.
     pub(crate) fn entries<E: EntrySource>(&mut self, entries: &E)
-        requires kept { E.kept entries.now }
-        requires room { length self.old + LONGEST_ENTRY * length (E.entries entries.now) ≤ LENGTH }
+        requires { length self.old + LONGEST_ENTRY * length (E.entries entries.now) ≤ LENGTH }
         ensures written { self.new ≡ self.old ++ flat_map entry_bytes (E.entries entries.now) }
         ensures fits { All EntryFits (E.entries entries.now) }
     {

@@ -4,4 +4,3 @@ pub mod Parts
 pub mod OfPlant
 pub mod Finding
 pub mod Fault
-pub mod Steps

@@ -1,12 +1,11 @@
 //! The record of a step.
-ghost use Rattle.std.specs.Prelude.{◌≡◌, ◌+◌, ◌<◌, ◌^◌, Contains, Some};
+ghost use Rattle.std.specs.Prelude.{◌≡◌, ◌+◌, ◌<◌, ◌≤◌, ◌^◌, Contains, Some, length};
 ghost use Rattle.std.specs.List.Sorted.{IsStrictlyIncreasing};
-ghost use Rattle.record_codec.specs.Fired.{fired_in};
+ghost use Rattle.record_codec.specs.Fired.{IsFired, fired_in};
 ghost use Rattle.plant_model.specs.Chosen.{choice_of};
 ghost use Rattle.plant_model.specs.Laws.{atoms_of};
 ghost use Rattle.plant_model.specs.declared.choice.Move.{Move};
-ghost use Rattle.record_replay.specs.Records.{count_of, counts_after, entry_by};
-ghost use Rattle.record_replay.specs.Steps.{IsToldWhole, record_in};
+ghost use Rattle.record_replay.specs.Records.{count_of, counts_after, entries_delivered, entry_by, record_delivered};
 
 use connector_tree::MAX_LEAVES;
 use petri_atom::Delivered;
@@ -24,14 +23,12 @@ pub struct FiredStep<'a> {
     pub delivered: &'a [Delivered; MAX_LEAVES],
     /// How often each atom had taken part before.
     pub counts: &'a [u64; MAX_ATOMS],
+    pub ghost each: { length choice.now.moves ≤ length delivered.now },
+    pub ghost in_range: { IsFired (record_delivered number (choice_of choice.now) delivered.now counts.now) },
 }
 
 impl EntrySource for FiredStep<'_> {
-    ghost use Rattle.record_replay.specs.Steps.{IsToldWhole, entries_in};
-
-    ghost entries = { entries_in };
-
-    ghost kept = { IsToldWhole };
+    ghost entries = { λ step. entries_delivered step.counts.now step.choice.now.moves step.delivered.now };
 
     fn count(&self) -> usize {
         self.choice.moves.as_slice().len()
@@ -45,8 +42,7 @@ impl EntrySource for FiredStep<'_> {
 
 /// The body of a cell that holds the record of the step. No list of its entries is made.
 pub fn spell_record(step: &FiredStep<'_>) -> [u8; BODY]
-    requires { IsToldWhole step.now }
-    ensures { fired_in result ≡ Some (record_in step.now) }
+    ensures { fired_in result ≡ Some (record_delivered step.now.number (choice_of step.now.choice.now) step.now.delivered.now step.now.counts.now) }
 {
     spell(step.number, step.choice.connector, step)
 }

@@ -4,4 +4,4 @@ use Rattle.record_codec.proofs.fired.spell.Goals as goal
 
 pub returns : goal.returns
 unfolding fired_in
-returns g c = c.spelled.ensures.reads_back MOST_ENTRIES c.requires.in_range.entries_within
+returns g c = c.spelled.ensures.reads_back MOST_ENTRIES c.requires.entries_within
