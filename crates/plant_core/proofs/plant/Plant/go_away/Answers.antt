@@ -26,6 +26,23 @@ use Rattle.plant_core.proofs.Copies.{ways-fired}
 use Rattle.plant_core.proofs.Firing.{away-fits, away-front, bodies-many, count-so-far, next-in-range, one-more, told-many, view-of-fired}
 use Rattle.plant_core.proofs.plant.Plant.go_away.Goals as goal
 
+pub invariant_of-step : goal.invariant_of-step
+invariant_of-step g c =
+    let self = c.args.self.now in
+    let plant = plant_in self.executor in
+    let v = view_of self in
+    let choice = choice_of c.args.choice in
+    let rows = c.begin.new.delivered in
+    let valid : fault_of plant ≡ None = subst (λ p. fault_of p ≡ None) c.system.ensures.plant c.keeps_its_rules.ensures.plant in
+    let formed : list_all is_well_formed plant.atoms ≡ true = subst (λ (p : PlantDefinition). list_all is_well_formed p.atoms ≡ true) c.system.ensures.plant c.keeps_its_rules.ensures.atoms in
+    let range : IsInRange plant choice = c.an_allowed_choice_is_in_range.ensures plant v.present choice valid (c.sure_is_allowed.ensures plant v.present (is_out v.away) choice c.requires.sure) in
+    let told = c.a_record_of_what_was_delivered_is_that_of_the_choice.ensures plant v.present v.counts (fired_number v + 1) choice rows (told-many (transfer plant v.present choice) choice.moves rows c.begin.ensures.delivered) c.begin.ensures.delivered in
+    record {
+      each = told-many (transfer plant v.present choice) choice.moves rows c.begin.ensures.delivered;
+      in_range = subst (λ (n : ℕ). IsFired (record_delivered (n + 1) choice rows self.counts)) (sym c.fired-number.ensures)
+          (subst IsFired (sym told) (next-in-range plant v self.bodies.items self.fits_together choice (c.sure_is_allowed.ensures plant v.present (is_out v.away) choice c.requires.sure) valid formed c.requires.last));
+    }
+
 pub count_participants-requires : goal.count_participants-requires
 count_participants-requires g c =
     let self = c.args.self.now in
