@@ -33,9 +33,7 @@ use crate::naming::Naming;
 use crate::seat::Seat;
 use disk_model::Disk;
 use front_word::{FrontWord, MOST_FIRED, Publisher, Watch};
-use plant_core::{
-    BackRefused, FiredAs, Front, Happened, Plant, PutRefused, Refused, SavedTo,
-};
+use plant_core::{BackRefused, FiredAs, Front, Happened, Plant, PutRefused, Refused, SavedTo};
 use plant_model::Choice;
 use snapshot_writer::{Encoded, Parcel};
 use std::marker::Model;

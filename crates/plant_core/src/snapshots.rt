@@ -12,7 +12,8 @@ use trimmer::SavedAt;
 
 /// What a durable plant knows of the saved states of its atoms: of the newest in the slots of each atom how often the atom had taken part, and
 /// which record was the last then; a copy of each state that was asked for and is not stored yet; and in which slot the next state of each atom goes.
-/// That is known of an atom once the plant has stored a state of it since its start: until then the slots of the atom tell. Only making it takes memory.
+/// That is known of an atom once the plant has stored a state of it since its start, and that slot is full: until then the slots of the atom tell. Only
+/// making it takes memory.
 #[derive(Drop)]
 pub struct Snapshots {
     saved: Vec<SavedAt>,

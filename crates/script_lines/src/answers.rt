@@ -105,11 +105,7 @@ fn print_stored<W: Write>(name: &[u8], count: u64, output: &mut W) -> Result<(),
 }
 
 /// Prints up to which number all is acknowledged, and the names of the atoms whose states were stored.
-fn print_saved<W: Write>(
-    system: &System,
-    saved: SavedTo,
-    output: &mut W,
-) -> Result<(), WriteFault>
+fn print_saved<W: Write>(system: &System, saved: SavedTo, output: &mut W) -> Result<(), WriteFault>
     ensures { OnOk result (Appends (W.contents output.old) (W.contents output.new) (saved_line (plant_of system.now) saved)) }
 {
     print_text(output, b"saved ")?;
@@ -118,11 +114,7 @@ fn print_saved<W: Write>(
 }
 
 /// Prints the name of each atom whose state was stored, behind a space.
-fn print_names<W: Write>(
-    system: &System,
-    saved: SavedTo,
-    output: &mut W,
-) -> Result<(), WriteFault>
+fn print_names<W: Write>(system: &System, saved: SavedTo, output: &mut W) -> Result<(), WriteFault>
     ensures { OnOk result (Appends (W.contents output.old) (W.contents output.new)
         (numbered (name_if_in saved.atoms) 0 (plant_of system.now).atoms)) }
 {
