@@ -7,7 +7,7 @@ use Rattle.disk_model.specs.Moments.{leaves_start, leaves_then, leaves_weaker, o
 use Rattle.disk_model.specs.Reading.{reads_leave, reads_seen}
 
 -- another number is none of one
-none_of_one : (o k : ℕ) → k ≢ o → IsNoneOf (o ∷ []) k
+pub none_of_one : (o k : ℕ) → k ≢ o → IsNoneOf (o ∷ []) k
 none_of_one o k ne zero within = λ same. ne (sym same)
 none_of_one o k ne (suc i) within = absurd (omega arith)
 
