@@ -9,7 +9,7 @@ use crate::plant::Plant;
 use crate::snapshots::Snapshots;
 use disk_model::{BODY, Cells, Disk};
 use gated_journal::Journal;
-use plant_model::{Choice, MAX_ATOMS};
+use plant_model::{Choice, MAX_ATOMS, no_deliveries};
 use step_executor::Executor;
 use trimmer::Mark;
 
@@ -58,6 +58,7 @@ impl<'s, D: Disk> Plant<'s, D> {
             number,
             tail,
             bodies,
+            delivered: no_deliveries(),
             journal,
             marks,
             snapshots,

@@ -10,8 +10,10 @@ ghost use Rattle.plant_model.specs.System.{digest_of};
 ghost use Rattle.step_executor.specs.Executing.{committed_in, jobs_in, plant_in, states_in, system_in};
 
 use crate::snapshots::Snapshots;
+use connector_tree::MAX_LEAVES;
 use disk_model::{BODY, Cells, Disk};
 use gated_journal::Journal;
+use petri_atom::Delivered;
 use plant_model::{Choice, MAX_ATOMS};
 use step_executor::Executor;
 use trimmer::Mark;
@@ -36,6 +38,8 @@ pub struct Plant<'s, D: Disk> {
     pub(crate) tail: Vec<Choice>,
     /// The bodies of their records, which a flush writes.
     pub(crate) bodies: Vec<[u8; BODY]>,
+    /// Room for what a choice delivers, so that none is cleared for each. What stands there says nothing.
+    pub(crate) delivered: [Delivered; MAX_LEAVES],
     /// Which record cells of the device are live.
     pub(crate) journal: Journal,
     /// Of each record that is kept who took part in it: so a trim reads no record.

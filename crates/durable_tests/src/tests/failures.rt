@@ -88,13 +88,13 @@ fn failing_once(
     Ok(failed)
 }
 
-/// The boot makes 18 calls, the flushes of four and of one 10 and 4, the put 7 and the trim 8. Each of them fails in turn, while those before and after
+/// The boot makes 18 calls, the flushes of four and of one 10 and 4, the put 6 and the trim 8. Each of them fails in turn, while those before and after
 /// it serve. The call after the last is never made.
 #[test]
 fn each_call_that_fails_is_told_once(rt: HostRuntime) -> Result<(), Fail> {
     let alloc = rt.alloc();
     let system = sample(alloc)?;
-    let calls = 18 + 10 + 7 + 4 + 8;
+    let calls = 18 + 10 + 6 + 4 + 8;
     for k in 1..=calls + 1 {
         let told = failing_once(alloc, &system, &A_SAVED_AND_ON, 2, k)?;
         assert_eq!(rt; told, u64::from(k <= calls), "at {k}");
