@@ -170,15 +170,15 @@ flush-refused v w (Err Disk) did none = absurd (false≢true (sym none))
 flush-refused v w (Err other) did none = absurd did
 
 -- a refusal that is no such failure
-not-failed : {X : Type 0} (refused : Refused) → is_call {X = X} (Err refused) ≡ false → refused ≢ Disk
-not-failed {X} refused none same = false≢true (sym none ∙ ap (λ (r : Refused). is_call {X = X} (Err r)) same)
+not-failed : (X : Type 0) (refused : Refused) → is_call {X = X} (Err refused) ≡ false → refused ≢ Disk
+not-failed X refused none same = false≢true (sym none ∙ ap (λ (r : Refused). is_call {X = X} (Err r)) same)
 
 pub refused-untouched : (refused : Refused) (old new : DiskState) → (refused ≢ Disk → new ≡ old) → is_call {X = ℕ} (Err refused) ≡ false → new ≡ old
-refused-untouched refused old new same none = same (not-failed {X = ℕ} refused none)
+refused-untouched refused old new same none = same (not-failed ℕ refused none)
 
 pub answer-untouched : {X : Type 0} (answer : Result X Refused) (old new : DiskState) → IfErr answer (λ refused. refused ≢ Disk → new ≡ old) → is_call answer ≡ false → new ≡ old
 answer-untouched (Ok x) old new same none = absurd (false≢true (sym none))
-answer-untouched {X} (Err refused) old new same none = same (not-failed {X = X} refused none)
+answer-untouched {X} (Err refused) old new same none = same (not-failed X refused none)
 
 -- a flush keeps whether the device keeps the disk model
 pub flush-keeps : (v : View) (s t : DiskState) (ok : Bool) → (v.tail ≡ [] → t ≡ s) → (v.broken ≡ true → t ≡ s) → (v.tail ≢ [] → v.broken ≡ false → CountsTwo ok s t) → t.keeps ≡ s.keeps
