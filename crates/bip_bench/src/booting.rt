@@ -1,21 +1,24 @@
 //! A boot of the image in a file, and a read of the file.
 use crate::command::Crew;
+use crate::durable::hash_of_plant;
 use file_disk::FileDisk;
 use parallel_replay::Quiet;
 use plant_core::Front;
 use plant_model::System;
 use recovery::boot_par;
+use std::fs;
 use std::fs::File;
 use std::rt::{Clock, Files};
 use std::thread::Threads;
 use std::time::{Duration, Instant};
-use std::{fs, io};
 
-/// How long a boot took, and how far the plant was after it.
+/// How long a boot took, and where the plant was after it.
 #[derive(Clone, Copy)]
 pub(crate) struct Boot {
     pub(crate) time: Duration,
-    front: Front,
+    pub(crate) front: Front,
+    /// The hash of the lines of the state.
+    pub(crate) hash: u64,
 }
 
 impl Boot {
@@ -38,26 +41,21 @@ pub(crate) fn time_boot<R: Clock + Files<File = File> + Threads + Sync + AllocGl
     let Ok(disk) = FileDisk::open(rt, image) else {
         return None;
     };
-    let start = Instant::now(rt);
-    let Ok(plant) = boot_par(rt, rt.alloc(), disk, system, crew.threads, &Quiet) else {
+    let start = Instant::now(rt).ok()?;
+    let Ok(plant) = boot_par(rt, rt.alloc(), disk, system, crew.workers, &Quiet) else {
         return None;
     };
-    let time = time_since(rt, start);
-    let front = plant.front();
-    match time {
-        Some(time) => Some(Boot { time, front }),
-        None => None,
-    }
-}
-
-/// How long ago it was, if the clock gave the time then and gives it now.
-fn time_since<R: Clock>(rt: &R, start: io::Result<Instant>) -> Option<Duration> {
-    start.ok()?.elapsed(rt).ok()
+    let time = start.elapsed(rt).ok()?;
+    Some(Boot {
+        time,
+        front: plant.front(),
+        hash: hash_of_plant(rt.alloc(), &plant)?,
+    })
 }
 
 /// Reads the file at the path into memory, from start to end, and says how long that took, if nothing failed.
 pub(crate) fn time_read<R: Clock + Files + AllocGlobal>(rt: &R, path: &str) -> Option<Duration> {
-    let start = Instant::now(rt);
+    let start = Instant::now(rt).ok()?;
     let _bytes = fs::read(rt, path).ok()?;
-    time_since(rt, start)
+    start.elapsed(rt).ok()
 }
