@@ -6,11 +6,12 @@ use parallel_replay::Quiet;
 use plant_core::Front;
 use plant_model::System;
 use recovery::boot_par;
-use std::fs;
 use std::fs::File;
+use std::os::unix::fs::FileExt;
 use std::rt::{Clock, Files};
 use std::thread::Threads;
 use std::time::{Duration, Instant};
+use std::{fs, vec};
 
 /// How long a boot took, and where the plant was after it.
 #[derive(Clone, Copy)]
@@ -31,17 +32,17 @@ impl Boot {
     }
 }
 
-/// Boots the image at the path by so many workers, if nothing failed. A settled image is as it was.
+/// Boots the image at the path by so many workers, if nothing failed. The time begins before the file is opened. A settled image is as it was.
 pub(crate) fn time_boot<R: Clock + Files<File = File> + Threads + Sync + AllocGlobal>(
     rt: &R,
     system: &System,
     image: &str,
     crew: Crew,
 ) -> Option<Boot> {
+    let start = Instant::now(rt).ok()?;
     let Ok(disk) = FileDisk::open(rt, image) else {
         return None;
     };
-    let start = Instant::now(rt).ok()?;
     let Ok(plant) = boot_par(rt, rt.alloc(), disk, system, crew.workers, &Quiet) else {
         return None;
     };
@@ -53,9 +54,15 @@ pub(crate) fn time_boot<R: Clock + Files<File = File> + Threads + Sync + AllocGl
     })
 }
 
-/// Reads the file at the path into memory, from start to end, and says how long that took, if nothing failed.
-pub(crate) fn time_read<R: Clock + Files + AllocGlobal>(rt: &R, path: &str) -> Option<Duration> {
+/// Opens the file at the path, reads it into memory in one go, and says how long that took, if nothing failed.
+pub(crate) fn time_read<R: Clock + Files<File = File> + AllocGlobal>(
+    rt: &R,
+    path: &str,
+) -> Option<Duration> {
     let start = Instant::now(rt).ok()?;
-    let _bytes = fs::read(rt, path).ok()?;
+    let file = fs::open(rt, path).ok()?;
+    let bytes = file.metadata().ok()?.len();
+    let mut room = vec![in rt.alloc(); 0; bytes as usize].ok()?;
+    file.read_exact_at(&mut room, 0).ok()?;
     start.elapsed(rt).ok()
 }

@@ -25,6 +25,7 @@ pub(crate) fn fire_steps(run: &mut Stepper<'_>, picks: &mut RandomPicks, steps: 
 }
 
 /// The number of the next pick, if one is left.
+#[inline(always)]
 pub(crate) fn next_number(picks: &mut RandomPicks) -> Option<u64> {
     match picks.next_pick() {
         Ok(
