@@ -162,8 +162,10 @@ fn make_room<D: Disk, R: Clock>(
 
 /// Saves the present state of each atom that took part since its newest saved state, and says how many these are.
 fn save_all<D: Disk>(plant: &mut Plant<'_, D>) -> Option<u64> {
+    let system = plant.system();
+    system.keeps_its_rules();
     let mut saves = 0u64;
-    for atom in 0..plant.system().atoms().len() as u16 {
+    for atom in 0..system.atoms().len() as u16 {
         if plant.is_behind(atom) {
             let Ok(parcel) = plant.ask(atom) else {
                 return None;
@@ -180,6 +182,7 @@ fn save_all<D: Disk>(plant: &mut Plant<'_, D>) -> Option<u64> {
 /// The hash of the lines of the plant's present state.
 pub(crate) fn hash_of_plant<D: Disk>(alloc: Global, plant: &Plant<'_, D>) -> Option<u64> {
     let system = plant.system();
+    system.keeps_its_rules();
     let mut states = PlantState::init(alloc, system).ok()?;
     plant.show(&mut states);
     Some(hash_of_states(system, &states))

@@ -111,7 +111,7 @@ fn print_run<R: Clock + Print + AllocGlobal>(
     let start = Instant::now(rt).map_err(|_| Ending::System)?;
     let fired = fire_steps(&mut run, &mut picks, steps);
     let time = start.elapsed(rt).map_err(|_| Ending::System)?;
-    let hash = hash_of_states(system, run.states());
+    let hash = hash_of_states(run.system(), run.states());
     let printed = if timed {
         println!(rt;
             "steps {fired} seconds {} steps_per_s {} hash {hash:016x}",
