@@ -1,20 +1,17 @@
 #!/usr/bin/env python3
 """Measures a durable plant beside another engine that keeps the same images, and beside the bare calls of the system. It prints tables in Markdown.
 
-    bench/durable.py run BIP_BENCH OTHER PLANTS FOLDER      acknowledged steps a second, at 1, 8 and 64 steps a flush
-    bench/durable.py boot BIP_BENCH OTHER PLANTS FOLDER     how long a boot of a full ring takes
-    bench/durable.py same BIP_BENCH OTHER PLANTS FOLDER     whether both leave the same cells, on short rings too
-    bench/durable.py raw FOLDER                             what two writes and two syncs take
+    bench/durable.py BIP_BENCH OTHER PLANTS FOLDER [--rounds K] [--flushes N] [--plants NAME,..] [--only images|steps|boots]
+
+    images   runs over rings that are used again and again: whether both engines leave the same cells
+    steps    acknowledged steps a second, at 1, 8 and 64 steps a flush
+    boots    how long a boot of a full ring takes, and a read of its file
 
 BIP_BENCH and OTHER are programs. OTHER is called by the words `durable` and `boot` of bench/README.md, as BIP_BENCH is, and with `--coalesce` too. PLANTS is a
-folder of plants, NAME.plant each. FOLDER is where the images are made: on a disk, or in memory. Behind the words may stand
+folder of plants, NAME.plant each: sample, railway, broadcast and limits, if `--plants` says no others. FOLDER is where the images are made: on a disk, or in memory.
 
-    --rounds K          so many rounds (5); a figure is the median of its rounds
-    --flushes N         so many flushes of each run (1,000)
-    --plants NAME,..    these plants in place of sample,railway,broadcast,limits
-
-In a round all contenders run in turn, each on an image that it formats anew, and each round begins with another of them. Behind each run the images are compared.
-The status is 1 if some cells differ, and 0 if none do.
+A figure is the median of K rounds (5). In a round all contenders run in turn, each on an image that it formats anew, by N flushes (1,000), and each round begins with
+another of them. Behind each run the images are compared too. The status is 1 if some cells differ, and 0 if none do.
 """
 
 import os
@@ -132,7 +129,7 @@ def in_turn(contenders, round):
     return contenders[first:] + contenders[:first]
 
 
-def run(bench):
+def measure_steps(bench):
     """Acknowledged steps a second of all contenders."""
     print("| Plant | Steps a flush | Ours, steps/s | Other | Other, `--coalesce` | Two syncs | Ours to other | to `--coalesce` | to two syncs |")
     print("|---|---:|---:|---:|---:|---:|---:|---:|---:|")
@@ -165,8 +162,8 @@ def read_seconds(path):
     return time.perf_counter() - begun
 
 
-def boot(bench):
-    """Boots of a full ring, and reads of the same file by this program."""
+def measure_boots(bench):
+    """Boots of a full ring, and reads of the same file by this program. The file is still in the memory of the system."""
     print("| Plant | Ours, boot, ms | read, ms | boot to read | Other, boot, ms | read, ms | boot to read | Ours to other |")
     print("|---|---:|---:|---:|---:|---:|---:|---:|")
     for name, plant in bench.plants.items():
@@ -187,8 +184,8 @@ def boot(bench):
         print(f"| {name} | {row} | {found[OURS][0] / found[OTHER][0]:.2f} |", flush=True)
 
 
-def same(bench):
-    """Only the images: of runs over rings that are used again and again, and with a short last flush."""
+def compare_images(bench):
+    """What runs leave over rings that are used again and again, and with a short last flush."""
     for name, plant in bench.plants.items():
         for steps, batch, ring in SHORT:
             ours, cells = bench.durable(OURS, plant, steps, batch, ring)
@@ -203,33 +200,31 @@ def same(bench):
         print(f"{name}: {len(SHORT)} runs compared", flush=True)
 
 
-def raw(folder, options):
-    for batch in BATCHES:
-        rates = [raw_rate(folder, batch, options.flushes) for _ in range(options.rounds)]
-        print(f"{batch} steps a flush: {statistics.median(rates):,.0f} steps/s, {1e6 * batch / statistics.median(rates):,.0f} us a flush")
+TASKS = {"images": compare_images, "steps": measure_steps, "boots": measure_boots}
 
 
 class Options:
     """What the words behind the others say."""
 
     def __init__(self, words):
-        self.rounds, self.flushes, self.plants = 5, 1000, ["sample", "railway", "broadcast", "limits"]
+        self.rounds, self.flushes, self.plants, self.only = 5, 1000, ["sample", "railway", "broadcast", "limits"], list(TASKS)
         for name, value in zip(words[::2], words[1::2]):
-            if name not in ("--rounds", "--flushes", "--plants"):
+            if name in ("--rounds", "--flushes"):
+                setattr(self, name[2:], int(value))
+            elif name in ("--plants", "--only"):
+                setattr(self, name[2:], value.split(","))
+            else:
                 raise SystemExit(__doc__)
-            setattr(self, name[2:], value.split(",") if name == "--plants" else int(value))
 
 
 def main(words):
-    tasks = {"run": run, "boot": boot, "same": same}
-    if len(words) >= 2 and words[0] == "raw":
-        raw(words[1], Options(words[2:]))
-        return 0
-    if len(words) < 5 or words[0] not in tasks:
+    if len(words) < 4 or len(words) % 2:
         raise SystemExit(__doc__)
-    bench = Bench(*words[1:5], Options(words[5:]))
+    bench = Bench(*words[:4], Options(words[4:]))
     try:
-        tasks[words[0]](bench)
+        for name in bench.options.only:
+            TASKS[name](bench)
+            print()
     finally:
         bench.clear()
     return 1 if bench.differing else 0
