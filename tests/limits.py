@@ -34,6 +34,10 @@ LEAST_BLOCKS, LAST_BLOCKS = 100, 40
 WITH_THREADS, BLOCKS_WITH_THREADS = ("run", "recover"), 20
 # Of what asks for more blocks than so many, which makes the same calls over and over, one of so many is refused each.
 MANY_BLOCKS, BLOCKS_APART = 300, 37
+# The beginning of a run, and then a round that is made over and over: each kind of event, done and refused. A ring of 8 is used again with each three rounds.
+BEGINNING = b"fire 0\nask B\nput B\ntrim\nflush\nask A\nput A\ntrim\n"
+ROUND = b"fire 1\nfire send A.t/0 B.u/0\nask A\nput A\nbegin 0\nask A\nfire 0\nback A\nback B\nflush\nflush\nput A\nask A\nask B\nput A\nput B\ntrim\ntrim\n"
+ROUNDS = 100
 # Tests of the library, each with its crate, that ask memory of these calls in turn. They print the name of one that is refused it, and make it again.
 REFUSED = "durable_tests", "tests::memory::a_refused_growth_changes_nothing"
 ASKING = ["plant", "device", "format", "boot", "hands", "drive"]
@@ -267,6 +271,21 @@ class Limits(OnImage):
         """The same of a host that is named and opened, once its plant is there."""
         found = self.calls_refused(OPENING, itertools.count(), RefusesOnceAfterALine, ("host",), 1)
         self.assertEqual(found, ["name", "room"])
+
+    def check_memory_behind_a_boot(self):
+        """Behind its boot a run asks for no memory, whatever is asked of the plant: neither the system nor the C library, which here asks the system for each
+        block by itself. A boot ends with its second sync of the image: what it does not need is empty then."""
+        self.image.write_bytes(FORMATTED)
+        (self.folder / "script").write_bytes(BEGINNING + ROUND * ROUNDS)
+        ran = self.with_memory("run plant image script")
+        fired = 1 + 3 * ROUNDS
+        self.assertEqual((ran.status, ran.told), (0, ""))
+        self.assertEqual("".join(ran.printed.splitlines(keepends=True)[-3:]), standing(fired, fired - 2, fired, fired + 1))
+        ended = [place for place, call in enumerate(ran.calls) if call.name == "fdatasync"][1]
+        before, behind = ([call for call in calls if is_growth(call)] for calls in (ran.calls[:ended], ran.calls[ended:]))
+        if len(before) < LEAST_BLOCKS:
+            self.skipTest("the C library does not ask the system for each block of memory by itself")
+        self.assertEqual(behind, [])
 
     def put_image(self, data):
         self.image.unlink(missing_ok=True)

@@ -11,10 +11,9 @@ pub(crate) const USAGE: &str =
     "durable_bench fire PLANT STEPS          fires random choices of a durable plant, alone and through a seat of a host, in turns
 durable_bench front PLANT STEPS         fires them through a seat, alone and while four threads read how far the plant is
 durable_bench work PLANT STEPS THREADS  threads with a seat each fire them, the updates outside the lock and then under it
-durable_bench boot PLANT IMAGE WORKERS  boots the image, and reads its file once
 durable_bench there PLANT STEPS         fires random choices of a plant that keeps no record, with all atoms there
 durable_bench away PLANT STEPS          the same with atoms away half of the time: of two choices one begins, and the other is fired meanwhile
-PLANT is a file, or - for the standard input; IMAGE is a file; STEPS, THREADS and WORKERS are in digits, the last two 1 to 16.
+PLANT is a file, or - for the standard input; STEPS and THREADS are in digits, THREADS 1 to 16.
 ";
 
 /// How many threads do a task: 1 to [`MOST_WORKERS`].
@@ -27,15 +26,13 @@ pub(crate) struct Crew {
 
 /// What is measured.
 #[derive(Clone, Copy)]
-pub(crate) enum Task<'a> {
+pub(crate) enum Task {
     /// Firing so many choices alone and under a host.
     Fire(u64),
     /// Firing so many choices under a host, alone and while others read.
     Front(u64),
     /// Firing so many choices by threads together.
     Work(u64, Crew),
-    /// Booting the image at the path.
-    Boot(&'a str, Crew),
     /// Firing so many choices of a plant that keeps no record.
     Step(u64, Presence),
 }
@@ -43,7 +40,7 @@ pub(crate) enum Task<'a> {
 /// A task, and where the text of its plant stands.
 #[derive(Clone, Copy)]
 pub(crate) struct Command<'a> {
-    pub(crate) task: Task<'a>,
+    pub(crate) task: Task,
     pub(crate) plant: &'a str,
 }
 
@@ -54,8 +51,8 @@ pub(crate) fn read_command<'a>(words: &'a [String]) -> Option<Command<'a>> {
             task: task_alone(task, read_number(steps)?)?,
             plant: plant.as_str(),
         }),
-        [_, task, plant, subject, threads] => Some(Command {
-            task: task_of_crew(task, subject, read_crew(threads)?)?,
+        [_, task, plant, steps, threads] if task.as_str() == "work" => Some(Command {
+            task: Task::Work(read_number(steps)?, read_crew(threads)?),
             plant: plant.as_str(),
         }),
         _ => None,
@@ -79,21 +76,12 @@ fn read_crew(word: &str) -> Option<Crew> {
 }
 
 /// The task with this name that needs no crew.
-fn task_alone<'a>(name: &str, steps: u64) -> Option<Task<'a>> {
+fn task_alone(name: &str, steps: u64) -> Option<Task> {
     match name {
         "fire" => Some(Task::Fire(steps)),
         "front" => Some(Task::Front(steps)),
         "there" => Some(Task::Step(steps, Presence::AllThere)),
         "away" => Some(Task::Step(steps, Presence::HalfAway)),
-        _ => None,
-    }
-}
-
-/// The task with this name that a crew does. Its subject is the number of choices, or the path of an image.
-fn task_of_crew<'a>(name: &str, subject: &'a str, crew: Crew) -> Option<Task<'a>> {
-    match name {
-        "work" => Some(Task::Work(read_number(subject)?, crew)),
-        "boot" => Some(Task::Boot(subject, crew)),
         _ => None,
     }
 }

@@ -1,17 +1,15 @@
 //! What is measured and printed for each task.
-use crate::booting::{time_boot, time_read};
 use crate::command::Crew;
 use crate::course::Course;
 use crate::opening::{Fired, Read, atoms_of, fire_and_read, fire_both, fire_shared, first_plant};
-use crate::report::{Ratio, Seconds};
+use crate::report::Ratio;
 use crate::stepping::{Presence, time_steps};
 use crate::working::{Plan, Way};
 use bare_disk::BareDisk;
 use engine_host::name;
 use plant_model::System;
-use std::fs::File;
 use std::marker::Brand;
-use std::rt::{Clock, Files};
+use std::rt::Clock;
 use std::sync::Wait;
 use std::thread::Threads;
 
@@ -133,28 +131,6 @@ fn measure_working<R: Clock + Threads + Wait + Sync + AllocGlobal>(
         return None;
     };
     fire_shared::<BareDisk, Brand, R>(rt, rt.alloc(), named, plant, plan)
-}
-
-/// Prints how long a boot of the image takes beside a read of its file, and how many records it replays, if nothing failed.
-pub(crate) fn print_booting<R: Clock + Files<File = File> + Print + Threads + Sync + AllocGlobal>(
-    rt: &R,
-    system: &System,
-    image: &str,
-    crew: Crew,
-) -> Option<()> {
-    let boot = time_boot(rt, system, image, crew)?;
-    let read = time_read(rt, image)?;
-    println!(rt;
-        "boot_s {} read_s {} boot_to_read {} records {}",
-        Seconds(boot.time),
-        Seconds(read),
-        Ratio {
-            of: boot.time.as_nanos(),
-            to: read.as_nanos()
-        },
-        boot.records()
-    )
-    .ok()
 }
 
 /// Prints how fast a plant that keeps no record fires, with all atoms there or with atoms away half of the time, if nothing failed.
