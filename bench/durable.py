@@ -1,13 +1,13 @@
 #!/usr/bin/env python3
 """Measures a durable plant beside another engine that keeps the same images, and beside the bare calls of the system. It prints tables in Markdown.
 
-    bench/durable.py BIP_BENCH OTHER PLANTS FOLDER [--rounds K] [--flushes N] [--plants NAME,..] [--only images|steps|boots]
+    bench/durable.py DURABLE_BENCH OTHER PLANTS FOLDER [--rounds K] [--flushes N] [--plants NAME,..] [--only images|steps|boots]
 
     images   runs over rings that are used again and again: whether both engines leave the same cells
     steps    acknowledged steps a second, at 1, 8 and 64 steps a flush
     boots    how long a boot of a full ring takes, and a read of its file
 
-BIP_BENCH and OTHER are programs. OTHER is called by the words `durable` and `boot` of bench/README.md, as BIP_BENCH is, and with `--coalesce` too. PLANTS is a
+DURABLE_BENCH and OTHER are programs. OTHER is called by the words `durable` and `boot` of bench/README.md, as DURABLE_BENCH is, and with `--coalesce` too. PLANTS is a
 folder of plants, NAME.plant each: sample, railway, broadcast and limits, if `--plants` says no others. FOLDER is where the images are made: on a disk, or in memory.
 
 A figure is the median of K rounds (5). In a round all contenders run in turn, each on an image that it formats anew, by N flushes (1,000), and each round begins with
@@ -193,7 +193,7 @@ def compare_images(bench):
                 other, others = bench.durable(who, plant, steps, batch, ring)
                 words = f"{steps} steps, {batch} a flush, ring {ring}, {who}"
                 bench.compare(name, words, cells, others)
-                for word in ("saves", "trims", "hash"):
+                for word in ("saves", "trims"):
                     if ours[word] != other[word]:
                         bench.differing += 1
                         print(f"{name} {words}: {word} {ours[word]} and {other[word]}")

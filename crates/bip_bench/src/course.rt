@@ -1,11 +1,8 @@
 //! A run of random choices.
 ghost use Rattle.std.specs.Prelude.{◌≡◌, ◌≤◌, ◌<◌, ◌%◌};
-ghost use Rattle.plant_model.specs.Fitting.{IsOf};
-ghost use Rattle.plant_model.specs.System.{plant_of};
 ghost use Rattle.step_core.specs.Running.{plant_in};
 
 use crate::hash::Hash;
-use plant_model::{PlantState, System};
 use run_text::{Pick, Picks, RandomPicks, Take, print_states};
 use step_core::Stepper;
 
@@ -25,8 +22,7 @@ pub(crate) fn fire_steps(run: &mut Stepper<'_>, picks: &mut RandomPicks, steps: 
 }
 
 /// The number of the next pick, if one is left.
-#[inline(always)]
-pub(crate) fn next_number(picks: &mut RandomPicks) -> Option<u64> {
+fn next_number(picks: &mut RandomPicks) -> Option<u64> {
     match picks.next_pick() {
         Ok(
             Some(
@@ -65,11 +61,9 @@ fn place_of(number: u64, count: u128) -> u128
     }
 }
 
-/// The hash of the lines of the states.
-pub(crate) fn hash_of_states(system: &System, states: &PlantState) -> u64
-    requires { IsOf (plant_of system.now) states.now }
-{
+/// The hash of the lines of the present state.
+pub(crate) fn hash_of_states(run: &Stepper<'_>) -> u64 {
     let mut hash = Hash::new();
-    let _ = print_states(system, states, &mut hash);
+    let _ = print_states(run.system(), run.states(), &mut hash);
     hash.value
 }

@@ -1,19 +1,15 @@
 //! The program in its process: words, files, the clock, the standard output and error.
-use crate::booting::{time_boot, time_read};
-use crate::command::{Command, Crew, Plan, Task, USAGE, read_command};
+use crate::command::{Command, Task, USAGE, read_command};
 use crate::course::{fire_steps, hash_of_states};
-use crate::durable::run_on_image;
 use crate::report::{Seconds, rate};
 use plant_model::System;
 use plant_text::read_plant;
 use run_text::RandomPicks;
 use std::alloc::Global;
-use std::fs::File;
 use std::io::Read;
 use std::rt::{Clock, Env, Files};
-use std::thread::Threads;
 use std::time::Instant;
-use std::{env, fs};
+use std::{env, fs, io};
 use step_core::Stepper;
 
 /// The path that stands for the standard input.
@@ -31,9 +27,7 @@ enum Ending {
 }
 
 /// Does what the words of the command line ask for, and gives the exit status.
-pub(crate) fn run<
-    R: Clock + Env + Files<File = File> + Input + Print + Eprint + Threads + Sync + AllocGlobal,
->(rt: &R) -> u8 {
+pub(crate) fn run<R: Clock + Env + Files + Input + Print + Eprint + AllocGlobal>(rt: &R) -> u8 {
     match answer(rt) {
         Ok(()) => 0,
         Err(Ending::Plant) => 1,
@@ -46,9 +40,9 @@ pub(crate) fn run<
 }
 
 /// Answers the words of the command line.
-fn answer<
-    R: Clock + Env + Files<File = File> + Input + Print + Eprint + Threads + Sync + AllocGlobal,
->(rt: &R) -> Result<(), Ending> {
+fn answer<R: Clock + Env + Files + Input + Print + Eprint + AllocGlobal>(
+    rt: &R,
+) -> Result<(), Ending> {
     let words = env::args(rt).map_err(|_| Ending::Usage)?;
     let words: Vec<String> = words.collect(rt.alloc()).map_err(|_| Ending::System)?;
     let command = read_command(words.as_slice()).ok_or(Ending::Usage)?;
@@ -60,7 +54,7 @@ fn answer<
 }
 
 /// Reads the plant and does the command's task with it.
-fn measure<R: Clock + Files<File = File> + Print + Eprint + Threads + Sync + AllocGlobal, T: Read>(
+fn measure<R: Clock + Print + Eprint + AllocGlobal, T: Read>(
     rt: &R,
     command: &Command<'_>,
     text: &mut T,
@@ -81,8 +75,6 @@ fn measure<R: Clock + Files<File = File> + Print + Eprint + Threads + Sync + All
     match command.task {
         Task::Read => print_reading(rt, &system, start),
         Task::Run { steps, seed, timed } => print_run(rt, &system, steps, seed, timed),
-        Task::Durable(image, plan) => print_durable(rt, &system, image, plan),
-        Task::Boot(image, crew) => print_boot(rt, &system, image, crew),
     }
 }
 
@@ -111,7 +103,7 @@ fn print_run<R: Clock + Print + AllocGlobal>(
     let start = Instant::now(rt).map_err(|_| Ending::System)?;
     let fired = fire_steps(&mut run, &mut picks, steps);
     let time = start.elapsed(rt).map_err(|_| Ending::System)?;
-    let hash = hash_of_states(run.system(), run.states());
+    let hash = hash_of_states(&run);
     let printed = if timed {
         println!(rt;
             "steps {fired} seconds {} steps_per_s {} hash {hash:016x}",
@@ -122,50 +114,4 @@ fn print_run<R: Clock + Print + AllocGlobal>(
         println!(rt; "steps {fired} hash {hash:016x}")
     };
     printed.map_err(|_| Ending::System)
-}
-
-/// Runs the plant on a new image, and prints what came of it.
-fn print_durable<R: Clock + Files<File = File> + Print + AllocGlobal>(
-    rt: &R,
-    system: &System,
-    image: &str,
-    plan: Plan,
-) -> Result<(), Ending> {
-    let run = run_on_image(rt, system, image, plan).ok_or(Ending::System)?;
-    println!(rt;
-        "acked {} seconds {} steps_per_s {} syncs {} writes {} bytes {} saves {} trims {} save_seconds {} hash {:016x}",
-        run.acked,
-        Seconds(run.course.time),
-        rate(run.acked, run.course.time),
-        run.asked.syncs,
-        run.asked.writes,
-        run.asked.bytes,
-        run.course.saves,
-        run.course.trims,
-        Seconds(run.course.room_time),
-        run.hash
-    )
-    .map_err(|_| Ending::System)
-}
-
-/// Boots the image, and prints how long that took beside a read of its file, and where the plant was after it.
-fn print_boot<R: Clock + Files<File = File> + Print + Threads + Sync + AllocGlobal>(
-    rt: &R,
-    system: &System,
-    image: &str,
-    crew: Crew,
-) -> Result<(), Ending> {
-    let boot = time_boot(rt, system, image, crew).ok_or(Ending::System)?;
-    let read = time_read(rt, image).ok_or(Ending::System)?;
-    println!(rt;
-        "records {} seconds {} read {} hash {:016x} front {} {} {}",
-        boot.records(),
-        Seconds(boot.time),
-        Seconds(read),
-        boot.hash,
-        boot.front.fired,
-        boot.front.acked,
-        boot.front.base
-    )
-    .map_err(|_| Ending::System)
 }

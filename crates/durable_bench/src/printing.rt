@@ -1,15 +1,18 @@
 //! What is measured and printed for each task.
-use crate::command::Crew;
+use crate::booting::{time_boot, time_read};
+use crate::command::{Crew, ImagePlan};
 use crate::course::Course;
+use crate::imaged::run_on_image;
 use crate::opening::{Fired, Read, atoms_of, fire_and_read, fire_both, fire_shared, first_plant};
-use crate::report::Ratio;
+use crate::report::{Ratio, Seconds, rate};
 use crate::stepping::{Presence, time_steps};
 use crate::working::{Plan, Way};
 use bare_disk::BareDisk;
 use engine_host::name;
 use plant_model::System;
+use std::fs::File;
 use std::marker::Brand;
-use std::rt::Clock;
+use std::rt::{Clock, Files};
 use std::sync::Wait;
 use std::thread::Threads;
 
@@ -146,6 +149,50 @@ pub(crate) fn print_stepping<R: Clock + Print + AllocGlobal>(
         course.fired,
         presence.word(),
         course.rate()
+    )
+    .ok()
+}
+
+/// Runs the plant on a new image, and prints what came of it, if nothing failed.
+pub(crate) fn print_durable<R: Clock + Files<File = File> + Print + AllocGlobal>(
+    rt: &R,
+    system: &System,
+    image: &str,
+    plan: ImagePlan,
+) -> Option<()> {
+    let run = run_on_image(rt, system, image, plan)?;
+    println!(rt;
+        "acked {} seconds {} steps_per_s {} syncs {} writes {} bytes {} saves {} trims {} save_seconds {}",
+        run.acked,
+        Seconds(run.course.time),
+        rate(run.acked, run.course.time.as_nanos()),
+        run.asked.syncs,
+        run.asked.writes,
+        run.asked.bytes,
+        run.course.saves,
+        run.course.trims,
+        Seconds(run.course.room_time)
+    )
+    .ok()
+}
+
+/// Boots the image, and prints how long that took beside a read of its file, and where the plant was after it, if nothing failed.
+pub(crate) fn print_boot<R: Clock + Files<File = File> + Print + Threads + Sync + AllocGlobal>(
+    rt: &R,
+    system: &System,
+    image: &str,
+    crew: Crew,
+) -> Option<()> {
+    let boot = time_boot(rt, system, image, crew)?;
+    let read = time_read(rt, image)?;
+    println!(rt;
+        "records {} seconds {} read {} front {} {} {}",
+        boot.records(),
+        Seconds(boot.time),
+        Seconds(read),
+        boot.front.fired,
+        boot.front.acked,
+        boot.front.base
     )
     .ok()
 }

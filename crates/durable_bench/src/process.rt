@@ -1,7 +1,10 @@
 //! The program in its process: words, files, the clock, the standard output and error.
 use crate::command::{Command, Task, USAGE, read_command};
-use crate::printing::{print_firing, print_reading, print_stepping, print_working};
+use crate::printing::{
+    print_boot, print_durable, print_firing, print_reading, print_stepping, print_working,
+};
 use plant_text::read_plant;
+use std::fs::File;
 use std::io::Read;
 use std::rt::{Clock, Env, Files};
 use std::sync::Wait;
@@ -24,7 +27,16 @@ enum Ending {
 
 /// Does what the words of the command line ask for, and gives the exit status.
 pub(crate) fn run<
-    R: Clock + Env + Files + Input + Print + Eprint + Threads + Wait + Sync + AllocGlobal,
+    R: Clock
+        + Env
+        + Files<File = File>
+        + Input
+        + Print
+        + Eprint
+        + Threads
+        + Wait
+        + Sync
+        + AllocGlobal,
 >(rt: &R) -> u8 {
     match answer(rt) {
         Ok(()) => 0,
@@ -38,9 +50,18 @@ pub(crate) fn run<
 }
 
 /// Answers the words of the command line.
-fn answer<R: Clock + Env + Files + Input + Print + Eprint + Threads + Wait + Sync + AllocGlobal>(
-    rt: &R,
-) -> Result<(), Ending> {
+fn answer<
+    R: Clock
+        + Env
+        + Files<File = File>
+        + Input
+        + Print
+        + Eprint
+        + Threads
+        + Wait
+        + Sync
+        + AllocGlobal,
+>(rt: &R) -> Result<(), Ending> {
     let words = env::args(rt).map_err(|_| Ending::Usage)?;
     let words: Vec<String> = words.collect(rt.alloc()).map_err(|_| Ending::System)?;
     let command = read_command(words.as_slice()).ok_or(Ending::Usage)?;
@@ -52,11 +73,10 @@ fn answer<R: Clock + Env + Files + Input + Print + Eprint + Threads + Wait + Syn
 }
 
 /// Reads the plant and does the command's task with it.
-fn measure<R: Clock + Print + Eprint + Threads + Wait + Sync + AllocGlobal, T: Read>(
-    rt: &R,
-    command: &Command<'_>,
-    text: &mut T,
-) -> Result<(), Ending> {
+fn measure<
+    R: Clock + Files<File = File> + Print + Eprint + Threads + Wait + Sync + AllocGlobal,
+    T: Read,
+>(rt: &R, command: &Command<'_>, text: &mut T) -> Result<(), Ending> {
     let system = match read_plant(rt.alloc(), text) {
         Ok(system) => system,
         Err(told) => {
@@ -74,6 +94,8 @@ fn measure<R: Clock + Print + Eprint + Threads + Wait + Sync + AllocGlobal, T: R
         Task::Front(steps) => print_reading(rt, &system, steps),
         Task::Work(steps, crew) => print_working(rt, &system, steps, crew),
         Task::Step(steps, presence) => print_stepping(rt, &system, steps, presence),
+        Task::Durable(image, plan) => print_durable(rt, &system, image, plan),
+        Task::Boot(image, crew) => print_boot(rt, &system, image, crew),
     };
     printed.ok_or(Ending::System)
 }

@@ -2,6 +2,17 @@
 ghost use Rattle.std.specs.Prelude.{◌≡◌, ◌*◌, ◌/◌, ◌<◌};
 
 use std::fmt;
+use std::time::Duration;
+
+/// A duration in seconds, with six places.
+#[derive(Clone, Copy, Debug)]
+pub(crate) struct Seconds(pub(crate) Duration);
+
+impl fmt::Display for Seconds {
+    fn fmt<W: fmt::Write>(&self, f: &mut fmt::Formatter<W>) -> fmt::Result {
+        write!(f, "{}.{:06}", self.0.as_secs(), self.0.subsec_micros())
+    }
+}
 
 /// How many a second so many in this time are, rounded down; 0 where no time went by.
 pub(crate) fn rate(count: u64, nanoseconds: u128) -> u128

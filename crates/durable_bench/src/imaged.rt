@@ -1,16 +1,14 @@
 //! A run on a new image: random choices that are fired and acknowledged.
-use crate::command::{Plan, Ring};
+use crate::command::{ImagePlan, Ring};
 use crate::counted_file::{Asked, CountedFile};
-use crate::course::{hash_of_states, next_number};
+use crate::course::next_number;
 use disk_model::{CELL, Disk};
 use file_disk::FileDisk;
 use plant_core::Plant;
-use plant_model::{PlantState, System};
+use plant_model::System;
 use record_codec::ring::device_cells;
 use recovery::{boot, format};
 use run_text::RandomPicks;
-use snapshot_writer::encode;
-use std::alloc::Global;
 use std::cell::Cell;
 use std::fs;
 use std::fs::{File, OpenOptions};
@@ -25,8 +23,6 @@ pub(crate) struct DurableRun {
     pub(crate) acked: u64,
     /// What the run asked of the file.
     pub(crate) asked: Asked,
-    /// The hash of the lines of the last state.
-    pub(crate) hash: u64,
 }
 
 /// How a run went on.
@@ -47,7 +43,7 @@ pub(crate) fn run_on_image<R: Clock + Files<File = File> + AllocGlobal>(
     rt: &R,
     system: &System,
     image: &str,
-    plan: Plan,
+    plan: ImagePlan,
 ) -> Option<DurableRun> {
     make_image(rt, system, image, plan.way.ring)?;
     let asked = Cell::new(Asked::nothing());
@@ -57,12 +53,10 @@ pub(crate) fn run_on_image<R: Clock + Files<File = File> + AllocGlobal>(
     };
     asked.set(Asked::nothing());
     let course = fire_and_flush(rt, &mut plant, plan)?;
-    let asked = asked.get();
     Some(DurableRun {
         course,
         acked: plant.front().acked,
-        asked,
-        hash: hash_of_plant(rt.alloc(), &plant)?,
+        asked: asked.get(),
     })
 }
 
@@ -102,7 +96,7 @@ fn open_counted<'a, R: Files<File = File> + AllocGlobal>(
 fn fire_and_flush<D: Disk, R: Clock>(
     rt: &R,
     plant: &mut Plant<'_, D>,
-    plan: Plan,
+    plan: ImagePlan,
 ) -> Option<DurableCourse> {
     let mut picks = RandomPicks::new(plan.way.seed, plan.steps);
     let mut course = DurableCourse {
@@ -144,46 +138,19 @@ fn fire_batch<D: Disk>(plant: &mut Plant<'_, D>, picks: &mut RandomPicks, batch:
     batch
 }
 
-/// Saves the atoms and trims the records, and adds that to the course.
+/// Saves all atoms that are behind and trims the records, and adds that to the course.
 fn make_room<D: Disk, R: Clock>(
     rt: &R,
     plant: &mut Plant<'_, D>,
     course: &mut DurableCourse,
 ) -> Option<()> {
     let start = Instant::now(rt).ok()?;
-    let saves = save_all(plant)?;
+    let saved = plant.save().ok()?;
     plant.trim().ok()?;
     let time = start.elapsed(rt).ok()?;
+    let saves = u64::from(saved.atoms.count_ones());
     course.saves = course.saves.saturating_add(saves);
     course.trims = course.trims.saturating_add(1);
     course.room_time = course.room_time.saturating_add(time);
     Some(())
-}
-
-/// Saves the present state of each atom that took part since its newest saved state, and says how many these are.
-fn save_all<D: Disk>(plant: &mut Plant<'_, D>) -> Option<u64> {
-    let system = plant.system();
-    system.keeps_its_rules();
-    let mut saves = 0u64;
-    for atom in 0..system.atoms().len() as u16 {
-        if plant.is_behind(atom) {
-            let Ok(parcel) = plant.ask(atom) else {
-                return None;
-            };
-            let Ok(_) = plant.put(encode(parcel)) else {
-                return None;
-            };
-            saves = saves.saturating_add(1);
-        }
-    }
-    Some(saves)
-}
-
-/// The hash of the lines of the plant's present state.
-pub(crate) fn hash_of_plant<D: Disk>(alloc: Global, plant: &Plant<'_, D>) -> Option<u64> {
-    let system = plant.system();
-    system.keeps_its_rules();
-    let mut states = PlantState::init(alloc, system).ok()?;
-    plant.show(&mut states);
-    Some(hash_of_states(system, &states))
 }

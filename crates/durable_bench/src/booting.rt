@@ -1,6 +1,5 @@
 //! A boot of the image in a file, and a read of the file.
 use crate::command::Crew;
-use crate::durable::hash_of_plant;
 use file_disk::FileDisk;
 use parallel_replay::Quiet;
 use plant_core::Front;
@@ -18,8 +17,6 @@ use std::{fs, vec};
 pub(crate) struct Boot {
     pub(crate) time: Duration,
     pub(crate) front: Front,
-    /// The hash of the lines of the state.
-    pub(crate) hash: u64,
 }
 
 impl Boot {
@@ -43,14 +40,13 @@ pub(crate) fn time_boot<R: Clock + Files<File = File> + Threads + Sync + AllocGl
     let Ok(disk) = FileDisk::open(rt, image) else {
         return None;
     };
-    let Ok(plant) = boot_par(rt, rt.alloc(), disk, system, crew.workers, &Quiet) else {
+    let Ok(plant) = boot_par(rt, rt.alloc(), disk, system, crew.threads, &Quiet) else {
         return None;
     };
     let time = start.elapsed(rt).ok()?;
     Some(Boot {
         time,
         front: plant.front(),
-        hash: hash_of_plant(rt.alloc(), &plant)?,
     })
 }
 
