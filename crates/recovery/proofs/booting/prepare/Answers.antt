@@ -69,6 +69,11 @@ returns-in_err-clean-clause-refused g c old synced keeps =
     let p = err_from_is_err_and c.from_residual-in_err-clean.result c.from_residual-in_err-clean.ensures.1 in
     rw (p.1, p.2) tt
 
+pub returns-in_err-clean-clause-untouched : goal.returns-in_err-clean-clause-untouched
+returns-in_err-clean-clause-untouched g c old synced keeps =
+    let p = err_from_is_err_and c.from_residual-in_err-clean.result c.from_residual-in_err-clean.ensures.1 in
+    rw (p.1, p.2) (λ other. absurd (other refl))
+
 pub returns-in_err-clean-clause-stops : goal.returns-in_err-clean-clause-stops
 returns-in_err-clean-clause-stops g c old synced keeps =
     let still : c.args.cells.now.keeps ≡ true = synced.counts.keeps ∙ keeps in
