@@ -4,6 +4,7 @@ mod Steps
 pub mod CallLemmas
 pub mod RunLemmas
 mod Replay
+mod Stretches
 mod MemoryLemmas
 mod LawLemmas
 pub mod Replacing

@@ -7,6 +7,7 @@ pub mod Counting
 pub mod Steps
 pub mod Runs
 pub mod Recording
+pub mod Stretch
 pub mod Fuse
 pub mod Recorded
 pub mod MemDisk

@@ -17,7 +17,7 @@
 //! - `run`: several cells at once. `calls`: the device calls on one cell, the only ones that speak of bytes.
 //! - `memory`: [`MemDisk`], a device in memory that is proved to keep the disk model. `fuse`: which of its calls fail.
 //!   `change`: what it keeps of each change, and the four patterns by which a stop tears what is pending. `recorded`: its bytes,
-//!   with a record of their changes. `bytes`: writes over a part of a slice.
+//!   with a record of their changes. `bytes`: writes over a part of a slice. `stretch`: the part that was written since the last sync.
 //! - `laws`: what the definitions say of one another.
 //!
 //! `specs/DiskState.antt` says what a device holds and what a stop may leave of it, `specs/Cells.antt` the same by cells. The
@@ -35,6 +35,7 @@ pub mod laws;
 mod memory;
 mod recorded;
 mod run;
+mod stretch;
 
 pub use cells::{BODY, CELL, CELL_LEN, Cells, FIRST_BODY, FIRST_CELL};
 pub use change::{LONGEST, Tear};

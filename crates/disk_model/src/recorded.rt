@@ -3,8 +3,9 @@ ghost use Rattle.std.specs.Prelude.{◌≡◌, ℕ, ◌+◌, ◌<◌, ◌≤◌,
 ghost use Rattle.disk_model.specs.DiskState.{Moment, overwritten, is_pending};
 ghost use Rattle.disk_model.specs.Recording.{Recording, at_rest, byte_left};
 
-use crate::bytes::{mark, overwrite, tear_marked, unmark};
+use crate::bytes::{mark, overwrite, take_over, tear_marked, unmark};
 use crate::change::{Change, LONGEST, Piece, Tear};
+use crate::stretch::Stretch;
 use std::alloc::{AllocError, Global};
 use std::marker::Model;
 use std::vec;
@@ -23,6 +24,8 @@ pub(crate) struct Recorded {
     synced: Vec<u8>,
     /// Whether each byte is pending.
     marks: Vec<bool>,
+    /// What was written since: outside of it all bytes are as synced, and none is pending. So a sync looks at no other byte.
+    written: Stretch,
     /// What was written and synced since, the earliest first.
     changes: Vec<Change>,
     /// How many changes have room.
@@ -49,13 +52,24 @@ impl Recorded {
         ensures synced { IfOk result (λ r. r.synced ≡ replicate size 0) }
         ensures room { IfOk result (λ r. r.room ≡ room) }
     {
+        Recorded::at_rest(alloc, vec![in alloc; 0; size]?, room)
+    }
+
+    /// These bytes, nothing pending, with room for so many changes.
+    fn at_rest(alloc: Global, bytes: Vec<u8>, room: usize) -> Result<Self, AllocError>
+        ensures present { IfOk result (λ r. r.present ≡ at_rest bytes.items) }
+        ensures past { IfOk result (λ r. r.past ≡ []) }
+        ensures synced { IfOk result (λ r. r.synced ≡ bytes.items) }
+        ensures room { IfOk result (λ r. r.room ≡ room) }
+    {
         Ok(Recorded {
-            first: vec![in alloc; 0; size]?,
-            bytes: vec![in alloc; 0; size]?,
-            synced: vec![in alloc; 0; size]?,
-            marks: vec![in alloc; false; size]?,
+            first: Vec::from_slice(alloc, &bytes)?,
+            synced: Vec::from_slice(alloc, &bytes)?,
+            marks: vec![in alloc; false; bytes.len()]?,
+            written: Stretch::EMPTY,
             changes: Vec::with_capacity(alloc, room)?,
             room,
+            bytes,
         })
     }
 
@@ -85,7 +99,8 @@ impl Recorded {
         ensures marks { length self.old.present.pending ≡ length self.old.present.seen }
     {
         overwrite(&mut self.bytes, at, &from[..put]);
-        mark(&mut self.marks, at, from.len());
+        mark(&mut self.marks, at, from.len(), true);
+        self.written = self.written.over(at, from.len());
         let mut bytes = [0; LONGEST];
         overwrite(&mut bytes, 0, &from[..put]);
         let piece = Piece {
@@ -105,8 +120,9 @@ impl Recorded {
         ensures synced { self.new.synced ≡ self.old.present.seen }
         ensures room { self.new.room + 1 ≡ self.old.room }
     {
-        self.synced.copy_from_slice(&self.bytes);
-        unmark(&mut self.marks);
+        take_over(&mut self.synced, &self.bytes, self.written);
+        unmark(&mut self.marks, self.written);
+        self.written = Stretch::EMPTY;
         self.changes.push(Change::Sync).unwrap();
     }
 
@@ -121,10 +137,41 @@ impl Recorded {
         ensures synced { self.new.synced ≡ self.new.present.seen }
         ensures room { self.new.room ≡ self.old.room + length self.old.past }
     {
-        tear_marked(&mut self.bytes, &self.synced, &self.marks, tear, cell);
-        unmark(&mut self.marks);
-        self.synced.copy_from_slice(&self.bytes);
+        tear_marked(
+            &mut self.bytes,
+            &self.synced,
+            &self.marks,
+            self.written,
+            tear,
+            cell,
+        );
+        unmark(&mut self.marks, self.written);
+        take_over(&mut self.synced, &self.bytes, self.written);
+        self.written = Stretch::EMPTY;
         self.first.copy_from_slice(&self.bytes);
         self.changes.clear();
+    }
+
+    /// The bytes that a stop leaves, with nothing pending and the whole room.
+    pub(crate) fn torn(&self, alloc: Global, tear: Tear, cell: u64) -> Result<Self, AllocError>
+        requires { 0 < cell }
+        ensures size { IfOk result (λ r. length r.present.seen ≡ length self.now.present.seen) }
+        ensures each { IfOk result (λ r. (i : ℕ) → i < length self.now.present.seen → slice_index r.present.seen i ≡ byte_left tear cell
+            (is_pending self.now.present i) i (slice_index self.now.present.seen i) (slice_index self.now.synced i)) }
+        ensures present { IfOk result (λ r. r.present ≡ at_rest r.present.seen) }
+        ensures past { IfOk result (λ r. r.past ≡ []) }
+        ensures synced { IfOk result (λ r. r.synced ≡ r.present.seen) }
+        ensures room { IfOk result (λ r. r.room ≡ self.now.room + length self.now.past) }
+    {
+        let mut bytes = Vec::from_slice(alloc, &self.bytes)?;
+        tear_marked(
+            &mut bytes,
+            &self.synced,
+            &self.marks,
+            self.written,
+            tear,
+            cell,
+        );
+        Recorded::at_rest(alloc, bytes, self.room)
     }
 }

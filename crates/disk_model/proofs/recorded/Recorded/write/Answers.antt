@@ -8,6 +8,8 @@ use Rattle.disk_model.specs.DiskState.{Moment, overwritten}
 use Rattle.disk_model.specs.Recording.{Recording, at_rest}
 use Rattle.disk_model.proofs.Overwrites.{length-overwritten}
 use Rattle.disk_model.proofs.Replay.{replayed_more, past_more, lent_back, moment_same, kept_part}
+use Rattle.disk_model.specs.Stretch.{AreClearOutside, AreSameOutside}
+use Rattle.disk_model.proofs.Stretches.{clear_outside, same_outside, wider_inside}
 use Rattle.disk_model.proofs.recorded.Recorded.write.Goals as goal
 
 pub invariant_of-self : goal.invariant_of-self
@@ -26,6 +28,7 @@ invariant_of-self c =
     let many_marks : length c.mark.new.marks ≡ length inside.marks.items = ap (λ (l : List Bool). length l) marks ∙ length-overwritten c.args.at (replicate (length c.args.from.now) true) inside.marks.items (omega (arith, marked, fits, c.self.invariant.marks)) in
     let back : take inside.bytes.len (c.overwrite.new.whole ++ drop (length c.overwrite.new.whole) inside.bytes.items) ≡ c.overwrite.new.whole = lent_back inside.bytes.len c.overwrite.new.whole inside.bytes.items (many ∙ sym held) (sym held) in
     let back_marks : take inside.marks.len (c.mark.new.marks ++ drop (length c.mark.new.marks) inside.marks.items) ≡ c.mark.new.marks = lent_back inside.marks.len c.mark.new.marks inside.marks.items (many_marks ∙ sym held_marks) (sym held_marks) in
+    let seen_long : length (take inside.bytes.len (c.overwrite.new.whole ++ drop (length c.overwrite.new.whole) inside.bytes.items)) ≡ length inside.bytes.items = ap (λ (l : List ℕ). length l) back ∙ many in
     let present : Moment = record { seen = inside.bytes.items; pending = inside.marks.items } in
     let change : Change = Write (record { at = c.args.at; count = length c.args.from.now; put = c.args.put; bytes = c.overwrite-2.new.whole }) in
     let kept : take c.args.put c.overwrite-2.new.whole ≡ take c.args.put c.args.from.now = ap (λ (l : List ℕ). take c.args.put l) piece ∙ kept_part (take c.args.put c.args.from.now) (replicate 1024 0) c.args.put part in
@@ -37,6 +40,13 @@ invariant_of-self c =
       replayed = replayed_more (at_rest inside.first.items) present _ inside.changes.items c.push.new.self.items change c.self.invariant.replayed (pushed (change ∷ []) refl c.unwrap.ensures c.push.ensures.items) (moment_same _ _ _ _ seen (sym marks ∙ sym back_marks));
       within = omega (arith, left, c.push.ensures.upper_bound);
       made = omega (arith, c.push.ensures.capacity, c.self.invariant.made);
+      inside = wider_inside inside.written c.over-self-inside.result c.args.at (length c.args.from.now) c.over-self-inside.ensures _ (omega (arith, c.self.invariant.inside, seen_long)) (omega (arith, fits, seen_long));
+      same =
+          subst (λ (l : List ℕ). AreSameOutside c.over-self-inside.result inside.synced.items l) (sym (back ∙ whole))
+          (same_outside inside.written c.over-self-inside.result c.args.at (length c.args.from.now) c.over-self-inside.ensures inside.synced.items inside.bytes.items (take c.args.put c.args.from.now) c.self.invariant.same (omega (arith, part, c.requires.part)) fits);
+      clear =
+          subst (λ (l : List Bool). AreClearOutside c.over-self-inside.result l) (sym (back_marks ∙ marks))
+          (clear_outside inside.written c.over-self-inside.result c.args.at (length c.args.from.now) c.over-self-inside.ensures inside.marks.items (replicate (length c.args.from.now) true) c.self.invariant.clear marked (omega (arith, fits, c.self.invariant.marks)));
     }
 
 pub returns-clause-past : goal.returns-clause-past
