@@ -1,5 +1,5 @@
 //! What becomes of a device that a stop left.
-ghost use Rattle.std.specs.Prelude.{◌≡◌, ◌+◌, ◌≤◌, ◌↔◌, ℕ, List, IsTrue, true, IfOk, length, map};
+ghost use Rattle.std.specs.Prelude.{◌≡◌, ◌+◌, ◌≤◌, ◌↔◌, ℕ, List, IsTrue, true, IfOk, length, map, take};
 ghost use Rattle.plant_image.specs.declared.fault.ImageFault.TheVariants.{NotFormatted};
 ghost use Rattle.crash_explorer.specs.Seen.{plant_of, digest_of, PlantDefinition, ChoiceDefinition, choice_of, definition_of, device_of, text_digest, view_of, BODY, size_of, Cell, seen_cells, cell_of, fuse_of, state_of, Off};
 ghost use Rattle.crash_explorer.specs.Judging.{IsRightStop, IsRunOf};
@@ -17,7 +17,7 @@ use disk_model::{MemDisk, Tear};
 use plant_core::{Event, Plant};
 use plant_image::ImageFault;
 use plant_model::{Choice, System};
-use std::alloc::Global;
+use std::alloc::{AllocError, Global};
 
 /// How a plant goes on that was booted after a stop: it fires its first choice, if it has one and room for it, and flushes. Then the power is cut again,
 /// and tears as before.
@@ -48,7 +48,7 @@ pub(crate) fn outcome_of(
     alloc: Global,
     system: &System,
     stage: Stage,
-    fired: Vec<Choice>,
+    fired: &[Choice],
     acked: usize,
     left: MemDisk,
     tear: Tear,
@@ -57,9 +57,9 @@ pub(crate) fn outcome_of(
     requires cells { cell_of left ≡ BODY + 1 }
     requires whole { IsWhole left }
     requires countable { IsCountable left }
-    requires run { IsRunOf (plant_of system.now) (map choice_of fired.items) }
-    requires acked { acked ≤ length fired.items }
-    ensures { IfOk result (IsOutcome (plant_of system.now) (digest_of system.now) (size_of (state_of left)) tear (map choice_of fired.items) acked
+    requires run { IsRunOf (plant_of system.now) (map choice_of fired.now) }
+    requires acked { acked ≤ length fired.now }
+    ensures { IfOk result (IsOutcome (plant_of system.now) (digest_of system.now) (size_of (state_of left)) tear (map choice_of fired.now) acked
         (is_formatting stage) (seen_cells (BODY + 1) (state_of left))) }
 {
     let mut left = left;
@@ -77,8 +77,7 @@ pub(crate) fn outcome_of(
                     right: false,
                 });
             }
-            let mut behind = fired;
-            behind.truncate(plant.front().fired as usize);
+            let behind = first_choices(alloc, fired, plant.front().fired as usize)?;
             let next = go_on(alloc, plant, behind, tear)?;
             Ok(Outcome {
                 found,
@@ -92,6 +91,18 @@ pub(crate) fn outcome_of(
             right: stands,
         }),
     }
+}
+
+/// So many of the choices, or all of them where there are not so many.
+fn first_choices(alloc: Global, choices: &[Choice], count: usize) -> Result<Vec<Choice>, AllocError>
+    ensures { IfOk result (λ first. first.items ≡ take count choices.now) }
+{
+    let count = count.min(choices.len());
+    let mut first = Vec::with_capacity(alloc, count)?;
+    for choice in &choices[..count] {
+        first.push_reserved(choice.copy());
+    }
+    Ok(first)
 }
 
 /// How a plant goes on that has fired and acknowledged these choices, and nothing more.
