@@ -4,6 +4,7 @@ ghost use Rattle.disk_model.specs.declared.change.Tear.{Tear};
 ghost use Rattle.record_codec.specs.Ring.{device_cells};
 ghost use Rattle.crash_explorer.specs.Seen.{plant_of, digest_of, LEAST_RING, MOST_RING, formatted_size, BODY, cell_of, fresh, state_of};
 ghost use Rattle.crash_explorer.specs.Watching.{IsCountable, IsWhole};
+ghost use Rattle.crash_explorer.specs.Halting.{HaltedRun};
 ghost use Rattle.crash_explorer.specs.declared.explorer.TheConstants.{MOST_STOPS, TEARS};
 
 use crate::booting::Found;
@@ -62,6 +63,7 @@ pub struct Explorer<'a> {
     ghost countable: { stops ≤ MOST_STOPS },
     ghost within: { stop ≤ stops },
     ghost torn: { tear < length TEARS },
+    ghost of_next: { (h : HaltedRun) → halted ≡ Some h → h ≡ record { system = system.now; ring = ring; events = events.now; stop = stop + 1 } },
 }
 
 impl<'a> Explorer<'a> {

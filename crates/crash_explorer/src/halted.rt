@@ -1,12 +1,12 @@
 //! A run that was stopped, and what a stop there leaves.
-ghost use Rattle.std.specs.Prelude.{◌≡◌, ◌+◌, ◌^◌, ◌≤◌, ◌<◌, replicate, length, IfOk};
+ghost use Rattle.std.specs.Prelude.{◌≡◌, ◌+◌, ◌-◌, ◌^◌, ◌≤◌, ◌<◌, replicate, length, IfOk};
 ghost use Rattle.record_codec.specs.Ring.{device_cells};
 ghost use Rattle.crash_explorer.specs.Seen.{plant_of, digest_of, LEAST_RING, MOST_RING, formatted_size, BODY, cell_of, fresh, state_of};
 ghost use Rattle.crash_explorer.specs.Watching.{IsCountable, IsWhole};
 
 use crate::explorer::Trial;
 use crate::fault::ExploreFault;
-use crate::outcome::outcome_of;
+use crate::outcome::{NEXT_EVENTS, outcome_of};
 use crate::running::{Ended, run};
 use crate::watched::Cut;
 use disk_model::{CELL, MemDisk, Tear};
@@ -33,7 +33,26 @@ pub(crate) struct Halted<'a> {
     ended: Ended,
 }
 
+impl<'a> Model for Halted<'a> {
+    ghost use Rattle.std.specs.Coded.{codes};
+    ghost use Rattle.plant_core.specs.contracts.events.Event as event;
+    ghost use Rattle.plant_model.specs.contracts.system.System as system;
+    ghost use Rattle.crash_explorer.specs.Halting.{HaltedRun};
+
+    ghost Value = { HaltedRun };
+
+    ghost coded = { Prim.hlevel (codes, event.the_row.coded, system.the_row.coded) };
+
+    ghost use Rattle.crash_explorer.specs.Halted.{IsHalted, halted_by};
+
+    ghost view = { halted_by };
+
+    ghost invariant = { IsHalted };
+}
+
 impl<'a> Halted<'a> {
+    ghost use Rattle.crash_explorer.specs.Exploring.{IsTrial};
+
     /// Makes the run.
     pub(crate) fn at(
         alloc: Global,
@@ -42,6 +61,10 @@ impl<'a> Halted<'a> {
         events: &'a [Event],
         stop: u64,
     ) -> Result<Self, ExploreFault>
+        requires ring_from { LEAST_RING ≤ ring }
+        requires ring_to { ring ≤ MOST_RING }
+        requires countable { stop < 2 ^ 64 - 1 }
+        ensures { IfOk result (λ h. h ≡ record { system = system.now; ring = ring; events = events.now; stop = stop }) }
     {
         let mut disk = device(alloc, system, ring, events.len())?;
         disk.fuse_change(stop);
@@ -60,9 +83,11 @@ impl<'a> Halted<'a> {
 
     /// The trial that tears so what was pending.
     pub(crate) fn trial(&self, alloc: Global, tear: Tear) -> Result<Trial, ExploreFault>
+        ensures { IfOk result (IsTrial (plant_of self.now.system) (digest_of self.now.system) self.now.ring self.now.events self.now.stop tear) }
     {
         let ended = &self.ended;
-        let left = ended.disk.memory().torn(alloc, tear)?;
+        let room = room_for(cells_for(self.system, self.ring), NEXT_EVENTS);
+        let left = ended.disk.memory().torn(alloc, tear, room)?;
         let outcome = outcome_of(
             alloc,
             self.system,
@@ -94,10 +119,14 @@ pub(crate) fn device(alloc: Global, system: &System, ring: u32, events: usize) -
     ensures countable { IfOk result IsCountable }
 {
     let cells = cells_for(system, ring);
-    let room = events
+    MemDisk::with_cells(alloc, CELL * cells, room_for(cells, events), CELL)
+}
+
+/// Room for the changes of a run of so many events on so many cells.
+fn room_for(cells: u64, events: usize) -> usize {
+    events
         .saturating_add(cells as usize)
-        .saturating_mul(CHANGES);
-    MemDisk::with_cells(alloc, CELL * cells, room, CELL)
+        .saturating_mul(CHANGES)
 }
 
 /// How many cells the device has for the plant and a ring of so many records.

@@ -1,5 +1,5 @@
 //! What becomes of a device that a stop left.
-ghost use Rattle.std.specs.Prelude.{◌≡◌, ◌+◌, ◌≤◌, ◌↔◌, ℕ, List, IsTrue, true, IfOk, length, map, take};
+ghost use Rattle.std.specs.Prelude.{◌≡◌, ◌+◌, ◌≤◌, ◌↔◌, ℕ, List, IsTrue, true, IfOk, length, map};
 ghost use Rattle.plant_image.specs.declared.fault.ImageFault.TheVariants.{NotFormatted};
 ghost use Rattle.crash_explorer.specs.Seen.{plant_of, digest_of, PlantDefinition, ChoiceDefinition, choice_of, definition_of, device_of, text_digest, view_of, BODY, size_of, Cell, seen_cells, cell_of, fuse_of, state_of, Off};
 ghost use Rattle.crash_explorer.specs.Judging.{IsRightStop, IsRunOf};
@@ -18,6 +18,9 @@ use plant_core::{Event, Plant};
 use plant_image::ImageFault;
 use plant_model::{Choice, System};
 use std::alloc::{AllocError, Global};
+
+/// How many events a plant is asked for that goes on after a stop.
+pub(crate) const NEXT_EVENTS: usize = 2;
 
 /// How a plant goes on that was booted after a stop: it fires its first choice, if it has one and room for it, and flushes. Then the power is cut again,
 /// and tears as before.
@@ -77,7 +80,8 @@ pub(crate) fn outcome_of(
                     right: false,
                 });
             }
-            let behind = first_choices(alloc, fired, plant.front().fired as usize)?;
+            let held = (plant.front().fired as usize).min(fired.len());
+            let behind = copies_of(alloc, &fired[..held])?;
             let next = go_on(alloc, plant, behind, tear)?;
             Ok(Outcome {
                 found,
@@ -93,16 +97,15 @@ pub(crate) fn outcome_of(
     }
 }
 
-/// So many of the choices, or all of them where there are not so many.
-fn first_choices(alloc: Global, choices: &[Choice], count: usize) -> Result<Vec<Choice>, AllocError>
-    ensures { IfOk result (λ first. first.items ≡ take count choices.now) }
+/// The same choices, in memory of their own.
+fn copies_of(alloc: Global, choices: &[Choice]) -> Result<Vec<Choice>, AllocError>
+    ensures { IfOk result (λ copies. copies.items ≡ choices.now) }
 {
-    let count = count.min(choices.len());
-    let mut first = Vec::with_capacity(alloc, count)?;
-    for choice in &choices[..count] {
-        first.push_reserved(choice.copy());
+    let mut copies = Vec::new(alloc);
+    for choice in choices {
+        copies.push(choice.copy())?;
     }
-    Ok(first)
+    Ok(copies)
 }
 
 /// How a plant goes on that has fired and acknowledged these choices, and nothing more.
@@ -118,7 +121,7 @@ fn go_on(
 {
     let system = plant.system();
     let before = behind.len() as u64;
-    let events = [Event::Fire(0), Event::Flush];
+    let events: [Event; NEXT_EVENTS] = [Event::Fire(0), Event::Flush];
     let ended = run_booted(alloc, plant, &events, behind)?;
     // A device that failed had no room for its record of changes.
     if ended.acked != ended.fired.len() {

@@ -1,5 +1,5 @@
 -- One change more in a record, and what it makes of the present moment.
-use Rattle.std.proofs.Common.{◌≡◌, ℕ, suc, ◌+◌, vec_len, Bool, List, [], ◌∷◌, ◌++◌, length, take, drop, refl, ◌∙◌, ap, subst, arith}
+use Rattle.std.proofs.Common.{◌≡◌, ℕ, suc, ◌+◌, Bool, List, [], ◌∷◌, ◌++◌, length, take, drop, refl, ◌∙◌, ap, subst}
 use Rattle.std.proofs.lemmas.List.{take_at}
 use Rattle.disk_model.specs.declared.change.Change.{Change}
 use Rattle.disk_model.specs.DiskState.{Moment, overwritten}
@@ -49,9 +49,3 @@ moment_same seen seen' pending pending' s p =
 pub length-moments_before : (m : Moment) (changes : List Change) → length (moments_before m changes) ≡ length changes
 length-moments_before m [] = refl
 length-moments_before m (c ∷ changes) = ap (λ (n : ℕ). suc n) (length-moments_before (moment_after m c) changes)
-
--- the whole room is what is left of it and what the moments before took
-pub whole_room : (r : Inside) (recording : Recording) → IsSound r → recording_of r ≡ recording → r.room ≡ recording.room + length recording.past
-whole_room r recording sound is =
-    let held : vec_len r.changes ≡ length r.changes.items = r.changes.ok.0 in
-    subst (λ (s : Recording). r.room ≡ s.room + length s.past) is (omega (arith, held, sound.within, length-moments_before (at_rest r.first.items) r.changes.items))

@@ -133,20 +133,20 @@ impl MemDisk {
         self
     }
 
-    /// The device that a stop now would leave, made beside this one, as `stop` leaves it.
-    pub fn torn(&self, alloc: Global, tear: Tear) -> Result<MemDisk, AllocError>
+    /// The device that a stop now would leave, made beside this one, with room for so many changes. Else it is as `stop` leaves it.
+    pub fn torn(&self, alloc: Global, tear: Tear, room: usize) -> Result<MemDisk, AllocError>
         ensures left { IfOk result (λ d. MayLeave (state_of self.now).now (state_of d).now.seen) }
         ensures each { IfOk result (λ d. (i : ℕ) → i < size_of (state_of self.now) → slice_index (state_of d).now.seen i
             ≡ byte_left tear (cell_of self.now) (is_pending (state_of self.now).now i) i (slice_index (state_of self.now).now.seen i) (slice_index (synced_of self.now) i)) }
         ensures state { IfOk result (λ d. state_of d ≡ fresh (state_of d).now.seen) }
-        ensures room { IfOk result (λ d. room_of d ≡ room_of self.now + moment_of (state_of self.now)) }
+        ensures room { IfOk result (λ d. room_of d ≡ room) }
         ensures cell { IfOk result (λ d. cell_of d ≡ cell_of self.now) }
         ensures fuse { IfOk result (λ d. fuse_of d ≡ Off) }
         ensures changes { IfOk result (λ d. changes_of d ≡ 0) }
         ensures synced { IfOk result (λ d. synced_of d ≡ (state_of d).now.seen) }
     {
         Ok(MemDisk {
-            recorded: self.recorded.torn(alloc, tear, self.cell)?,
+            recorded: self.recorded.torn(alloc, tear, self.cell, room)?,
             cell: self.cell,
             fuse: Fuse::Off,
             failures: 0,

@@ -152,8 +152,14 @@ impl Recorded {
         self.changes.clear();
     }
 
-    /// The bytes that a stop leaves, with nothing pending and the whole room.
-    pub(crate) fn torn(&self, alloc: Global, tear: Tear, cell: u64) -> Result<Self, AllocError>
+    /// The bytes that a stop leaves, with nothing pending and room for so many changes.
+    pub(crate) fn torn(
+        &self,
+        alloc: Global,
+        tear: Tear,
+        cell: u64,
+        room: usize,
+    ) -> Result<Self, AllocError>
         requires { 0 < cell }
         ensures size { IfOk result (λ r. length r.present.seen ≡ length self.now.present.seen) }
         ensures each { IfOk result (λ r. (i : ℕ) → i < length self.now.present.seen → slice_index r.present.seen i ≡ byte_left tear cell
@@ -161,7 +167,7 @@ impl Recorded {
         ensures present { IfOk result (λ r. r.present ≡ at_rest r.present.seen) }
         ensures past { IfOk result (λ r. r.past ≡ []) }
         ensures synced { IfOk result (λ r. r.synced ≡ r.present.seen) }
-        ensures room { IfOk result (λ r. r.room ≡ self.now.room + length self.now.past) }
+        ensures room { IfOk result (λ r. r.room ≡ room) }
     {
         let mut bytes = Vec::from_slice(alloc, &self.bytes)?;
         tear_marked(
@@ -172,6 +178,6 @@ impl Recorded {
             tear,
             cell,
         );
-        Recorded::at_rest(alloc, bytes, self.room)
+        Recorded::at_rest(alloc, bytes, room)
     }
 }
