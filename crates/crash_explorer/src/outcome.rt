@@ -1,5 +1,5 @@
 //! What becomes of a device that a stop left.
-ghost use Rattle.std.specs.Prelude.{◌≡◌, ◌+◌, ◌≤◌, ◌↔◌, ℕ, List, IsTrue, true, IfOk, length, map};
+ghost use Rattle.std.specs.Prelude.{◌≡◌, ◌+◌, ◌≤◌, ◌↔◌, ℕ, List, IsTrue, true, IfOk, length, map, take};
 ghost use Rattle.plant_image.specs.declared.fault.ImageFault.TheVariants.{NotFormatted};
 ghost use Rattle.crash_explorer.specs.Seen.{plant_of, digest_of, PlantDefinition, ChoiceDefinition, choice_of, definition_of, device_of, text_digest, view_of, BODY, size_of, Cell, seen_cells, cell_of, fuse_of, state_of, Off};
 ghost use Rattle.crash_explorer.specs.Judging.{IsRightStop, IsRunOf};
@@ -80,8 +80,8 @@ pub(crate) fn outcome_of(
                     right: false,
                 });
             }
-            let held = (plant.front().fired as usize).min(fired.len());
-            let behind = copies_of(alloc, &fired[..held])?;
+            let held = plant.front().fired as usize;
+            let behind = copies_of(alloc, front_of(fired, held))?;
             let next = go_on(alloc, plant, behind, tear)?;
             Ok(Outcome {
                 found,
@@ -95,6 +95,13 @@ pub(crate) fn outcome_of(
             right: stands,
         }),
     }
+}
+
+/// The first of the choices: so many, or all where there are fewer.
+fn front_of(choices: &[Choice], count: usize) -> &[Choice]
+    ensures { result.now ≡ take count choices.now }
+{
+    &choices[..count.min(choices.len())]
 }
 
 /// The same choices, in memory of their own.
