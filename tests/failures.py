@@ -64,7 +64,7 @@ def written_out():
     """What a run hands to its output at once, with how many firings were acknowledged then: what is before an event that asks the device, and what that answers."""
     parts, lines, acked = [], [], 0
     for event, line, _ in EVENTS:
-        if event.split()[0] not in ("flush", "put", "trim"):
+        if event.split()[0] not in ("flush", "put", "save", "trim"):
             lines.append(line)
             continue
         parts += [(text(lines), acked)] if lines else []

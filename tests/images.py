@@ -38,7 +38,7 @@ def script(chosen, names):
         elif kind < 8:
             lines.append("flush")
         elif kind < 9:
-            lines.append("trim")
+            lines.append(chosen.choice(["save", "trim", "trim"]))
         else:
             lines.append(f"{chosen.choice(['ask', 'ask', 'put'])} {chosen.choice(names)}")
         if lines[-1].startswith("ask"):

@@ -202,12 +202,12 @@ class Power(OnImage):
         self.assertEqual(seen, set(answers))
 
     def events(self, chosen, length):
-        """Mostly firings, with flushes, saves of atoms and trims between them."""
+        """Mostly firings, with flushes, saves of one atom and of all, and trims between them."""
         lines = []
         for _ in range(chosen.randrange(*length)):
-            kind = chosen.choice(["fire"] * 4 + ["flush", "save", "trim"])
+            kind = chosen.choice(["fire"] * 4 + ["flush", "store", "save", "trim"])
             atom = chosen.choice("AB")
-            lines += {"fire": [f"fire {chosen.randrange(9)}"], "save": [f"ask {atom}", "flush", f"put {atom}"]}.get(kind, [kind])
+            lines += {"fire": [f"fire {chosen.randrange(9)}"], "store": [f"ask {atom}", "flush", f"put {atom}"]}.get(kind, [kind])
         return "".join(f"{line}\n" for line in lines).encode()
 
     def expect_lifetime(self, name, length):

@@ -33,6 +33,7 @@ class Plant:
         self.base = 1
         self.saved = [0, 0]
         self.hands = [None, None]
+        self.copies = [None, None]
 
     def fire(self, pick):
         if len(self.records) - self.base + 1 >= RING:
@@ -52,17 +53,30 @@ class Plant:
     def ask(self, atom):
         if self.counts[atom] == self.saved[atom]:
             return "refused 9 NothingNew"
-        self.hands[atom] = self.counts[atom]
+        self.hands[atom] = self.copies[atom] = self.counts[atom]
         return f"asked {ATOMS[atom]} {self.counts[atom]}"
 
     def put(self, atom):
         count = self.hands[atom]
         if count is None:
             return f"nothing {ATOMS[atom]}"
-        if count > sum(1 for record in self.records[: self.acked] for other, _ in record if other == atom):
+        if count != self.copies[atom]:
+            return "refused 8 Stranger"
+        if count > self.acked_count(atom):
             return f"refused 7 Ahead({atom})"
-        self.hands[atom], self.saved[atom] = None, count
+        self.hands[atom], self.copies[atom], self.saved[atom] = None, None, count
         return f"stored {ATOMS[atom]} {count}"
+
+    def acked_count(self, atom):
+        return sum(1 for record in self.records[: self.acked] for other, _ in record if other == atom)
+
+    def save(self):
+        behind = [atom for atom in (0, 1) if self.saved[atom] < self.acked_count(atom)]
+        if not behind:
+            return "refused 9 NothingNew"
+        for atom in behind:
+            self.saved[atom], self.copies[atom] = self.acked_count(atom), None
+        return " ".join([f"saved {self.acked}", *(ATOMS[atom] for atom in behind)])
 
     def trim(self):
         base = self.base
@@ -84,7 +98,7 @@ def event_in(line):
     words = line.decode().split()
     if not words:
         return []
-    if len(words) == 1 and words[0] in ("flush", "trim"):
+    if len(words) == 1 and words[0] in ("flush", "save", "trim"):
         return words
     if len(words) == 2 and words[0] in ("ask", "put") and words[1] in ATOMS:
         return [words[0], ATOMS.index(words[1])]
@@ -109,13 +123,13 @@ def changed(chosen):
     """A script of up to 40 events, with no change, or one in some of its bytes."""
     lines = []
     for _ in range(chosen.randrange(40)):
-        kind = chosen.choice(["fire"] * 4 + ["flush"] * 2 + ["ask"] * 2 + ["put"] * 2 + ["trim"])
+        kind = chosen.choice(["fire"] * 4 + ["flush"] * 2 + ["ask"] * 2 + ["put"] * 2 + ["save", "trim"])
         word = {"fire": str(chosen.choice([0, 1, 7, 1 << 63, (1 << 64) - 1])), "ask": chosen.choice(ATOMS), "put": chosen.choice(ATOMS)}.get(kind)
         lines.append(f"{kind} {word}" if word else kind)
     script = bytearray("\n".join(lines).encode() + chosen.choice([b"", b"\n"]))
     for _ in range(chosen.choice([0, 0, 1, 2])):
         place = chosen.randrange(len(script) + 1)
-        new = chosen.choice([b"\n", b" ", b"\t", b"\r\n", b"#", b"0", b"A", b"B", b"fire 1", b"flush ", bytes([chosen.randrange(256)])])
+        new = chosen.choice([b"\n", b" ", b"\t", b"\r\n", b"#", b"0", b"A", b"B", b"fire 1", b"flush ", b"save", bytes([chosen.randrange(256)])])
         script[place : place + chosen.randrange(2)] = new
     return bytes(script)
 

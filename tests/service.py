@@ -111,7 +111,7 @@ class Service(unittest.TestCase):
             self.assertEqual((size, live + free, tail), (ring, ring, len(told) - acked))
             if free < LEAST_FREE:
                 for line in served.ask("save"):
-                    self.assertRegex(line, r"asked [AB] \d+|stored [AB] \d+|base \d+|refused 7 Ahead\([01]\)|refused 9 NothingNew")
+                    self.assertRegex(line, r"saved \d+( A)?( B)?|base \d+|refused 9 NothingNew")
         return acked
 
     def check_served(self, ring):

@@ -28,7 +28,7 @@ INTERRUPTED = 7
 # seconds where it took more.
 FIRST_WRITE, LATEST = 20.0, 3.0
 FIRES = ["fire", "begin"]
-OTHERS = ["flush", "flush", "ask A", "ask B", "trim", "put A", "back B"]
+OTHERS = ["flush", "flush", "ask A", "ask B", "save", "trim", "put A", "back B"]
 STANDING = re.compile(r"state A \[s\] n=(\d+)\nstate B \[s\] m=(\d+)\nfront (\d+) (\d+) (\d+)\n(?:by (\d+)\n)?")
 
 

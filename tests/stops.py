@@ -31,7 +31,7 @@ def hear_signals():
 
 
 def script():
-    """Some thousand events: ticks and sends by no short pattern, a flush behind some of them, and an atom that is asked for or stored, or a trim, behind others."""
+    """Some thousand events: ticks and sends by no short pattern, a flush behind some of them, and an atom that is asked for or stored, a save, or a trim, behind others."""
     lines = []
     for number in range(FIRINGS):
         lines.append(f"fire {number * number // 3}")
@@ -41,6 +41,8 @@ def script():
             lines.append(f"ask {'AB'[number % 2]}")
         if number % 5 == 3:
             lines.append(f"put {'AB'[number // 2 % 2]}")
+        if number % 11 == 5:
+            lines.append("save")
         if number % 7 == 2:
             lines.append("trim")
     return "".join(f"{line}\n" for line in lines)

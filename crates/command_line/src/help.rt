@@ -265,14 +265,16 @@ A script has an event on each line. 'fire P' fires the entry of the state's choi
 modulo their number, and 'fire send A.t/0 B.u/0' that very choice, if the plant has it
 ('refused 12 NotNow' if not); 'flush' has all that was fired saved in the image; 'ask ATOM' copies
 the present state of the atom with that name, and 'put ATOM' has its last copy stored in
-the image; 'trim' drops the records that no restart needs, so that their room is used
-again. A line without words asks for nothing.
+the image; 'save' stores all atoms that have moved since they were stored, as far as
+'flush' has saved it; 'trim' drops the records that no restart needs, so that their room is
+used again. A line without words asks for nothing.
 
 Prints a line for each event. A fired interaction is told as 'trace' tells it, numbered
 from the first that was ever fired on the image; 'flushed N' tells that all of them up to
 number N are saved; 'asked ATOM C' and 'stored ATOM C' tell of a state that was copied and
 of one that was stored, in which the atom has taken part C times; 'nothing ATOM' tells that
-there was no copy to store; 'base B' tells that the records before number B were dropped;
+there was no copy to store; 'saved N ATOM ..' tells which atoms 'save' stored, with all up
+to number N; 'base B' tells that the records before number B were dropped;
 'refused K NAME' tells that nothing was done, and why. At the end there is a line for each
 atom, as 'trace' prints it, and 'front F A B': the number of the last interaction that was
 fired, of the last that is saved, and of the first whose record the image still holds.
@@ -281,7 +283,7 @@ What 'flushed N' tells of stays, whatever stops the program or the machine. What
 since may be lost, from the last one back.
 
 An image holds as many records as its ring is long. Where it is full ('refused 4 RingFull'),
-'flush', save the atoms that took part in its oldest records ('ask', 'put'), and 'trim'.
+'flush', 'save' and 'trim'.
 
 With --strict the first event that is refused ends the run, with status 1, and the standard
 error names its line; the last lines come all the same. 'fire P' is then refused where P is

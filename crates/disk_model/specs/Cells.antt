@@ -62,6 +62,10 @@ IsClosed size s k = (cells : List Cell) → MayBe size s cells → cell cells k 
 abbrev pub IsNoneOf : List ℕ → ℕ → Type 0
 IsNoneOf ks k = (i : ℕ) → i < length ks → slice_index ks i ≢ k
 
+-- k is one of these numbers
+abbrev pub IsOneOf : List ℕ → ℕ → Type 0
+IsOneOf ks k = (i : ℕ) × (i < length ks) × (slice_index ks i ≡ k)
+
 -- These cells are some that a stop in the old state might have left, but that each of the numbered ones is as it was or empty.
 pub record OldOrEmpty (size : ℕ) (old : DiskState) (ks : List ℕ) (cells : List Cell) : Type 0 where
   pub before : List Cell
@@ -112,6 +116,12 @@ pub record OldEmptyOrNewAt (k : ℕ) (body : List ℕ) (before cells : List Cell
   pub count : length cells ≡ length before
   pub here : (cell cells k ≡ cell before k) ⊎ (cell cells k ≡ None) ⊎ (cell cells k ≡ Some body)
   pub others : (j : ℕ) → j ≢ k → cell cells j ≡ cell before j
+
+-- Each of the numbered cells is as it was, empty, or full with its new body, and every other is as it was.
+pub record OldEmptyOrNewRun (ks : List ℕ) (bodies : List (List ℕ)) (before cells : List Cell) : Type 0 where
+  pub count : length cells ≡ length before
+  pub each : (i : ℕ) → i < length ks → (cell cells (slice_index ks i) ≡ cell before (slice_index ks i)) ⊎ (cell cells (slice_index ks i) ≡ None) ⊎ (cell cells (slice_index ks i) ≡ Some (slice_index_or bodies i []))
+  pub others : (j : ℕ) → IsNoneOf ks j → cell cells j ≡ cell before j
 
 -- Cell k reads full with this body and every other as before, and a stop leaves these cells and nothing else.
 pub record Replaced (size k : ℕ) (body : List ℕ) (old new : DiskState) : Type 0 where

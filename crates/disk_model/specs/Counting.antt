@@ -8,6 +8,10 @@ times_then zero y z n is = let same : z ≡ y = omega arith in ap (λ (k : ℕ).
 times_then (suc x) y zero n is = absurd (omega arith)
 times_then (suc x) y (suc z) n is = times_then x y z (counted true n) (omega arith)
 
+-- a call of no sync
+pub up_to_none : (failed : Bool) (old new : DiskState) → Counts failed false old new → CountsUpTo failed 0 old new
+up_to_none failed old new c = record { size = c.size; keeps = c.keeps; failures = c.failures; synced = 0; few = omega arith; syncs = c.syncs }
+
 -- a call of one sync at most
 pub up_to_one : (failed synced : Bool) (old new : DiskState) → Counts failed synced old new → CountsUpTo failed 1 old new
 up_to_one failed true old new c = record { size = c.size; keeps = c.keeps; failures = c.failures; synced = 1; few = omega arith; syncs = c.syncs }

@@ -1,7 +1,7 @@
 -- What one device call does to the cells of each image that a stop may leave.
-use Rattle.std.specs.Prelude.{◌≡◌, ◌≢◌, ◌⊎◌, ℕ, ◌<◌, List, [], ◌∷◌, ◌++◌, length, slice_index, slice_index_or, Some, None}
+use Rattle.std.specs.Prelude.{◌≡◌, ◌≢◌, ◌⊎◌, ℕ, ◌<◌, true, List, [], ◌∷◌, ◌++◌, length, slice_index, slice_index_or, Some, None}
 use Rattle.disk_model.specs.DiskState.{DiskState, MayLeave, IsUnchanged}
-use Rattle.disk_model.specs.Cells.{Cell, body_at, cell, cell_count, seen_cells, MayBe, IsClosed, IsNoneOf}
+use Rattle.disk_model.specs.Cells.{Cell, body_at, cell, cell_count, seen_cells, MayBe, IsClosed, IsNoneOf, IsOneOf}
 
 -- The cells are those from before but for cell k, which changed so.
 pub record ChangesOne (k : ℕ) (S : Cell → Cell → Type 0) (before after : List Cell) : Type 0 where
@@ -57,6 +57,13 @@ AreClosed size s ks = (i : ℕ) → i < length ks → IsClosed size s (slice_ind
 -- no number stands in two places of the list
 abbrev pub AllDiffer : List ℕ → Type 0
 AllDiffer ks = (i j : ℕ) → i < length ks → j < length ks → slice_index ks i ≡ slice_index ks j → i ≡ j
+
+-- Of the cells ks these are the ones that a read gives full, and none is named twice.
+pub record AreTheFull (size : ℕ) (s : DiskState) (ks full : List ℕ) : Type 0 where
+  pub differ : AllDiffer full
+  pub among : (i : ℕ) → i < length full → IsOneOf ks (slice_index full i)
+  pub read_full : s.keeps ≡ true → ReadFull size s full
+  pub no_other : s.keeps ≡ true → (i : ℕ) → i < length ks → cell (seen_cells size s) (slice_index ks i) ≢ None → IsOneOf full (slice_index ks i)
 
 -- each of these cells has its body firm
 abbrev pub AreFirm : ℕ → DiskState → List ℕ → List (List ℕ) → Type 0

@@ -1,8 +1,8 @@
 //! A device as cells, which are read, emptied and filled.
-ghost use Rattle.std.specs.Prelude.{◌≡◌, ℕ, ◌+◌, ◌<◌, ◌∷◌, [], true, false, if◌then◌else◌, length, is_ok, is_err, IfOk, OnOk, MatchResult, Some, None};
+ghost use Rattle.std.specs.Prelude.{◌≡◌, ℕ, ◌+◌, ◌<◌, ◌∷◌, [], true, false, if◌then◌else◌, length, is_ok, is_err, is_some, IfOk, OnOk, MatchResult, Some, None};
 ghost use Rattle.disk_model.specs.DiskState.{DiskState, Counts, CountsTwo, CountsUpTo, IsSettled, IsUnchanged, Reads, Syncs, size_of};
-ghost use Rattle.disk_model.specs.Cells.{cell_count, cell, seen_cells, IsClosed, MayBe, Leaves, Settles, OldOrEmpty, EmptyOrNew, Erased, Filled, OldOrEmptyAt, OldEmptyOrNewAt, Replaced};
-ghost use Rattle.disk_model.specs.Steps.{AreInside, ReadEmpty, ReadFull, AreClosed, AllDiffer};
+ghost use Rattle.disk_model.specs.Cells.{cell_count, cell, seen_cells, IsClosed, MayBe, Leaves, Settles, OldOrEmpty, EmptyOrNew, Erased, Filled, OldOrEmptyAt, OldEmptyOrNewAt, OldEmptyOrNewRun, Replaced};
+ghost use Rattle.disk_model.specs.Steps.{AreInside, ReadEmpty, ReadFull, AreClosed, AllDiffer, AreTheFull};
 
 use crate::calls::{Known, read_full};
 use crate::run::{erase_all, set_all, sync_all};
@@ -119,36 +119,6 @@ impl<D: Disk> Cells<D> {
         self.set_run(&[k], slice::from_ref(body))
     }
 
-    /// Empties cell `k` if it is full, and makes no sync if it is empty.
-    fn empty(&mut self, k: u64) -> Result<(), DiskFault>
-        requires inside { k < cell_count (BODY + 1) self.old }
-        requires settled { self.old.keeps ≡ true → IsSettled self.old.now }
-        ensures counts { CountsUpTo (is_err result) 1 self.old self.new }
-        ensures leaves { self.old.keeps ≡ true
-            → Leaves (BODY + 1) (OldOrEmptyAt (k ∷ []) (seen_cells (BODY + 1) self.old)) self.old self.new }
-        ensures erased { self.old.keeps ≡ true → OnOk result (Erased (BODY + 1) (k ∷ []) self.old self.new) }
-    {
-        let mut body = [0; BODY];
-        if self.read_cell(k, &mut body)? {
-            self.erase_full_run(&[k])?;
-        }
-        Ok(())
-    }
-
-    /// Fills cell `k` with the body, whatever it held, by two syncs. If it is full it is emptied first, by a third.
-    pub fn replace(&mut self, k: u64, body: &[u8; BODY]) -> Result<(), DiskFault>
-        requires inside { k < cell_count (BODY + 1) self.old }
-        requires settled { self.old.keeps ≡ true → IsSettled self.old.now }
-        ensures counts { CountsUpTo (is_err result) 3 self.old self.new }
-        ensures leaves { self.old.keeps ≡ true
-            → Leaves (BODY + 1) (OldEmptyOrNewAt k body.now (seen_cells (BODY + 1) self.old)) self.old self.new }
-        ensures replaced { self.old.keeps ≡ true → OnOk result (Replaced (BODY + 1) k body.now self.old self.new) }
-    {
-        // A body written behind an open gate would show torn. Emptied and synced, the cell is closed whatever a stop leaves.
-        self.empty(k)?;
-        self.set(k, body)
-    }
-
     /// Empties the cells `ks` by one sync.
     pub fn erase_run(&mut self, ks: &[u64]) -> Result<(), DiskFault>
         requires inside { AreInside (BODY + 1) self.old ks.now }
@@ -187,5 +157,75 @@ impl<D: Disk> Cells<D> {
         ensures filled { self.old.keeps ≡ true → OnOk result (Filled (BODY + 1) ks.now bodies.now self.old self.new) }
     {
         set_all(&mut self.disk, ks, bodies)
+    }
+
+    /// Empties the cells `ks`, which all read full, by one sync. Where there are none it makes no sync.
+    fn empty_run(&mut self, ks: &[u64]) -> Result<(), DiskFault>
+        requires differ { AllDiffer ks.now }
+        requires inside { AreInside (BODY + 1) self.old ks.now }
+        requires full { self.old.keeps ≡ true → ReadFull (BODY + 1) self.old ks.now }
+        requires settled { self.old.keeps ≡ true → IsSettled self.old.now }
+        ensures counts { CountsUpTo (is_err result) 1 self.old self.new }
+        ensures leaves { self.old.keeps ≡ true
+            → Leaves (BODY + 1) (OldOrEmptyAt ks.now (seen_cells (BODY + 1) self.old)) self.old self.new }
+        ensures erased { self.old.keeps ≡ true → OnOk result (Erased (BODY + 1) ks.now self.old self.new) }
+    {
+        if ks.is_empty() {
+            return Ok(());
+        }
+        self.erase_full_run(ks)
+    }
+
+    /// Fills the cells `ks` with the bodies, whatever they held, by two syncs. Those that are full, which the caller names, are emptied
+    /// first, by a third for all of them. No cell is read.
+    pub fn replace_run(
+        &mut self,
+        ks: &[u64],
+        full: &[u64],
+        bodies: &[[u8; BODY]],
+    ) -> Result<(), DiskFault>
+        requires differ { AllDiffer ks.now }
+        requires as_many { length bodies.now ≡ length ks.now }
+        requires inside { AreInside (BODY + 1) self.old ks.now }
+        requires full { AreTheFull (BODY + 1) self.old ks.now full.now }
+        requires settled { self.old.keeps ≡ true → IsSettled self.old.now }
+        ensures counts { CountsUpTo (is_err result) 3 self.old self.new }
+        ensures leaves { self.old.keeps ≡ true
+            → Leaves (BODY + 1) (OldEmptyOrNewRun ks.now bodies.now (seen_cells (BODY + 1) self.old)) self.old self.new }
+        ensures replaced { self.old.keeps ≡ true → OnOk result (Filled (BODY + 1) ks.now bodies.now self.old self.new) }
+    {
+        // A body written behind an open gate would show torn. Emptied and synced, the cells are closed whatever a stop leaves.
+        self.empty_run(full)?;
+        self.set_run(ks, bodies)
+    }
+
+    /// Fills cell `k`, of which the caller knows whether it is full, with the body, by two syncs. If it is full it is emptied first, by a
+    /// third. No cell is read.
+    pub fn replace_known(&mut self, k: u64, full: bool, body: &[u8; BODY]) -> Result<(), DiskFault>
+        requires inside { k < cell_count (BODY + 1) self.old }
+        requires full { self.old.keeps ≡ true → is_some (cell (seen_cells (BODY + 1) self.old) k) ≡ full }
+        requires settled { self.old.keeps ≡ true → IsSettled self.old.now }
+        ensures counts { CountsUpTo (is_err result) 3 self.old self.new }
+        ensures leaves { self.old.keeps ≡ true
+            → Leaves (BODY + 1) (OldEmptyOrNewAt k body.now (seen_cells (BODY + 1) self.old)) self.old self.new }
+        ensures replaced { self.old.keeps ≡ true → OnOk result (Replaced (BODY + 1) k body.now self.old self.new) }
+    {
+        let cells = [k];
+        let full: &[u64] = if full { &cells } else { &[] };
+        self.replace_run(&cells, full, slice::from_ref(body))
+    }
+
+    /// Fills cell `k` with the body, whatever it held, by two syncs. It is read, and if it is full it is emptied first, by a third.
+    pub fn replace(&mut self, k: u64, body: &[u8; BODY]) -> Result<(), DiskFault>
+        requires inside { k < cell_count (BODY + 1) self.old }
+        requires settled { self.old.keeps ≡ true → IsSettled self.old.now }
+        ensures counts { CountsUpTo (is_err result) 3 self.old self.new }
+        ensures leaves { self.old.keeps ≡ true
+            → Leaves (BODY + 1) (OldEmptyOrNewAt k body.now (seen_cells (BODY + 1) self.old)) self.old self.new }
+        ensures replaced { self.old.keeps ≡ true → OnOk result (Replaced (BODY + 1) k body.now self.old self.new) }
+    {
+        let mut held = [0; BODY];
+        let full = self.read_cell(k, &mut held)?;
+        self.replace_known(k, full, body)
     }
 }

@@ -7,13 +7,15 @@ use Rattle.plant_model.specs.Chosen.{choice_of}
 use Rattle.plant_model.specs.declared.choice.Choice.{Choice}
 use Rattle.plant_model.specs.Plant.{PlantDefinition}
 use Rattle.step_core.specs.Job.{JobDefinition}
-use Rattle.plant_core.specs.Events.{IsEvent, IsFire, IsFlush, IsAsk, IsPut, IsTrim, IsBegin, IsBack, fired_by}
-use Rattle.plant_core.specs.View.{View, fired_number, may_go, with_all_acked, with_asked, with_back, with_begun, with_cut, with_fired, with_stored}
+use Rattle.plant_core.specs.Events.{IsEvent, IsFire, IsFlush, IsAsk, IsPut, IsSave, IsTrim, IsBegin, IsBack, fired_by}
+use Rattle.plant_core.specs.View.{View, behind_states, fired_number, may_go, with_all_acked, with_all_stored, with_asked, with_back, with_begun, with_cut, with_fired, with_stored}
 use Rattle.plant_core.specs.declared.events.FiredAs.{FiredAs}
 use Rattle.plant_core.specs.declared.events.Happened.{Happened}
-use Rattle.plant_core.specs.declared.events.Happened.TheVariants.{Fire, FireChoice, Flush, Ask, Put, Empty, Trim, Begin, Back, Idle}
+use Rattle.plant_core.specs.declared.events.Happened.TheVariants.{Fire, FireChoice, Flush, Ask, Put, Empty, Save, Trim, Begin, Back, Idle}
+use Rattle.plant_core.specs.declared.events.SavedTo.{SavedTo}
 use Rattle.plant_core.specs.declared.refused.Refused.{Refused}
 use Rattle.plant_core.specs.declared.refused.Refused.TheVariants.{Away, Ahead, Stranger, NothingNew, Disk, Broken}
+use Rattle.plant_core.proofs.EventRuns.{all-stored-is}
 use Rattle.engine_host.specs.Told.{fired_in}
 use Rattle.engine_host.specs.Views.{front_in}
 
@@ -58,6 +60,17 @@ of_put v saved (Err (Ahead atom)) w e = same v w e.4
 of_put v saved (Err Disk) w e = to v (record v { broken = true }) w e.1 (same v v refl)
 of_put v saved (Err other) w e = absurd e
 
+-- what a save changes
+abbrev saves : View → View
+saves v = record v { saved = (with_all_stored (behind_states v) v).saved; kept = (with_all_stored (behind_states v) v).kept }
+
+of_save : (v : View) (r : Result SavedTo Refused) (w : View) → IsSave v r w → IsNotBelow (front_in v) (front_in w)
+of_save v (Ok done) w e = to v (saves v) w (e.4 ∙ all-stored-is (behind_states v) v) (same v v refl)
+of_save v (Err Broken) w e = same v w e.1
+of_save v (Err NothingNew) w e = same v w e.2
+of_save v (Err Disk) w e = to v (record v { broken = true }) w e.2 (same v v refl)
+of_save v (Err other) w e = absurd e
+
 of_trim : (v : View) (r : Result ℕ Refused) (w : View) → IsTrim v r w → IsNotBelow (front_in v) (front_in w)
 of_trim v (Ok base) w e = to v (with_cut (may_go v) v) w e.3 (trims v)
 of_trim v (Err Broken) w e = same v w e.1
@@ -87,6 +100,7 @@ event_rises plant v (Flush r) w e = of_flush v r w e
 event_rises plant v (Ask atom r) w e = of_ask v atom r w e
 event_rises plant v (Put saved r) w e = of_put v saved r w e
 event_rises plant v (Empty atom) w e = same v w e
+event_rises plant v (Save r) w e = of_save v r w e
 event_rises plant v (Trim r) w e = of_trim v r w e
 event_rises plant v (Begin pick r) w e = of_begin plant v pick r w e
 event_rises plant v (Back returned r) w e = of_back v e.0 r w e.2
@@ -121,6 +135,13 @@ put_counts v saved (Err (Ahead atom)) w e = none v v w e.4 refl
 put_counts v saved (Err Disk) w e = none v (record v { broken = true }) w e.1 refl
 put_counts v saved (Err other) w e = absurd e
 
+save_counts : (v : View) (r : Result SavedTo Refused) (w : View) → IsSave v r w → fired_number w ≡ fired_number v + 0
+save_counts v (Ok done) w e = none v (saves v) w (e.4 ∙ all-stored-is (behind_states v) v) refl
+save_counts v (Err Broken) w e = none v v w e.1 refl
+save_counts v (Err NothingNew) w e = none v v w e.2 refl
+save_counts v (Err Disk) w e = none v (record v { broken = true }) w e.2 refl
+save_counts v (Err other) w e = absurd e
+
 trim_counts : (v : View) (r : Result ℕ Refused) (w : View) → IsTrim v r w → fired_number w ≡ fired_number v + 0
 trim_counts v (Ok base) w e = none v (with_cut (may_go v) v) w e.3 refl
 trim_counts v (Err Broken) w e = none v v w e.1 refl
@@ -148,6 +169,7 @@ event_counts plant v (Flush r) w e = flush_counts v r w e
 event_counts plant v (Ask atom r) w e = ask_counts v atom r w e
 event_counts plant v (Put saved r) w e = put_counts v saved r w e
 event_counts plant v (Empty atom) w e = none v v w e refl
+event_counts plant v (Save r) w e = save_counts v r w e
 event_counts plant v (Trim r) w e = trim_counts v r w e
 event_counts plant v (Begin pick r) w e = begin_counts plant v pick r w e
 event_counts plant v (Back returned r) w e = back_counts v e.0 r w e.2

@@ -2,7 +2,7 @@
 ghost use Rattle.std.specs.Prelude.{◌≡◌, ◌+◌, ◌⊎◌, is_ok, Err, if◌then◌else◌};
 ghost use mathlib.Core.List.{IsPrefix};
 ghost use Rattle.front_word.specs.Fronts.{IsRising, last_of};
-ghost use Rattle.plant_core.specs.declared.events.Happened.TheVariants.{Fire, Flush, Trim};
+ghost use Rattle.plant_core.specs.declared.events.Happened.TheVariants.{Fire, Flush, Save, Trim};
 ghost use Rattle.plant_core.specs.declared.refused.Refused.{Refused};
 ghost use Rattle.engine_host.specs.History.{IsLegal, fronts};
 ghost use Rattle.step_core.specs.Jobs.{jobs_of};
@@ -15,7 +15,7 @@ use crate::naming::Naming;
 use crate::seat::Seat;
 use disk_model::Disk;
 use front_word::{FrontWord, Watch};
-use plant_core::{FiredAs, Front, PutRefused, Refused};
+use plant_core::{FiredAs, Front, PutRefused, Refused, SavedTo};
 use plant_model::Choice;
 use snapshot_writer::encode;
 use std::sync::{Mutex, Wait};
@@ -60,6 +60,14 @@ impl<'s, D: Disk, N: Naming> Host<'s, D, N> {
         ensures amount { seat.new.share.amount ≡ seat.old.share.amount }
     {
         self.lock.lock(rt).flush_for(&self.word, seat)
+    }
+
+    /// Saves the acknowledged states of all atoms that are behind, as `Plant::save` does, in one hold of the lock.
+    pub fn save(&self, rt: &impl Wait, seat: &mut Seat<N>) -> Result<SavedTo, Refused>
+        ensures watch { HasMade N.plant N.view seat.old.watch (Save result) seat.new.watch }
+        ensures amount { seat.new.share.amount ≡ seat.old.share.amount }
+    {
+        self.lock.lock(rt).save_for(&self.word, seat)
     }
 
     /// Drops the records that no restart needs, as `Plant::trim` does, in one hold of the lock.

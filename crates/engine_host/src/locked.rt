@@ -2,7 +2,7 @@
 ghost use Rattle.std.specs.Prelude.{◌≡◌, ◌+◌, ◌<◌, ◌≤◌, List, true, false, All, length, sum_by, is_ok, Some, Err, IfErr, IfOk, OnErr, [], if◌then◌else◌};
 ghost use mathlib.Core.List.{IsPrefix};
 ghost use Rattle.front_word.specs.Fronts.{IsRising, last_of};
-ghost use Rattle.plant_core.specs.declared.events.Happened.TheVariants.{Fire, FireChoice, Flush, Ask, Put, Trim, Begin, Back};
+ghost use Rattle.plant_core.specs.declared.events.Happened.TheVariants.{Fire, FireChoice, Flush, Ask, Put, Save, Trim, Begin, Back};
 ghost use Rattle.plant_core.specs.declared.events.Returned.{Returned};
 ghost use Rattle.plant_core.specs.declared.refused.Refused.{Refused};
 ghost use Rattle.plant_core.specs.Plants.{definition_of, device_of, text_digest, view_of};
@@ -33,7 +33,7 @@ use crate::naming::Naming;
 use crate::seat::Seat;
 use disk_model::Disk;
 use front_word::{FrontWord, MOST_FIRED, Publisher, Watch};
-use plant_core::{BackRefused, FiredAs, Front, Happened, Plant, PutRefused, Refused};
+use plant_core::{BackRefused, FiredAs, Front, Happened, Plant, PutRefused, Refused, SavedTo};
 use plant_model::Choice;
 use snapshot_writer::{Encoded, Parcel};
 use std::marker::Model;
@@ -318,6 +318,23 @@ impl<'s, D: Disk, N: Naming> Locked<'s, D, N> {
         answer
     }
 
+    /// Saves the acknowledged states of all atoms that are behind.
+    pub fn save(&mut self, word: &FrontWord<Entry, N>) -> Result<SavedTo, Refused>
+        ensures made { IsMade N.plant self.old (Save result) self.new }
+        ensures cause { CountsUpTo (is_disk result) 3 self.old.device self.new.device }
+        ensures stops { self.old.device.keeps ≡ true → self.old.view.broken ≡ false
+            → Leaves (BODY + 1) (StandsForAcked N.plant self.old.digest (size_of self.old.device) self.old.view) self.old.device self.new.device }
+    {
+        let answer = self.plant.save();
+        publish(
+            &self.plant,
+            &mut self.publisher,
+            word,
+            Happened::Save(answer),
+        );
+        answer
+    }
+
     /// Drops the records that no restart needs.
     pub fn trim(&mut self, word: &FrontWord<Entry, N>) -> Result<u64, Refused>
         ensures made { IsMade N.plant self.old (Trim result) self.new }
@@ -424,6 +441,21 @@ impl<'s, D: Disk, N: Naming> Locked<'s, D, N> {
     {
         self.tell(word, &mut seat.watch);
         let answer = self.flush(word);
+        self.tell(word, &mut seat.watch);
+        answer
+    }
+
+    /// Saves for a seat.
+    pub(crate) fn save_for(
+        &mut self,
+        word: &FrontWord<Entry, N>,
+        seat: &mut Seat<N>,
+    ) -> Result<SavedTo, Refused>
+        ensures watch { HasMade N.plant N.view seat.old.watch (Save result) seat.new.watch }
+        ensures amount { seat.new.share.amount ≡ seat.old.share.amount }
+    {
+        self.tell(word, &mut seat.watch);
+        let answer = self.save(word);
         self.tell(word, &mut seat.watch);
         answer
     }

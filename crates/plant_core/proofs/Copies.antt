@@ -90,6 +90,31 @@ way-longer c a saved more short way = record {
   reached = ap (replay_from a saved.atom (saved_position c saved.atom)) (take-append-le (saved.at + 1 - c.base) c.records more short) ∙ way.reached;
 }
 
+-- another atom's state is stored
+pub way-beside : (c : Contents) (a : AtomDefinition) (saved other : SavedFields) → other.atom ≢ saved.atom → IsOnTheWay c a other → IsOnTheWay (with_saved saved c) a other
+way-beside c a saved other apart way =
+    let same : saved_position (with_saved saved c) other.atom ≡ saved_position c other.atom =
+    ap (λ (s : SavedFields). record { state = local_in s; count = s.count }) (get_or-set_other c.slots saved.atom other.atom saved (unsaved other.atom) apart) in
+    record {
+      from = way.from;
+      later = subst (λ (p : Position). p.count ≤ other.count) (sym same) way.later;
+      reached = ap (λ (p : Position). replay_from a other.atom p (take (other.at + 1 - c.base) c.records)) same ∙ way.reached;
+    }
+
+-- the state of an atom to which the contents lead
+pub way-whole : (plant : PlantDefinition) (c : Contents) (states : List Local) (counts : List ℕ) (number : ℕ) → Leads plant c states counts number → (atom : ℕ) (a : AtomDefinition) (s : Local)
+    → slice_get plant.atoms atom ≡ Some a → slice_get states atom ≡ Some s → IsOnTheWay c a (saved_by atom (count_of counts atom) number s)
+way-whole plant c states counts number leads atom a s own there =
+    let p : Position = saved_position c atom in
+    let k : ℕ = number + 1 - c.base in
+    let e : Position = record { state = s; count = count_of counts atom } in
+    let reached : replayed c atom a ≡ Ok e = leads.each atom a s own there in
+    record {
+      from = omega (arith, leads.last);
+      later = replay-grows a atom p.count c.records p e reached;
+      reached = ap (replay_from a atom p) (take_all k c.records (omega (arith, leads.last))) ∙ reached;
+    }
+
 -- contents with the same records after one another
 joined : (c : Contents) (xs ys : List FiredFields) → with_records ys (with_records xs c) ≡ with_records (xs ++ ys) c
 joined c xs ys = ap (λ rs. record c { records = rs }) (append_assoc c.records xs ys)
@@ -143,18 +168,8 @@ module _ (plant : PlantDefinition) (v : View) (bodies : List (List ℕ)) (kept :
       where
         by_parts : (s : Local) → slice_get v.present atom ≡ Some s → slice_get plant.atoms atom ≡ Some a → IsOnTheWay (with_records news c) a (saved_by atom (count_of v.counts atom) (fired_number v) s)
         by_parts s there own =
-            let d : Contents = with_records news c in
-            let p : Position = saved_position d atom in
-            let k : ℕ = fired_number v + 1 - c.base in
-            let e : Position = record { state = s; count = count_of v.counts atom } in
-            let long : length (c.records ++ news) ≤ k = omega (arith, leads.last, many, length-append c.records news) in
-            let whole : replayed d atom a ≡ Ok (record { state = s; count = count_of (counts_after_all v.tail v.acked_counts) atom }) = led.each atom a s own (subst (λ (states : List Local). slice_get states atom ≡ Some s) kept.leads there) in
-            let reached : replayed d atom a ≡ Ok e = whole ∙ ap (λ (counts : List ℕ). Ok (record { state = s; count = count_of counts atom })) (sym kept.counted) in
-            record {
-              from = omega (arith, leads.last);
-              later = replay-grows a atom p.count d.records p e reached;
-              reached = ap (replay_from a atom p) (take_all k (c.records ++ news) long) ∙ reached;
-            }
+            subst (λ (counts : List ℕ). IsOnTheWay (with_records news c) a (saved_by atom (count_of counts atom) (fired_number v) s)) (sym kept.counted)
+            (way-whole plant (with_records news c) (fold plant v.acked v.tail) (counts_after_all v.tail v.acked_counts) (v.number + length v.tail) led atom a s own (subst (λ (states : List Local). slice_get states atom ≡ Some s) kept.leads there))
 
     -- a copy that includes acknowledged firings alone is on the way over the records on the device
     pub way-acked : (a : AtomDefinition) (saved : SavedFields) → slice_get plant.atoms saved.atom ≡ Some a → saved.count ≤ count_of v.acked_counts saved.atom → IsOnTheWay (with_records news c) a saved → IsOnTheWay c a saved
@@ -187,17 +202,6 @@ module _ (plant : PlantDefinition) (v : View) (bodies : List (List ℕ)) (kept :
             let is : e ≡ q = stays-there a saved.atom p.count (take m news) e q (replay-grows a saved.atom p.count c.records p e acked) rest behind in
             ap (replay_from a saved.atom p) (take_all k c.records (omega (arith, far))) ∙ acked ∙ ap (λ (x : Position). Ok x) is
 
-    -- another atom's state is stored
-    pub way-beside : (a : AtomDefinition) (saved other : SavedFields) → other.atom ≢ saved.atom → IsOnTheWay (with_records news c) a other → IsOnTheWay (with_records news (with_saved saved c)) a other
-    way-beside a saved other apart way =
-        let same : saved_position (with_saved saved c) other.atom ≡ saved_position c other.atom =
-        ap (λ (s : SavedFields). record { state = local_in s; count = s.count }) (get_or-set_other c.slots saved.atom other.atom saved (unsaved other.atom) apart) in
-        record {
-          from = way.from;
-          later = subst (λ (p : Position). p.count ≤ other.count) (sym same) way.later;
-          reached = ap (λ (p : Position). replay_from a other.atom p (take (other.at + 1 - c.base) (c.records ++ news))) same ∙ way.reached;
-        }
-
   module _ (cells : List Cell) (leads : Leads plant (contents_of (length plant.atoms) cells) v.acked v.acked_counts v.number) (ways : AreOnTheWay plant v cells) where
     pub ways-fired : (choice : ChoiceDefinition) → AreOnTheWay plant (with_fired plant choice v) cells
     ways-fired choice = λ atom saved a there at.
@@ -225,5 +229,5 @@ module _ (plant : PlantDefinition) (v : View) (bodies : List (List ℕ)) (kept :
       | inr apart ↦
           let before : held_at v.kept i ≡ Some other = sym (held-other v.kept saved.atom i None apart) ∙ there in
           subst (λ d. IsOnTheWay (with_records news d) a other) (sym reads)
-          (way-beside (contents_of (length plant.atoms) cells) leads a saved other (λ same. apart (sym (own i other before) ∙ same)) (ways i other a before at))
+          (way-beside (with_records news (contents_of (length plant.atoms) cells)) a saved other (λ same. apart (sym (own i other before) ∙ same)) (ways i other a before at))
     ]

@@ -23,15 +23,15 @@ use Rattle.plant_core.specs.Driven.{IsDriven}
 use Rattle.plant_core.specs.Hands.{HandFields}
 use Rattle.step_core.specs.Job.{JobDefinition}
 use Rattle.plant_core.specs.Stops.{StandsForFront, StandsForFrontSince}
-use Rattle.plant_core.specs.View.{View, fired_number}
+use Rattle.plant_core.specs.View.{View, behind_states, fired_number}
 use Rattle.plant_core.specs.declared.events.Event.{Event}
 use Rattle.plant_core.specs.declared.events.FiredAs.{FiredAs}
 use Rattle.plant_core.specs.declared.events.Happened.{Happened}
-use Rattle.plant_core.specs.declared.events.Happened.TheVariants.{Fire, FireChoice, Flush, Ask, Put, Empty, Trim, Begin, Back, Idle}
+use Rattle.plant_core.specs.declared.events.Happened.TheVariants.{Fire, FireChoice, Flush, Ask, Put, Empty, Save, Trim, Begin, Back, Idle}
 use Rattle.plant_core.specs.declared.limits.TheConstants.{MOST_TAIL}
 use Rattle.plant_core.specs.declared.refused.Refused.{Refused}
 use Rattle.plant_core.specs.declared.refused.Refused.TheVariants.{Stuck, Busy, TailFull, RingFull, Spent, Away, Ahead, Stranger, NothingNew, Disk, Broken}
-use Rattle.plant_core.proofs.EventRuns.{events-ack, event-cases, events-join, fold-append}
+use Rattle.plant_core.proofs.EventRuns.{all-stored-is, events-ack, event-cases, events-join, fold-append}
 
 -- ---- what fails
 
@@ -93,6 +93,11 @@ failing-breaks plant v w (Put saved (Err (Ahead atom))) did failed = absurd (fal
 failing-breaks plant v w (Put saved (Err Disk)) did failed = (did.0.whole, ap (λ (x : View). x.broken) did.1)
 failing-breaks plant v w (Put saved (Err other)) did failed = absurd did
 failing-breaks plant v w (Empty atom) did failed = absurd (false≢true failed)
+failing-breaks plant v w (Save (Ok to)) did failed = absurd (false≢true failed)
+failing-breaks plant v w (Save (Err Broken)) did failed = absurd (false≢true failed)
+failing-breaks plant v w (Save (Err NothingNew)) did failed = absurd (false≢true failed)
+failing-breaks plant v w (Save (Err Disk)) did failed = (did.0, ap (λ (x : View). x.broken) did.2)
+failing-breaks plant v w (Save (Err other)) did failed = absurd did
 failing-breaks plant v w (Trim (Ok base)) did failed = absurd (false≢true failed)
 failing-breaks plant v w (Trim (Err Broken)) did failed = absurd (false≢true failed)
 failing-breaks plant v w (Trim (Err NothingNew)) did failed = absurd (false≢true failed)
@@ -126,6 +131,11 @@ event-sound plant v w (Put saved (Err (Ahead atom))) did sound = ap (λ (x : Vie
 event-sound plant v w (Put saved (Err Disk)) did sound = absurd (false≢true (sym sound))
 event-sound plant v w (Put saved (Err other)) did sound = absurd did
 event-sound plant v w (Empty atom) did sound = ap (λ (x : View). x.broken) did
+event-sound plant v w (Save (Ok to)) did sound = ap (λ (x : View). x.broken) (did.4 ∙ all-stored-is (behind_states v) v)
+event-sound plant v w (Save (Err Broken)) did sound = ap (λ (x : View). x.broken) did.1
+event-sound plant v w (Save (Err NothingNew)) did sound = ap (λ (x : View). x.broken) did.2
+event-sound plant v w (Save (Err Disk)) did sound = absurd (false≢true (sym sound))
+event-sound plant v w (Save (Err other)) did sound = absurd did
 event-sound plant v w (Trim (Ok base)) did sound = ap (λ (x : View). x.broken) did.3
 event-sound plant v w (Trim (Err Broken)) did sound = ap (λ (x : View). x.broken) did.1
 event-sound plant v w (Trim (Err NothingNew)) did sound = ap (λ (x : View). x.broken) did.2
@@ -160,15 +170,15 @@ flush-refused v w (Err Disk) did none = absurd (false≢true (sym none))
 flush-refused v w (Err other) did none = absurd did
 
 -- a refusal that is no such failure
-not-failed : (refused : Refused) → is_call {X = ℕ} (Err refused) ≡ false → refused ≢ Disk
-not-failed refused none same = false≢true (sym none ∙ ap (λ (r : Refused). is_call {X = ℕ} (Err r)) same)
+not-failed : (X : Type 0) (refused : Refused) → is_call {X = X} (Err refused) ≡ false → refused ≢ Disk
+not-failed X refused none same = false≢true (sym none ∙ ap (λ (r : Refused). is_call {X = X} (Err r)) same)
 
 pub refused-untouched : (refused : Refused) (old new : DiskState) → (refused ≢ Disk → new ≡ old) → is_call {X = ℕ} (Err refused) ≡ false → new ≡ old
-refused-untouched refused old new same none = same (not-failed refused none)
+refused-untouched refused old new same none = same (not-failed ℕ refused none)
 
-pub answer-untouched : (answer : Result ℕ Refused) (old new : DiskState) → IfErr answer (λ refused. refused ≢ Disk → new ≡ old) → is_call answer ≡ false → new ≡ old
-answer-untouched (Ok number) old new same none = absurd (false≢true (sym none))
-answer-untouched (Err refused) old new same none = refused-untouched refused old new same none
+pub answer-untouched : {X : Type 0} (answer : Result X Refused) (old new : DiskState) → IfErr answer (λ refused. refused ≢ Disk → new ≡ old) → is_call answer ≡ false → new ≡ old
+answer-untouched (Ok x) old new same none = absurd (false≢true (sym none))
+answer-untouched {X} (Err refused) old new same none = same (not-failed X refused none)
 
 -- a flush keeps whether the device keeps the disk model
 pub flush-keeps : (v : View) (s t : DiskState) (ok : Bool) → (v.tail ≡ [] → t ≡ s) → (v.broken ≡ true → t ≡ s) → (v.tail ≢ [] → v.broken ≡ false → CountsTwo ok s t) → t.keeps ≡ s.keeps

@@ -18,11 +18,16 @@ use Rattle.record_codec.specs.Saved.{SavedFields}
 use Rattle.trimmer.specs.Covered.{MarkFields}
 use Rattle.trimmer.specs.declared.saved.SavedAt.{SavedAt}
 use Rattle.plant_core.specs.Snapshots.{with_held, with_known, without}
-use Rattle.plant_core.specs.View.{View, may_go, sure_in, with_all_acked, with_away, with_fired}
+use Rattle.plant_core.specs.View.{View, behind_states, may_go, sure_in, with_all_acked, with_all_stored, with_away, with_fired, with_stored}
 use Rattle.plant_core.specs.declared.events.Happened.{Happened}
-use Rattle.plant_core.specs.declared.events.Happened.TheVariants.{Fire, FireChoice, Flush, Ask, Put, Empty, Trim, Begin, Back, Idle}
+use Rattle.plant_core.specs.declared.events.Happened.TheVariants.{Fire, FireChoice, Flush, Ask, Put, Empty, Save, Trim, Begin, Back, Idle}
 use Rattle.plant_core.specs.declared.refused.Refused.TheVariants.{Away, Ahead, Stranger, NothingNew, Broken, Disk}
 use Rattle.plant_core.proofs.Chosen.{fold-more}
+
+-- states that are stored change what is known of saved states and nothing else
+pub all-stored-is : (states : List SavedFields) (v : View) → with_all_stored states v ≡ record v { saved = (with_all_stored states v).saved; kept = (with_all_stored states v).kept }
+all-stored-is [] v = refl
+all-stored-is (saved ∷ rest) v = all-stored-is rest (with_stored saved v)
 
 module _ (plant : PlantDefinition) where
   -- a choice that is listed as sure is allowed
@@ -57,6 +62,13 @@ module _ (plant : PlantDefinition) where
   event-cases v w (Put saved (Err Disk)) P stays fires acks notes breaks did = subst (P []) (sym did.1) breaks
   event-cases v w (Put saved (Err other)) P stays fires acks notes breaks did = absurd did
   event-cases v w (Empty atom) P stays fires acks notes breaks did = subst (P []) (sym did) stays
+  event-cases v w (Save (Ok to)) P stays fires acks notes breaks did =
+      let then : View = with_all_stored (behind_states v) v in
+      subst (P []) (sym (did.4 ∙ all-stored-is (behind_states v) v)) (notes v.base v.marks then.saved then.kept v.away)
+  event-cases v w (Save (Err Broken)) P stays fires acks notes breaks did = subst (P []) (sym did.1) stays
+  event-cases v w (Save (Err NothingNew)) P stays fires acks notes breaks did = subst (P []) (sym did.2) stays
+  event-cases v w (Save (Err Disk)) P stays fires acks notes breaks did = subst (P []) (sym did.2) breaks
+  event-cases v w (Save (Err other)) P stays fires acks notes breaks did = absurd did
   event-cases v w (Trim (Ok base)) P stays fires acks notes breaks did = subst (P []) (sym did.3) (notes (v.base + may_go v) (drop (may_go v) v.marks) v.saved v.kept v.away)
   event-cases v w (Trim (Err Broken)) P stays fires acks notes breaks did = subst (P []) (sym did.1) stays
   event-cases v w (Trim (Err NothingNew)) P stays fires acks notes breaks did = subst (P []) (sym did.2) stays

@@ -6,7 +6,7 @@ use Rattle.plant_core.specs.Events.{AreHandsAfter}
 use Rattle.plant_core.specs.Hands.{AreHandsFor, HandFields, with_jobs}
 use Rattle.plant_core.specs.View.{View}
 use Rattle.plant_core.specs.declared.events.Happened.{Happened}
-use Rattle.plant_core.specs.declared.events.Happened.TheVariants.{Fire, FireChoice, Flush, Ask, Put, Empty, Trim, Begin, Back, Idle}
+use Rattle.plant_core.specs.declared.events.Happened.TheVariants.{Fire, FireChoice, Flush, Ask, Put, Empty, Save, Trim, Begin, Back, Idle}
 
 pub jobs-long : (jobs : List JobDefinition) (held : List (Option JobDefinition)) → length (with_jobs jobs held) ≡ length held
 jobs-long [] held = refl
@@ -21,6 +21,7 @@ as-many plant v n hands after (Ask atom (Err refused)) there is = subst (AreHand
 as-many plant v n hands after (Put saved (Ok count)) there is = subst (AreHandsFor n) (sym is) (record { saved = length-set hands.saved saved.atom None ∙ there.saved; jobs = there.jobs })
 as-many plant v n hands after (Put saved (Err refused)) there is = subst (AreHandsFor n) (sym is) there
 as-many plant v n hands after (Empty atom) there is = subst (AreHandsFor n) (sym is) there
+as-many plant v n hands after (Save answer) there is = subst (AreHandsFor n) (sym is) there
 as-many plant v n hands after (Trim answer) there is = subst (AreHandsFor n) (sym is) there
 as-many plant v n hands after (Begin pick (Ok fired)) there is = subst (AreHandsFor n) (sym is.2) (record { saved = there.saved; jobs = jobs-long is.0 hands.jobs ∙ there.jobs })
 as-many plant v n hands after (Begin pick (Err refused)) there is = subst (AreHandsFor n) (sym is) there

@@ -6,9 +6,12 @@ mod AtRest
 pub mod EventRuns
 pub mod EventByEvent
 mod Copies
-pub mod Saving
+pub mod Noted
 mod NextSlots
 mod Stored
+mod Behind
+mod AllStored
+mod SavedAll
 pub mod Marking
 mod Trimmed
 mod Taken

@@ -1,11 +1,10 @@
 -- What a durable plant does at each event: which answer it gives, and what it shows then.
 use Rattle.std.specs.Prelude.{◌≡◌, ◌≢◌, ℕ, ◌+◌, ◌-◌, ◌%◌, ◌≤◌, ◌<◌, ◌==◌, Bool, true, false, if◌then◌else◌, List, [], ◌∷◌, ◌++◌, Option, None, Some, Result, Ok, Err, ◌↔◌, Contains, is_some, length, take, drop, flat_map, slice_get, slice_index_or, slice_set}
 use Rattle.std.specs.List.{list_any}
-use Rattle.std.specs.Option.{option_map}
 use Rattle.record_codec.specs.Saved.{SavedFields}
 use Rattle.record_codec.specs.declared.layout.TheConstants.{LAST_NUMBER}
 use Rattle.record_replay.specs.Records.{count_of}
-use Rattle.snapshot_writer.specs.Parcels.{saved_by}
+use Rattle.petri_atom.specs.Local.{has}
 use Rattle.plant_model.specs.Choice.{ChoiceDefinition}
 use Rattle.plant_model.specs.Chosen.{choice_of}
 use Rattle.plant_model.specs.Plant.{PlantDefinition}
@@ -14,14 +13,15 @@ use Rattle.step_core.specs.Job.{JobDefinition}
 use Rattle.step_core.specs.Jobs.{AreJobsOf}
 use Rattle.trimmer.specs.Covered.{saved_count}
 use Rattle.plant_core.specs.Hands.{HandFields, job_at, with_jobs}
-use Rattle.plant_core.specs.Snapshots.{held_at, with_held, without}
-use Rattle.plant_core.specs.View.{View, fired_number, may_go, parts_in, sure_in, with_all_acked, with_asked, with_back, with_begun, with_cut, with_fired, with_stored}
+use Rattle.plant_core.specs.Snapshots.{copy_among, held_at, with_held, without}
+use Rattle.plant_core.specs.View.{View, behind_state, behind_states, fired_number, may_go, parts_in, sure_in, with_all_acked, with_all_stored, with_asked, with_back, with_begun, with_cut, with_fired, with_stored}
 use Rattle.plant_core.specs.declared.events.Event.{Event}
 use Rattle.plant_core.specs.declared.events.Event.TheVariants as asked
 use Rattle.plant_core.specs.declared.events.FiredAs.{FiredAs}
 use Rattle.plant_core.specs.declared.events.Happened.{Happened}
-use Rattle.plant_core.specs.declared.events.Happened.TheVariants.{Fire, FireChoice, Flush, Ask, Put, Empty, Trim, Begin, Back, Idle}
+use Rattle.plant_core.specs.declared.events.Happened.TheVariants.{Fire, FireChoice, Flush, Ask, Put, Empty, Save, Trim, Begin, Back, Idle}
 use Rattle.plant_core.specs.declared.events.Returned.{Returned}
+use Rattle.plant_core.specs.declared.events.SavedTo.{SavedTo}
 use Rattle.plant_core.specs.declared.limits.TheConstants.{MOST_TAIL}
 use Rattle.plant_core.specs.declared.refused.Refused.{Refused}
 use Rattle.plant_core.specs.declared.refused.Refused.TheVariants.{Stuck, Busy, TailFull, RingFull, Spent, Away, Ahead, Stranger, NothingNew, Disk, Broken}
@@ -103,7 +103,7 @@ IsFlush v (Err other) w = ⊥
 
 -- the present state of an atom as it is saved: with how often the atom has taken part, and the fired number
 abbrev pub copy_in : View → ℕ → Option SavedFields
-copy_in v atom = option_map (saved_by atom (count_of v.counts atom) (fired_number v)) (slice_get v.present atom)
+copy_in v = copy_among v.counts (fired_number v) v.present
 
 -- A state is asked for: a plant whose device has failed refuses it, and so does one that has not the atom, and one whose atom has not taken part since
 -- its newest state was saved, and one of which the atom is away. Else it answers the present state of the atom, and keeps a copy, in place of one that it kept before.
@@ -135,6 +135,17 @@ IsPut v saved (Err (Ahead atom)) w =
 IsPut v saved (Err Disk) w = IsTaken v saved × (w ≡ record v { broken = true })
 IsPut v saved (Err other) w = ⊥
 
+-- A save: a plant whose device has failed refuses it, and so does one of which no atom is behind. Else of each atom that is behind the acknowledged state
+-- is the newest, and a copy of its state that was kept is given up; the acknowledged number is answered, and the set of these atoms; or the device fails,
+-- and then the plant is broken.
+abbrev pub IsSave : View → Result SavedTo Refused → View → Type 0
+IsSave v (Ok to) w =
+    (v.broken ≢ true) × (behind_states v ≢ []) × (to.number ≡ v.number) × ((atom : ℕ) → has to.atoms atom ≡ is_some (behind_state v atom)) × (w ≡ with_all_stored (behind_states v) v)
+IsSave v (Err Broken) w = (v.broken ≡ true) × (w ≡ v)
+IsSave v (Err NothingNew) w = (v.broken ≢ true) × (behind_states v ≡ []) × (w ≡ v)
+IsSave v (Err Disk) w = (v.broken ≢ true) × (behind_states v ≢ []) × (w ≡ record v { broken = true })
+IsSave v (Err other) w = ⊥
+
 -- A trim: a plant whose device has failed refuses it, and so does one of whose records none may go. Else the longest front of the acknowledged records
 -- that are covered is dropped, and the number of the first that is kept is answered; or the device fails, and then the plant is broken.
 abbrev pub IsTrim : View → Result ℕ Refused → View → Type 0
@@ -163,6 +174,7 @@ IsEvent plant v (Flush answer) w = IsFlush v answer w
 IsEvent plant v (Ask atom answer) w = IsAsk v atom answer w
 IsEvent plant v (Put saved answer) w = IsPut v saved answer w
 IsEvent plant v (Empty atom) w = w ≡ v
+IsEvent plant v (Save answer) w = IsSave v answer w
 IsEvent plant v (Trim answer) w = IsTrim v answer w
 IsEvent plant v (Begin pick answer) w = IsBegin plant v pick answer w
 IsEvent plant v (Back returned answer) w = (job : JobDefinition) × IsReturned plant returned job × IsBack v job answer w
@@ -187,6 +199,7 @@ asked_in (Flush answer) = asked.Flush
 asked_in (Ask atom answer) = asked.Ask atom
 asked_in (Put saved answer) = asked.Put saved.atom
 asked_in (Empty atom) = asked.Put atom
+asked_in (Save answer) = asked.Save
 asked_in (Trim answer) = asked.Trim
 asked_in (Begin pick answer) = asked.Begin pick
 asked_in (Back returned answer) = asked.Back returned.atom
@@ -199,6 +212,7 @@ is_in_memory (asked.FireChoice choice) = true
 is_in_memory asked.Flush = false
 is_in_memory (asked.Ask atom) = true
 is_in_memory (asked.Put atom) = false
+is_in_memory asked.Save = false
 is_in_memory asked.Trim = false
 is_in_memory (asked.Begin pick) = true
 is_in_memory (asked.Back atom) = true
@@ -212,6 +226,7 @@ has_failed (Flush answer) = is_disk answer
 has_failed (Ask atom answer) = is_disk answer
 has_failed (Put saved answer) = is_disk answer
 has_failed (Empty atom) = false
+has_failed (Save answer) = is_disk answer
 has_failed (Trim answer) = is_disk answer
 has_failed (Begin pick answer) = is_disk answer
 has_failed (Back returned answer) = is_disk answer
@@ -221,6 +236,7 @@ has_failed (Idle atom) = false
 abbrev pub may_call : Happened → Bool
 may_call (Flush answer) = is_call answer
 may_call (Put saved answer) = is_call answer
+may_call (Save answer) = is_call answer
 may_call (Trim answer) = is_call answer
 may_call other = false
 

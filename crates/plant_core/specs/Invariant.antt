@@ -1,5 +1,5 @@
 -- What a durable plant keeps whenever no call runs.
-use Rattle.std.specs.Prelude.{◌≡◌, ℕ, ◌+◌, ◌-◌, ◌≤◌, ◌<◌, ◌&&◌, ◌==◌, Bool, true, false, List, [], ◌∷◌, Option, None, Some, drop, length, map, slice_get, take}
+use Rattle.std.specs.Prelude.{◌≡◌, ℕ, ◌+◌, ◌-◌, ◌≤◌, ◌<◌, ◌&&◌, ◌==◌, Bool, true, false, List, [], ◌∷◌, Option, None, Some, drop, is_some, length, map, slice_get, take}
 use Rattle.std.specs.List.{list_any}
 use Rattle.petri_atom.specs.Definition.{AtomDefinition}
 use Rattle.petri_atom.specs.Local.{Local}
@@ -11,9 +11,10 @@ use Rattle.plant_model.specs.Step.{next}
 use Rattle.plant_model.specs.declared.choice.Move.{Move}
 use Rattle.plant_model.specs.declared.limits.TheConstants.{MAX_ATOMS}
 use Rattle.disk_model.specs.DiskState.{DiskState, size_of}
-use Rattle.disk_model.specs.Cells.{Cell, cell_count, seen_cells}
+use Rattle.disk_model.specs.Cells.{Cell, cell, cell_count, seen_cells}
 use Rattle.disk_model.specs.declared.cells.TheConstants.{BODY}
 use Rattle.record_codec.specs.Fired.{FiredFields, fired_in}
+use Rattle.record_codec.specs.Ring.{slot_cell}
 use Rattle.record_codec.specs.Saved.{SavedFields}
 use Rattle.record_codec.specs.declared.layout.TheConstants.{LAST_NUMBER}
 use Rattle.gated_journal.specs.Rings.{cells_of_ring}
@@ -102,9 +103,14 @@ pub record IsAtRest (plant : PlantDefinition) (digest : List ℕ) (j : Ring) (ac
   pub leads : Leads plant (contents_of (length plant.atoms) (seen_cells (BODY + 1) s)) acked counts number
   pub slots : saved ≡ map known_of (contents_of (length plant.atoms) (seen_cells (BODY + 1) s)).slots
 
--- The slot in which the next state of an atom goes, if it is known, is the one that does not hold the newest state on these cells.
+-- The next state of an atom goes in this slot: it is the one that does not hold the newest state on these cells, and it is full.
+pub record IsNextSlot (atom slot : ℕ) (cells : List Cell) : Type 0 where
+  pub other : slot ≡ other_slot atom cells
+  pub full : is_some (cell cells (slot_cell atom slot)) ≡ true
+
+-- Each slot that is known as the one in which the next state of an atom goes is that one.
 abbrev pub AreNextSlots : PlantDefinition → List (Option ℕ) → List Cell → Type 0
-AreNextSlots plant slots cells = (atom slot : ℕ) → atom < length plant.atoms → next_slot slots atom ≡ Some slot → slot ≡ other_slot atom cells
+AreNextSlots plant slots cells = (atom slot : ℕ) → atom < length plant.atoms → next_slot slots atom ≡ Some slot → IsNextSlot atom slot cells
 
 -- The marks of the acknowledged records are those of the records that these cells hold.
 abbrev pub AreMarked : PlantDefinition → View → List Cell → Type 0

@@ -11,4 +11,5 @@ pub mod Stops
 pub mod Driven
 pub mod Refusals
 pub mod Puts
+pub mod Saves
 pub mod Backs

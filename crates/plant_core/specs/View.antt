@@ -1,5 +1,5 @@
 -- What a durable plant shows of itself.
-use Rattle.std.specs.Prelude.{ℕ, ◌+◌, ◌-◌, Bool, false, List, [], ◌∷◌, ◌++◌, Option, None, length, map, take, drop, slice_get, slice_set}
+use Rattle.std.specs.Prelude.{ℕ, ◌+◌, ◌-◌, Bool, false, List, [], ◌∷◌, ◌++◌, Option, None, length, map, nat_lt, take, drop, slice_get, slice_set}
 use Rattle.std.specs.List.{prefix_len}
 use Rattle.std.specs.Option.{option_map_or}
 use Rattle.petri_atom.specs.Local.{Local}
@@ -13,11 +13,11 @@ use Rattle.step_core.specs.Job.{JobDefinition}
 use Rattle.step_core.specs.Sure.{sure_choices}
 use Rattle.step_executor.specs.Outstanding.{jobs_after, parts_without}
 use Rattle.record_codec.specs.Saved.{SavedFields}
-use Rattle.record_replay.specs.Records.{counts_after, record_by}
-use Rattle.trimmer.specs.Covered.{MarkFields, is_covered, is_held_by}
+use Rattle.record_replay.specs.Records.{count_of, counts_after, record_by}
+use Rattle.trimmer.specs.Covered.{MarkFields, is_covered, is_held_by, saved_count}
 use Rattle.trimmer.specs.declared.saved.SavedAt.{SavedAt}
 use Rattle.plant_core.specs.Marks.{mark_of}
-use Rattle.plant_core.specs.Snapshots.{SnapshotFields, with_held, with_known, without}
+use Rattle.plant_core.specs.Snapshots.{SnapshotFields, copies_behind, copy_if_behind, with_held, with_known, without}
 
 -- The acknowledged state, how often each atom has taken part in it, and the number of its last record; the choices that were fired since,
 -- the state and the counts that they lead to; the number of the first record that is kept, for how many records there is room, and the marks of
@@ -109,6 +109,23 @@ with_stored saved v = record v {
   saved = with_known saved v.saved;
   kept = without saved v.kept;
 }
+
+-- the view once these states are stored, one after another
+abbrev pub with_all_stored : List SavedFields → View → View
+with_all_stored [] v = v
+with_all_stored (saved ∷ rest) v = with_all_stored rest (with_stored saved v)
+
+-- the atom's newest saved state is behind the acknowledged one
+abbrev pub is_behind : ℕ → View → Bool
+is_behind atom v = nat_lt (saved_count v.saved atom) (count_of v.acked_counts atom)
+
+-- the acknowledged state of an atom as it is saved, if its newest saved state is behind it
+abbrev pub behind_state : View → ℕ → Option SavedFields
+behind_state v = copy_if_behind v.saved v.acked_counts v.number v.acked
+
+-- those of all atoms, in the order of the atoms
+abbrev pub behind_states : View → List SavedFields
+behind_states v = copies_behind v.saved v.acked_counts v.number v.acked
 
 -- the marks of the records that are acknowledged
 abbrev pub acked_marks : View → List MarkFields

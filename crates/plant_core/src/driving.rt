@@ -73,6 +73,7 @@ pub fn meet<'s, D: Disk>(plant: &mut Plant<'s, D>, hands: &mut Hands<'s>, event:
         Event::Flush => Happened::Flush(plant.flush()),
         Event::Ask(atom) => ask(plant, hands, *atom),
         Event::Put(atom) => put(plant, hands, *atom),
+        Event::Save => Happened::Save(plant.save()),
         Event::Trim => Happened::Trim(plant.trim()),
         Event::Begin(pick) => begin(plant, hands, *pick),
         Event::Back(atom) => back(plant, hands, *atom),

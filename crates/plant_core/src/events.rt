@@ -1,4 +1,7 @@
 //! What is asked of a durable plant, and what it answers.
+ghost use Rattle.std.specs.Prelude.{◌≡◌};
+ghost use Rattle.petri_atom.specs.Local.{has};
+
 use crate::refused::Refused;
 use petri_atom::{AtomState, Delivered};
 use plant_model::Choice;
@@ -17,6 +20,8 @@ pub enum Event {
     Ask(u16),
     /// To store what the hand of the atom with the number holds.
     Put(u16),
+    /// To store the acknowledged state of each atom whose newest saved state is behind it.
+    Save,
     /// To drop the records that no restart needs.
     Trim,
     /// To begin the choice at the place of the pick, modulo the number of choices: the jobs of its participants go into their hands.
@@ -34,6 +39,25 @@ pub struct FiredAs {
     pub choice: Choice,
 }
 
+/// What a save stored.
+#[derive(Clone, Copy)]
+pub struct SavedTo {
+    /// The number of the last choice that is acknowledged.
+    pub number: u64,
+    /// The atoms of which the acknowledged state was stored: bit n for atom n.
+    pub atoms: u64,
+}
+
+impl SavedTo {
+    /// Whether the state of the atom was stored.
+    pub fn has(&self, atom: u16) -> bool
+        ensures { result ≡ has self.now.atoms atom }
+    {
+        let atoms = self.atoms;
+        atom < 64 && (atoms >> atom) & 1 == 1
+    }
+}
+
 /// What happened to a durable plant: what was asked of it, together with its answer.
 #[derive(Drop)]
 pub enum Happened {
@@ -49,6 +73,8 @@ pub enum Happened {
     Put(Saved, Result<u64, Refused>),
     /// What the hand of the atom with the number holds was to be stored, and it holds nothing, or there is no such hand.
     Empty(u16),
+    /// The acknowledged state of each atom that is behind was to be stored: this is what was stored, or the plant refused it.
+    Save(Result<SavedTo, Refused>),
     /// The records that no restart needs were to be dropped: this is the number of the first that is kept, or of the next, or the plant refused it.
     Trim(Result<u64, Refused>),
     /// A choice was to begin by this pick: it did, or the plant refused it.

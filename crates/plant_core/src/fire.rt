@@ -16,13 +16,13 @@ use crate::marks::mark_of;
 use crate::plant::Plant;
 use crate::refused::Refused;
 use disk_model::Disk;
+use plant_model::Choice;
 use plant_model::laws::an_allowed_choice_is_in_range;
-use plant_model::{Choice, MAX_ATOMS, no_deliveries};
 use record_codec::LAST_NUMBER;
 use record_replay::laws::{
     a_record_of_what_was_delivered_is_that_of_the_choice, the_record_of_a_step_is_of_its_plant,
 };
-use record_replay::{count_participants, record_of};
+use record_replay::{FiredStep, count_participants, spell_record};
 use step_core::laws::sure_is_allowed;
 
 impl<'s, D: Disk> Plant<'s, D> {
@@ -99,12 +99,16 @@ impl<'s, D: Disk> Plant<'s, D> {
         a_record_of_what_was_delivered_is_that_of_the_choice();
         the_record_of_a_step_is_of_its_plant();
         let number = self.fired() + 1;
-        let mut delivered = no_deliveries();
-        self.executor.fire_telling(&choice, &mut delivered);
-        let record = record_of(number, &choice, &delivered, &self.counts);
+        self.executor.fire_telling(&choice, &mut self.delivered);
+        let step = FiredStep {
+            number,
+            choice: &choice,
+            delivered: &self.delivered,
+            counts: &self.counts,
+        };
+        self.bodies.push_reserved(spell_record(&step));
+        self.marks.push_reserved(mark_of(number, &step));
         count_participants(&choice, &mut self.counts);
         self.tail.push_reserved(choice);
-        self.bodies.push_reserved(record.to_body());
-        self.marks.push_reserved(mark_of(&record));
     }
 }

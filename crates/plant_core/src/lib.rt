@@ -7,14 +7,15 @@
 //!
 //! The state of each atom is saved by itself, while the others step: [`Plant::ask`] copies it, it is encoded away from the plant, and
 //! [`Plant::put`] stores it, once all firings that it includes are acknowledged. A restart then replays for each atom what lies after its
-//! newest saved state, however often the other atoms had taken part when theirs were saved. The records that no restart needs any more go from the
-//! front by [`Plant::trim`], and the ring is used again.
+//! newest saved state, however often the other atoms had taken part when theirs were saved. [`Plant::save`] stores the acknowledged states of all atoms
+//! that are behind, by three syncs, however many they are. The records that no restart needs any more go from the front by [`Plant::trim`], and the
+//! ring is used again.
 //!
 //! Contracts see a plant as its view (`specs/View.antt`: the acknowledged state, the tail, the present state, what is known of saved states)
 //! and its device; what each event answers and changes is `specs/Events.antt`.
 //!
 //! - `plant`: what it holds. `making`: what it is made of, and how.
-//! - `choosing`: what it can fire next. `fire`, `beginning`, `flush`, `asking`, `putting`, `trimming`: its calls. `beginning` has both what gives jobs out and what takes them back.
+//! - `choosing`: what it can fire next. `fire`, `beginning`, `flush`, `asking`, `putting`, `saving`, `trimming`: its calls. `beginning` has both what gives jobs out and what takes them back.
 //!   `driving`: any of them, and many.
 //! - `snapshots`: what it knows of saved states. `marks`: what it knows of records. `hands`: the states and the jobs that are to be handed in.
 //! - `front`: how far it is, and what it shows. `room`: how much room it has, and which atoms take it. `resting`: what it keeps whenever
@@ -40,11 +41,12 @@ mod putting;
 mod refused;
 mod resting;
 mod room;
+mod saving;
 mod snapshots;
 mod trimming;
 
 pub use driving::{drive, meet};
-pub use events::{Event, FiredAs, Happened, Returned};
+pub use events::{Event, FiredAs, Happened, Returned, SavedTo};
 pub use front::Front;
 pub use hands::Hands;
 pub use limits::MOST_TAIL;

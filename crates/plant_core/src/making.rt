@@ -9,7 +9,8 @@ use crate::plant::Plant;
 use crate::snapshots::Snapshots;
 use disk_model::{BODY, Cells, Disk};
 use gated_journal::Journal;
-use plant_model::{Choice, MAX_ATOMS};
+use plant_model::{Choice, MAX_ATOMS, no_deliveries};
+use snapshot_writer::Batch;
 use step_executor::Executor;
 use trimmer::Mark;
 
@@ -30,6 +31,8 @@ pub struct Parts<'s> {
     pub marks: Vec<Mark>,
     /// What is known of the newest saved states of the atoms, of which none was asked for.
     pub snapshots: Snapshots,
+    /// Room for the states that a save stores.
+    pub batch: Batch,
 }
 
 impl<'s, D: Disk> Plant<'s, D> {
@@ -49,6 +52,7 @@ impl<'s, D: Disk> Plant<'s, D> {
             journal,
             marks,
             snapshots,
+            batch,
         } = parts;
         let number = journal.last();
         Plant {
@@ -58,9 +62,11 @@ impl<'s, D: Disk> Plant<'s, D> {
             number,
             tail,
             bodies,
+            delivered: no_deliveries(),
             journal,
             marks,
             snapshots,
+            batch,
             cells,
             broken: false,
         }

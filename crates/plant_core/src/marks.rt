@@ -1,10 +1,11 @@
 //! What a durable plant knows of the records that are kept.
-ghost use Rattle.std.specs.Prelude.{◌≡◌, ◌≤◌, IfOk, length, vec_capacity};
-ghost use Rattle.plant_core.specs.Marks.{mark_of, marks_of, participation_in};
+ghost use Rattle.std.specs.Prelude.{◌≡◌, ◌≤◌, IfOk, length, map, vec_capacity};
+ghost use Rattle.plant_core.specs.Marks.{marks_of, participation_in};
+ghost use Rattle.trimmer.specs.declared.mark.TheConstants.{MOST_PARTICIPANTS};
 
-use record_codec::{Entry, Fired};
+use record_codec::{Entry, EntrySource, Fired};
 use std::alloc::{AllocError, Global};
-use trimmer::{MOST_PARTICIPANTS, Mark, Participation};
+use trimmer::{Mark, Participation};
 
 /// The marks of these records, in their order, with room for those of a full ring.
 pub fn marks_of(alloc: Global, records: &[Fired], ring: u32) -> Result<Vec<Mark>, AllocError>
@@ -14,22 +15,21 @@ pub fn marks_of(alloc: Global, records: &[Fired], ring: u32) -> Result<Vec<Mark>
 {
     let mut marks = Vec::with_capacity(alloc, ring as usize)?;
     for fired in records {
-        marks.push_reserved(mark_of(fired));
+        marks.push_reserved(mark_of(fired.number(), fired));
     }
     Ok(marks)
 }
 
-/// The mark of a record.
-pub(crate) fn mark_of(fired: &Fired) -> Mark
-    ensures { result ≡ mark_of fired.now }
+/// The mark of the record with the number that has these entries.
+pub(crate) fn mark_of<E: EntrySource>(number: u64, entries: &E) -> Mark
+    requires { length (E.entries entries.now) ≤ MOST_PARTICIPANTS }
+    ensures { result ≡ record { number = number; participations = map participation_in (E.entries entries.now) } }
 {
-    let entries = fired.entries();
-    let nobody = Participation { atom: 0, number: 0 };
-    let mut participations = [nobody; MOST_PARTICIPANTS];
-    for i in 0..entries.len() {
-        participations[i] = participation_in(&entries[i]);
+    let mut mark = Mark::new(number);
+    for place in 0..entries.count() {
+        mark.push(participation_in(&entries.entry(place)));
     }
-    Mark::of(fired.number(), &participations[..entries.len()])
+    mark
 }
 
 /// Which firing of its atom the entry tells of.

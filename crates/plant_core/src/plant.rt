@@ -10,9 +10,12 @@ ghost use Rattle.plant_model.specs.System.{digest_of};
 ghost use Rattle.step_executor.specs.Executing.{committed_in, jobs_in, plant_in, states_in, system_in};
 
 use crate::snapshots::Snapshots;
+use connector_tree::MAX_LEAVES;
 use disk_model::{BODY, Cells, Disk};
 use gated_journal::Journal;
+use petri_atom::Delivered;
 use plant_model::{Choice, MAX_ATOMS};
+use snapshot_writer::Batch;
 use step_executor::Executor;
 use trimmer::Mark;
 
@@ -30,18 +33,21 @@ pub struct Plant<'s, D: Disk> {
     pub(crate) acked_counts: [u64; MAX_ATOMS],
     /// The number of the last record that is acknowledged.
     pub(crate) number: u64,
-    /// The choices that were fired since. Calls ask only how many there are: the choices themselves, and the acknowledged state in the executor, are
-    /// there for contracts alone, which say that the acknowledged state leads to the present one by these choices, and that a stop leaves what
-    /// stands for one on that way.
+    /// The choices that were fired since. Calls ask only how many there are: the choices themselves are there for contracts alone, which say that the
+    /// acknowledged state leads to the present one by these choices, and that a stop leaves what stands for one on that way.
     pub(crate) tail: Vec<Choice>,
     /// The bodies of their records, which a flush writes.
     pub(crate) bodies: Vec<[u8; BODY]>,
+    /// Room for what a choice delivers, so that none is cleared for each. What stands there says nothing.
+    pub(crate) delivered: [Delivered; MAX_LEAVES],
     /// Which record cells of the device are live.
     pub(crate) journal: Journal,
     /// Of each record that is kept who took part in it: so a trim reads no record.
     pub(crate) marks: Vec<Mark>,
     /// What is known of the saved states of the atoms.
     pub(crate) snapshots: Snapshots,
+    /// Room for the states that a save stores.
+    pub(crate) batch: Batch,
     /// The device.
     pub(crate) cells: Cells<D>,
     /// The device failed in a call, or a call of it runs.

@@ -1,9 +1,7 @@
 //! How much room a durable plant has, and which atoms take it.
-ghost use Rattle.std.specs.Prelude.{◌≡◌, nat_lt};
-ghost use Rattle.record_replay.specs.Records.{count_of};
-ghost use Rattle.trimmer.specs.Covered.{saved_count};
+ghost use Rattle.std.specs.Prelude.{◌≡◌};
 ghost use Rattle.plant_core.specs.Plants.{view_of};
-ghost use Rattle.plant_core.specs.View.{is_base_held_by};
+ghost use Rattle.plant_core.specs.View.{is_base_held_by, is_behind};
 
 use crate::plant::Plant;
 use disk_model::Disk;
@@ -31,7 +29,7 @@ impl<'s, D: Disk> Plant<'s, D> {
 
     /// Whether the atom's newest saved state is behind the acknowledged one.
     pub fn is_behind(&self, atom: u16) -> bool
-        ensures { result ≡ nat_lt (saved_count (view_of self.now).saved atom) (count_of (view_of self.now).acked_counts atom) }
+        ensures { result ≡ is_behind atom (view_of self.now) }
     {
         match self.acked_counts.get(usize::from(atom)) {
             Some(count) => self.snapshots.saved_count(atom) < *count,

@@ -1,17 +1,19 @@
 //! What a durable plant knows of the saved states of its atoms.
-ghost use Rattle.std.specs.Prelude.{◌≡◌, ◌<◌, ◌↔◌, Some, IsTrue, IfOk, IfSome, length};
+ghost use Rattle.std.specs.Prelude.{◌≡◌, ◌<◌, ◌↔◌, ℕ, Some, IsTrue, IfOk, IfSome, length, slice_get};
+ghost use Rattle.snapshot_writer.specs.Batches.{SlottedFields};
 ghost use Rattle.trimmer.specs.Covered.{saved_count};
-ghost use Rattle.plant_core.specs.Snapshots.{held_at, next_slot, nothing_kept, with_copy, with_slot};
+ghost use Rattle.plant_core.specs.Snapshots.{held_at, next_slot, nothing_kept, with_copy, with_slot, with_slots};
 
 use record_codec::Saved;
-use snapshot_writer::Parcel;
+use snapshot_writer::{Batch, Parcel};
 use std::alloc::{AllocError, Global};
 use std::marker::Model;
 use trimmer::SavedAt;
 
 /// What a durable plant knows of the saved states of its atoms: of the newest in the slots of each atom how often the atom had taken part, and
 /// which record was the last then; a copy of each state that was asked for and is not stored yet; and in which slot the next state of each atom goes.
-/// That is known of an atom once the plant has stored a state of it since its start: until then the slots of the atom tell. Only making it takes memory.
+/// That is known of an atom once the plant has stored a state of it since its start, and that slot is full: until then the slots of the atom tell. Only
+/// making it takes memory.
 #[derive(Drop)]
 pub struct Snapshots {
     saved: Vec<SavedAt>,
@@ -113,5 +115,15 @@ impl Snapshots {
         };
         self.kept[atom] = None;
         self.next_slots[atom] = Some(1 - slot);
+    }
+
+    /// The states of the batch are stored, each in its slot.
+    pub(crate) fn all_stored(&mut self, batch: &Batch)
+        requires { (i : ℕ) (s : SlottedFields) → slice_get batch.now i ≡ Some s → s.saved.atom < length self.old.kept }
+        ensures { self.new ≡ with_slots batch.now self.old }
+    {
+        for i in 0..batch.len() {
+            self.stored(batch.parcel(i), batch.slot(i));
+        }
     }
 }

@@ -54,12 +54,6 @@ cut-by x plant d digest same_plant same_digest v w s m a b events cut =
     subst (λ (t : List ℕ). IsCutRun plant t v s a events w m b) same_digest
     (subst (λ (y : PlantDefinition). IsCutRun y d v s a events w m b) same_plant cut)
 
-pub asked-by : (x plant : PlantDefinition) (d digest : List ℕ) → x ≡ plant → d ≡ digest → (v w : View) (s m : DiskState) (a b : HandFields) (events : List Event) (failed : Bool) (old new : Option (List ℕ))
-    → HasBeenAsked x d v s a events failed w m b old new → HasBeenAsked plant digest v s a events failed w m b old new
-asked-by x plant d digest same_plant same_digest v w s m a b events failed old new asked =
-    subst (λ (t : List ℕ). HasBeenAsked plant t v s a events failed w m b old new) same_digest
-    (subst (λ (y : PlantDefinition). HasBeenAsked y d v s a events failed w m b old new) same_plant asked)
-
 pub driven-by : (x plant : PlantDefinition) (d digest : List ℕ) → x ≡ plant → d ≡ digest → (v w : View) (s m : DiskState) (a b : HandFields)
     → HasBeenDriven x d v s a w m b → HasBeenDriven plant digest v s a w m b
 driven-by x plant d digest same_plant same_digest v w s m a b driven =
@@ -68,9 +62,6 @@ driven-by x plant d digest same_plant same_digest v w s m a b driven =
 
 module _ (plant : PlantDefinition) (digest : List ℕ) where
   -- nothing was asked
-  pub none-asked : (v : View) (s : DiskState) (hands : HandFields) (out : Option (List ℕ)) → StandsNow plant digest v s → HasBeenAsked plant digest v s hands [] false v s hands out out
-  none-asked v s hands out stands = record { happened = []; driven = driven-none plant digest v s hands stands; printed = Appends-nil out; told = refl }
-
   pub none-driven : (v : View) (s : DiskState) (hands : HandFields) → StandsNow plant digest v s → HasBeenDriven plant digest v s hands v s hands
   none-driven v s hands stands = record { events = []; happened = []; driven = driven-none plant digest v s hands stands }
 
@@ -136,7 +127,7 @@ module _ (plant : PlantDefinition) (digest rules : List ℕ) (v w : View) (s m :
       subst (λ (k : Command). IsAnsweredAs plant digest rules v s a line k failed w m b old new) (sym same)
       (record { happened = asked.happened; driven = asked.driven; printed = subst (Appends old new) (sym (append-nil (happened_text plant asked.happened))) asked.printed; told = asked.told })
 
-  pub answered-save : command ≡ Save → HasBeenAsked plant digest v s a (saving_events plant v) failed w m b old new → IsAnsweredAs plant digest rules v s a line command failed w m b old new
+  pub answered-save : command ≡ Save → HasBeenAsked plant digest v s a saving_events failed w m b old new → IsAnsweredAs plant digest rules v s a line command failed w m b old new
   answered-save same asked =
       subst (λ (k : Command). IsAnsweredAs plant digest rules v s a line k failed w m b old new) (sym same)
       (record { happened = asked.happened; driven = asked.driven; printed = subst (Appends old new) (sym (append-nil (happened_text plant asked.happened))) asked.printed; told = asked.told })

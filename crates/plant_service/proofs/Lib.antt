@@ -1,5 +1,4 @@
 mod Driving
-mod Behind
 mod Exchanging
 mod Lines
 mod Sessions

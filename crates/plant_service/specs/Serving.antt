@@ -35,7 +35,7 @@ pub record HasBeenAsked (plant : PlantDefinition) (digest : List ℕ) (v : View)
 -- the events that a command asks of a plant with this view
 abbrev pub events_of : PlantDefinition → View → Command → List Event
 events_of plant v (Asks event) = event ∷ []
-events_of plant v Save = saving_events plant v
+events_of plant v Save = saving_events
 events_of plant v other = []
 
 -- what is printed of a command: the answers of its events, or that to a question

@@ -8,6 +8,7 @@ ghost use Rattle.record_codec.specs.Entry.{is_entry};
 ghost use Rattle.record_codec.specs.Fired.{IsFired, IsFiredBody, IsFiredBodyUpTo, FiredFits, atoms_of, is_rising, is_fired_up_to, fired_bytes, fired_in, fired_up_to};
 
 use crate::entry::Entry;
+use crate::entry_source::EntrySource;
 use crate::layout::{BODY, LAST_NUMBER, MOST_CONNECTORS, MOST_ENTRIES};
 use crate::reader::Reader;
 use crate::writer::Writer;
@@ -102,13 +103,7 @@ impl Fired {
         ensures fits { FiredFits self.now }
         ensures reads_back { (most : ℕ) → length self.now.entries ≤ most → fired_up_to most result ≡ Some self.now }
     {
-        let entries = self.entries();
-        let mut writer = Writer::new();
-        writer.eight(self.number);
-        writer.two(self.connector);
-        writer.one(entries.len() as u8);
-        writer.entries(entries);
-        writer.body()
+        spelled(self.number, self.connector, self)
     }
 
     /// The record of at most so many entries that a body of this length holds, or `None` if it is no such record's body.
@@ -149,6 +144,48 @@ impl Fired {
             None
         }
     }
+}
+
+impl EntrySource for Fired {
+    ghost entries = { λ f. f.entries };
+
+    fn count(&self) -> usize {
+        self.entries().len()
+    }
+
+    fn entry(&self, place: usize) -> Entry {
+        self.entries()[place]
+    }
+}
+
+/// The body of a cell that holds the record with the number, of an interaction of the connector, with these entries.
+pub fn spell<E: EntrySource>(number: u64, connector: u16, entries: &E) -> [u8; BODY]
+    requires { IsFired (record { number = number; connector = connector; entries = E.entries entries.now }) }
+    ensures { fired_in result ≡ Some (record { number = number; connector = connector; entries = E.entries entries.now }) }
+{
+    spelled(number, connector, entries)
+}
+
+/// The same, in a body of this length.
+fn spelled<E: EntrySource, const LENGTH: usize>(
+    number: u64,
+    connector: u16,
+    entries: &E,
+) -> [u8; LENGTH]
+    requires in_range { IsFired (record { number = number; connector = connector; entries = E.entries entries.now }) }
+    requires room { 11 + LONGEST_ENTRY * length (E.entries entries.now) ≤ LENGTH }
+    requires within { LENGTH ≤ BODY }
+    ensures spelled { result ≡ padded LENGTH (fired_bytes (record { number = number; connector = connector; entries = E.entries entries.now })) }
+    ensures fits { FiredFits (record { number = number; connector = connector; entries = E.entries entries.now }) }
+    ensures reads_back { (most : ℕ) → length (E.entries entries.now) ≤ most
+        → fired_up_to most result ≡ Some (record { number = number; connector = connector; entries = E.entries entries.now }) }
+{
+    let mut writer = Writer::new();
+    writer.eight(number);
+    writer.two(connector);
+    writer.one(entries.count() as u8);
+    writer.entries(entries);
+    writer.body()
 }
 
 fn is_in_range(number: u64, connector: u16, entries: &[Entry], most: usize) -> bool

@@ -22,12 +22,14 @@
 //! - `layout`: sizes and limits, each in one place.
 //! - `ring`: which cell of a device holds which value.
 //! - `reader`, `writer`: one field at a time, over bodies of any length.
-//! - `identity`, `base`, `saved`, `entry`, `fired`: the values, in bodies of any length that has room for them.
+//! - `identity`, `base`, `saved`, `entry`, `fired`: the values, in bodies of any length that has room for them. `entry_source`: what has the entries of a
+//!   record.
 //! - `v1`: the bodies of the first layout, and today's bodies of them.
 #![tactic(auto)]
 
 mod base;
 mod entry;
+mod entry_source;
 mod fired;
 mod identity;
 pub mod laws;
@@ -40,7 +42,8 @@ mod writer;
 
 pub use base::Base;
 pub use entry::Entry;
-pub use fired::Fired;
+pub use entry_source::EntrySource;
+pub use fired::{Fired, spell};
 pub use identity::Identity;
 pub use layout::{
     BODY, DIGEST, LAST_NUMBER, LEAST_RING, LONGEST_ENTRY, MAGIC, MOST_ATOMS, MOST_CONNECTORS,

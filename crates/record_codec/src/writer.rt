@@ -7,6 +7,7 @@ ghost use Rattle.record_codec.specs.Entry.{EntryFits, value_bytes, entry_bytes};
 ghost use Rattle.record_codec.specs.Bytes.{one_byte, two_bytes, four_bytes, eight_bytes, signed_bytes, zeros, padded};
 
 use crate::entry::Entry;
+use crate::entry_source::EntrySource;
 use std::marker::Model;
 
 /// Writes a body from its front: what was written so far, and zeros after it.
@@ -142,14 +143,14 @@ impl<const LENGTH: usize> Writer<LENGTH> {
         self.value(fourth);
     }
 
-    /// Writes entries, one after the other.
-    pub(crate) fn entries(&mut self, entries: &[Entry])
-        requires { length self.old + LONGEST_ENTRY * length entries.now ≤ LENGTH }
-        ensures written { self.new ≡ self.old ++ flat_map entry_bytes entries.now }
-        ensures fits { All EntryFits entries.now }
+    /// Writes the entries of a record, one after the other.
+    pub(crate) fn entries<E: EntrySource>(&mut self, entries: &E)
+        requires { length self.old + LONGEST_ENTRY * length (E.entries entries.now) ≤ LENGTH }
+        ensures written { self.new ≡ self.old ++ flat_map entry_bytes (E.entries entries.now) }
+        ensures fits { All EntryFits (E.entries entries.now) }
     {
-        for entry in entries {
-            self.entry(entry);
+        for place in 0..entries.count() {
+            self.entry(&entries.entry(place));
         }
     }
 }

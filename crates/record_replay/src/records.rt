@@ -1,44 +1,50 @@
 //! The record of a step.
-ghost use Rattle.std.specs.Prelude.{◌≡◌, ◌+◌, ◌<◌, ◌^◌, Contains};
+ghost use Rattle.std.specs.Prelude.{◌≡◌, ◌+◌, ◌<◌, ◌≤◌, ◌^◌, Contains, Some, length};
 ghost use Rattle.std.specs.List.Sorted.{IsStrictlyIncreasing};
-ghost use Rattle.record_codec.specs.Fired.{IsFired};
+ghost use Rattle.record_codec.specs.Fired.{IsFired, fired_in};
 ghost use Rattle.plant_model.specs.Chosen.{choice_of};
 ghost use Rattle.plant_model.specs.Laws.{atoms_of};
 ghost use Rattle.plant_model.specs.declared.choice.Move.{Move};
-ghost use Rattle.record_replay.specs.Records.{count_of, counts_after, entry_by, record_delivered};
+ghost use Rattle.record_replay.specs.Records.{count_of, counts_after, entries_delivered, entry_by, record_delivered};
 
 use connector_tree::MAX_LEAVES;
 use petri_atom::Delivered;
 use plant_model::{Choice, MAX_ATOMS, Move};
-use record_codec::{Entry, Fired, MOST_EXPORTED};
+use record_codec::{BODY, Entry, EntrySource, spell};
 
-/// The record with the number of a choice that was fired: `delivered` has at the place of each move what its atom got, and `counts` how
-/// often each atom had taken part before.
-pub fn record_of(
-    number: u64,
-    choice: &Choice,
-    delivered: &[Delivered; MAX_LEAVES],
-    counts: &[u64; MAX_ATOMS],
-) -> Fired
-    requires in_range { IsFired (record_delivered number (choice_of choice.now) delivered.now counts.now) }
-    ensures { result ≡ record_delivered number (choice_of choice.now) delivered.now counts.now }
-{
-    let moves = choice.moves.as_slice();
-    let mut entries = [no_entry(); MAX_LEAVES];
-    for place in 0..moves.len() {
-        entries[place] = entry_of(moves[place], &delivered[place], counts);
-    }
-    Fired::new(number, choice.connector, &entries[..moves.len()])
+/// A choice that was fired, as its record tells of it.
+#[derive(Clone, Copy)]
+pub struct FiredStep<'a> {
+    /// The number of the record.
+    pub number: u64,
+    /// The choice.
+    pub choice: &'a Choice,
+    /// At the place of each move, what its atom got.
+    pub delivered: &'a [Delivered; MAX_LEAVES],
+    /// How often each atom had taken part before.
+    pub counts: &'a [u64; MAX_ATOMS],
+    pub ghost each: { length choice.now.moves ≤ length delivered.now },
+    pub ghost in_range: { IsFired (record_delivered number (choice_of choice.now) delivered.now counts.now) },
 }
 
-// What stands in the places after the last entry.
-fn no_entry() -> Entry {
-    Entry {
-        atom: 0,
-        transition: 0,
-        participation: 0,
-        delivered: [None; MOST_EXPORTED],
+impl EntrySource for FiredStep<'_> {
+    ghost entries = { λ step. entries_delivered step.counts.now step.choice.now.moves step.delivered.now };
+
+    fn count(&self) -> usize {
+        self.choice.moves.as_slice().len()
     }
+
+    fn entry(&self, place: usize) -> Entry {
+        let moves = self.choice.moves.as_slice();
+        entry_of(moves[place], &self.delivered[place], self.counts)
+    }
+}
+
+/// The body of a cell that holds the record of the step. No list of its entries is made.
+pub fn spell_record(step: &FiredStep<'_>) -> [u8; BODY]
+    ensures { fired_in result ≡ Some (record_delivered step.now.number (choice_of step.now.choice.now) step.now.delivered.now step.now.counts.now) }
+{
+    spell(step.number, step.choice.connector, step)
 }
 
 /// What the participant did, which got `delivered`.

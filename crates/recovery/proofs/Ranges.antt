@@ -16,7 +16,7 @@ use Rattle.plant_model.specs.Plant.{PlantDefinition}
 use Rattle.plant_model.specs.Rules.{fault_of}
 use Rattle.plant_model.proofs.Membership.{all-in, entry-in}
 use Rattle.plant_model.proofs.OfInteractions.{within-limits}
-use Rattle.plant_core.proofs.Saving.{few_variables}
+use Rattle.plant_core.proofs.Noted.{few_variables}
 use Rattle.plant_image.proofs.ByAtoms.{element_at}
 
 -- a state that fits a well-formed atom has room in a body

@@ -1,5 +1,5 @@
 -- What the calls of writing a state afresh leave, by cells.
-use Rattle.std.proofs.Common.{◌≡◌, ◌≢◌, ◌⊎◌, inl, inr, ⊎_elim, ℕ, zero, suc, ◌+◌, ◌<◌, ◌≤◌, List, [], ◌∷◌, length, get_or, slice_get, false, true, Some, None, refl, sym, ◌∙◌, ap, subst, arith}
+use Rattle.std.proofs.Common.{◌≡◌, ◌≢◌, ◌⊎◌, inl, inr, ⊎_elim, ℕ, zero, suc, ◌+◌, ◌<◌, ◌≤◌, List, [], ◌∷◌, length, get_or, slice_get, false, true, Some, None, is_some, refl, sym, ◌∙◌, ap, subst, arith}
 use Rattle.std.specs.List.{range_with_len}
 use Rattle.std.proofs.lemmas.Bool.{cases_lt}
 use Rattle.std.proofs.lemmas.List.{ext_get_or, get_or_past}
@@ -91,6 +91,13 @@ stored_none states counts number s settled = record {
   others = λ k none. refl;
 }
 
+-- the slot of the next atom still reads empty
+pub next_is_empty : (n atom : ℕ) (states : List Local) (counts : List ℕ) (number : ℕ) (old mid : DiskState) → atom ≡ n → HasStoredStates n states counts number old mid → cell (seen_cells (BODY + 1) old) (slot_cell n 0) ≡ None
+    → is_some (cell (seen_cells (BODY + 1) mid) (slot_cell atom 0)) ≡ false
+next_is_empty n atom states counts number old mid same before empty =
+    ap (λ (k : ℕ). is_some (cell (seen_cells (BODY + 1) mid) (slot_cell k 0))) same
+    ∙ ap (λ (c : Cell). is_some c) (before.others (slot_cell n 0) (λ other below is. omega (arith, below, is)) ∙ empty)
+
 -- one more
 pub stored_more : (n : ℕ) (states : List Local) (counts : List ℕ) (number : ℕ) (state : Local) (old mid new : DiskState) → slice_get states n ≡ Some state → HasStoredStates n states counts number old mid
     → IsStored 0 (saved_by n (count_of counts n) number state) mid new → HasStoredStates (n + 1) states counts number old new
@@ -122,9 +129,12 @@ slots_leave n states counts number saved old mid new before run more =
 
 -- ---- the whole
 
--- the first cell is empty until the identity is set
+-- the first cell is empty until the identity is set, and the slots are until the states are stored
 first_still : (blank based : DiskState) (body : List ℕ) → IsBlank blank → Filled (BODY + 1) (1 ∷ []) (body ∷ []) blank based → cell (seen_cells (BODY + 1) based) 0 ≡ None
 first_still blank based body is set = set.others 0 (none_of_one 1 0 (λ same. omega (arith, same))) ∙ is.empty 0
+
+pub slots_still : (blank based : DiskState) (body : List ℕ) → IsBlank blank → Filled (BODY + 1) (1 ∷ []) (body ∷ []) blank based → (atom : ℕ) → cell (seen_cells (BODY + 1) based) (slot_cell atom 0) ≡ None
+slots_still blank based body is set atom = set.others (slot_cell atom 0) (none_of_one 1 (slot_cell atom 0) (λ same. omega (arith, same))) ∙ is.empty (slot_cell atom 0)
 
 pub first_closed : (blank based stored : DiskState) (body : List ℕ) (n : ℕ) (states : List Local) (counts : List ℕ) (number : ℕ) → IsBlank blank → Filled (BODY + 1) (1 ∷ []) (body ∷ []) blank based
     → HasStoredStates n states counts number based stored → IsClosed (BODY + 1) stored 0

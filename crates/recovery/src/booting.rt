@@ -18,6 +18,7 @@ use parallel_replay::{MOST_WORKERS, Turn, read_image_by};
 use plant_core::{MOST_TAIL, Parts, Plant, Snapshots, marks_of};
 use plant_image::{ImageFault, Standing, read_image};
 use plant_model::System;
+use snapshot_writer::Batch;
 use std::alloc::{AllocError, Global};
 use std::thread::Threads;
 use step_executor::Executor;
@@ -216,6 +217,7 @@ fn take_memory<'s, D: Disk>(
     let executor = Executor::at(alloc, system, states)?;
     let tail = Vec::with_capacity(alloc, MOST_TAIL)?;
     let bodies = Vec::with_capacity(alloc, MOST_TAIL)?;
+    let batch = Batch::of(alloc)?;
     Ok(Parts {
         executor,
         counts,
@@ -224,5 +226,6 @@ fn take_memory<'s, D: Disk>(
         journal,
         marks,
         snapshots,
+        batch,
     })
 }

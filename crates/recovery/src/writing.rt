@@ -1,7 +1,8 @@
 //! Writing a state of a plant afresh, into a device that may hold anything.
-ghost use Rattle.std.specs.Prelude.{◌≡◌, ◌≢◌, ◌+◌, ◌*◌, ◌-◌, ◌<◌, ◌≤◌, ℕ, Some, true, false, length, slice_get, is_err, IfErr, IfOk, OnOk};
+ghost use Rattle.std.specs.Prelude.{◌≡◌, ◌≢◌, ◌+◌, ◌*◌, ◌-◌, ◌<◌, ◌≤◌, ℕ, None, Some, true, false, length, slice_get, is_err, IfErr, IfOk, OnOk};
 ghost use Rattle.std.specs.List.{range_with_len};
 ghost use Rattle.record_codec.specs.Identity.{IsIdentity};
+ghost use Rattle.record_codec.specs.Ring.{slot_cell};
 ghost use Rattle.record_codec.specs.declared.layout.TheConstants.{LAST_NUMBER, MOST_ATOMS, MOST_VARIABLES};
 ghost use Rattle.record_replay.specs.Records.{count_of};
 ghost use Rattle.plant_image.specs.Standing.{identity_for};
@@ -14,7 +15,7 @@ use disk_model::{BODY, CELL, Cells, Disk, DiskFault};
 use plant_model::{PlantState, System};
 use record_codec::ring::{IDENTITY_CELL, base_cell, device_cells};
 use record_codec::{Base, DIGEST, Identity};
-use snapshot_writer::{Parcel, encode, store};
+use snapshot_writer::{FreeSlot, Parcel, encode, store};
 use std::alloc::{AllocError, Global};
 
 /// How many cells the device has for the plant and a ring of so many records.
@@ -135,7 +136,13 @@ fn empty_cells<D: Disk>(cells: &mut Cells<D>, others: &[u64]) -> Result<(), Disk
     cells.erase_run(others)
 }
 
-/// Stores the state of each atom in its slot 0, with its count, at the number.
+/// The slot 0 of an atom, which is empty.
+const FIRST: FreeSlot = FreeSlot {
+    slot: 0,
+    full: false,
+};
+
+/// Stores the state of each atom in its slot 0, which reads empty, with its count, at the number.
 fn store_states<D: Disk>(
     cells: &mut Cells<D>,
     states: &PlantState,
@@ -149,6 +156,7 @@ fn store_states<D: Disk>(
     requires number { number ≤ LAST_NUMBER }
     requires inside { 3 + 2 * length states.now ≤ cell_count (BODY + 1) cells.old }
     requires settled { cells.old.keeps ≡ true → IsSettled cells.old.now }
+    requires empty { cells.old.keeps ≡ true → (atom : ℕ) → atom < length states.now → cell (seen_cells (BODY + 1) cells.old) (slot_cell atom 0) ≡ None }
     ensures counts { CountsUpTo (is_err result) (3 * length states.now) cells.old cells.new }
     ensures stops { cells.old.keeps ≡ true
         → Leaves (BODY + 1) (λ left. cell left identity_cell ≡ cell (seen_cells (BODY + 1) cells.old) identity_cell) cells.old cells.new }
@@ -159,7 +167,7 @@ fn store_states<D: Disk>(
         let count = counts[usize::from(atom)];
         let parcel = Parcel::new(atom, count, number, states.state(atom).copy());
         // A stop leaves the slot as it was, empty or with the whole state, and every other cell, the first among them, as it was.
-        store(cells, 0, &encode(parcel))?;
+        store(cells, FIRST, &encode(parcel))?;
     }
     Ok(())
 }

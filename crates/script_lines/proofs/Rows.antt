@@ -1,7 +1,7 @@
 -- Worked examples of the definitions, as computed facts.
 use Rattle.std.proofs.Common.{◌≡◌, refl, ℕ, List, true, false, [], ◌∷◌, ◌++◌, codes, None, Ok, Err}
 use Rattle.std.specs.Fmt.{digits}
-use Rattle.plant_core.specs.declared.events.Event.TheVariants.{Fire, Flush, Ask, Put, Trim, Begin, Back}
+use Rattle.plant_core.specs.declared.events.Event.TheVariants.{Fire, Flush, Ask, Put, Save, Trim, Begin, Back}
 use Rattle.plant_core.specs.declared.events.Happened.TheVariants as happened
 use Rattle.plant_core.specs.declared.events.Returned.{Returned}
 use Rattle.plant_core.specs.declared.refused.Refused.TheVariants.{Stuck, Busy, TailFull, RingFull, Spent, Away, Ahead, Stranger, NothingNew, Disk, Broken}
@@ -50,6 +50,12 @@ a_comment_is_refused = refl
 
 atoms_are_asked_for_by_their_names : script_meaning two (codes "ask A\nput A\n ask\tB \nflush\nput B") ≡ Ok (Ask 0 ∷ Put 0 ∷ Ask 1 ∷ Flush ∷ Put 1 ∷ [])
 atoms_are_asked_for_by_their_names = refl
+
+states_are_saved_by_a_word_alone : script_meaning two (codes "save\n\n save\t\nsave A") ≡ Err 4
+states_are_saved_by_a_word_alone = refl
+
+a_save_is_asked_for : script_meaning two (codes "save\ntrim\n save") ≡ Ok (Save ∷ Trim ∷ Save ∷ [])
+a_save_is_asked_for = refl
 
 records_are_trimmed_by_a_word_alone : script_meaning two (codes " trim \n\ntrim\ntrim 4") ≡ Err 4
 records_are_trimmed_by_a_word_alone = refl
@@ -200,6 +206,18 @@ an_empty_hand_is_told = refl
 an_atom_that_is_not_there_has_no_name : happened_line two (happened.Empty 2) ≡ codes "nothing "
 an_atom_that_is_not_there_has_no_name = refl
 
+a_save_is_told : happened_line two (happened.Save (Ok (record { number = 12; atoms = 3 }))) ≡ codes "saved 12 A B"
+unfolding digits
+a_save_is_told = refl
+
+a_save_of_one_atom_is_told : happened_line two (happened.Save (Ok (record { number = 4; atoms = 2 }))) ≡ codes "saved 4 B"
+unfolding digits
+a_save_of_one_atom_is_told = refl
+
+a_refused_save_is_told : happened_line two (happened.Save (Err NothingNew)) ≡ codes "refused 9 NothingNew"
+unfolding digits
+a_refused_save_is_told = refl
+
 a_trim_is_told : happened_line two (happened.Trim (Ok 12)) ≡ codes "base 12"
 unfolding digits
 a_trim_is_told = refl
@@ -242,6 +260,9 @@ a_broken_plant_is_none = refl
 
 a_device_that_fails_to_store_is_a_failure : has_failed (happened.Put (copied 0 4) (Err Disk)) ≡ true
 a_device_that_fails_to_store_is_a_failure = refl
+
+a_device_that_fails_to_save_is_a_failure : has_failed (happened.Save (Err Disk)) ≡ true
+a_device_that_fails_to_save_is_a_failure = refl
 
 a_device_that_fails_to_trim_is_a_failure : has_failed (happened.Trim (Err Disk)) ≡ true
 a_device_that_fails_to_trim_is_a_failure = refl

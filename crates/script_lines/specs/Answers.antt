@@ -1,14 +1,18 @@
 -- The lines of what happened to a durable plant, and of where it stands.
-use Rattle.std.specs.Prelude.{ℕ, List, [], ◌++◌, Option, None, Some, Result, Ok, Err, codes, decimal}
+use Rattle.std.specs.Prelude.{ℕ, List, [], ◌++◌, Option, None, Some, Result, Ok, Err, codes, decimal, if◌then◌else◌}
+use Rattle.petri_atom.specs.Definition.{AtomDefinition}
+use Rattle.petri_atom.specs.Local.{has}
 use Rattle.plant_model.specs.Choice.{ChoiceDefinition}
 use Rattle.plant_model.specs.Chosen.{choice_of}
 use Rattle.plant_model.specs.Plant.{PlantDefinition}
+use Rattle.text_io.specs.Numbered.{numbered}
 use Rattle.run_text.specs.Line.{fired_line, states_text}
 use Rattle.plant_core.specs.Refusals.{number_of}
 use Rattle.plant_core.specs.View.{View, fired_number}
 use Rattle.plant_core.specs.declared.events.FiredAs.{FiredAs}
 use Rattle.plant_core.specs.declared.events.Happened.{Happened}
-use Rattle.plant_core.specs.declared.events.Happened.TheVariants.{Fire, FireChoice, Flush, Ask, Put, Empty, Trim, Begin, Back, Idle}
+use Rattle.plant_core.specs.declared.events.Happened.TheVariants.{Fire, FireChoice, Flush, Ask, Put, Empty, Save, Trim, Begin, Back, Idle}
+use Rattle.plant_core.specs.declared.events.SavedTo.{SavedTo}
 use Rattle.plant_core.specs.declared.front.Front.{Front}
 use Rattle.plant_core.specs.declared.refused.Refused.{Refused}
 use Rattle.plant_core.specs.declared.refused.Refused.TheVariants.{Stuck, Busy, TailFull, RingFull, Spent, Away, Ahead, Stranger, NothingNew, Disk, Broken}
@@ -76,12 +80,20 @@ back_line name = codes "back " ++ name
 abbrev pub nothing_line : List ℕ → List ℕ
 nothing_line name = codes "nothing " ++ name
 
+-- the name of an atom behind a space, if the set has its number
+abbrev pub name_if_in : ℕ → ℕ → AtomDefinition → List ℕ
+name_if_in set number a = if has set number then codes " " ++ a.name else []
+
+-- a save: the last number that is acknowledged, and the names of the atoms whose states were stored
+abbrev pub saved_line : PlantDefinition → SavedTo → List ℕ
+saved_line plant saved = codes "saved " ++ decimal saved.number ++ numbered (name_if_in saved.atoms) 0 plant.atoms
+
 -- a trim: the first record that is kept
 abbrev pub base_line : ℕ → List ℕ
 base_line number = codes "base " ++ decimal number
 
 -- What happened: a choice that was fired as a trace prints it, and told where its participants went away, up to where all was acknowledged, which state
--- was copied or stored, which atom is present again, from where on records are kept, or why the plant refused.
+-- was copied or stored, of which atoms the acknowledged states were, which atom is present again, from where on records are kept, or why the plant refused.
 abbrev pub happened_line : PlantDefinition → Happened → List ℕ
 happened_line plant (Fire pick answer) = fire_line plant answer
 happened_line plant (FireChoice choice (Some answer)) = fire_line plant answer
@@ -93,6 +105,8 @@ happened_line plant (Ask atom (Err refused)) = refused_line refused
 happened_line plant (Put handed (Ok count)) = stored_line (atom_name plant handed.atom) count
 happened_line plant (Put handed (Err refused)) = refused_line refused
 happened_line plant (Empty atom) = nothing_line (atom_name plant atom)
+happened_line plant (Save (Ok saved)) = saved_line plant saved
+happened_line plant (Save (Err refused)) = refused_line refused
 happened_line plant (Trim (Ok base)) = base_line base
 happened_line plant (Trim (Err refused)) = refused_line refused
 happened_line plant (Begin pick (Ok fired)) = begun_line plant fired.number (choice_of fired.choice)

@@ -54,7 +54,7 @@ place_at_fault plant line mistake = place_of plant line mistake.word mistake.wro
 abbrev pub wrong_text : PlantDefinition → List ℕ → Wrong → List ℕ
 wrong_text plant word Byte = codes "the line has a byte that is neither printed ASCII nor a tab"
 wrong_text plant word Comment = codes "a script has no comments"
-wrong_text plant word NoEvent = quoted word (codes " is no event: fire, flush, ask, put, trim, begin or back")
+wrong_text plant word NoEvent = quoted word (codes " is no event: fire, flush, ask, put, save, trim, begin or back")
 wrong_text plant word NoChoice = codes "the number of a choice is missing, or a choice as a fired line names it: CONNECTOR ATOM.PORT/TRANSITION .."
 wrong_text plant word NoNumber = codes "the number of a choice is missing"
 wrong_text plant word BadNumber = quoted word (codes " is no number from 0 to 18446744073709551615")

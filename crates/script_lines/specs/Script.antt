@@ -16,7 +16,7 @@ use Rattle.plant_words.specs.Words.{begins_with, words_of}
 use Rattle.text_io.specs.Numbered.{numbered}
 use Rattle.text_io.specs.declared.reading.TheConstants.{MAX_TEXT}
 use Rattle.plant_core.specs.declared.events.Event.{Event}
-use Rattle.plant_core.specs.declared.events.Event.TheVariants.{Fire, FireChoice, Flush, Ask, Put, Trim, Begin, Back}
+use Rattle.plant_core.specs.declared.events.Event.TheVariants.{Fire, FireChoice, Flush, Ask, Put, Save, Trim, Begin, Back}
 use Rattle.plant_model.specs.Lookup.{atom_named}
 use Rattle.script_lines.specs.declared.fault.ScriptFault.{ScriptFault}
 use Rattle.script_lines.specs.declared.fault.ScriptFault.TheVariants.{Line, Memory}
@@ -83,6 +83,7 @@ event_in plant first words =
     else if is_same_text first (codes "flush") then alone 1 Flush words
     else if is_same_text first (codes "ask") then asked_as Ask (only_atom plant words)
     else if is_same_text first (codes "put") then asked_as Put (only_atom plant words)
+    else if is_same_text first (codes "save") then alone 1 Save words
     else if is_same_text first (codes "trim") then alone 1 Trim words
     else if is_same_text first (codes "begin") then asked_as Begin (only_pick words)
     else if is_same_text first (codes "back") then asked_as Back (only_atom plant words)

@@ -9,7 +9,7 @@ use Rattle.plant_core.specs.View.{View, sure_in}
 use Rattle.plant_core.specs.declared.events.Event.{Event}
 use Rattle.plant_core.specs.declared.events.Event.TheVariants as asked
 use Rattle.plant_core.specs.declared.events.Happened.{Happened}
-use Rattle.plant_core.specs.declared.events.Happened.TheVariants.{Fire, FireChoice, Flush, Ask, Put, Empty, Trim, Begin, Back, Idle}
+use Rattle.plant_core.specs.declared.events.Happened.TheVariants.{Fire, FireChoice, Flush, Ask, Put, Empty, Save, Trim, Begin, Back, Idle}
 use Rattle.plant_core.specs.declared.refused.Refused as by_plant
 use Rattle.plant_core.specs.declared.refused.Refused.TheVariants as cause
 use Rattle.plant_model.specs.Plant.{PlantDefinition}
@@ -33,6 +33,7 @@ refusal_in (Flush answer) = refusal_of answer
 refusal_in (Ask atom answer) = refusal_of answer
 refusal_in (Put saved answer) = refusal_of answer
 refusal_in (Empty atom) = None
+refusal_in (Save answer) = refusal_of answer
 refusal_in (Trim answer) = refusal_of answer
 refusal_in (Begin pick answer) = refusal_of answer
 refusal_in (Back returned answer) = refusal_of answer

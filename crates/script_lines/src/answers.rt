@@ -1,12 +1,15 @@
 //! The lines of answers, refusals and fronts.
-ghost use Rattle.std.specs.Prelude.{◌≡◌, OnOk};
+ghost use Rattle.std.specs.Prelude.{◌≡◌, ◌++◌, [], codes, if◌then◌else◌, OnOk};
 ghost use Rattle.std.specs.Io.KnownBytes.{Appends};
+ghost use Rattle.petri_atom.specs.Atom.{definition_of as atom_definition_of};
 ghost use Rattle.plant_model.specs.Chosen.{choice_of};
 ghost use Rattle.plant_model.specs.System.{plant_of};
-ghost use Rattle.script_lines.specs.Answers.{asked_line, atom_in, atom_said, back_line, base_line, begun_line, fire_line, flushed_line, front_line, happened_line, name_of, not_now_line, nothing_line, refused_line, stored_line};
+ghost use Rattle.text_io.specs.Numbered.{numbered};
+ghost use Rattle.script_lines.specs.Answers.{asked_line, atom_in, atom_said, back_line, base_line, begun_line, fire_line, flushed_line, front_line, happened_line, name_if_in, name_of, not_now_line, nothing_line, refused_line, saved_line, stored_line};
 
 use crate::atoms::atom_name;
-use plant_core::{FiredAs, Front, Happened, Refused};
+use petri_atom::Atom;
+use plant_core::{FiredAs, Front, Happened, Refused, SavedTo};
 use plant_model::System;
 use run_text::print_choice;
 use std::io::Write;
@@ -14,8 +17,8 @@ use text_io::{WriteFault, print_number, print_text};
 
 /// Prints what happened to a durable plant of the system: a choice that was fired as a trace prints it, with ` begun` after it where its
 /// participants went away, `flushed N` where all up to number N is acknowledged, `asked NAME COUNT` where the state of the atom was copied,
-/// `stored NAME COUNT` where it was stored, `back NAME` where the atom is present again, `nothing NAME` where no state or no job of it was at hand,
-/// `base N` where records were dropped and N is the first that is kept, and `refused NUMBER NAME` where the plant refused, or did not have the choice
+/// `stored NAME COUNT` where it was stored, `saved N NAME ..` where the acknowledged states of these atoms were, `back NAME` where the atom is present
+/// again, `nothing NAME` where no state or no job of it was at hand, `base N` where records were dropped and N is the first that is kept, and `refused NUMBER NAME` where the plant refused, or did not have the choice
 /// that was to be fired. The line is not ended.
 pub fn print_happened<W: Write>(
     system: &System,
@@ -40,6 +43,8 @@ pub fn print_happened<W: Write>(
         }
         Happened::Put(_, Err(refused)) => print_refused(*refused, output),
         Happened::Empty(atom) => print_nothing(atom_name(system, *atom), output),
+        Happened::Save(Ok(saved)) => print_saved(system, *saved, output),
+        Happened::Save(Err(refused)) => print_refused(*refused, output),
         Happened::Trim(Ok(base)) => print_base(*base, output),
         Happened::Trim(Err(refused)) => print_refused(*refused, output),
         Happened::Begin(_, Ok(fired)) => print_begun(system, fired, output),
@@ -97,6 +102,40 @@ fn print_stored<W: Write>(name: &[u8], count: u64, output: &mut W) -> Result<(),
     print_text(output, name)?;
     print_text(output, b" ")?;
     print_number(output, count)
+}
+
+/// Prints up to which number all is acknowledged, and the names of the atoms whose states were stored.
+fn print_saved<W: Write>(system: &System, saved: SavedTo, output: &mut W) -> Result<(), WriteFault>
+    ensures { OnOk result (Appends (W.contents output.old) (W.contents output.new) (saved_line (plant_of system.now) saved)) }
+{
+    print_text(output, b"saved ")?;
+    print_number(output, saved.number)?;
+    print_names(system, saved, output)
+}
+
+/// Prints the name of each atom whose state was stored, behind a space.
+fn print_names<W: Write>(system: &System, saved: SavedTo, output: &mut W) -> Result<(), WriteFault>
+    ensures { OnOk result (Appends (W.contents output.old) (W.contents output.new)
+        (numbered (name_if_in saved.atoms) 0 (plant_of system.now).atoms)) }
+{
+    system.keeps_its_rules();
+    for (number, atom) in system.atoms().iter().enumerate() {
+        print_name_if(saved.has(number as u16), atom, output)?;
+    }
+    Ok(())
+}
+
+/// Prints the name of the atom behind a space, if it is to be named.
+fn print_name_if<W: Write>(named: bool, atom: &Atom, output: &mut W) -> Result<(), WriteFault>
+    ensures { OnOk result (Appends (W.contents output.old) (W.contents output.new)
+        (if named then codes " " ++ (atom_definition_of atom.now).name else [])) }
+{
+    if named {
+        print_text(output, b" ")?;
+        print_text(output, atom.name().as_bytes())
+    } else {
+        print_text(output, b"")
+    }
 }
 
 /// Prints a choice whose participants went away.

@@ -1,6 +1,6 @@
 //! The lines of a durable run.
 //!
-//! A script is a text with an event on each line: `fire P`, `flush`, `ask NAME`, `put NAME`, `trim`, `begin P` or `back NAME`, where P picks a
+//! A script is a text with an event on each line: `fire P`, `flush`, `ask NAME`, `put NAME`, `save`, `trim`, `begin P` or `back NAME`, where P picks a
 //! choice and NAME is that of an atom; after `fire` a choice may stand as a fired line names it, as `fire send A.t/0 B.u/0`. [`read_script`] turns it into events, [`run_script`] asks them of a [`Plant`](plant_core::Plant), one
 //! after another, and prints what happened: a line for each answer, and at the end a line for the state of each atom and one that says how
 //! far the plant is. A state that is asked for is kept in the hand of its atom until it is put, and so is a job that is begun until it is back.

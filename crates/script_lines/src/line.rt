@@ -57,6 +57,8 @@ fn event_in(system: &System, first: &[u8], words: &mut Words<'_>) -> Result<Even
         Ok(Event::Ask(only_atom(system, words)?))
     } else if first == b"put".as_slice() {
         Ok(Event::Put(only_atom(system, words)?))
+    } else if first == b"save".as_slice() {
+        alone(1, Event::Save, words)
     } else if first == b"trim".as_slice() {
         alone(1, Event::Trim, words)
     } else if first == b"begin".as_slice() {

@@ -48,7 +48,7 @@ fn print_wrong<W: Write>(
         Wrong::Comment => print_text(output, b"a script has no comments"),
         Wrong::NoEvent => print_of_word(
             word,
-            b" is no event: fire, flush, ask, put, trim, begin or back",
+            b" is no event: fire, flush, ask, put, save, trim, begin or back",
             output,
         ),
         Wrong::NoChoice => print_text(

@@ -18,8 +18,8 @@ use text_io::{WriteFault, end_line, hand_on};
 /// begins goes there too, and is done and handed in if that is asked. It tells whether the device failed in some call; then each later call is
 /// refused as broken.
 ///
-/// The output is flushed before each event that makes calls of the device, after the line of its answer, and at the end:
-/// so an acknowledgement never waits in a buffer. No memory is taken.
+/// The output is flushed before each event that makes calls of the device, and at the end: so an acknowledgement never waits in a buffer while the
+/// device works, and a run that flushes after each choice writes once a flush. No memory is taken.
 pub fn run_script<'s, D: Disk, W: Write>(
     plant: &mut Plant<'s, D>,
     hands: &mut Hands<'s>,
@@ -45,8 +45,8 @@ pub fn run_script<'s, D: Disk, W: Write>(
     Ok(failed)
 }
 
-/// Asks an event of the plant, and prints the line of its answer; the output is flushed before and after an event that makes calls of the
-/// device. It gives what happened.
+/// Asks an event of the plant, and prints the line of its answer; the output is flushed before an event that makes calls of the device. It gives
+/// what happened.
 pub fn answer<'s, D: Disk, W: Write>(
     plant: &mut Plant<'s, D>,
     hands: &mut Hands<'s>,
@@ -64,11 +64,9 @@ pub fn answer<'s, D: Disk, W: Write>(
     match event {
         Event::Fire(_) | Event::FireChoice(_) | Event::Ask(_) | Event::Begin(_) | Event::Back(_) =>
             tell(plant, hands, event, output),
-        Event::Flush | Event::Put(_) | Event::Trim => {
+        Event::Flush | Event::Put(_) | Event::Save | Event::Trim => {
             hand_on(output)?;
-            let happened = tell(plant, hands, event, output)?;
-            hand_on(output)?;
-            Ok(happened)
+            tell(plant, hands, event, output)
         }
     }
 }
@@ -105,6 +103,7 @@ pub fn has_failed(happened: &Happened) -> bool
             answer,
         ),
         Happened::Ask(_, answer) => is_disk(answer),
+        Happened::Save(answer) => is_disk(answer),
         Happened::Back(_, answer) => is_disk(answer),
         Happened::Empty(_) | Happened::Idle(_) => false,
     }

@@ -15,7 +15,7 @@ use text_io::MAX_TEXT;
 /// The events that a script asks of a plant of the system, or the first line that it is refused for: its number from 1, and 0 if the
 /// script has more than 1,048,576 bytes.
 ///
-/// Each line has no words or asks for one event: `fire P`, `fire` with a choice as a fired line names it, `flush`, `ask NAME`, `put NAME`, `trim`,
+/// Each line has no words or asks for one event: `fire P`, `fire` with a choice as a fired line names it, `flush`, `ask NAME`, `put NAME`, `save`, `trim`,
 /// `begin P` or `back NAME`, where NAME is that of an atom. Lines are read on if memory is wanting, so that it hides no line that is refused.
 pub fn read_script(alloc: Global, system: &System, text: &[u8]) -> Result<Vec<Event>, ScriptFault>
     ensures events { IfOk result (λ events. script_meaning (plant_of system.now) text.now ≡ Ok events.items) }

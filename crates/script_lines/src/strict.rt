@@ -162,6 +162,7 @@ fn refusal_in(happened: &Happened) -> Option<Refusal>
             answer,
         ),
         Happened::Ask(_, answer) => refusal_of(answer),
+        Happened::Save(answer) => refusal_of(answer),
         Happened::Back(_, answer) => refusal_of(answer),
         Happened::Empty(_) | Happened::Idle(_) => None,
     }

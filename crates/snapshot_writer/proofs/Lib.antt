@@ -1,3 +1,4 @@
 pub mod NewestStates
 pub mod StoredCells
+pub mod Batched
 mod Rows

@@ -14,7 +14,7 @@ use Rattle.snapshot_writer.specs.Storing.{HoldsSaved, HasStored, IsStored, IsNew
 use Rattle.snapshot_writer.proofs.NewestStates.{IsIt, first_is_newest, second_is_newest, alone_in_first, alone_in_second, new_in_first, new_in_second, greater_in_first, greater_in_second}
 
 -- a cell with the state's body holds it
-holds_saved : (saved : SavedFields) (body : List ℕ) (c : Cell) → IsBodyOf body saved → c ≡ Some body → HoldsSaved saved c
+pub holds_saved : (saved : SavedFields) (body : List ℕ) (c : Cell) → IsBodyOf body saved → c ≡ Some body → HoldsSaved saved c
 holds_saved saved body c is full = record {
   body = full ∙ ap (λ (bytes : List ℕ). Some bytes) is.spelled;
   held = ap (saved_of saved.atom) full ∙ ap (option_and_then (if_of_atom saved.atom)) is.read ∙ ap (λ (t : Bool). if t then Some saved else None) (eq-eqb saved.atom saved.atom refl);

@@ -1,3 +1,4 @@
+pub mod Batches
 pub mod Parcels
 pub mod Slots
 pub mod Storing

@@ -1,8 +1,9 @@
 //! Which state of an atom is the newest, before a store and after it. These functions make no call: their clauses are the laws.
-ghost use Rattle.std.specs.Prelude.{◌≡◌, ◌≢◌, ℕ, ◌<◌, ◌≤◌, List, Some, IsSomeAnd};
+ghost use Rattle.std.specs.Prelude.{◌≡◌, ◌≢◌, ℕ, ◌<◌, ◌≤◌, ◌∷◌, [], List, Some, IsSomeAnd};
 ghost use Rattle.disk_model.specs.Cells.{Cell, cell};
 ghost use Rattle.record_codec.specs.Ring.{slot_cell};
 ghost use Rattle.record_codec.specs.Saved.{SavedFields};
+ghost use Rattle.snapshot_writer.specs.Batches.{SlottedFields, HaveStored, cell_of, with_first};
 ghost use Rattle.snapshot_writer.specs.Slots.{saved_at, newest, newest_slot, other_slot, IsFree, IsAbove, IsSameNewest};
 ghost use Rattle.snapshot_writer.specs.Storing.{HoldsSaved, HasStored, IsKeptOrStored};
 
@@ -40,4 +41,16 @@ pub fn a_stored_state_with_a_greater_count_is_the_newest()
 pub fn other_atoms_keep_their_newest()
     ensures { (slot atom : ℕ) (saved : SavedFields) (before cells : List Cell) → slot < 2 → atom ≢ saved.atom
         → HasStored slot saved before cells → IsSameNewest atom before cells }
+{}
+
+/// Storing a batch leaves what storing its first state and then the rest of the batch leaves: of the first what stands in its slot in the end.
+/// So storing is one store after another, down to a batch of no state, which changes nothing.
+pub fn a_batch_is_stored_one_state_after_another()
+    ensures first { (s : SlottedFields) (rest : List SlottedFields) (before cells : List Cell) → HaveStored (s ∷ rest) before cells
+        → HasStored s.slot s.saved before (with_first s before cells) }
+    ensures here { (s : SlottedFields) (rest : List SlottedFields) (before cells : List Cell) → HaveStored (s ∷ rest) before cells
+        → cell (with_first s before cells) (cell_of s) ≡ cell cells (cell_of s) }
+    ensures rest { (s : SlottedFields) (rest : List SlottedFields) (before cells : List Cell) → HaveStored (s ∷ rest) before cells
+        → HaveStored rest (with_first s before cells) cells }
+    ensures nothing { (before cells : List Cell) → HaveStored [] before cells → cells ≡ before }
 {}

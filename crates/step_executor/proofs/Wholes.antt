@@ -1,12 +1,12 @@
 -- Whole states, parts and jobs.
-use Rattle.std.proofs.Common.{◌≡◌, ◌≢◌, ℕ, zero, suc, ◌+◌, refl, sym, ◌∙◌, ap, List, [], ◌∷◌, length, get_or, set, arith, Bool, true, false, cond, unwrap_or}
+use Rattle.std.proofs.Common.{◌≡◌, ◌≢◌, ℕ, zero, suc, ◌+◌, refl, sym, ◌∙◌, ap, List, [], ◌∷◌, length, get_or, set, arith, Bool, true, false, cond, unwrap_or, ◌<◌}
 use Rattle.std.specs.Prelude.{Option, Some, None, is_none, is_some, option_map, slice_get}
 use Rattle.std.specs.Option.{option_map_or}
-use Rattle.std.proofs.lemmas.Option.{none-some, same_Some}
+use Rattle.std.proofs.lemmas.Option.{none-some, same_Some, slice_get-get_or}
 use Rattle.petri_atom.specs.Local.{Local}
 use Rattle.step_core.specs.Job.{JobDefinition, worked}
 use Rattle.step_core.specs.Parts.{nothing_shown, parts_from, parts_of}
-use Rattle.step_executor.specs.Outstanding.{ended_at, filled, is_out, is_part_away, parts_without, whole_of}
+use Rattle.step_executor.specs.Outstanding.{committed_by, ended_at, filled, is_out, is_part_away, parts_without, whole_of}
 
 -- ---- parts that are filled
 
@@ -142,3 +142,15 @@ ended-by jobs n job is = ap (λ o. option_map_or worked o nothing_shown) is
 -- the parts are those of the whole state without the atoms that have jobs
 pub parts-again : (jobs : List (Option JobDefinition)) (parts : List (Option Local)) → ((n : ℕ) → is_part_away parts n ≡ is_out jobs n) → parts_without jobs (whole_of jobs parts) ≡ parts
 parts-again jobs parts away = filled-again (ended_at jobs) (is_out jobs) parts away
+
+-- ---- the committed state
+
+-- one of its states: the part that is kept, or else the one of the present state
+pub committed-at : (committed : List (Option Local)) (states : List Local) (n : ℕ) → n < length committed → slice_get (committed_by committed states) n ≡ Some (unwrap_or (get_or committed n None) (get_or states n nothing_shown))
+committed-at committed states n within =
+    filled-at (λ k. get_or states k nothing_shown) committed n ∙
+    ap (option_map (λ p. unwrap_or p (get_or states n nothing_shown))) (slice_get-get_or committed n None within)
+
+-- there are as many as parts
+pub committed-long : (committed : List (Option Local)) (states : List Local) → length (committed_by committed states) ≡ length committed
+committed-long committed states = filled-long (λ k. get_or states k nothing_shown) 0 committed

@@ -30,7 +30,7 @@ use step_core::{Dispatcher, Done, Job, Jobs, PlantParts};
 pub struct Executor<'s> {
     dispatcher: Dispatcher<'s>,
     kept: Vec<Option<Job<'s>>>,
-    /// For contracts alone: no call reads it. By it the contracts of what stands on an executor say what was acknowledged.
+    /// What stands on an executor takes it for the acknowledged state.
     committed: PlantParts,
     ghost outstanding: { AreKept (plant_of (system_of dispatcher)) (parts_in dispatcher) (kept_in kept.items) },
     ghost fits: { AllFit (plant_of (system_of dispatcher)) (whole_of (kept_in kept.items) (parts_in dispatcher)) },
@@ -209,6 +209,17 @@ impl<'s> Executor<'s> {
         ensures jobs { jobs_in self.new ≡ jobs_in self.old }
     {
         copy_parts(&mut self.committed, self.dispatcher.parts());
+    }
+
+    /// The committed state of the atom: of one of which nothing is kept, the state that its job leaves.
+    pub fn committed(&self, atom: u16) -> AtomState
+        requires { atom < length (committed_in self.now) }
+        ensures { slice_get (committed_in self.now) atom ≡ Some result }
+    {
+        match self.committed.state(atom) {
+            Some(state) => state.copy(),
+            None => self.state(atom),
+        }
     }
 
     /// The present state fits, and has a state for each atom.

@@ -1,5 +1,5 @@
 //! What the trimmer knows of a record.
-ghost use Rattle.std.specs.Prelude.{◌≡◌, ◌≤◌, length};
+ghost use Rattle.std.specs.Prelude.{◌≡◌, ◌≤◌, ◌+◌, ◌++◌, ◌∷◌, [], length};
 ghost use Rattle.trimmer.specs.Covered.{MarkFields};
 ghost use Rattle.trimmer.specs.declared.mark.TheConstants.{MOST_PARTICIPANTS};
 
@@ -38,19 +38,25 @@ impl Model for Mark {
 }
 
 impl Mark {
-    /// The mark of the record with the number, of these participants.
-    pub fn of(number: u64, participations: &[Participation]) -> Self
-        requires { length participations.now ≤ MOST_PARTICIPANTS }
-        ensures { result ≡ record { number = number; participations = participations.now } }
+    /// The mark of the record with the number. It has no participant yet.
+    pub fn new(number: u64) -> Self
+        ensures { result ≡ record { number = number; participations = [] } }
     {
         let nobody = Participation { atom: 0, number: 0 };
-        let mut row = [nobody; MOST_PARTICIPANTS];
-        row[..participations.len()].copy_from_slice(participations);
         Mark {
             number,
-            participants: participations.len(),
-            row,
+            participants: 0,
+            row: [nobody; MOST_PARTICIPANTS],
         }
+    }
+
+    /// Adds a participant behind the others.
+    pub fn push(&mut self, added: Participation)
+        requires { length self.old.participations + 1 ≤ MOST_PARTICIPANTS }
+        ensures { self.new ≡ record self.old { participations = self.old.participations ++ added ∷ [] } }
+    {
+        self.row[self.participants] = added;
+        self.participants += 1;
     }
 
     /// The number of the record.

@@ -6,14 +6,15 @@ use Rattle.plant_core.specs.View.{View}
 use Rattle.plant_core.specs.declared.events.Event.{Event}
 use Rattle.plant_core.specs.declared.events.Event.TheVariants as asked
 use Rattle.plant_core.specs.declared.events.FiredAs.{FiredAs}
-use Rattle.plant_core.specs.declared.events.Happened.TheVariants.{Flush, Trim}
+use Rattle.plant_core.specs.declared.events.Happened.TheVariants.{Flush, Save, Trim}
+use Rattle.plant_core.specs.declared.events.SavedTo.{SavedTo}
 use Rattle.plant_core.specs.declared.refused.Refused.{Refused}
 use Rattle.engine_host.specs.History.{IsHistory}
 use Rattle.engine_host.specs.Told.{HasFired, HasFiredChoice, HasMade, HasSaved, HasWorked}
 use Rattle.engine_host.specs.declared.entry.Entry.{Entry}
 
 -- An event that a worker asked of the host stands, with some answer, past all that its watch held: a choice was fired, all was acknowledged, the state
--- of an atom was saved, records were dropped, or a choice was begun and worked to its end. Storing a state and handing a job in by themselves are no
+-- of an atom or of all that are behind was saved, records were dropped, or a choice was begun and worked to its end. Storing a state and handing a job in by themselves are no
 -- events of a worker.
 abbrev pub IsAsked : PlantDefinition → View → Event → List Entry → List Entry → Type 0
 IsAsked plant opening (asked.Fire pick) before after = (answer : Result FiredAs Refused) × HasFired plant opening before pick answer after
@@ -21,6 +22,7 @@ IsAsked plant opening (asked.FireChoice choice) before after = (answer : Option 
 IsAsked plant opening asked.Flush before after = (answer : Result ℕ Refused) × HasMade plant opening before (Flush answer) after
 IsAsked plant opening (asked.Ask atom) before after = (answer : Result ℕ Refused) × HasSaved plant opening before atom answer after
 IsAsked plant opening (asked.Put atom) before after = after ≡ before
+IsAsked plant opening asked.Save before after = (answer : Result SavedTo Refused) × HasMade plant opening before (Save answer) after
 IsAsked plant opening asked.Trim before after = (answer : Result ℕ Refused) × HasMade plant opening before (Trim answer) after
 IsAsked plant opening (asked.Begin pick) before after = (answer : Result FiredAs Refused) × HasWorked plant opening before pick answer after
 IsAsked plant opening (asked.Back atom) before after = after ≡ before

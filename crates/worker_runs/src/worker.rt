@@ -68,6 +68,9 @@ fn ask<D: Disk, N: Naming>(rt: &impl Wait, host: &Host<'_, D, N>, seat: &mut Sea
         Event::Ask(atom) => {
             let _ = host.save_one(rt, seat, *atom, &NoGate);
         }
+        Event::Save => {
+            let _ = host.save(rt, seat);
+        }
         Event::Trim => {
             let _ = host.trim(rt, seat);
         }

@@ -22,6 +22,8 @@ const ASK_B: Event = Event::Ask(1);
 
 const PUT_B: Event = Event::Put(1);
 
+const SAVE: Event = Event::Save;
+
 const TRIM: Event = Event::Trim;
 
 const NONE: [Event; 0] = [];
@@ -57,6 +59,9 @@ const TRIMMED_TWICE: [Event; 13] = [
     FIRE_0, FIRE_0, FLUSH, ASK_A, PUT_A, TRIM, FIRE_1, FLUSH, ASK_A, PUT_A, ASK_B, PUT_B, TRIM,
 ];
 
+/// Tick, send and a flush, and both atoms saved; tick and a flush, and A saved, whose slot is full then; and the three records dropped.
+const ALL_SAVED: [Event; 8] = [FIRE_0, FIRE_1, FLUSH, SAVE, FIRE_0, FLUSH, SAVE, TRIM];
+
 /// Six ticks, A saved after them and their records dropped, and four ticks more: their records go to the last cell of the ring and the first three.
 const OVER_THE_END: [Event; 15] = [
     FIRE_0, FIRE_0, FIRE_0, FIRE_0, FIRE_0, FIRE_0, FLUSH, ASK_A, PUT_A, TRIM, FIRE_0, FIRE_0,
@@ -76,7 +81,7 @@ fn explored(alloc: Global, text: &[u8], events: &[Event]) -> Result<(u64, u64, u
 
 /// Formatting makes the first cell empty and all others, a sync each, and sets a base, a slot of each atom and the identity, by four changes each; a boot
 /// syncs twice: that is 20 for two atoms, and 24 for three. A flush writes a body and a gate for each record, and syncs twice. A state is stored by four
-/// changes, and by two more where it goes to a full slot. So is a base; then the gates of the dropped records are closed, and a sync follows.
+/// changes, and by two more where it goes to a full slot; several at once by two for each, by one more for each full slot, and by two syncs or three. So is a base; then the gates of the dropped records are closed, and a sync follows.
 #[test]
 fn a_run_is_stopped_at_each_of_its_writes_and_syncs(rt: HostRuntime) -> Result<(), Fail> {
     for (text, events, stops) in [
@@ -87,6 +92,7 @@ fn a_run_is_stopped_at_each_of_its_writes_and_syncs(rt: HostRuntime) -> Result<(
         (SAMPLE, &A_SAVED_AND_TRIMMED, 20 + 10 + 4 + 6),
         (SAMPLE, &TRIMMED_TWICE, 20 + 6 + 4 + 7 + 4 + 6 + 4 + 8),
         (SAMPLE, &OVER_THE_END, 20 + 14 + 4 + 11 + 10),
+        (SAMPLE, &ALL_SAVED, 20 + 6 + 6 + 4 + 6 + 8),
     ] {
         assert_eq!(rt; explored(rt.alloc(), text, events)?, (stops, 0, stops));
     }

@@ -25,6 +25,19 @@ const A_SAVED_AND_ON: [Event; 11] = [
     Event::Trim,
 ];
 
+/// Tick and send, both atoms saved after them, a tick, A saved again, and the three records dropped.
+const ALL_SAVED_AND_ON: [Event; 9] = [
+    FIRE_0,
+    FIRE_1,
+    FLUSH,
+    Event::Save,
+    FIRE_0,
+    FLUSH,
+    Event::Save,
+    Event::Trim,
+    FIRE_1,
+];
+
 /// The plant that the device is booted to, and how many boots the device failed. Behind the first of them it is booted again.
 fn booted<'s>(
     alloc: Global,
@@ -88,16 +101,21 @@ fn failing_once(
     Ok(failed)
 }
 
-/// The boot makes 18 calls, the flushes of four and of one 10 and 4, the put 7 and the trim 8. Each of them fails in turn, while those before and after
-/// it serve. The call after the last is never made.
+/// The boot makes 18 calls. In the first run the flushes of four and of one make 10 and 4, the put 6 and the trim 8. In the second one the flushes of two
+/// and of one make 6 and 4, the first save 10, of which 4 read the slots of the atoms, the second 6, and the trim of three records 12. Each call fails in
+/// turn, while those before and after it serve. The call after the last is never made.
 #[test]
 fn each_call_that_fails_is_told_once(rt: HostRuntime) -> Result<(), Fail> {
     let alloc = rt.alloc();
     let system = sample(alloc)?;
-    let calls = 18 + 10 + 7 + 4 + 8;
-    for k in 1..=calls + 1 {
-        let told = failing_once(alloc, &system, &A_SAVED_AND_ON, 2, k)?;
-        assert_eq!(rt; told, u64::from(k <= calls), "at {k}");
+    for (events, last_base, calls) in [
+        (A_SAVED_AND_ON.as_slice(), 2, 18 + 10 + 6 + 4 + 8),
+        (&ALL_SAVED_AND_ON, 4, 18 + 6 + 10 + 4 + 6 + 12),
+    ] {
+        for k in 1..=calls + 1 {
+            let told = failing_once(alloc, &system, events, last_base, k)?;
+            assert_eq!(rt; told, u64::from(k <= calls), "at {k}");
+        }
     }
     Ok(())
 }

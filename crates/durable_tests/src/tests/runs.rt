@@ -114,6 +114,7 @@ pub(super) fn refusal_in(happened: &Happened) -> Option<Refused> {
         | Happened::Flush(Err(refused))
         | Happened::Ask(_, Err(refused))
         | Happened::Put(_, Err(refused))
+        | Happened::Save(Err(refused))
         | Happened::Trim(Err(refused))
         | Happened::Begin(_, Err(refused))
         | Happened::Back(_, Err(refused)) => Some(*refused),

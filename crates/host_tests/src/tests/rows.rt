@@ -134,7 +134,7 @@ fn fired_by<D: Disk, N: Naming>(
     }
 }
 
-/// One seat fires tick, send, tick and send, flushes, saves A and drops what no restart needs.
+/// One seat fires tick, send, tick and send, flushes, saves A and drops what no restart needs, and then saves B, which alone is behind.
 fn save_and_trim<D: Disk, N: Naming, R: Wait + Abort>(
     rt: &R,
     host: &Host<'_, D, N>,
@@ -147,6 +147,9 @@ fn save_and_trim<D: Disk, N: Naming, R: Wait + Abort>(
     assert!(rt; host.save_one(rt, seat, 0, &Open) == Ok(4));
     assert!(rt; host.trim(rt, seat) == Ok(2));
     assert!(rt; is_front(host.front(&mut seat.watch), 4, 4, 2));
+    assert!(rt;
+        matches!(host.save(rt, seat), Ok(saved) if saved.number == 4 && saved.atoms == 0b10)
+    );
 }
 
 /// One seat works tick and then send, whose updates run outside the lock.

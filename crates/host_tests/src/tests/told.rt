@@ -72,7 +72,7 @@ pub(super) struct Worker<N: Naming> {
     pub(super) told: Told,
 }
 
-/// Asks for one event: mostly a fire, now and then a flush, a save of one of four atoms, and a trim.
+/// Asks for one event: mostly a fire, now and then a flush, a save of one of four atoms or of all that are behind, and a trim.
 fn ask_one<D: Disk, N: Naming>(
     rt: &impl Wait,
     host: &Host<'_, D, N>,
@@ -87,6 +87,7 @@ fn ask_one<D: Disk, N: Naming>(
                 told.count(true);
             }
         }
+        6 if number % 5 == 0 => told.count(host.save(rt, seat).is_ok()),
         6 => told.count(
             host.save_one(rt, seat, (number / 8 % 4) as u16, &Open)
                 .is_ok(),

@@ -34,6 +34,14 @@ returns-in-Trim-clause-stops g c = λ keeps.
     let p = c.args.plant.now in
     put-front (definition_of p) (text_digest p) (view_of p) (device_of p) (device_of c.trim.new.self) (p.at_a_stop keeps) c.trim.ensures.refused (c.trim.ensures.stops keeps)
 
+pub returns-in-Save-clause-stops : goal.returns-in-Save-clause-stops
+returns-in-Save-clause-stops g c = λ keeps.
+    let p = c.args.plant.now in
+    put-front (definition_of p) (text_digest p) (view_of p) (device_of p) (device_of c.save.new.self) (p.at_a_stop keeps) c.save.ensures.refused (c.save.ensures.stops keeps)
+
+pub returns-in-Save-clause-untouched : goal.returns-in-Save-clause-untouched
+returns-in-Save-clause-untouched g c = λ none. answer-untouched c.save.result (device_of c.args.plant.now) (device_of c.save.new.self) c.save.ensures.untouched none
+
 pub returns-in-Flush-clause-untouched : goal.returns-in-Flush-clause-untouched
 returns-in-Flush-clause-untouched g c = λ none.
     let p = c.args.plant.now in

@@ -1,10 +1,6 @@
-use Rattle.std.proofs.Common.{◌≡◌, length, map, take}
-use Rattle.trimmer.specs.declared.mark.TheConstants.{MOST_PARTICIPANTS}
+use Rattle.std.proofs.Common.{◌≡◌, map, take}
 use Rattle.plant_core.specs.Marks.{participation_in}
 use Rattle.plant_core.proofs.marks.mark_of.Given as goal
 
-abbrev pub invariant-loop-i : goal.invariant-loop-i
-invariant-loop-i l = record {
-  all : length l.participations ≡ MOST_PARTICIPANTS;
-  marked : take l.i l.participations ≡ map participation_in (take l.i l.entries);
-}
+abbrev pub invariant-loop-place : goal.invariant-loop-place
+invariant-loop-place g l = l.mark ≡ record { number = l.number; participations = map participation_in (take l.place (g.E.EntrySource.entries l.entries)) }

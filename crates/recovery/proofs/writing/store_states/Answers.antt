@@ -1,4 +1,4 @@
-use Rattle.std.proofs.Common.{◌≡◌, ◌+◌, ◌*◌, ℕ, List, length, true, false, refl, ◌∙◌, ap, subst, arith}
+use Rattle.std.proofs.Common.{◌≡◌, ◌+◌, ◌*◌, ℕ, List, length, true, false, refl, sym, ◌∙◌, ap, subst, arith}
 use Rattle.std.proofs.lemmas.Result.{err_from_is_err_and}
 use Rattle.petri_atom.specs.Local.{Local}
 use Rattle.disk_model.specs.declared.cells.TheConstants.{BODY}
@@ -11,7 +11,7 @@ use Rattle.record_codec.specs.Saved.{SavedFields}
 use Rattle.record_replay.specs.Records.{count_of}
 use Rattle.snapshot_writer.specs.Parcels.{saved_by}
 use Rattle.snapshot_writer.specs.Storing.{IsStored}
-use Rattle.recovery.proofs.WrittenCells.{slots_leave, stored_more, stored_none}
+use Rattle.recovery.proofs.WrittenCells.{next_is_empty, slots_leave, stored_more, stored_none}
 use Rattle.recovery.proofs.writing.store_states.Goals as goal
 
 pub loop-atom-init : goal.loop-atom-init
@@ -29,6 +29,14 @@ saved_is : (n at number : ℕ) (counts : List ℕ) (state copy : Local) (parcel 
     → encoded ≡ saved_by n (count_of counts n) number state
 saved_is n at number counts state copy parcel encoded spelled made same copied =
     spelled ∙ made ∙ ap (λ (k : ℕ). saved_by n (count_of counts k) number copy) same ∙ ap (λ (s : Local). saved_by n (count_of counts n) number s) copied
+
+pub store-requires-clause-full : goal.store-requires-clause-full
+store-requires-clause-full g c still =
+    let old : DiskState = c.args.cells.now in
+    let n : ℕ = c.loop-atom.atom in
+    let keeps : old.keeps ≡ true = sym c.loop-atom.invariant.counts.keeps ∙ still in
+    let atom : c.encode.result.atom ≡ n = ap (λ (s : SavedFields). s.atom) (c.encode.ensures ∙ c.new-parcel.ensures) in
+    next_is_empty n c.encode.result.atom c.args.states.now c.args.counts.now c.args.number old c.loop-atom.cells atom (c.loop-atom.invariant.stored keeps) (c.requires.empty keeps n (omega arith))
 
 pub loop-atom-preserved : goal.loop-atom-preserved
 loop-atom-preserved g c =

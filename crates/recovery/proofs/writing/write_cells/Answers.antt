@@ -14,7 +14,7 @@ use Rattle.plant_model.specs.System.{digest_of, plant_of}
 use Rattle.plant_image.specs.Standing.{identity_for}
 use Rattle.recovery.specs.Writing.{HasWritten, IsBlank, IsWriting}
 use Rattle.recovery.proofs.Ranges.{few_values}
-use Rattle.recovery.proofs.WrittenCells.{base_leaves, first_closed, has_written, identity_leaves, states_leave, unformatted_leaves}
+use Rattle.recovery.proofs.WrittenCells.{base_leaves, first_closed, has_written, identity_leaves, slots_still, states_leave, unformatted_leaves}
 use Rattle.recovery.proofs.writing.write_cells.Goals as goal
 
 -- counts of setting one cell, if it went well and if not
@@ -50,6 +50,15 @@ returns-in_err-set-clause-stops g c keeps =
 pub store_states-requires-clause-values : goal.store_states-requires-clause-values
 store_states-requires-clause-values g c =
     few_values (plant_of c.args.system.now) c.args.states.now c.keeps_its_rules.ensures.atoms c.requires.room.of_plant c.requires.room.fits
+
+pub store_states-requires-clause-empty : goal.store_states-requires-clause-empty
+store_states-requires-clause-empty g c keeps atom below =
+    let blank : DiskState = c.empty_cells.new.cells in
+    let based : DiskState = c.set.new.self in
+    let body : List ℕ = c.to_body.result in
+    let keeps_blank : blank.keeps ≡ true = sym c.in_ok-set.ensures.counts.keeps ∙ keeps in
+    let filled : Filled (BODY + 1) (1 ∷ []) (body ∷ []) blank based = subst (λ (k : ℕ). Filled (BODY + 1) (k ∷ []) (body ∷ []) blank based) c.base_cell.ensures (c.in_ok-set.ensures.filled keeps_blank) in
+    slots_still blank based body (c.in_ok-empty_cells.ensures.blank (sym c.in_ok-empty_cells.ensures.counts.keeps ∙ keeps_blank)) filled atom
 
 pub returns-in_err-store_states-clause-counts : goal.returns-in_err-store_states-clause-counts
 returns-in_err-store_states-clause-counts g c =

@@ -10,7 +10,7 @@ use Rattle.plant_model.proofs.Membership.{all-in, entry-in}
 use Rattle.plant_image.proofs.ByAtoms.{element_at}
 use Rattle.plant_core.specs.Plants.{view_of}
 use Rattle.plant_core.proofs.Firing.{count-so-far}
-use Rattle.plant_core.proofs.Saving.{few_variables}
+use Rattle.plant_core.proofs.Noted.{few_variables}
 use Rattle.plant_core.proofs.plant.Plant.copy_of.Goals as goal
 
 pub new-requires : goal.new-requires

@@ -26,8 +26,8 @@ use Rattle.plant_core.proofs.Copies.{ways-fired}
 use Rattle.plant_core.proofs.Firing.{away-fits, away-front, bodies-many, count-so-far, next-in-range, one-more, told-many, view-of-fired}
 use Rattle.plant_core.proofs.plant.Plant.go_away.Goals as goal
 
-pub record_of-record-requires : goal.record_of-record-requires
-record_of-record-requires g c =
+pub invariant_of-step : goal.invariant_of-step
+invariant_of-step g c =
     let self = c.args.self.now in
     let plant = plant_in self.executor in
     let v = view_of self in
@@ -38,6 +38,7 @@ record_of-record-requires g c =
     let range : IsInRange plant choice = c.an_allowed_choice_is_in_range.ensures plant v.present choice valid (c.sure_is_allowed.ensures plant v.present (is_out v.away) choice c.requires.sure) in
     let told = c.a_record_of_what_was_delivered_is_that_of_the_choice.ensures plant v.present v.counts (fired_number v + 1) choice rows (told-many (transfer plant v.present choice) choice.moves rows c.begin.ensures.delivered) c.begin.ensures.delivered in
     record {
+      each = told-many (transfer plant v.present choice) choice.moves rows c.begin.ensures.delivered;
       in_range = subst (λ (n : ℕ). IsFired (record_delivered (n + 1) choice rows self.counts)) (sym c.fired-number.ensures)
           (subst IsFired (sym told) (next-in-range plant v self.bodies.items self.fits_together choice (c.sure_is_allowed.ensures plant v.present (is_out v.away) choice c.requires.sure) valid formed c.requires.last));
     }
@@ -57,19 +58,19 @@ count_participants-requires g c =
       room = λ m at. omega (arith, count-so-far plant v self.bodies.items self.fits_together m.atom, c.requires.last);
     }
 
-pub push_reserved-requires-2 : goal.push_reserved-requires-2
-push_reserved-requires-2 g c =
+pub push_reserved-requires : goal.push_reserved-requires
+push_reserved-requires g c =
     let self = c.args.self.now in
     omega (arith, bodies-many (plant_in self.executor) (view_of self) self.bodies.items self.fits_together, self.room_of_bodies, c.requires.short)
 
 -- there is room for one mark more
-pub push_reserved-requires-3 : goal.push_reserved-requires-3
-push_reserved-requires-3 g c =
+pub push_reserved-requires-2 : goal.push_reserved-requires-2
+push_reserved-requires-2 g c =
     let self = c.args.self.now in
     omega (arith, self.fits_together.marks_many, self.room_of_marks, c.requires.room)
 
-pub invariant_of-self : goal.invariant_of-self
-invariant_of-self g c =
+pub invariant_of-self-2 : goal.invariant_of-self-2
+invariant_of-self-2 g c =
     let self = c.args.self.now in
     let plant = plant_in self.executor in
     let v = view_of self in
@@ -77,23 +78,23 @@ invariant_of-self g c =
     let rows = c.begin.new.delivered in
     let valid : fault_of plant ≡ None = subst (λ p. fault_of p ≡ None) c.system.ensures.plant c.keeps_its_rules.ensures.plant in
     let told = c.a_record_of_what_was_delivered_is_that_of_the_choice.ensures plant v.present v.counts (fired_number v + 1) choice rows (told-many (transfer plant v.present choice) choice.moves rows c.begin.ensures.delivered) c.begin.ensures.delivered in
-    let made : c.record_of-record.result ≡ record_by plant v.present v.counts (fired_number v + 1) choice =
-    c.record_of-record.ensures ∙ ap (λ (n : ℕ). record_delivered (n + 1) choice rows self.counts) c.fired-number.ensures ∙ told in
-    let held : fired_in c.to_body.result ≡ Some (record_by plant v.present v.counts (fired_number v + 1) choice) = c.to_body.ensures.reads_back ∙ ap (λ (r : FiredFields). Some r) made in
-    let marked : c.push_reserved-3.new.self.items ≡ self.marks.items ++ mark_of (record_by plant v.present v.counts (fired_number v + 1) choice) ∷ [] =
-    c.push_reserved-3.ensures.items ∙ ap (λ m. self.marks.items ++ m ∷ []) (c.mark_of.ensures ∙ ap mark_of made) in
-    let more = one-more plant v self.bodies.items self.fits_together choice (c.sure_is_allowed.ensures plant v.present (is_out v.away) choice c.requires.sure) c.to_body.result held c.requires.short c.requires.room c.requires.last in
+    let made : record_delivered (c.fired-number.result + 1) choice rows self.counts ≡ record_by plant v.present v.counts (fired_number v + 1) choice =
+    ap (λ (n : ℕ). record_delivered (n + 1) choice rows self.counts) c.fired-number.ensures ∙ told in
+    let held : fired_in c.spell_record.result ≡ Some (record_by plant v.present v.counts (fired_number v + 1) choice) = c.spell_record.ensures ∙ ap (λ (r : FiredFields). Some r) made in
+    let marked : c.push_reserved-2.new.self.items ≡ self.marks.items ++ mark_of (record_by plant v.present v.counts (fired_number v + 1) choice) ∷ [] =
+    c.push_reserved-2.ensures.items ∙ ap (λ m. self.marks.items ++ m ∷ []) (c.mark_of.ensures ∙ ap mark_of made) in
+    let more = one-more plant v self.bodies.items self.fits_together choice (c.sure_is_allowed.ensures plant v.present (is_out v.away) choice c.requires.sure) c.spell_record.result held c.requires.short c.requires.room c.requires.last in
     let out = jobs_after plant v.present v.counts choice choice.moves v.away in
-    let view = view-of-fired plant (committed_in self.executor) (committed_in c.begin.new.self) v.present (states_in c.begin.new.self) self.acked_counts self.counts c.count_participants.new.counts self.number self.tail.items c.push_reserved.new.self.items c.args.choice self.journal self.marks.items c.push_reserved-3.new.self.items self.snapshots v.away (jobs_in c.begin.new.self) out self.broken c.begin.ensures.committed c.push_reserved.ensures.items c.begin.ensures.next c.count_participants.ensures marked c.begin.ensures.kept in
+    let view = view-of-fired plant (committed_in self.executor) (committed_in c.begin.new.self) v.present (states_in c.begin.new.self) self.acked_counts self.counts c.count_participants.new.counts self.number self.tail.items c.push_reserved-3.new.self.items c.args.choice self.journal self.marks.items c.push_reserved-2.new.self.items self.snapshots v.away (jobs_in c.begin.new.self) out self.broken c.begin.ensures.committed c.push_reserved-3.ensures.items c.begin.ensures.next c.count_participants.ensures marked c.begin.ensures.kept in
     let run = c.begin.new.self in
-    let seen = view_by (committed_in run) self.acked_counts self.number c.push_reserved.new.self.items (states_in run) c.count_participants.new.counts self.journal c.push_reserved-3.new.self.items self.snapshots (jobs_in run) self.broken in
+    let seen = view_by (committed_in run) self.acked_counts self.number c.push_reserved-3.new.self.items (states_in run) c.count_participants.new.counts self.journal c.push_reserved-2.new.self.items self.snapshots (jobs_in run) self.broken in
     record {
-      fits_together = subst (λ p. FitsTogether p seen c.push_reserved-2.new.self.items) (sym c.begin.ensures.plant)
-          (subst (λ w. FitsTogether plant w c.push_reserved-2.new.self.items) (sym view)
-          (away-fits plant (with_fired plant choice v) c.push_reserved-2.new.self.items out (subst (λ bs. FitsTogether plant (with_fired plant choice v) bs) (sym c.push_reserved-2.ensures.items) more)));
-      room_of_tail = omega (arith, self.room_of_tail, c.push_reserved.ensures.capacity);
-      room_of_bodies = omega (arith, self.room_of_bodies, c.push_reserved-2.ensures.capacity);
-      room_of_marks = omega (arith, self.room_of_marks, c.push_reserved-3.ensures.capacity);
+      fits_together = subst (λ p. FitsTogether p seen c.push_reserved.new.self.items) (sym c.begin.ensures.plant)
+          (subst (λ w. FitsTogether plant w c.push_reserved.new.self.items) (sym view)
+          (away-fits plant (with_fired plant choice v) c.push_reserved.new.self.items out (subst (λ bs. FitsTogether plant (with_fired plant choice v) bs) (sym c.push_reserved.ensures.items) more)));
+      room_of_tail = omega (arith, self.room_of_tail, c.push_reserved-3.ensures.capacity);
+      room_of_bodies = omega (arith, self.room_of_bodies, c.push_reserved.ensures.capacity);
+      room_of_marks = omega (arith, self.room_of_marks, c.push_reserved-2.ensures.capacity);
       of_journal = subst (λ p. IsJournalOf p self.number self.journal self.cells) (sym c.begin.ensures.plant) self.of_journal;
       at_rest = λ keeps whole. subst (λ (s : System). IsAtRest (plant_of s) (digest_of s) self.journal (committed_in run) self.acked_counts self.number self.snapshots.saved self.cells) (sym c.begin.ensures.system)
           (subst (λ states. IsAtRest plant (digest_of (system_in self.executor)) self.journal states self.acked_counts self.number self.snapshots.saved self.cells) (sym c.begin.ensures.committed) (self.at_rest keeps whole));
@@ -119,9 +120,9 @@ returns-clause-view g c =
     let rows = c.begin.new.delivered in
     let valid : fault_of plant ≡ None = subst (λ p. fault_of p ≡ None) c.system.ensures.plant c.keeps_its_rules.ensures.plant in
     let told = c.a_record_of_what_was_delivered_is_that_of_the_choice.ensures plant v.present v.counts (fired_number v + 1) choice rows (told-many (transfer plant v.present choice) choice.moves rows c.begin.ensures.delivered) c.begin.ensures.delivered in
-    let made : c.record_of-record.result ≡ record_by plant v.present v.counts (fired_number v + 1) choice =
-    c.record_of-record.ensures ∙ ap (λ (n : ℕ). record_delivered (n + 1) choice rows self.counts) c.fired-number.ensures ∙ told in
-    let marked : c.push_reserved-3.new.self.items ≡ self.marks.items ++ mark_of (record_by plant v.present v.counts (fired_number v + 1) choice) ∷ [] =
-    c.push_reserved-3.ensures.items ∙ ap (λ m. self.marks.items ++ m ∷ []) (c.mark_of.ensures ∙ ap mark_of made) in
+    let made : record_delivered (c.fired-number.result + 1) choice rows self.counts ≡ record_by plant v.present v.counts (fired_number v + 1) choice =
+    ap (λ (n : ℕ). record_delivered (n + 1) choice rows self.counts) c.fired-number.ensures ∙ told in
+    let marked : c.push_reserved-2.new.self.items ≡ self.marks.items ++ mark_of (record_by plant v.present v.counts (fired_number v + 1) choice) ∷ [] =
+    c.push_reserved-2.ensures.items ∙ ap (λ m. self.marks.items ++ m ∷ []) (c.mark_of.ensures ∙ ap mark_of made) in
     let out = jobs_after plant v.present v.counts choice choice.moves v.away in
-    view-of-fired plant (committed_in self.executor) (committed_in c.begin.new.self) v.present (states_in c.begin.new.self) self.acked_counts self.counts c.count_participants.new.counts self.number self.tail.items c.push_reserved.new.self.items c.args.choice self.journal self.marks.items c.push_reserved-3.new.self.items self.snapshots v.away (jobs_in c.begin.new.self) out self.broken c.begin.ensures.committed c.push_reserved.ensures.items c.begin.ensures.next c.count_participants.ensures marked c.begin.ensures.kept
+    view-of-fired plant (committed_in self.executor) (committed_in c.begin.new.self) v.present (states_in c.begin.new.self) self.acked_counts self.counts c.count_participants.new.counts self.number self.tail.items c.push_reserved-3.new.self.items c.args.choice self.journal self.marks.items c.push_reserved-2.new.self.items self.snapshots v.away (jobs_in c.begin.new.self) out self.broken c.begin.ensures.committed c.push_reserved-3.ensures.items c.begin.ensures.next c.count_participants.ensures marked c.begin.ensures.kept

@@ -9,7 +9,7 @@ use Rattle.plant_core.specs.Plants.{text_digest, view_of}
 use Rattle.plant_core.specs.Snapshots.{SnapshotFields, with_copy}
 use Rattle.plant_core.specs.View.{view_by}
 use Rattle.plant_core.proofs.Copies.{ways-asked}
-use Rattle.plant_core.proofs.Saving.{asked-fits}
+use Rattle.plant_core.proofs.Noted.{asked-fits}
 use Rattle.plant_core.proofs.plant.Plant.keep_copy.Goals as goal
 
 pub invariant_of-self : goal.invariant_of-self
