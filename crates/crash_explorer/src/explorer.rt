@@ -125,8 +125,7 @@ impl<'a> Explorer<'a> {
         let trial = match &self.halted {
             Some(halted) => halted.trial(alloc, tear)?,
             None => {
-                let halted =
-                    Halted::at(alloc, self.system, self.ring, self.events, self.stop + 1)?;
+                let halted = Halted::at(alloc, self.system, self.ring, self.events, self.stop + 1)?;
                 let trial = halted.trial(alloc, tear)?;
                 self.halted = Some(halted);
                 trial

@@ -35,13 +35,13 @@ pub(crate) struct Halted<'a> {
 
 impl<'a> Model for Halted<'a> {
     ghost use Rattle.std.specs.Coded.{codes};
-    ghost use Rattle.plant_core.specs.contracts.events.Event as event;
-    ghost use Rattle.plant_model.specs.contracts.system.System as system;
+    ghost use Rattle.plant_core.specs.contracts.events.Event as event_row;
+    ghost use Rattle.plant_model.specs.contracts.system.System as system_row;
     ghost use Rattle.crash_explorer.specs.Halting.{HaltedRun};
 
     ghost Value = { HaltedRun };
 
-    ghost coded = { Prim.hlevel (codes, event.the_row.coded, system.the_row.coded) };
+    ghost coded = { Prim.hlevel (codes, event_row.the_row.coded, system_row.the_row.coded) };
 
     ghost use Rattle.crash_explorer.specs.Halted.{IsHalted, halted_by};
 
@@ -112,7 +112,12 @@ impl<'a> Halted<'a> {
 }
 
 /// A device for the plant and a ring of so many records, with room for the changes of a run of so many events.
-pub(crate) fn device(alloc: Global, system: &System, ring: u32, events: usize) -> Result<MemDisk, AllocError>
+pub(crate) fn device(
+    alloc: Global,
+    system: &System,
+    ring: u32,
+    events: usize,
+) -> Result<MemDisk, AllocError>
     ensures zeros { IfOk result (λ disk. state_of disk ≡ fresh (replicate (formatted_size (plant_of system.now) ring) 0)) }
     ensures cells { IfOk result (λ disk. cell_of disk ≡ BODY + 1) }
     ensures whole { IfOk result IsWhole }

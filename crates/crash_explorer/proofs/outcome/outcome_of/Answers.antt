@@ -90,15 +90,15 @@ go_on-requires c =
     let iff = c.is_right-stands.ensures plant digest (size_of s) (take acked fired) (drop acked fired) cells judged found in
     let p = c.in-Plant.plant in
     let is : IsOpened plant digest s (opened.Plant p) = subst (λ (o : Opened). IsOpened plant digest s o) c.in-Plant.is opens in
-    let number : ℕ = c.front.result.fired in
+    let number : ℕ = c.front-held.result.fired in
     let tail : length (view_of p).tail ≡ 0 = ap (λ (cs : List ChoiceDefinition). length cs) is.3.tail in
-    let last : number ≡ last_number (contents_of (length plant.atoms) cells) = omega (arith, c.front.ensures.fired, is.3.number, tail) in
+    let last : number ≡ last_number (contents_of (length plant.atoms) cells) = omega (arith, c.front-held.ensures.fired, is.3.number, tail) in
     let many : length fired ≡ length c.args.fired.now = length-map c.args.fired.now choice_of in
     let within : acked ≤ length fired = omega (arith, c.requires.acked, many) in
     let stands = right-stands plant digest (size_of s) number acked fired (is_formatting c.args.stage) cells within is.3.sound last (iff.0 c.if-not-stands.false) in
-    let behind : map choice_of c.in_ok-behind.behind.items ≡ take number fired =
-    ap (λ (l : List Choice). map choice_of l) (c.in_ok-behind.ensures ∙ c.front_of.ensures) ∙ cut-front choice_of number c.args.fired.now in
-    subst (λ (q : PlantDefinition). IsAt q (map choice_of c.in_ok-behind.behind.items) (view_of p)) (sym is.0)
+    let behind : map choice_of c.in_ok-behind-in-Plant.behind.items ≡ take number fired =
+    ap (λ (l : List Choice). map choice_of l) (c.in_ok-behind-in-Plant.ensures ∙ c.front_of.ensures) ∙ cut-front choice_of number c.args.fired.now in
+    subst (λ (q : PlantDefinition). IsAt q (map choice_of c.in_ok-behind-in-Plant.behind.items) (view_of p)) (sym is.0)
     (subst (λ (cs : List ChoiceDefinition). IsAt plant cs (view_of p)) (sym behind)
     (booted-at plant digest (size_of s) (take number fired) cells (view_of p) (front-is-run plant digest number fired c.requires.run) is.3 stands))
 
@@ -120,21 +120,21 @@ returns-in_ok-next-in-Plant c =
     let iff = c.is_right-stands.ensures plant digest (size_of s) (take acked fired) (drop acked fired) cells judged found in
     let p = c.in-Plant.plant in
     let is : IsOpened plant digest s (opened.Plant p) = subst (λ (o : Opened). IsOpened plant digest s o) c.in-Plant.is opens in
-    let number : ℕ = c.front.result.fired in
+    let number : ℕ = c.front-held.result.fired in
     let n : Next = c.in_ok-next-in-Plant.next in
-    let behind : map choice_of c.in_ok-behind.behind.items ≡ take number fired =
-    ap (λ (l : List Choice). map choice_of l) (c.in_ok-behind.ensures ∙ c.front_of.ensures) ∙ cut-front choice_of number c.args.fired.now in
-    let of_plant : IsNext plant (text_digest p) (size_of (device_of p)) c.args.tear (view_of p) (map choice_of c.in_ok-behind.behind.items) n =
-    subst (λ (q : PlantDefinition). IsNext q (text_digest p) (size_of (device_of p)) c.args.tear (view_of p) (map choice_of c.in_ok-behind.behind.items) n) is.0 c.in_ok-next-in-Plant.ensures in
-    let of_digest : IsNext plant digest (size_of (device_of p)) c.args.tear (view_of p) (map choice_of c.in_ok-behind.behind.items) n =
-    subst (λ (d : List ℕ). IsNext plant d (size_of (device_of p)) c.args.tear (view_of p) (map choice_of c.in_ok-behind.behind.items) n) is.1 of_plant in
-    let of_size : IsNext plant digest (size_of s) c.args.tear (view_of p) (map choice_of c.in_ok-behind.behind.items) n =
-    subst (λ (m : ℕ). IsNext plant digest m c.args.tear (view_of p) (map choice_of c.in_ok-behind.behind.items) n) is.2 of_digest in
+    let behind : map choice_of c.in_ok-behind-in-Plant.behind.items ≡ take number fired =
+    ap (λ (l : List Choice). map choice_of l) (c.in_ok-behind-in-Plant.ensures ∙ c.front_of.ensures) ∙ cut-front choice_of number c.args.fired.now in
+    let of_plant : IsNext plant (text_digest p) (size_of (device_of p)) c.args.tear (view_of p) (map choice_of c.in_ok-behind-in-Plant.behind.items) n =
+    subst (λ (q : PlantDefinition). IsNext q (text_digest p) (size_of (device_of p)) c.args.tear (view_of p) (map choice_of c.in_ok-behind-in-Plant.behind.items) n) is.0 c.in_ok-next-in-Plant.ensures in
+    let of_digest : IsNext plant digest (size_of (device_of p)) c.args.tear (view_of p) (map choice_of c.in_ok-behind-in-Plant.behind.items) n =
+    subst (λ (d : List ℕ). IsNext plant d (size_of (device_of p)) c.args.tear (view_of p) (map choice_of c.in_ok-behind-in-Plant.behind.items) n) is.1 of_plant in
+    let of_size : IsNext plant digest (size_of s) c.args.tear (view_of p) (map choice_of c.in_ok-behind-in-Plant.behind.items) n =
+    subst (λ (m : ℕ). IsNext plant digest m c.args.tear (view_of p) (map choice_of c.in_ok-behind-in-Plant.behind.items) n) is.2 of_digest in
     let next : IsNext plant digest (size_of s) c.args.tear (view_of p) (take number fired) n =
     subst (λ (cs : List ChoiceDefinition). IsNext plant digest (size_of s) c.args.tear (view_of p) cs n) behind of_size in
     let by_number : IsNextOf plant digest (size_of s) c.args.tear fired cells (Booted number) (Some n) = (view_of p, is.3, n, refl, next) in
     let told : c.found-found.result ≡ Booted number =
-    c.found-found.ensures ∙ ap (λ (o : Opened). found_in o) c.in-Plant.is ∙ ap (λ (m : ℕ). Booted m) (sym c.front.ensures.fired) in
+    c.found-found.ensures ∙ ap (λ (o : Opened). found_in o) c.in-Plant.is ∙ ap (λ (m : ℕ). Booted m) (sym c.front-held.ensures.fired) in
     let both = c.are_right.ensures in
     record {
       found_is = found;

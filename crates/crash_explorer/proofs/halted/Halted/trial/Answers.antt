@@ -17,6 +17,7 @@ use Rattle.crash_explorer.specs.Exploring.{IsTrial}
 use Rattle.crash_explorer.specs.Halting.{HaltedRun}
 use Rattle.crash_explorer.specs.Outcomes.{IsNextOf, IsOutcome}
 use Rattle.crash_explorer.specs.Running.{fired_in, is_formatting}
+use Rattle.crash_explorer.specs.declared.explorer.Trial.{Trial}
 use Rattle.crash_explorer.specs.declared.outcome.Outcome.{Outcome}
 use Rattle.crash_explorer.specs.declared.running.Ended.{Ended}
 use Rattle.crash_explorer.proofs.GoneOn.{next-right}
@@ -45,8 +46,9 @@ returns c =
     subst (λ (n : ℕ). IsOutcome plant digest n c.args.tear (fired_in ended) ended.acked (is_formatting ended.stage) (cells_of (BODY + 1) left) outcome) size of_choices in
     let right = is.ended.stops (cells_of (BODY + 1) left) (left_may (BODY + 1) (state_of device) left may) in
     let next : IsNextOf plant digest bytes c.args.tear (fired_in ended) (cells_of (BODY + 1) left) outcome.found outcome.next = become.next_is right in
-    let many : c.len-fired.result ≡ length (fired_in ended) = omega (arith, c.len-fired.ensures, ended.fired.ok.0, length-map ended.fired.items choice_of) in
-    subst (λ (h : HaltedRun). IsTrial (plant_of h.system) (digest_of h.system) h.ring h.events h.stop c.args.tear _) c.self.view_is (record {
+    let many : c.len.result ≡ length (fired_in ended) = omega (arith, c.len.ensures, ended.fired.ok.0, length-map ended.fired.items choice_of) in
+    let made : Trial = record { stop = inside.stop; cut = inside.cut; tear = c.args.tear; stage = ended.stage; fired = c.len.result; acked = ended.acked; found = outcome.found; next = outcome.next; right = outcome.right } in
+    subst (λ (h : HaltedRun). IsTrial (plant_of h.system) (digest_of h.system) h.ring h.events h.stop c.args.tear made) c.self.view_is (record {
       stop_is = refl;
       tear_is = refl;
       stopped = is.stopped;
