@@ -4,4 +4,6 @@ pub mod Judging
 pub mod Verdicts
 pub mod Running
 pub mod Outcomes
+pub mod Halting
+pub mod Halted
 pub mod Exploring

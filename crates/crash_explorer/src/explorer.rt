@@ -4,28 +4,25 @@ ghost use Rattle.disk_model.specs.declared.change.Tear.{Tear};
 ghost use Rattle.record_codec.specs.Ring.{device_cells};
 ghost use Rattle.crash_explorer.specs.Seen.{plant_of, digest_of, LEAST_RING, MOST_RING, formatted_size, BODY, cell_of, fresh, state_of};
 ghost use Rattle.crash_explorer.specs.Watching.{IsCountable, IsWhole};
+ghost use Rattle.crash_explorer.specs.Halting.{HaltedRun};
 ghost use Rattle.crash_explorer.specs.declared.explorer.TheConstants.{MOST_STOPS, TEARS};
 
 use crate::booting::Found;
 use crate::fault::ExploreFault;
-use crate::outcome::{Next, outcome_of};
+use crate::halted::{Halted, device};
+use crate::outcome::Next;
 use crate::running::{Stage, run};
 use crate::watched::Cut;
-use disk_model::{CELL, MemDisk, Tear};
+use disk_model::Tear;
 use plant_core::Event;
 use plant_model::System;
-use record_codec::ring::device_cells;
-use std::alloc::{AllocError, Global};
+use std::alloc::Global;
 
 /// The ways in which a stop tears what is pending, in the order in which they are tried.
 pub const TEARS: [Tear; 4] = [Tear::Old, Tear::New, Tear::Gates, Tear::Mixed];
 
 /// The most stops of which all trials can be counted.
 const MOST_STOPS: u64 = u64::MAX / 4;
-
-/// No event makes more writes and syncs than this, with those that it is the cause of later; and formatting and booting make no more for each
-/// cell.
-const CHANGES: usize = 8;
 
 /// One stop of a run, under one tear.
 #[derive(Clone, Copy)]
@@ -50,7 +47,7 @@ pub struct Trial {
     pub right: bool,
 }
 
-/// Makes a run again and again, each time stopped at its next write or sync.
+/// Makes a run again and again, each time stopped at its next write or sync, and tears what each stop left in each way.
 #[derive(Drop)]
 pub struct Explorer<'a> {
     system: &'a System,
@@ -59,11 +56,14 @@ pub struct Explorer<'a> {
     stops: u64,
     stop: u64,
     tear: usize,
+    /// The run up to the next stop, once a tear of it was tried: the others are made of the same run.
+    halted: Option<Halted<'a>>,
     ghost ring_from: { LEAST_RING ≤ ring },
     ghost ring_to: { ring ≤ MOST_RING },
     ghost countable: { stops ≤ MOST_STOPS },
     ghost within: { stop ≤ stops },
     ghost torn: { tear < length TEARS },
+    ghost of_next: { (h : HaltedRun) → halted ≡ Some h → h ≡ record { system = system.now; ring = ring; events = events.now; stop = stop + 1 } },
 }
 
 impl<'a> Explorer<'a> {
@@ -99,6 +99,7 @@ impl<'a> Explorer<'a> {
             stops,
             stop: 0,
             tear: 0,
+            halted: None,
         })
     }
 
@@ -120,9 +121,19 @@ impl<'a> Explorer<'a> {
         if self.stop == self.stops {
             return Ok(None);
         }
-        let trial = self.trial(alloc, self.stop + 1, self.next_tear())?;
+        let tear = self.next_tear();
+        let trial = match &self.halted {
+            Some(halted) => halted.trial(alloc, tear)?,
+            None => {
+                let halted = Halted::at(alloc, self.system, self.ring, self.events, self.stop + 1)?;
+                let trial = halted.trial(alloc, tear)?;
+                self.halted = Some(halted);
+                trial
+            }
+        };
         self.tear += 1;
         if self.tear == TEARS.len() {
+            self.halted = None;
             self.tear = 0;
             self.stop += 1;
         }
@@ -135,55 +146,4 @@ impl<'a> Explorer<'a> {
     {
         TEARS[self.tear]
     }
-
-    /// The run, stopped at its `stop`-th write or sync, and what that leaves.
-    fn trial(&self, alloc: Global, stop: u64, tear: Tear) -> Result<Trial, ExploreFault>
-        requires { stop ≤ self.now.stops }
-        ensures { IfOk result (IsTrial (plant_of self.now.system.now) (digest_of self.now.system.now) self.now.ring self.now.events.now stop tear) }
-    {
-        let mut disk = device(alloc, self.system, self.ring, self.events.len())?;
-        disk.fuse_change(stop);
-        let ended = run(alloc, self.system, self.ring, self.events, disk)?;
-        // A device that failed before had no room for its record of changes.
-        let cut = ended.disk.cut_at(stop).ok_or(ExploreFault::Memory)?;
-        let stage = ended.stage;
-        let fired = ended.fired.len() as u64;
-        let acked = ended.acked;
-        let left = ended.disk.into_memory().stop(tear);
-        let outcome = outcome_of(alloc, self.system, stage, ended.fired, acked, left, tear)?;
-        Ok(Trial {
-            stop,
-            cut,
-            tear,
-            stage,
-            fired,
-            acked: acked as u64,
-            found: outcome.found,
-            next: outcome.next,
-            right: outcome.right,
-        })
-    }
-}
-
-/// A device for the plant and a ring of so many records, with room for the changes of a run of so many events.
-fn device(alloc: Global, system: &System, ring: u32, events: usize) -> Result<MemDisk, AllocError>
-    ensures zeros { IfOk result (λ disk. state_of disk ≡ fresh (replicate (formatted_size (plant_of system.now) ring) 0)) }
-    ensures cells { IfOk result (λ disk. cell_of disk ≡ BODY + 1) }
-    ensures whole { IfOk result IsWhole }
-    ensures countable { IfOk result IsCountable }
-{
-    let cells = cells_for(system, ring);
-    let room = events
-        .saturating_add(cells as usize)
-        .saturating_mul(CHANGES);
-    MemDisk::with_cells(alloc, CELL * cells, room, CELL)
-}
-
-/// How many cells the device has for the plant and a ring of so many records.
-fn cells_for(system: &System, ring: u32) -> u64
-    ensures cells { result ≡ device_cells (length (plant_of system.now).atoms) ring }
-    ensures few { result < 2 ^ 34 }
-{
-    system.keeps_its_rules();
-    device_cells(system.atoms().len() as u16, ring)
 }

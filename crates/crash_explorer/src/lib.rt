@@ -19,6 +19,7 @@
 mod booting;
 mod explorer;
 mod fault;
+mod halted;
 mod judging;
 mod loading;
 mod outcome;

@@ -1,5 +1,5 @@
 //! What becomes of a device that a stop left.
-ghost use Rattle.std.specs.Prelude.{◌≡◌, ◌+◌, ◌≤◌, ◌↔◌, ℕ, List, IsTrue, true, IfOk, length, map};
+ghost use Rattle.std.specs.Prelude.{◌≡◌, ◌+◌, ◌≤◌, ◌↔◌, ℕ, List, IsTrue, true, IfOk, length, map, take};
 ghost use Rattle.plant_image.specs.declared.fault.ImageFault.TheVariants.{NotFormatted};
 ghost use Rattle.crash_explorer.specs.Seen.{plant_of, digest_of, PlantDefinition, ChoiceDefinition, choice_of, definition_of, device_of, text_digest, view_of, BODY, size_of, Cell, seen_cells, cell_of, fuse_of, state_of, Off};
 ghost use Rattle.crash_explorer.specs.Judging.{IsRightStop, IsRunOf};
@@ -17,7 +17,10 @@ use disk_model::{MemDisk, Tear};
 use plant_core::{Event, Plant};
 use plant_image::ImageFault;
 use plant_model::{Choice, System};
-use std::alloc::Global;
+use std::alloc::{AllocError, Global};
+
+/// How many events a plant is asked for that goes on after a stop.
+pub(crate) const NEXT_EVENTS: usize = 2;
 
 /// How a plant goes on that was booted after a stop: it fires its first choice, if it has one and room for it, and flushes. Then the power is cut again,
 /// and tears as before.
@@ -48,7 +51,7 @@ pub(crate) fn outcome_of(
     alloc: Global,
     system: &System,
     stage: Stage,
-    fired: Vec<Choice>,
+    fired: &[Choice],
     acked: usize,
     left: MemDisk,
     tear: Tear,
@@ -57,9 +60,9 @@ pub(crate) fn outcome_of(
     requires cells { cell_of left ≡ BODY + 1 }
     requires whole { IsWhole left }
     requires countable { IsCountable left }
-    requires run { IsRunOf (plant_of system.now) (map choice_of fired.items) }
-    requires acked { acked ≤ length fired.items }
-    ensures { IfOk result (IsOutcome (plant_of system.now) (digest_of system.now) (size_of (state_of left)) tear (map choice_of fired.items) acked
+    requires run { IsRunOf (plant_of system.now) (map choice_of fired.now) }
+    requires acked { acked ≤ length fired.now }
+    ensures { IfOk result (IsOutcome (plant_of system.now) (digest_of system.now) (size_of (state_of left)) tear (map choice_of fired.now) acked
         (is_formatting stage) (seen_cells (BODY + 1) (state_of left))) }
 {
     let mut left = left;
@@ -77,8 +80,8 @@ pub(crate) fn outcome_of(
                     right: false,
                 });
             }
-            let mut behind = fired;
-            behind.truncate(plant.front().fired as usize);
+            let held = plant.front().fired as usize;
+            let behind = copies_of(alloc, front_of(fired, held))?;
             let next = go_on(alloc, plant, behind, tear)?;
             Ok(Outcome {
                 found,
@@ -94,6 +97,24 @@ pub(crate) fn outcome_of(
     }
 }
 
+/// The first of the choices: so many, or all where there are fewer.
+fn front_of(choices: &[Choice], count: usize) -> &[Choice]
+    ensures { result.now ≡ take count choices.now }
+{
+    &choices[..count.min(choices.len())]
+}
+
+/// The same choices, in memory of their own.
+fn copies_of(alloc: Global, choices: &[Choice]) -> Result<Vec<Choice>, AllocError>
+    ensures { IfOk result (λ copies. copies.items ≡ choices.now) }
+{
+    let mut copies = Vec::new(alloc);
+    for choice in choices {
+        copies.push(choice.copy())?;
+    }
+    Ok(copies)
+}
+
 /// How a plant goes on that has fired and acknowledged these choices, and nothing more.
 fn go_on(
     alloc: Global,
@@ -107,7 +128,7 @@ fn go_on(
 {
     let system = plant.system();
     let before = behind.len() as u64;
-    let events = [Event::Fire(0), Event::Flush];
+    let events: [Event; NEXT_EVENTS] = [Event::Fire(0), Event::Flush];
     let ended = run_booted(alloc, plant, &events, behind)?;
     // A device that failed had no room for its record of changes.
     if ended.acked != ended.fired.len() {

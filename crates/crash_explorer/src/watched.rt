@@ -81,6 +81,13 @@ impl Watched {
     }
 
     /// The device.
+    pub(crate) fn memory(&self) -> &MemDisk
+        ensures { result.now ≡ self.now.disk }
+    {
+        &self.disk
+    }
+
+    /// The device, handed on.
     pub(crate) fn into_memory(self) -> MemDisk
         ensures { result ≡ self.disk }
     {

@@ -28,12 +28,12 @@ use Rattle.crash_explorer.proofs.Stopped.{booted-at}
 use Rattle.crash_explorer.proofs.outcome.outcome_of.Goals as goal
 
 -- the verdict of a run whose choices were cut in two
-cut-verdict : (plant : PlantDefinition) (digest : List ℕ) (bytes acked : ℕ) (choices lent front rest : List Choice) (cells : List Cell) (v : Verdict) → lent ≡ choices → front ≡ take acked lent → rest ≡ drop acked lent
+cut-verdict : (plant : PlantDefinition) (digest : List ℕ) (bytes acked : ℕ) (choices front rest : List Choice) (cells : List Cell) (v : Verdict) → front ≡ take acked choices → rest ≡ drop acked choices
     → IsVerdict plant digest bytes (map choice_of front) (map choice_of rest) cells v
     → IsVerdict plant digest bytes (take acked (map choice_of choices)) (drop acked (map choice_of choices)) cells v
-cut-verdict plant digest bytes acked choices lent front rest cells v same is_front is_rest is =
-    let fronts : map choice_of front ≡ take acked (map choice_of choices) = ap (λ (l : List Choice). map choice_of l) (is_front ∙ ap (λ (l : List Choice). take acked l) same) ∙ cut-front choice_of acked choices in
-    let rests : map choice_of rest ≡ drop acked (map choice_of choices) = ap (λ (l : List Choice). map choice_of l) (is_rest ∙ ap (λ (l : List Choice). drop acked l) same) ∙ cut-rest choice_of acked choices in
+cut-verdict plant digest bytes acked choices front rest cells v is_front is_rest is =
+    let fronts : map choice_of front ≡ take acked (map choice_of choices) = ap (λ (l : List Choice). map choice_of l) is_front ∙ cut-front choice_of acked choices in
+    let rests : map choice_of rest ≡ drop acked (map choice_of choices) = ap (λ (l : List Choice). map choice_of l) is_rest ∙ cut-rest choice_of acked choices in
     subst (λ (cs : List ChoiceDefinition). IsVerdict plant digest bytes (take acked (map choice_of choices)) cs cells v) rests
     (subst (λ (cs : List ChoiceDefinition). IsVerdict plant digest bytes cs (map choice_of rest) cells v) fronts is)
 
@@ -41,9 +41,9 @@ pub verdict_on-requires-clause-run : goal.verdict_on-requires-clause-run
 verdict_on-requires-clause-run c =
     let plant : PlantDefinition = plant_of c.args.system.now in
     let acked : ℕ = c.args.acked in
-    let choices : List Choice = c.args.fired.items in
-    let front : c.split_at.result.0.now ≡ take acked choices = c.split_at.ensures.front ∙ ap (λ (l : List Choice). take acked l) c.deref.ensures.value in
-    let rest : c.split_at.result.1.now ≡ drop acked choices = c.split_at.ensures.back ∙ ap (λ (l : List Choice). drop acked l) c.deref.ensures.value in
+    let choices : List Choice = c.args.fired.now in
+    let front : c.split_at.result.0.now ≡ take acked choices = c.split_at.ensures.front in
+    let rest : c.split_at.result.1.now ≡ drop acked choices = c.split_at.ensures.back in
     let whole : map choice_of c.split_at.result.0.now ++ map choice_of c.split_at.result.1.now ≡ map choice_of choices =
     ap (λ (l : List Choice). map choice_of l ++ map choice_of c.split_at.result.1.now) front
     ∙ ap (λ (l : List Choice). map choice_of (take acked choices) ++ map choice_of l) rest
@@ -57,10 +57,10 @@ returns-then-not-stands c =
     let s : DiskState = state_of c.args.left in
     let cells : List Cell = seen_cells (BODY + 1) s in
     let acked : ℕ = c.args.acked in
-    let fired : List ChoiceDefinition = map choice_of c.args.fired.items in
+    let fired : List ChoiceDefinition = map choice_of c.args.fired.now in
     let verdict : Verdict = c.in_ok-verdict.verdict in
     let judged : IsVerdict plant digest (size_of s) (take acked fired) (drop acked fired) cells verdict =
-    cut-verdict plant digest (size_of s) acked c.args.fired.items c.deref.result.now c.split_at.result.0.now c.split_at.result.1.now cells verdict c.deref.ensures.value c.split_at.ensures.front c.split_at.ensures.back c.in_ok-verdict.ensures.verdict in
+    cut-verdict plant digest (size_of s) acked c.args.fired.now c.split_at.result.0.now c.split_at.result.1.now cells verdict c.split_at.ensures.front c.split_at.ensures.back c.in_ok-verdict.ensures.verdict in
     let opens : IsOpened plant digest s c.in_ok-opened.opened =
     opened-alike plant digest s (state_of c.verdict_on.new.disk) c.in_ok-opened.opened c.in_ok-verdict.ensures.kept.same.now c.in_ok-opened.ensures in
     let found : IsFound plant digest (size_of s) cells c.found-found.result =
@@ -79,10 +79,10 @@ go_on-requires c =
     let s : DiskState = state_of c.args.left in
     let cells : List Cell = seen_cells (BODY + 1) s in
     let acked : ℕ = c.args.acked in
-    let fired : List ChoiceDefinition = map choice_of c.args.fired.items in
+    let fired : List ChoiceDefinition = map choice_of c.args.fired.now in
     let verdict : Verdict = c.in_ok-verdict.verdict in
     let judged : IsVerdict plant digest (size_of s) (take acked fired) (drop acked fired) cells verdict =
-    cut-verdict plant digest (size_of s) acked c.args.fired.items c.deref.result.now c.split_at.result.0.now c.split_at.result.1.now cells verdict c.deref.ensures.value c.split_at.ensures.front c.split_at.ensures.back c.in_ok-verdict.ensures.verdict in
+    cut-verdict plant digest (size_of s) acked c.args.fired.now c.split_at.result.0.now c.split_at.result.1.now cells verdict c.split_at.ensures.front c.split_at.ensures.back c.in_ok-verdict.ensures.verdict in
     let opens : IsOpened plant digest s c.in_ok-opened.opened =
     opened-alike plant digest s (state_of c.verdict_on.new.disk) c.in_ok-opened.opened c.in_ok-verdict.ensures.kept.same.now c.in_ok-opened.ensures in
     let found : IsFound plant digest (size_of s) cells c.found-found.result =
@@ -90,15 +90,15 @@ go_on-requires c =
     let iff = c.is_right-stands.ensures plant digest (size_of s) (take acked fired) (drop acked fired) cells judged found in
     let p = c.in-Plant.plant in
     let is : IsOpened plant digest s (opened.Plant p) = subst (λ (o : Opened). IsOpened plant digest s o) c.in-Plant.is opens in
-    let number : ℕ = c.front.result.fired in
+    let number : ℕ = c.front-held.result.fired in
     let tail : length (view_of p).tail ≡ 0 = ap (λ (cs : List ChoiceDefinition). length cs) is.3.tail in
-    let last : number ≡ last_number (contents_of (length plant.atoms) cells) = omega (arith, c.front.ensures.fired, is.3.number, tail) in
-    let many : length fired ≡ length c.args.fired.items = length-map c.args.fired.items choice_of in
+    let last : number ≡ last_number (contents_of (length plant.atoms) cells) = omega (arith, c.front-held.ensures.fired, is.3.number, tail) in
+    let many : length fired ≡ length c.args.fired.now = length-map c.args.fired.now choice_of in
     let within : acked ≤ length fired = omega (arith, c.requires.acked, many) in
     let stands = right-stands plant digest (size_of s) number acked fired (is_formatting c.args.stage) cells within is.3.sound last (iff.0 c.if-not-stands.false) in
-    let behind : map choice_of c.truncate.new.self.items ≡ take number fired =
-    ap (λ (l : List Choice). map choice_of l) c.truncate.ensures.items ∙ cut-front choice_of number c.args.fired.items in
-    subst (λ (q : PlantDefinition). IsAt q (map choice_of c.truncate.new.self.items) (view_of p)) (sym is.0)
+    let behind : map choice_of c.in_ok-behind-in-Plant.behind.items ≡ take number fired =
+    ap (λ (l : List Choice). map choice_of l) (c.in_ok-behind-in-Plant.ensures ∙ c.front_of.ensures) ∙ cut-front choice_of number c.args.fired.now in
+    subst (λ (q : PlantDefinition). IsAt q (map choice_of c.in_ok-behind-in-Plant.behind.items) (view_of p)) (sym is.0)
     (subst (λ (cs : List ChoiceDefinition). IsAt plant cs (view_of p)) (sym behind)
     (booted-at plant digest (size_of s) (take number fired) cells (view_of p) (front-is-run plant digest number fired c.requires.run) is.3 stands))
 
@@ -109,10 +109,10 @@ returns-in_ok-next-in-Plant c =
     let s : DiskState = state_of c.args.left in
     let cells : List Cell = seen_cells (BODY + 1) s in
     let acked : ℕ = c.args.acked in
-    let fired : List ChoiceDefinition = map choice_of c.args.fired.items in
+    let fired : List ChoiceDefinition = map choice_of c.args.fired.now in
     let verdict : Verdict = c.in_ok-verdict.verdict in
     let judged : IsVerdict plant digest (size_of s) (take acked fired) (drop acked fired) cells verdict =
-    cut-verdict plant digest (size_of s) acked c.args.fired.items c.deref.result.now c.split_at.result.0.now c.split_at.result.1.now cells verdict c.deref.ensures.value c.split_at.ensures.front c.split_at.ensures.back c.in_ok-verdict.ensures.verdict in
+    cut-verdict plant digest (size_of s) acked c.args.fired.now c.split_at.result.0.now c.split_at.result.1.now cells verdict c.split_at.ensures.front c.split_at.ensures.back c.in_ok-verdict.ensures.verdict in
     let opens : IsOpened plant digest s c.in_ok-opened.opened =
     opened-alike plant digest s (state_of c.verdict_on.new.disk) c.in_ok-opened.opened c.in_ok-verdict.ensures.kept.same.now c.in_ok-opened.ensures in
     let found : IsFound plant digest (size_of s) cells c.found-found.result =
@@ -120,21 +120,21 @@ returns-in_ok-next-in-Plant c =
     let iff = c.is_right-stands.ensures plant digest (size_of s) (take acked fired) (drop acked fired) cells judged found in
     let p = c.in-Plant.plant in
     let is : IsOpened plant digest s (opened.Plant p) = subst (λ (o : Opened). IsOpened plant digest s o) c.in-Plant.is opens in
-    let number : ℕ = c.front.result.fired in
+    let number : ℕ = c.front-held.result.fired in
     let n : Next = c.in_ok-next-in-Plant.next in
-    let behind : map choice_of c.truncate.new.self.items ≡ take number fired =
-    ap (λ (l : List Choice). map choice_of l) c.truncate.ensures.items ∙ cut-front choice_of number c.args.fired.items in
-    let of_plant : IsNext plant (text_digest p) (size_of (device_of p)) c.args.tear (view_of p) (map choice_of c.truncate.new.self.items) n =
-    subst (λ (q : PlantDefinition). IsNext q (text_digest p) (size_of (device_of p)) c.args.tear (view_of p) (map choice_of c.truncate.new.self.items) n) is.0 c.in_ok-next-in-Plant.ensures in
-    let of_digest : IsNext plant digest (size_of (device_of p)) c.args.tear (view_of p) (map choice_of c.truncate.new.self.items) n =
-    subst (λ (d : List ℕ). IsNext plant d (size_of (device_of p)) c.args.tear (view_of p) (map choice_of c.truncate.new.self.items) n) is.1 of_plant in
-    let of_size : IsNext plant digest (size_of s) c.args.tear (view_of p) (map choice_of c.truncate.new.self.items) n =
-    subst (λ (m : ℕ). IsNext plant digest m c.args.tear (view_of p) (map choice_of c.truncate.new.self.items) n) is.2 of_digest in
+    let behind : map choice_of c.in_ok-behind-in-Plant.behind.items ≡ take number fired =
+    ap (λ (l : List Choice). map choice_of l) (c.in_ok-behind-in-Plant.ensures ∙ c.front_of.ensures) ∙ cut-front choice_of number c.args.fired.now in
+    let of_plant : IsNext plant (text_digest p) (size_of (device_of p)) c.args.tear (view_of p) (map choice_of c.in_ok-behind-in-Plant.behind.items) n =
+    subst (λ (q : PlantDefinition). IsNext q (text_digest p) (size_of (device_of p)) c.args.tear (view_of p) (map choice_of c.in_ok-behind-in-Plant.behind.items) n) is.0 c.in_ok-next-in-Plant.ensures in
+    let of_digest : IsNext plant digest (size_of (device_of p)) c.args.tear (view_of p) (map choice_of c.in_ok-behind-in-Plant.behind.items) n =
+    subst (λ (d : List ℕ). IsNext plant d (size_of (device_of p)) c.args.tear (view_of p) (map choice_of c.in_ok-behind-in-Plant.behind.items) n) is.1 of_plant in
+    let of_size : IsNext plant digest (size_of s) c.args.tear (view_of p) (map choice_of c.in_ok-behind-in-Plant.behind.items) n =
+    subst (λ (m : ℕ). IsNext plant digest m c.args.tear (view_of p) (map choice_of c.in_ok-behind-in-Plant.behind.items) n) is.2 of_digest in
     let next : IsNext plant digest (size_of s) c.args.tear (view_of p) (take number fired) n =
     subst (λ (cs : List ChoiceDefinition). IsNext plant digest (size_of s) c.args.tear (view_of p) cs n) behind of_size in
     let by_number : IsNextOf plant digest (size_of s) c.args.tear fired cells (Booted number) (Some n) = (view_of p, is.3, n, refl, next) in
     let told : c.found-found.result ≡ Booted number =
-    c.found-found.ensures ∙ ap (λ (o : Opened). found_in o) c.in-Plant.is ∙ ap (λ (m : ℕ). Booted m) (sym c.front.ensures.fired) in
+    c.found-found.ensures ∙ ap (λ (o : Opened). found_in o) c.in-Plant.is ∙ ap (λ (m : ℕ). Booted m) (sym c.front-held.ensures.fired) in
     let both = c.are_right.ensures in
     record {
       found_is = found;
@@ -149,10 +149,10 @@ returns-in-Refused c =
     let s : DiskState = state_of c.args.left in
     let cells : List Cell = seen_cells (BODY + 1) s in
     let acked : ℕ = c.args.acked in
-    let fired : List ChoiceDefinition = map choice_of c.args.fired.items in
+    let fired : List ChoiceDefinition = map choice_of c.args.fired.now in
     let verdict : Verdict = c.in_ok-verdict.verdict in
     let judged : IsVerdict plant digest (size_of s) (take acked fired) (drop acked fired) cells verdict =
-    cut-verdict plant digest (size_of s) acked c.args.fired.items c.deref.result.now c.split_at.result.0.now c.split_at.result.1.now cells verdict c.deref.ensures.value c.split_at.ensures.front c.split_at.ensures.back c.in_ok-verdict.ensures.verdict in
+    cut-verdict plant digest (size_of s) acked c.args.fired.now c.split_at.result.0.now c.split_at.result.1.now cells verdict c.split_at.ensures.front c.split_at.ensures.back c.in_ok-verdict.ensures.verdict in
     let opens : IsOpened plant digest s c.in_ok-opened.opened =
     opened-alike plant digest s (state_of c.verdict_on.new.disk) c.in_ok-opened.opened c.in_ok-verdict.ensures.kept.same.now c.in_ok-opened.ensures in
     let found : IsFound plant digest (size_of s) cells c.found-found.result =
