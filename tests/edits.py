@@ -32,7 +32,7 @@ WITH_EDITS = {
     "recovery": "goes on from another state",
     "file_disk": "loses what was written, or gives what was not",
 }
-MOST_EDITS = 174
+MOST_EDITS = 176
 
 
 def edits_of(crate):
