@@ -61,16 +61,14 @@ def answer_at(place):
 
 
 def written_out():
-    """What a run hands to its output at once, with how many firings were acknowledged then: what is before an event that asks the device, and what that answers."""
+    """What a run hands to its output at once, with how many firings are acknowledged then: what waits when an event is to ask the device, and at the end."""
     parts, lines, acked = [], [], 0
     for event, line, _ in EVENTS:
-        if event.split()[0] not in ("flush", "put", "save", "trim"):
-            lines.append(line)
-            continue
-        parts += [(text(lines), acked)] if lines else []
-        acked = max(acked, told([line])[1])
-        parts.append((f"{line}\n", acked))
-        lines = []
+        if event.split()[0] in ("flush", "put", "save", "trim"):
+            parts += [(text(lines), acked)] if lines else []
+            acked = max(acked, told([line])[1])
+            lines = []
+        lines.append(line)
     last = [line for _, line, _ in EVENTS]
     return [*parts, (text([*lines, *end(*told(last))]), acked)]
 

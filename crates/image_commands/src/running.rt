@@ -20,8 +20,8 @@ use std::io::Write;
 use std::thread::Threads;
 
 /// Boots the plant of the system from the device, after any stop, asks the events of it, one after another, and prints the answer of each; after
-/// them, where the plant then stands. What was printed is handed on before each event that makes calls of the device, after the answer,
-/// and at the end. The hands of the atoms are empty at first; they are made before the device is asked for anything.
+/// them, where the plant then stands. What was printed is handed on before each event that makes calls of the device, and at the
+/// end. The hands of the atoms are empty at first; they are made before the device is asked for anything.
 // It has a frame of its own, so that a caller of several runs needs no more stack than for one.
 #[inline(never)]
 pub fn run_image<R: Threads + Sync, D: Disk + Drop, W: Write>(
