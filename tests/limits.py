@@ -36,7 +36,7 @@ WITH_THREADS, BLOCKS_WITH_THREADS = ("run", "recover"), 20
 MANY_BLOCKS, BLOCKS_APART = 300, 37
 # The beginning of a run, and then a round that is made over and over: each kind of event, done and refused. A ring of 8 is used again with each three rounds.
 BEGINNING = b"fire 0\nask B\nput B\ntrim\nflush\nask A\nput A\ntrim\n"
-ROUND = b"fire 1\nfire send A.t/0 B.u/0\nask A\nput A\nbegin 0\nask A\nfire 0\nback A\nback B\nflush\nflush\nput A\nask A\nask B\nput A\nput B\ntrim\ntrim\n"
+ROUND = b"fire 1\nfire send A.t/0 B.u/0\nask A\nput A\nbegin 0\nask A\nfire 0\nback A\nback B\nflush\nflush\nput A\nask A\nput A\nsave\nsave\nput B\ntrim\ntrim\n"
 ROUNDS = 100
 # Tests of the library, each with its crate, that ask memory of these calls in turn. They print the name of one that is refused it, and make it again.
 REFUSED = "durable_tests", "tests::memory::a_refused_growth_changes_nothing"
