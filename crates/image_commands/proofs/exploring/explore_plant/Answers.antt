@@ -13,8 +13,8 @@ use Rattle.image_commands.specs.Trials.{IsTrialAt, explored_line, wrong_of}
 use Rattle.image_commands.proofs.Trials.{lines_and_next, next_is_at, trials_and_next, wrong_of-few}
 use Rattle.image_commands.proofs.exploring.explore_plant.Goals as goal
 
-pub loop-trial-init : goal.loop-trial-init
-loop-trial-init g c = record {
+pub loop-explorer-init : goal.loop-explorer-init
+loop-explorer-init g c = record {
   trials = [];
   of_run = c.in_ok-explorer.ensures.run;
   stops = refl;
@@ -26,13 +26,13 @@ loop-trial-init g c = record {
   printed = Appends-nil (g.W.Write.contents c.args.output.now);
 }
 
-pub loop-trial-preserved : goal.loop-trial-preserved
-loop-trial-preserved g c =
-    let seen = c.loop-trial.invariant in
+pub loop-explorer-preserved : goal.loop-explorer-preserved
+loop-explorer-preserved g c =
+    let seen = c.loop-explorer.invariant in
     let system = c.args.system.now in
-    let e : Explorer = c.loop-trial.explorer in
+    let e : Explorer = c.loop-explorer.explorer in
     let t : Trial = c.in-Some.trial in
-    let before : ℕ = c.loop-trial.boots in
+    let before : ℕ = c.loop-explorer.boots in
     let after : Explorer = c.next_trial.new.self in
     let next : IsNextTrial e t = subst (λ (o : Option Trial). MatchOption o (trials_left e ≡ 0) (IsNextTrial e)) c.in-Some.is c.in_ok-trial.ensures.trial in
     let fewer : trials_left after + 1 ≡ trials_left e =
@@ -59,12 +59,12 @@ loop-trial-preserved g c =
 
 pub returns : goal.returns
 returns g c =
-    let seen = c.loop-trial.invariant in
+    let seen = c.loop-explorer.invariant in
     let system = c.args.system.now in
-    let none : trials_left c.loop-trial.explorer ≡ 0 = search rules in
+    let none : trials_left c.loop-explorer.explorer ≡ 0 = search rules in
     let stops : ℕ = c.stops-2.result in
-    let wrong : ℕ = c.loop-trial.wrong in
-    let before = g.W.Write.contents c.loop-trial.output in
+    let wrong : ℕ = c.loop-explorer.wrong in
+    let before = g.W.Write.contents c.loop-explorer.output in
     let after = g.W.Write.contents c.print_explored.new.output in
     let line : Appends before after (explored_line stops (length seen.trials) wrong) =
     subst (λ (boots : ℕ). Appends before after (explored_line stops boots wrong)) seen.many c.in_ok-print_explored.ensures in

@@ -7,12 +7,12 @@ use Rattle.crash_explorer.specs.declared.explorer.Trial.{Trial}
 use Rattle.image_commands.specs.Trials.{AreTrialsFrom, listed_line, wrong_of}
 use Rattle.image_commands.proofs.exploring.explore_plant.Given as goal
 
-abbrev pub decreases-loop-trial : goal.decreases-loop-trial
-decreases-loop-trial g l = trials_left l.explorer
+abbrev pub decreases-loop-explorer : goal.decreases-loop-explorer
+decreases-loop-explorer g l = trials_left l.explorer
 
 -- the trials that were made are the first ones, and their lines are printed
-abbrev pub invariant-loop-trial : goal.invariant-loop-trial
-invariant-loop-trial g l = record {
+abbrev pub invariant-loop-explorer : goal.invariant-loop-explorer
+invariant-loop-explorer g l = record {
   trials : List Trial;
   of_run : IsExplorerOf l.fn.system l.fn.ring l.fn.events l.explorer;
   stops : stops_of l.explorer ≡ stops_of l.initial.explorer;
