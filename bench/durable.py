@@ -28,7 +28,10 @@ from reference import CELL, OPEN, FirstImage
 
 SEED, RING = 7, 4096
 BATCHES = (1, 8, 64)
-OURS, OTHER, COALESCED, RAW = "ours", "other", "other, `--coalesce`", "two syncs"
+OURS, OTHER, COALESCED = "ours", "other", "other, `--coalesce`"
+# The bare calls of the system, over cells of today's layout and over those of the first.
+BARE, FIRST_BARE = "bare calls", "bare calls, cells of 512"
+BARE_CELL = {BARE: CELL, FIRST_BARE: FirstImage.bytes_of_cell}
 # So many steps and so many of them a flush, over a ring of so many: where a ring is used again, and where the last flush is a short one.
 SHORT = [(1000, 8, 8), (1000, 1, 8), (999, 7, 64), (5000, 64, 100), (20000, 64, RING), (RING, 8, RING), (RING + 1, 1, RING)]
 
@@ -99,20 +102,23 @@ def named(place, cells):
     return f"record cell {place - 3 - 2 * atoms}"
 
 
-def raw_rate(folder, batch, flushes):
-    """Steps a second if a flush is only its two writes and its two syncs: the cells of so many records, and then all but the last half cell once more, with the
-    gates. The file is as long as a small image, and is made as those of ours are, by writes of 4,096 bytes."""
-    path = Path(folder) / "bench-raw.image"
+def bare_rate(folder, cell, batch, flushes):
+    """Steps a second if a flush is only its two writes and its two syncs, over cells of so many bytes: the cells of so many records, and then all but the last half
+    cell once more, with the gates. A ring that is full is emptied by one write and one sync. The file is as long as a small image, and is made as those of ours are,
+    by writes of 4,096 bytes."""
+    path = Path(folder) / "bench-bare.image"
     path.unlink(missing_ok=True)
     file = os.open(path, os.O_RDWR | os.O_CREAT)
-    for place in range(0, RING * CELL, 4096):
+    for place in range(0, RING * cell, 4096):
         os.pwrite(file, bytes(4096), place)
     os.fsync(file)
-    bodies = bytes(batch * CELL)
-    gates = bytes(batch * CELL - CELL // 2)
+    empty, bodies, gates = bytes(RING * cell), bytes(batch * cell), bytes(batch * cell - cell // 2)
     begun = time.perf_counter()
     for flush in range(flushes):
-        place = flush * batch % RING * CELL
+        place = flush * batch % RING * cell
+        if flush and not place:
+            os.pwrite(file, empty, 0)
+            os.fdatasync(file)
         os.pwrite(file, bodies, place)
         os.fdatasync(file)
         os.pwrite(file, gates, place)
@@ -131,24 +137,25 @@ def in_turn(contenders, round):
 
 def measure_steps(bench):
     """Acknowledged steps a second of all contenders."""
-    print("| Plant | Steps a flush | Ours, steps/s | Other | Other, `--coalesce` | Two syncs | Ours to other | to `--coalesce` | to two syncs |")
-    print("|---|---:|---:|---:|---:|---:|---:|---:|---:|")
+    print("| Plant | Steps a flush | Ours, steps/s | Other | Other, `--coalesce` | Bare calls | Bare, cells of 512 | Ours to other | to `--coalesce` | to bare | `--coalesce` to its bare | Bare to `--coalesce` |")
+    print("|---|" + "---:|" * 11)
     flushes = bench.options.flushes
     for name, plant in bench.plants.items():
         for batch in BATCHES:
-            rates = {who: [] for who in (OURS, OTHER, COALESCED, RAW)}
+            rates = {who: [] for who in (OURS, OTHER, COALESCED, BARE, FIRST_BARE)}
             for round in range(bench.options.rounds):
                 left = {}
                 for who in in_turn(list(rates), round):
-                    if who == RAW:
-                        rates[who].append(raw_rate(bench.folder, batch, flushes))
+                    if who in BARE_CELL:
+                        rates[who].append(bare_rate(bench.folder, BARE_CELL[who], batch, flushes))
                     else:
                         printed, left[who] = bench.durable(who, plant, batch * flushes, batch)
                         rates[who].append(float(printed["acked"]) / float(printed["seconds"]))
                 for who in (OTHER, COALESCED):
                     bench.compare(name, f"{batch * flushes} steps, {batch} a flush, {who}", left[OURS], left[who])
             rate = {who: statistics.median(found) for who, found in rates.items()}
-            ratios = " | ".join(f"{rate[OURS] / rate[who]:.2f}" for who in (OTHER, COALESCED, RAW))
+            pairs = ((OURS, OTHER), (OURS, COALESCED), (OURS, BARE), (COALESCED, FIRST_BARE), (BARE, COALESCED))
+            ratios = " | ".join(f"{rate[who] / rate[beside]:.2f}" for who, beside in pairs)
             print(f"| {name} | {batch} | " + " | ".join(f"{rate[who]:,.0f}" for who in rates) + f" | {ratios} |", flush=True)
 
 
