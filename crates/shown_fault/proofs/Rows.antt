@@ -12,6 +12,7 @@ use Rattle.shown_fault.specs.Spelling.{stuck_text, word_text, name_text}
 use Rattle.shown_fault.specs.Wanted.{places_of, wanted_in}
 use Rattle.shown_fault.specs.declared.unknown.TheConstants.{ATOM_OF_CONDITION}
 use Rattle.shown_fault.specs.declared.wanted.Wanted.TheVariants.{First, NewName, Mark, From, Place, Source, Target, Guard, Variable, Assign, Value, Tree, Leaf, Clause, Side, Below, When, ConditionAtom, ConditionAt, ConditionPlace, End}
+use Rattle.shown_fault.specs.RuleSign.{turned_line, turned_advice, sign_advice}
 use Rattle.shown_fault.specs.Circle.{reached, takes_part}
 
 -- ---- bytes
@@ -191,6 +192,16 @@ the_outer_operator = refl
 no_operator : lacking_in (words_of (codes "+ n 2")) ≡ None
 unfolding operands_of
 no_operator = refl
+
+-- ---- a rule with another sign
+
+the_sides_change_places : sign_advice (words_of (codes "prio c > d:1  when A at s")) (codes ">") ≡ codes "  write 'prio d:1 < c when A at s'\n"
+unfolding turned_advice turned_line
+the_sides_change_places = refl
+
+no_right_side : sign_advice (words_of (codes "prio c >")) (codes ">") ≡ []
+unfolding turned_advice turned_line
+no_right_side = refl
 
 -- ---- names
 

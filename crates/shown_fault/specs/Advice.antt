@@ -2,6 +2,7 @@
 use Rattle.std.specs.Prelude.{ℕ, List, [], ◌∷◌, Option, None, slice_get, codes}
 use Rattle.std.specs.Option.{option_and_then, option_map_or}
 use Rattle.std.specs.Fmt.{decimal}
+use Rattle.plant_words.specs.Words.{words_of}
 use Rattle.plant_text.specs.declared.fault.Fault.{Fault}
 use Rattle.plant_text.specs.declared.fault.Fault.TheVariants.{UnknownWord, Misplaced, BadName, Twice, UnknownName, BadExpression, BadNumber, Shape, Limit}
 use Rattle.shown_fault.specs.Shown.{quoted, advice_line, filled_line}
@@ -42,14 +43,14 @@ twice_advice lines words word =
 
 -- What can be done about the fault of a line, after these lines and these words of it; the word at fault is empty if one is
 -- missing.
-abbrev pub advice : Fault → List (List ℕ) → List (List ℕ) → List ℕ → List ℕ
-advice UnknownWord lines words word = kind_advice word
-advice Misplaced lines words word = misplaced_advice word
-advice BadName lines words word = name_advice word
-advice Twice lines words word = twice_advice lines words word
-advice UnknownName lines words word = unknown_advice lines words word
-advice BadExpression lines words word = expression_advice words word
-advice BadNumber lines words word = number_advice word
-advice Shape lines words word = shape_advice words word
-advice Limit lines words word = limit_advice words word
-advice fault lines words word = []
+abbrev pub advice : Fault → List (List ℕ) → List ℕ → List (List ℕ) → List ℕ → List ℕ
+advice UnknownWord lines line words word = kind_advice word
+advice Misplaced lines line words word = misplaced_advice word
+advice BadName lines line words word = name_advice word
+advice Twice lines line words word = twice_advice lines words word
+advice UnknownName lines line words word = unknown_advice lines words word
+advice BadExpression lines line words word = expression_advice words word
+advice BadNumber lines line words word = number_advice word
+advice Shape lines line words word = shape_advice (words_of line) words word
+advice Limit lines line words word = limit_advice words word
+advice fault lines line words word = []

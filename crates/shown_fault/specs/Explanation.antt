@@ -15,7 +15,7 @@ explanation_of path lines found line start len =
     window_lines line start len ∷
     message found.fault found.line line (take start line) (take len (drop start line)) ∷
     codes "\n" ∷
-    advice found.fault lines (words_of (take start line)) (take len (drop start line)) ∷ [])
+    advice found.fault lines line (words_of (take start line)) (take len (drop start line)) ∷ [])
 
 -- this is shown of a fault of the line, with a mark at some part of it
 abbrev pub Explains : List ℕ → List (List ℕ) → PlantFault → Option (List ℕ) → List ℕ → Type 0

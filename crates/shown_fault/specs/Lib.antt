@@ -9,6 +9,7 @@ pub mod Near
 pub mod Missing
 pub mod Spelling
 pub mod Operands
+pub mod RuleSign
 pub mod MisplacedWord
 pub mod Unknown
 pub mod Limits

@@ -2,12 +2,13 @@
 use Rattle.std.specs.Prelude.{ℕ, Bool, ◌||◌, ◌&&◌, ◌==◌, if◌then◌else◌, List, [], ◌∷◌, nat_lt, codes}
 use Rattle.petri_atom.specs.Name.{is_same_text}
 use Rattle.plant_words.specs.Words.{is_filled}
-use Rattle.shown_fault.specs.Shown.{quoted, advice_line}
+use Rattle.shown_fault.specs.Shown.{joined, quoted, advice_line}
 use Rattle.shown_fault.specs.Spelling.{slip_text, word_text, either_text}
 use Rattle.shown_fault.specs.Operands.{operands_of}
+use Rattle.shown_fault.specs.RuleSign.{sign_advice}
 use Rattle.shown_fault.specs.Wanted.{wanted_in, is_of_expression, expected_text}
 use Rattle.shown_fault.specs.declared.wanted.Wanted.{Wanted}
-use Rattle.shown_fault.specs.declared.wanted.Wanted.TheVariants.{Guard, Value, Clause, Leaf}
+use Rattle.shown_fault.specs.declared.wanted.Wanted.TheVariants.{Guard, Value, Clause, Leaf, Below}
 
 -- the word ends a bracket
 unfoldable pub is_close : List ℕ → Bool
@@ -49,16 +50,25 @@ operator_advice word =
     if operands_of word == 1 then advice_line (codes "an operator stands before its operands: write '" ∷ word ∷ codes " a'" ∷ [])
     else advice_line (codes "an operator stands before its operands: write '" ∷ word ∷ codes " a b'" ∷ [])
 
+-- what more can be done about a word that stands where this has to, in a line with these words
+abbrev pub more_advice : Wanted → List (List ℕ) → List ℕ → List ℕ
+more_advice Below line word = sign_advice line word
+more_advice wanted line word = []
+
+-- which word has to stand there, or that none may, and what more can be done
+abbrev pub other_advice : List (List ℕ) → Wanted → List ℕ → List ℕ
+other_advice line wanted word = joined (expected_advice wanted word ∷ more_advice wanted line word ∷ [])
+
 -- that an operator has to stand before its operands, or which word has to stand there
-abbrev pub order_advice : Wanted → List ℕ → List ℕ
-order_advice wanted word =
-    if is_of_expression wanted && nat_lt 0 (operands_of word) then operator_advice word else expected_advice wanted word
+abbrev pub order_advice : List (List ℕ) → Wanted → List ℕ → List ℕ
+order_advice line wanted word =
+    if is_of_expression wanted && nat_lt 0 (operands_of word) then operator_advice word else other_advice line wanted word
 
 -- what is wrong with a word that stands where this has to: it is left over, it is no sign by itself, or another must stand there
-abbrev pub shape_advice_at : Wanted → List ℕ → List ℕ
-shape_advice_at wanted word =
-    if is_filled (misplaced_text wanted word) then advice_line (misplaced_text wanted word ∷ []) else order_advice wanted word
+abbrev pub shape_advice_at : List (List ℕ) → Wanted → List ℕ → List ℕ
+shape_advice_at line wanted word =
+    if is_filled (misplaced_text wanted word) then advice_line (misplaced_text wanted word ∷ []) else order_advice line wanted word
 
--- the same of a word that stands after these
-abbrev pub shape_advice : List (List ℕ) → List ℕ → List ℕ
-shape_advice words word = shape_advice_at (wanted_in words) word
+-- the same of a word of a line that stands after these
+abbrev pub shape_advice : List (List ℕ) → List (List ℕ) → List ℕ → List ℕ
+shape_advice line words word = shape_advice_at line (wanted_in words) word

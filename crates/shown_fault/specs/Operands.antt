@@ -1,5 +1,5 @@
 -- An expression that is no expression: which operator lacks an operand, and what to write in the place of a word.
-use Rattle.std.specs.Prelude.{ℕ, zero, suc, ◌+◌, ◌==◌, Bool, true, false, ◌||◌, if◌then◌else◌, List, [], ◌∷◌, map, is_some, Option, Some, None, codes}
+use Rattle.std.specs.Prelude.{ℕ, zero, suc, ◌+◌, ◌==◌, Bool, true, false, if◌then◌else◌, List, [], ◌∷◌, map, is_some, Option, Some, None, codes}
 use Rattle.petri_atom.specs.Name.{is_same_text}
 use Rattle.plant_words.specs.Words.{is_filled}
 use Rattle.plant_words.specs.ExpressionWords.{operator_in}

@@ -23,10 +23,11 @@ pub(crate) fn advice(
     alloc: Global,
     fault: &Fault,
     lines: &[&[u8]],
+    line: &[u8],
     front: &[u8],
     word: &[u8],
 ) -> Result<Vec<u8>, AllocError>
-    ensures { IfOk result (λ text. text.items ≡ advice fault.now (lists_of lines.now) (words_of front.now) word.now) }
+    ensures { IfOk result (λ text. text.items ≡ advice fault.now (lists_of lines.now) line.now (words_of front.now) word.now) }
 {
     match fault {
         Fault::UnknownWord => kind_advice(alloc, word),
@@ -36,7 +37,7 @@ pub(crate) fn advice(
         Fault::UnknownName => unknown_advice(alloc, lines, front, word),
         Fault::BadExpression => expression_advice(alloc, front, word),
         Fault::BadNumber => number_advice(alloc, word),
-        Fault::Shape => shape_advice(alloc, front, word),
+        Fault::Shape => shape_advice(alloc, line, front, word),
         Fault::Limit => limit_advice(alloc, front, word),
         _ => Ok(Vec::new(alloc)),
     }

@@ -54,7 +54,7 @@ fn explanation(
     let location = location_line(alloc, path, found.line, front.len() + 1)?;
     let window = window_lines(alloc, line, mark.start, mark.len)?;
     let message = message(alloc, &found.fault, found.line, line, front, word)?;
-    let advice = advice(alloc, &found.fault, &lines, front, word)?;
+    let advice = advice(alloc, &found.fault, &lines, line, front, word)?;
     joined(alloc, &[&location, &window, &message, b"\n", &advice])
 }
 

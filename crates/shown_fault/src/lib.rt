@@ -17,7 +17,7 @@
 //! Each byte is shown so that no terminal takes it for a command ([`shown_name`]).
 //!
 //! In contracts a text is the list of its lines. What is shown is one definition, `explanation_of` (`specs/Explanation.antt`), for
-//! the line that has the fault and a part of it. The advice is a function of the fault, the lines before, the words of the line before
+//! the line that has the fault and a part of it. The advice is a function of the fault, the lines before, the line, its words before
 //! the part, and the part itself (`specs/Advice.antt`). It says nothing of memory: if there is none, nothing is shown.
 //!
 //! What is said of a word stands in tables of rows, which the contracts read too: `PLACES`, `OWNERS`, `SLIPS`, `SIGNS` and
@@ -26,6 +26,7 @@
 //! - `explanation`: the whole. `whole`: a fault of no line. `window`: where to jump, the line and the mark. `message`: what is wrong.
 //! - `advice`: what can be done, by the fault. `spelling`: a word by itself. `misplaced_word`: a word at the wrong place. `operands`: a
 //!   word of no expression. `unknown`: a name that is not there. `limits`: which limit. `kinds`: the kinds of lines, and a line of none.
+//! - `rule_sign`: a rule with another word in the place of its sign.
 //! - `front`: the words before. `wanted`: what has to stand after them. `names`: what earlier lines declare. `near`: a name that was
 //!   perhaps meant. `missing`: the names that are there.
 //! - `interaction`: the interaction with a number. `circle`: the rules that lead round. `shown`: bytes, and parts put together.
@@ -45,6 +46,7 @@ mod missing;
 mod names;
 mod near;
 mod operands;
+mod rule_sign;
 mod shown;
 mod spelling;
 mod table;

@@ -1,35 +1,75 @@
 //! A word that stands where another must, is missing, or is left over.
 ghost use Rattle.std.specs.Prelude.{◌≡◌, IfOk};
 ghost use Rattle.plant_words.specs.Words.{words_of};
-ghost use Rattle.shown_fault.specs.MisplacedWord.{is_close, bracket_text, sign_text, misplaced_text, instead_advice, expected_advice, operator_advice, order_advice, shape_advice};
+ghost use Rattle.shown_fault.specs.MisplacedWord.{is_close, bracket_text, sign_text, misplaced_text, instead_advice, expected_advice, operator_advice, more_advice, other_advice, order_advice, shape_advice};
 
 use crate::operands::operands_of;
-use crate::shown::{advice_line, quoted};
+use crate::rule_sign::sign_advice;
+use crate::shown::{advice_line, joined, quoted};
 use crate::spelling::{either_text, slip_text, word_text};
 use crate::wanted::{Wanted, wanted_after};
 use std::alloc::{AllocError, Global};
 
-/// What is wrong with a word that stands after these: it is left over, it is no sign by itself, or another must stand there.
-pub(crate) fn shape_advice(alloc: Global, front: &[u8], word: &[u8]) -> Result<Vec<u8>, AllocError>
-    ensures { IfOk result (λ text. text.items ≡ shape_advice (words_of front.now) word.now) }
+/// What is wrong with a word of the line that stands after these: it is left over, it is no sign by itself, or another must stand there.
+pub(crate) fn shape_advice(
+    alloc: Global,
+    line: &[u8],
+    front: &[u8],
+    word: &[u8],
+) -> Result<Vec<u8>, AllocError>
+    ensures { IfOk result (λ text. text.items ≡ shape_advice (words_of line.now) (words_of front.now) word.now) }
 {
     let wanted = wanted_after(front);
     let text = misplaced_text(wanted, word);
     if text.is_empty() {
-        order_advice(alloc, wanted, word)
+        order_advice(alloc, line, wanted, word)
     } else {
         advice_line(alloc, &[text.as_bytes()])
     }
 }
 
 /// That an operator has to stand before its operands, or which word has to stand there.
-fn order_advice(alloc: Global, wanted: Wanted, word: &[u8]) -> Result<Vec<u8>, AllocError>
-    ensures { IfOk result (λ text. text.items ≡ order_advice wanted word.now) }
+fn order_advice(
+    alloc: Global,
+    line: &[u8],
+    wanted: Wanted,
+    word: &[u8],
+) -> Result<Vec<u8>, AllocError>
+    ensures { IfOk result (λ text. text.items ≡ order_advice (words_of line.now) wanted word.now) }
 {
     if wanted.is_of_expression() && operands_of(word) > 0 {
         operator_advice(alloc, word)
     } else {
-        expected_advice(alloc, wanted, word)
+        other_advice(alloc, line, wanted, word)
+    }
+}
+
+/// Which word has to stand there, or that none may, and what more can be done.
+fn other_advice(
+    alloc: Global,
+    line: &[u8],
+    wanted: Wanted,
+    word: &[u8],
+) -> Result<Vec<u8>, AllocError>
+    ensures { IfOk result (λ text. text.items ≡ other_advice (words_of line.now) wanted word.now) }
+{
+    let expected = expected_advice(alloc, wanted, word)?;
+    let more = more_advice(alloc, wanted, line, word)?;
+    joined(alloc, &[&expected, &more])
+}
+
+/// What more can be done about a word of the line that stands where this has to.
+fn more_advice(
+    alloc: Global,
+    wanted: Wanted,
+    line: &[u8],
+    word: &[u8],
+) -> Result<Vec<u8>, AllocError>
+    ensures { IfOk result (λ text. text.items ≡ more_advice wanted (words_of line.now) word.now) }
+{
+    match wanted {
+        Wanted::Below => sign_advice(alloc, line, word),
+        _ => Ok(Vec::new(alloc)),
     }
 }
 
