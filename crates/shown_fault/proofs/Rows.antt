@@ -203,6 +203,14 @@ no_right_side : sign_advice (words_of (codes "prio c >")) (codes ">") ≡ []
 unfolding turned_advice turned_line
 no_right_side = refl
 
+two_left_sides : sign_advice (words_of (codes "prio a b < c")) (codes "b") ≡ codes "  a side of a rule is one connector: write one rule a line\n"
+unfolding turned_advice turned_line
+two_left_sides = refl
+
+no_sign : sign_advice (words_of (codes "prio a b")) (codes "b") ≡ []
+unfolding turned_advice turned_line
+no_sign = refl
+
 -- ---- names
 
 two_atoms : names_in (codes "atom") lines ≡ codes "A" ∷ codes "B" ∷ []

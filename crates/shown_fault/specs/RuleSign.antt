@@ -4,7 +4,7 @@ use Rattle.std.specs.Option.{option_map_or}
 use Rattle.petri_atom.specs.Name.{is_same_text}
 use Rattle.shown_fault.specs.declared.rule_sign.TheConstants.{LEFT_SIDE, RIGHT_SIDE, CONDITION}
 use Rattle.shown_fault.specs.declared.window.TheConstants.{MAX_SHOWN}
-use Rattle.shown_fault.specs.Front.{is_word_at}
+use Rattle.shown_fault.specs.Front.{is_word_at, has_word}
 use Rattle.shown_fault.specs.Shown.{shown, joined, cut_to, advice_line}
 
 -- words, each after a space
@@ -31,4 +31,7 @@ turned_advice words = option_map_or (turned_line words (unwrap_or (slice_get wor
 
 -- what can be done about a word in the place of the sign of a rule with these words
 abbrev pub sign_advice : List (List ℕ) → List ℕ → List ℕ
-sign_advice words word = if is_same_text word (codes ">") then turned_advice words else []
+sign_advice words word =
+    if is_same_text word (codes ">") then turned_advice words
+    else if has_word words (codes "<") then advice_line (codes "a side of a rule is one connector: write one rule a line" ∷ [])
+    else []

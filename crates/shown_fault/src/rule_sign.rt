@@ -3,7 +3,7 @@ ghost use Rattle.std.specs.Prelude.{◌≡◌, IfOk, OnOk, ◌++◌, drop};
 ghost use Rattle.plant_words.specs.Words.{words_of};
 ghost use Rattle.shown_fault.specs.RuleSign.{spaced, has_condition, condition_text, turned_line, turned_advice, sign_advice};
 
-use crate::front::{is_word_at, skip_words, word_at};
+use crate::front::{has_word, is_word_at, skip_words, word_at};
 use crate::shown::{advice_line, cut_to, joined, shown_name};
 use crate::window::MAX_SHOWN;
 use plant_words::Words;
@@ -24,6 +24,10 @@ pub(crate) fn sign_advice(alloc: Global, line: &[u8], word: &[u8]) -> Result<Vec
 {
     match word {
         b">" => turned_advice(alloc, line),
+        _ if has_word(line, b"<") => advice_line(
+            alloc,
+            &[b"a side of a rule is one connector: write one rule a line"],
+        ),
         _ => Ok(Vec::new(alloc)),
     }
 }
