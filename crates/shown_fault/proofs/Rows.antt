@@ -13,7 +13,7 @@ use Rattle.shown_fault.specs.Wanted.{places_of, wanted_in}
 use Rattle.shown_fault.specs.declared.unknown.TheConstants.{ATOM_OF_CONDITION}
 use Rattle.shown_fault.specs.declared.wanted.Wanted.TheVariants.{First, NewName, Mark, From, Place, Source, Target, Guard, Variable, Assign, Value, Tree, Leaf, Clause, Side, Below, When, ConditionAtom, ConditionAt, ConditionPlace, End}
 use Rattle.shown_fault.specs.RuleSign.{turned_line, turned_advice, sign_advice}
-use Rattle.shown_fault.specs.Circle.{reached, takes_part}
+use Rattle.shown_fault.specs.Circle.{reached, takes_part, has_conditions}
 
 -- ---- bytes
 
@@ -257,3 +257,9 @@ a_rule_of_the_circle = refl
 
 a_rule_from_below : takes_part (codes "a" ∷ codes "b" ∷ []) (codes "a" ∷ codes "d" ∷ []) (codes "prio d < a") ≡ false
 a_rule_from_below = refl
+
+a_rule_of_the_circle_with_a_condition : has_conditions (codes "a" ∷ []) (codes "a" ∷ []) (codes "prio a < a" ∷ codes "prio a < a when A at s" ∷ []) ≡ true
+a_rule_of_the_circle_with_a_condition = refl
+
+a_condition_of_another_rule : has_conditions (codes "a" ∷ []) (codes "a" ∷ []) (codes "prio a < a" ∷ codes "prio b < a when A at s" ∷ []) ≡ false
+a_condition_of_another_rule = refl

@@ -1,13 +1,16 @@
 -- The rules that lead round: those of the connectors that are below and above a connector.
 use Rattle.std.specs.Prelude.{ℕ, zero, suc, ◌+◌, Bool, false, not, ◌&&◌, if◌then◌else◌, List, [], ◌∷◌, ◌++◌, Option, slice_get, codes}
 use Rattle.std.specs.Option.{option_and_then, option_map, option_map_or}
+use Rattle.std.specs.List.{list_any}
 use Rattle.std.specs.Borrow.{Bor}
 use Rattle.std.specs.Fmt.{decimal}
 use Rattle.plant_words.specs.Words.{words_of}
 use Rattle.plant_words.specs.Splits.{named_mask_in}
+use Rattle.shown_fault.specs.declared.circle.TheConstants.{MAX_SHOWN_RULES}
 use Rattle.shown_fault.specs.declared.window.TheConstants.{MAX_SHOWN}
-use Rattle.shown_fault.specs.Shown.{shown, cut_to, advice_line}
+use Rattle.shown_fault.specs.Shown.{shown, joined, cut_to, advice_line}
 use Rattle.shown_fault.specs.Names.{second_word, is_among}
+use Rattle.shown_fault.specs.RuleSign.{has_condition}
 
 -- two lent names
 abbrev pub names_shown : Bor (List ℕ) × Bor (List ℕ) → List ℕ × List ℕ
@@ -60,3 +63,19 @@ rule_lines zero number above below (line ∷ lines) =
 rule_lines (suc room) number above below (line ∷ lines) =
     if takes_part above below line then rule_line number line ++ rule_lines room (number + 1) above below lines
     else rule_lines (suc room) (number + 1) above below lines
+
+-- one of the lines is a rule with a condition, and leads round
+abbrev pub has_conditions : List (List ℕ) → List (List ℕ) → List (List ℕ) → Bool
+has_conditions above below lines = list_any (λ line. has_condition (words_of line) && takes_part above below line) lines
+
+-- that conditions do not matter, if a rule that leads round has one
+abbrev pub condition_line : List (List ℕ) → List (List ℕ) → List (List ℕ) → List ℕ
+condition_line above below lines =
+    if has_conditions above below lines
+    then advice_line (codes "conditions do not matter here: rules that lead round are refused even if they never count together" ∷ [])
+    else []
+
+-- the rules that lead round, and that conditions do not matter if one of these has one
+unfoldable pub circle_lines : List (List ℕ) → List (List ℕ) → List (List ℕ) → List ℕ
+circle_lines above below lines =
+    joined (rule_lines MAX_SHOWN_RULES 1 above below lines ∷ condition_line above below lines ∷ [])

@@ -6,11 +6,10 @@ use Rattle.priority_filter.specs.declared.fault.OrderFault.TheVariants.{Cycle}
 use Rattle.plant_text.specs.Fault.{message_of}
 use Rattle.plant_text.specs.declared.fault.Fault.{Fault}
 use Rattle.plant_text.specs.declared.fault.Fault.TheVariants.{TooLong, NoAtom, Order}
-use Rattle.shown_fault.specs.declared.circle.TheConstants.{MAX_SHOWN_RULES}
 use Rattle.shown_fault.specs.Shown.{joined, advice_line}
 use Rattle.shown_fault.specs.Names.{names_in}
 use Rattle.shown_fault.specs.Interaction.{interaction_in}
-use Rattle.shown_fault.specs.Circle.{reached, rule_lines}
+use Rattle.shown_fault.specs.Circle.{reached, circle_lines}
 
 -- The connectors that are reached from this one by rules, up or down: as many rounds over the rules as there are connectors
 -- reach all.
@@ -26,7 +25,7 @@ interaction_line interaction =
 unfoldable pub round_advice : List (List ℕ) → List ℕ × ℕ → List ℕ
 round_advice lines interaction =
     joined (interaction_line interaction ∷
-    rule_lines MAX_SHOWN_RULES 1 (reached_from lines true interaction.0) (reached_from lines false interaction.0) lines ∷ [])
+    circle_lines (reached_from lines true interaction.0) (reached_from lines false interaction.0) lines ∷ [])
 
 -- the interaction with this number, and the rules that lead round
 unfoldable pub cycle_advice : List (List ℕ) → ℕ → List ℕ

@@ -1,11 +1,12 @@
 //! The rules that lead round: those of the connectors that are below and above a connector.
 ghost use Rattle.std.specs.Prelude.{◌≡◌, ◌∷◌, [], IfOk, OnOk, option_map};
 ghost use Rattle.shown_fault.specs.Lent.{lists_of};
-ghost use Rattle.shown_fault.specs.Circle.{names_shown, sides_in, facing, spread, reached, takes_part, rule_line, rule_lines, connector_of};
+ghost use Rattle.shown_fault.specs.Circle.{names_shown, sides_in, facing, spread, reached, takes_part, rule_line, rule_lines, connector_of, has_conditions, condition_line, circle_lines};
 
 use crate::front::word_at;
 use crate::names::{is_among, second_word};
-use crate::shown::{advice_line, cut_to, shown_name};
+use crate::rule_sign::has_condition;
+use crate::shown::{advice_line, cut_to, joined, shown_name};
 use crate::window::MAX_SHOWN;
 use plant_words::split_mask;
 use std::alloc::{AllocError, Global};
@@ -85,8 +86,23 @@ fn takes_part(line: &[u8], above: &[&[u8]], below: &[&[u8]]) -> bool
     }
 }
 
+/// The rules that lead round, and that conditions do not matter if one of these has one.
+#[tactic(auto, unfolding(crate::specs::Circle::circle_lines))]
+pub(crate) fn circle_lines(
+    alloc: Global,
+    lines: &[&[u8]],
+    above: &[&[u8]],
+    below: &[&[u8]],
+) -> Result<Vec<u8>, AllocError>
+    ensures { IfOk result (λ text. text.items ≡ circle_lines (lists_of above.now) (lists_of below.now) (lists_of lines.now)) }
+{
+    let rules = rule_lines(alloc, lines, above, below)?;
+    let conditions = condition_line(alloc, lines, above, below)?;
+    joined(alloc, &[&rules, &conditions])
+}
+
 /// A line for each rule that leads round, the first ones if there are many.
-pub(crate) fn rule_lines(
+fn rule_lines(
     alloc: Global,
     lines: &[&[u8]],
     above: &[&[u8]],
@@ -116,4 +132,37 @@ fn rule_line(alloc: Global, number: usize, line: &[u8]) -> Result<Vec<u8>, Alloc
     let number = number.to_string(alloc)?;
     let line = cut_to(MAX_SHOWN, &shown_name(alloc, line)?, alloc)?;
     advice_line(alloc, &[b"line ", number.as_bytes(), b": ", &line])
+}
+
+/// That conditions do not matter, if a rule that leads round has one.
+fn condition_line(
+    alloc: Global,
+    lines: &[&[u8]],
+    above: &[&[u8]],
+    below: &[&[u8]],
+) -> Result<Vec<u8>, AllocError>
+    ensures { IfOk result (λ text. text.items ≡ condition_line (lists_of above.now) (lists_of below.now) (lists_of lines.now)) }
+{
+    if has_conditions(lines, above, below) {
+        advice_line(
+            alloc,
+            &[
+                b"conditions do not matter here: rules that lead round are refused even if they never count together",
+            ],
+        )
+    } else {
+        Ok(Vec::new(alloc))
+    }
+}
+
+/// Whether a rule that leads round has a condition.
+fn has_conditions(lines: &[&[u8]], above: &[&[u8]], below: &[&[u8]]) -> bool
+    ensures { result ≡ has_conditions (lists_of above.now) (lists_of below.now) (lists_of lines.now) }
+{
+    for line in lines {
+        if has_condition(line) && takes_part(line, above, below) {
+            return true;
+        }
+    }
+    false
 }

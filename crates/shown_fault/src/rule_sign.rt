@@ -68,7 +68,7 @@ fn condition_text(alloc: Global, line: &[u8]) -> Result<Vec<u8>, AllocError>
 }
 
 /// Whether the rule has a condition.
-fn has_condition(line: &[u8]) -> bool
+pub(crate) fn has_condition(line: &[u8]) -> bool
     ensures { result ≡ has_condition (words_of line.now) }
 {
     is_word_at(line, CONDITION, b"when")

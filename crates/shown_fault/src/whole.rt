@@ -5,7 +5,7 @@ ghost use Rattle.shown_fault.specs.Lent.{lists_of};
 ghost use Rattle.shown_fault.specs.Whole.{whole_advice, cycle_advice, round_advice, interaction_line, reached_from};
 ghost use Rattle.shown_fault.specs.Interaction.{interaction_shown};
 
-use crate::circle::{reached, rule_lines};
+use crate::circle::{circle_lines, reached};
 use crate::interaction::{AtomNames, Interaction, interaction_in};
 use crate::names::{count_names, names_in};
 use crate::shown::{advice_line, joined};
@@ -66,7 +66,7 @@ fn round_advice<'t>(
     let head = interaction_line(alloc, interaction)?;
     let above = reached_from(alloc, lines, true, interaction.connector)?;
     let below = reached_from(alloc, lines, false, interaction.connector)?;
-    let rules = rule_lines(alloc, lines, &above, &below)?;
+    let rules = circle_lines(alloc, lines, &above, &below)?;
     joined(alloc, &[&head, &rules])
 }
 
