@@ -69,15 +69,23 @@ connector_advice lines word = missing (codes "there is no connector") (codes "th
 abbrev pub mask_line : List ℕ → List ℕ → List ℕ
 mask_line name mask = advice_line (codes "mask " ∷ quoted mask ∷ codes " is no interaction of connector " ∷ name ∷ [])
 
--- the connectors, or that the mask is no interaction of the connector
-unfoldable pub mask_advice : List (List ℕ) → List ℕ → List ℕ → List ℕ
-mask_advice lines name mask =
-    if is_among (names_in (codes "connector") lines) name
-    then mask_line name mask else connector_advice lines name
+-- that `maximal` takes the name of a connector, where this one stands with a mask
+abbrev pub name_line : List ℕ → List ℕ
+name_line name = advice_line (codes "'maximal' takes the name of a connector: write 'maximal " ∷ name ∷ codes "'" ∷ [])
 
--- the same of a side of a rule
+-- the connectors, if the name is none of them, or else this
+unfoldable pub connector_or : List (List ℕ) → List ℕ → List ℕ → List ℕ
+connector_or lines name other = if is_among (names_in (codes "connector") lines) name then other else connector_advice lines name
+
+-- the connectors, or that the mask of a side of a rule is no interaction of the connector
 unfoldable pub side_advice : List (List ℕ) → List ℕ → List ℕ
-side_advice lines word = option_map_or (λ parts. mask_advice lines parts.0 parts.1) (named_mask_in word) (connector_advice lines word)
+side_advice lines word =
+    option_map_or (λ parts. connector_or lines parts.0 (mask_line parts.0 parts.1)) (named_mask_in word) (connector_advice lines word)
+
+-- the connectors, or that `maximal` takes one of them without a mask
+unfoldable pub maximal_advice : List (List ℕ) → List ℕ → List ℕ
+maximal_advice lines word =
+    option_map_or (λ parts. connector_or lines parts.0 (name_line parts.0)) (named_mask_in word) (connector_advice lines word)
 
 -- the atoms, where the word of a condition is none of them
 unfoldable pub condition_atom_advice : List (List ℕ) → List ℕ → List ℕ
@@ -102,7 +110,7 @@ unknown_in lines words Leaf word = port_advice lines word
 unknown_in lines words Clause word = export_advice lines word
 unknown_in lines words Transfer word = export_advice lines word
 unknown_in lines words Side word = side_advice lines word
-unknown_in lines words Whole word = connector_advice lines word
+unknown_in lines words Whole word = maximal_advice lines word
 unknown_in lines words ConditionAtom word = condition_atom_advice lines word
 unknown_in lines words ConditionPlace word = condition_place_advice lines words word
 unknown_in lines words wanted word = []

@@ -2,7 +2,7 @@
 ghost use Rattle.std.specs.Prelude.{◌≡◌, IfOk, option_map};
 ghost use Rattle.plant_words.specs.Words.{words_of};
 ghost use Rattle.shown_fault.specs.Lent.{lists_of};
-ghost use Rattle.shown_fault.specs.Unknown.{unknown_text, part_advice, latest_part_advice, atom_advice, port_advice, variable_advice, export_advice, connector_advice, mask_line, mask_advice, side_advice, condition_atom_advice, condition_place_advice, unknown_in, unknown_advice};
+ghost use Rattle.shown_fault.specs.Unknown.{unknown_text, part_advice, latest_part_advice, atom_advice, port_advice, variable_advice, export_advice, connector_advice, mask_line, name_line, connector_or, side_advice, maximal_advice, condition_atom_advice, condition_place_advice, unknown_in, unknown_advice};
 
 use crate::front::word_at;
 use crate::missing::missing;
@@ -70,7 +70,7 @@ fn unknown_in(
         Wanted::Side => side_advice(alloc, lines, word),
         Wanted::ConditionAtom => condition_atom_advice(alloc, lines, word),
         Wanted::ConditionPlace => condition_place_advice(alloc, lines, front, word),
-        Wanted::Whole => connector_advice(alloc, lines, word),
+        Wanted::Whole => maximal_advice(alloc, lines, word),
         _ => Ok(Vec::new(alloc)),
     }
 }
@@ -209,27 +209,52 @@ fn side_advice(alloc: Global, lines: &[&[u8]], word: &[u8]) -> Result<Vec<u8>, A
     ensures { IfOk result (λ text. text.items ≡ side_advice (lists_of lines.now) word.now) }
 {
     match split_mask(word) {
-        Some((name, mask)) => mask_advice(alloc, lines, name, mask),
+        Some((name, mask)) => connector_or(alloc, lines, name, mask_line(alloc, name, mask)?),
         None => connector_advice(alloc, lines, word),
     }
 }
 
-/// The connectors, or that the mask is no interaction of the connector.
-#[tactic(auto, unfolding(crate::specs::Unknown::mask_advice))]
-fn mask_advice(
+/// The connectors, or that `maximal` takes one of them without a mask.
+#[tactic(auto, unfolding(crate::specs::Unknown::maximal_advice))]
+fn maximal_advice(alloc: Global, lines: &[&[u8]], word: &[u8]) -> Result<Vec<u8>, AllocError>
+    ensures { IfOk result (λ text. text.items ≡ maximal_advice (lists_of lines.now) word.now) }
+{
+    match split_mask(word) {
+        Some((name, _)) => connector_or(alloc, lines, name, name_line(alloc, name)?),
+        None => connector_advice(alloc, lines, word),
+    }
+}
+
+/// The connectors, if the name is none of them, or else this.
+#[tactic(auto, unfolding(crate::specs::Unknown::connector_or))]
+fn connector_or(
     alloc: Global,
     lines: &[&[u8]],
     name: &[u8],
-    mask: &[u8],
+    other: Vec<u8>,
 ) -> Result<Vec<u8>, AllocError>
-    ensures { IfOk result (λ text. text.items ≡ mask_advice (lists_of lines.now) name.now mask.now) }
+    ensures { IfOk result (λ text. text.items ≡ connector_or (lists_of lines.now) name.now other.items) }
 {
     let names = names_in(alloc, lines, b"connector")?;
     if is_among(&names, name) {
-        mask_line(alloc, name, mask)
+        Ok(other)
     } else {
         connector_advice(alloc, lines, name)
     }
+}
+
+/// That `maximal` takes the name of a connector, where this one stands with a mask.
+fn name_line(alloc: Global, name: &[u8]) -> Result<Vec<u8>, AllocError>
+    ensures { IfOk result (λ text. text.items ≡ name_line name.now) }
+{
+    advice_line(
+        alloc,
+        &[
+            b"'maximal' takes the name of a connector: write 'maximal ",
+            name,
+            b"'",
+        ],
+    )
 }
 
 /// That the mask is no interaction of the connector.
