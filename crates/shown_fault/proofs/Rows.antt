@@ -171,6 +171,10 @@ a_name_of_a_digit : name_text (codes "1A") ≡ codes "a name begins with a lette
 unfolding name_text
 a_name_of_a_digit = refl
 
+a_reserved_name : name_text (codes "at") ≡ codes "the word is reserved, one of: from, to, when, do, init, at, min, max"
+unfolding name_text
+a_reserved_name = refl
+
 -- ---- operands
 
 one_is_too_few : lacks 2 (codes "n" ∷ []) ≡ true

@@ -45,7 +45,7 @@ begins_as_name word = is_name (take 1 word)
 -- why a word is no name
 unfoldable pub name_text : List ℕ → List ℕ
 name_text word =
-    if is_reserved word then codes "the word is reserved"
+    if is_reserved word then codes "the word is reserved, one of: from, to, when, do, init, at, min, max"
     else if nat_lt MAX_NAME (length word) then codes "a name has at most 32 bytes"
     else if not (begins_as_name word) then codes "a name begins with a letter"
     else codes "a name has letters, digits and '_' alone"

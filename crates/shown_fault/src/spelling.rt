@@ -98,7 +98,7 @@ pub(crate) fn name_text(word: &[u8]) -> &'static str
     ensures { result.now ≡ name_text word.now }
 {
     if is_reserved(word) {
-        "the word is reserved"
+        "the word is reserved, one of: from, to, when, do, init, at, min, max"
     } else if word.len() > MAX_NAME {
         "a name has at most 32 bytes"
     } else if !begins_as_name(word) {
