@@ -12,6 +12,7 @@ use Rattle.shown_fault.specs.Spelling.{stuck_text, word_text, name_text}
 use Rattle.shown_fault.specs.Wanted.{places_of, wanted_in}
 use Rattle.shown_fault.specs.declared.unknown.TheConstants.{ATOM_OF_CONDITION}
 use Rattle.shown_fault.specs.declared.wanted.Wanted.TheVariants.{First, NewName, Mark, From, Place, Source, Target, Guard, Variable, Assign, Value, Tree, Leaf, Clause, Side, Below, When, ConditionAtom, ConditionAt, ConditionPlace, End}
+use Rattle.shown_fault.specs.MisplacedWord.{guard_text}
 use Rattle.shown_fault.specs.RuleSign.{turned_line, turned_advice, sign_advice}
 use Rattle.shown_fault.specs.Circle.{reached, takes_part, has_conditions}
 
@@ -174,6 +175,14 @@ a_name_of_a_digit = refl
 a_reserved_name : name_text (codes "at") ≡ codes "the word is reserved, one of: from, to, when, do, init, at, min, max"
 unfolding name_text
 a_reserved_name = refl
+
+a_guard_behind : guard_text (words_of (codes "trans t from s to s do n := 1")) (codes "when") ≡ codes "'when' comes before 'do': the guard stands before the updates"
+unfolding guard_text
+a_guard_behind = refl
+
+a_guard_before : guard_text (words_of (codes "trans t from s")) (codes "when") ≡ []
+unfolding guard_text
+a_guard_before = refl
 
 -- ---- operands
 

@@ -2,6 +2,7 @@
 use Rattle.std.specs.Prelude.{ℕ, Bool, ◌||◌, ◌&&◌, ◌==◌, if◌then◌else◌, List, [], ◌∷◌, nat_lt, codes}
 use Rattle.petri_atom.specs.Name.{is_same_text}
 use Rattle.plant_words.specs.Words.{is_filled}
+use Rattle.shown_fault.specs.Front.{has_word}
 use Rattle.shown_fault.specs.Shown.{joined, quoted, advice_line}
 use Rattle.shown_fault.specs.Spelling.{slip_text, word_text, either_text}
 use Rattle.shown_fault.specs.Operands.{operands_of}
@@ -28,9 +29,15 @@ sign_text Clause word = slip_text word
 sign_text Leaf word = bracket_text word
 sign_text wanted word = codes ""
 
--- what is wrong with a word by itself, where this has to stand; empty if that is not known
-abbrev pub misplaced_text : Wanted → List ℕ → List ℕ
-misplaced_text wanted word = either_text (word_text word) (sign_text wanted word)
+-- what is wrong with a `when` that stands after the `do` of a transition
+unfoldable pub guard_text : List (List ℕ) → List ℕ → List ℕ
+guard_text words word =
+    if is_same_text word (codes "when") && has_word words (codes "do")
+    then codes "'when' comes before 'do': the guard stands before the updates" else codes ""
+
+-- what is wrong with a word that stands after these, where this has to stand; empty if that is not known
+abbrev pub misplaced_text : List (List ℕ) → Wanted → List ℕ → List ℕ
+misplaced_text words wanted word = either_text (guard_text words word) (either_text (word_text word) (sign_text wanted word))
 
 -- what is expected in the place of a word, or of the end of the line
 abbrev pub instead_advice : List ℕ → List ℕ → List ℕ
@@ -64,11 +71,12 @@ abbrev pub order_advice : List (List ℕ) → Wanted → List ℕ → List ℕ
 order_advice line wanted word =
     if is_of_expression wanted && nat_lt 0 (operands_of word) then operator_advice word else other_advice line wanted word
 
--- what is wrong with a word that stands where this has to: it is left over, it is no sign by itself, or another must stand there
-abbrev pub shape_advice_at : List (List ℕ) → Wanted → List ℕ → List ℕ
-shape_advice_at line wanted word =
-    if is_filled (misplaced_text wanted word) then advice_line (misplaced_text wanted word ∷ []) else order_advice line wanted word
+-- what is wrong with a word that stands after these, where this has to stand: it is left over, it is no sign by itself, or another
+-- must stand there
+abbrev pub shape_advice_at : List (List ℕ) → List (List ℕ) → Wanted → List ℕ → List ℕ
+shape_advice_at line words wanted word =
+    if is_filled (misplaced_text words wanted word) then advice_line (misplaced_text words wanted word ∷ []) else order_advice line wanted word
 
 -- the same of a word of a line that stands after these
 abbrev pub shape_advice : List (List ℕ) → List (List ℕ) → List ℕ → List ℕ
-shape_advice line words word = shape_advice_at line (wanted_in words) word
+shape_advice line words word = shape_advice_at line words (wanted_in words) word

@@ -4,18 +4,20 @@ use Rattle.std.specs.Option.{option_map_or}
 use Rattle.plant_words.specs.Words.{is_filled}
 use Rattle.plant_words.specs.Splits.{PortParts, port_parts, export_parts, named_mask_in}
 use Rattle.shown_fault.specs.Shown.{joined, quoted, advice_line}
-use Rattle.shown_fault.specs.Spelling.{word_text}
+use Rattle.shown_fault.specs.Spelling.{word_text, either_text}
 use Rattle.shown_fault.specs.Operands.{expression_text}
 use Rattle.shown_fault.specs.Names.{names_in, latest_in, part_names_in, is_among}
 use Rattle.shown_fault.specs.Missing.{missing}
+use Rattle.shown_fault.specs.MisplacedWord.{guard_text}
 use Rattle.shown_fault.specs.Wanted.{wanted_in, is_of_expression}
 use Rattle.shown_fault.specs.declared.unknown.TheConstants.{ATOM_OF_CONDITION}
 use Rattle.shown_fault.specs.declared.wanted.Wanted.{Wanted}
 use Rattle.shown_fault.specs.declared.wanted.Wanted.TheVariants.{Export, Port, Place, Source, Target, Guard, Variable, Value, Tree, Leaf, Transfer, Clause, Side, ConditionAtom, ConditionPlace, Whole}
 
--- what is wrong with a word by itself, where this has to stand; empty if that is not known
-abbrev pub unknown_text : Wanted → List ℕ → List ℕ
-unknown_text wanted word = if is_of_expression wanted then expression_text word else word_text word
+-- what is wrong with a word that stands after these, where this has to stand; empty if that is not known
+abbrev pub unknown_text : List (List ℕ) → Wanted → List ℕ → List ℕ
+unknown_text words wanted word =
+    either_text (guard_text words word) (if is_of_expression wanted then expression_text word else word_text word)
 
 -- the parts of an atom whose lines begin with this word
 unfoldable pub part_advice : List (List ℕ) → List ℕ → List ℕ → List ℕ → List ℕ → List ℕ
@@ -115,11 +117,11 @@ unknown_in lines words ConditionAtom word = condition_atom_advice lines word
 unknown_in lines words ConditionPlace word = condition_place_advice lines words word
 unknown_in lines words wanted word = []
 
--- what is wrong with an unknown word by itself, or the names that may stand where this has to
+-- what is wrong with an unknown word, or the names that may stand where this has to
 abbrev pub unknown_at : List (List ℕ) → List (List ℕ) → Wanted → List ℕ → List ℕ
 unknown_at lines words wanted word =
-    if is_filled (unknown_text wanted word) then advice_line (unknown_text wanted word ∷ []) else unknown_in lines words wanted word
+    if is_filled (unknown_text words wanted word) then advice_line (unknown_text words wanted word ∷ []) else unknown_in lines words wanted word
 
--- where a word that stands after these names nothing: what is wrong with it by itself, or the names that may stand there
+-- where a word that stands after these names nothing: what is wrong with it, or the names that may stand there
 abbrev pub unknown_advice : List (List ℕ) → List (List ℕ) → List ℕ → List ℕ
 unknown_advice lines words word = unknown_at lines words (wanted_in words) word

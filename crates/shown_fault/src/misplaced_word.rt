@@ -1,8 +1,9 @@
 //! A word that stands where another must, is missing, or is left over.
 ghost use Rattle.std.specs.Prelude.{◌≡◌, IfOk};
 ghost use Rattle.plant_words.specs.Words.{words_of};
-ghost use Rattle.shown_fault.specs.MisplacedWord.{is_close, bracket_text, sign_text, misplaced_text, instead_advice, expected_advice, operator_advice, more_advice, other_advice, order_advice, shape_advice};
+ghost use Rattle.shown_fault.specs.MisplacedWord.{is_close, bracket_text, sign_text, guard_text, misplaced_text, instead_advice, expected_advice, operator_advice, more_advice, other_advice, order_advice, shape_advice};
 
+use crate::front::has_word;
 use crate::operands::operands_of;
 use crate::rule_sign::sign_advice;
 use crate::shown::{advice_line, joined, quoted};
@@ -20,7 +21,7 @@ pub(crate) fn shape_advice(
     ensures { IfOk result (λ text. text.items ≡ shape_advice (words_of line.now) (words_of front.now) word.now) }
 {
     let wanted = wanted_after(front);
-    let text = misplaced_text(wanted, word);
+    let text = misplaced_text(front, wanted, word);
     if text.is_empty() {
         order_advice(alloc, line, wanted, word)
     } else {
@@ -73,11 +74,24 @@ fn more_advice(
     }
 }
 
-/// What is wrong with a word by itself, where this has to stand; empty if that is not known.
-fn misplaced_text(wanted: Wanted, word: &[u8]) -> &'static str
-    ensures { result.now ≡ misplaced_text wanted word.now }
+/// What is wrong with a word that stands after these, where this has to stand; empty if that is not known.
+fn misplaced_text(front: &[u8], wanted: Wanted, word: &[u8]) -> &'static str
+    ensures { result.now ≡ misplaced_text (words_of front.now) wanted word.now }
 {
-    either_text(word_text(word), sign_text(wanted, word))
+    let by_itself = either_text(word_text(word), sign_text(wanted, word));
+    either_text(guard_text(front, word), by_itself)
+}
+
+/// What is wrong with a `when` that stands after the `do` of a transition; empty if the word is something else.
+#[tactic(auto, unfolding(crate::specs::MisplacedWord::guard_text))]
+pub(crate) fn guard_text(front: &[u8], word: &[u8]) -> &'static str
+    ensures { result.now ≡ guard_text (words_of front.now) word.now }
+{
+    if word == b"when".as_slice() && has_word(front, b"do") {
+        "'when' comes before 'do': the guard stands before the updates"
+    } else {
+        ""
+    }
 }
 
 /// What is wrong with an operator of other languages, or with a bracket; empty if the word is something else.

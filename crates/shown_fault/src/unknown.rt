@@ -5,11 +5,12 @@ ghost use Rattle.shown_fault.specs.Lent.{lists_of};
 ghost use Rattle.shown_fault.specs.Unknown.{unknown_text, part_advice, latest_part_advice, atom_advice, port_advice, variable_advice, export_advice, connector_advice, mask_line, name_line, connector_or, side_advice, maximal_advice, condition_atom_advice, condition_place_advice, unknown_in, unknown_advice};
 
 use crate::front::word_at;
+use crate::misplaced_word::guard_text;
 use crate::missing::missing;
 use crate::names::{is_among, latest_in, names_in, part_names_in};
 use crate::operands::expression_text;
 use crate::shown::{advice_line, joined, quoted};
-use crate::spelling::word_text;
+use crate::spelling::{either_text, word_text};
 use crate::wanted::{Wanted, wanted_after};
 use plant_words::{split_export, split_mask, split_port};
 use std::alloc::{AllocError, Global};
@@ -17,7 +18,7 @@ use std::alloc::{AllocError, Global};
 /// The number, from 0, of the atom among the words of a rule with a condition.
 pub(crate) const ATOM_OF_CONDITION: usize = 5;
 
-/// Where a word that stands after these names nothing: what is wrong with it by itself, or the names that may stand there.
+/// Where a word that stands after these names nothing: what is wrong with it, or the names that may stand there.
 pub(crate) fn unknown_advice(
     alloc: Global,
     lines: &[&[u8]],
@@ -27,7 +28,7 @@ pub(crate) fn unknown_advice(
     ensures { IfOk result (λ text. text.items ≡ unknown_advice (lists_of lines.now) (words_of front.now) word.now) }
 {
     let wanted = wanted_after(front);
-    let text = unknown_text(wanted, word);
+    let text = unknown_text(front, wanted, word);
     if text.is_empty() {
         unknown_in(alloc, lines, front, wanted, word)
     } else {
@@ -35,15 +36,16 @@ pub(crate) fn unknown_advice(
     }
 }
 
-/// What is wrong with the word by itself; empty if that is not known.
-fn unknown_text(wanted: Wanted, word: &[u8]) -> &'static str
-    ensures { result.now ≡ unknown_text wanted word.now }
+/// What is wrong with a word that stands after these; empty if that is not known.
+fn unknown_text(front: &[u8], wanted: Wanted, word: &[u8]) -> &'static str
+    ensures { result.now ≡ unknown_text (words_of front.now) wanted word.now }
 {
-    if wanted.is_of_expression() {
+    let by_itself = if wanted.is_of_expression() {
         expression_text(word)
     } else {
         word_text(word)
-    }
+    };
+    either_text(guard_text(front, word), by_itself)
 }
 
 /// The names that may stand where this has to, after these words.
