@@ -7,6 +7,7 @@ use Rattle.std.specs.Fmt.{decimal}
 use Rattle.plant_words.specs.Words.{words_of}
 use Rattle.plant_words.specs.Splits.{named_mask_in}
 use Rattle.shown_fault.specs.declared.circle.TheConstants.{MAX_SHOWN_RULES}
+use Rattle.shown_fault.specs.declared.rule_sign.TheConstants.{RIGHT_SIDE}
 use Rattle.shown_fault.specs.declared.window.TheConstants.{MAX_SHOWN}
 use Rattle.shown_fault.specs.Shown.{shown, joined, cut_to, advice_line}
 use Rattle.shown_fault.specs.Names.{second_word, is_among}
@@ -23,7 +24,7 @@ connector_of side = option_map_or (λ parts. parts.0) (named_mask_in side) side
 -- the connectors of both sides of a line `prio`
 abbrev pub sides_in : List ℕ → Option (List ℕ × List ℕ)
 sides_in line =
-    option_and_then (λ left. option_map (λ right. (connector_of left, connector_of right)) (slice_get (words_of line) 3))
+    option_and_then (λ left. option_map (λ right. (connector_of left, connector_of right)) (slice_get (words_of line) RIGHT_SIDE))
     (second_word (codes "prio") line)
 
 -- sides, the lower one first if the way goes up

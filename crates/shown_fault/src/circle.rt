@@ -5,7 +5,7 @@ ghost use Rattle.shown_fault.specs.Circle.{names_shown, sides_in, facing, spread
 
 use crate::front::word_at;
 use crate::names::{is_among, second_word};
-use crate::rule_sign::has_condition;
+use crate::rule_sign::{RIGHT_SIDE, has_condition};
 use crate::shown::{advice_line, cut_to, joined, shown_name};
 use crate::window::MAX_SHOWN;
 use plant_words::split_mask;
@@ -19,7 +19,7 @@ fn sides_in<'t>(line: &'t [u8]) -> Option<(&'t [u8], &'t [u8])>
     ensures { option_map names_shown result ≡ sides_in line.now }
 {
     let left = second_word(line, b"prio")?;
-    let right = word_at(line, 3)?;
+    let right = word_at(line, RIGHT_SIDE)?;
     Some((connector_of(left), connector_of(right)))
 }
 

@@ -1,5 +1,5 @@
 //! A rule with another word in the place of its sign.
-ghost use Rattle.std.specs.Prelude.{◌≡◌, IfOk, OnOk, ◌++◌, drop};
+ghost use Rattle.std.specs.Prelude.{◌≡◌, IfOk};
 ghost use Rattle.plant_words.specs.Words.{words_of};
 ghost use Rattle.shown_fault.specs.RuleSign.{spaced, has_condition, condition_text, turned_line, turned_advice, sign_advice};
 
