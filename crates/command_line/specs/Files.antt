@@ -16,7 +16,7 @@ use Rattle.command_line.specs.declared.request.Work.TheVariants.{OfPlant, ByHand
 -- the text that has the picks of a run, if a text has them
 abbrev pub recorded_in : Picking → Option (List ℕ)
 recorded_in (Given picks numbers) = None
-recorded_in (Recorded path numbers) = Some path.now
+recorded_in (Recorded path numbers many by) = Some path.now
 recorded_in (Random many by) = None
 
 -- the same of picks after which a plant is drawn

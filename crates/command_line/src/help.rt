@@ -123,8 +123,9 @@ With --picks the picks are the lines of a file: a number, or an interaction, as
 'tick A.t/0'. An interaction is found by its names and the numbers of its transitions, so
 it stays the same where an edit of the plant gives the choices other numbers, and each
 transition keeps its own; where it can't be fired, it is refused, and the run ends there. A
-line that begins with # and a line without words are passed over. --save-picks writes such
-a file of what is fired. With --strict a number past the list of choices is refused.
+line that begins with # and a line without words are passed over. With --random N too, the N
+random picks come after those of the file. --save-picks writes such a file of what is
+fired. With --strict a number past the list of choices is refused.
 
 With --format csv the run is a table, with a row for each of these and a first row that
 names the columns; with --format jsonl it is a JSON object on each line. Both tell the

@@ -24,8 +24,6 @@ pub(crate) enum PickingFault<'a> {
     GivenAndRandom,
     /// There are picks and those of a text.
     GivenAndRecorded,
-    /// There are picks of a text and random ones.
-    RecordedAndRandom,
     /// Random picks are to be strict.
     StrictRandom,
     /// There is a seed, and no random picks.
@@ -48,7 +46,8 @@ impl<'a> From<PickFault<'a>> for PickingFault<'a> {
 }
 
 /// How choices are picked: by the picks that the words in `given` write, by those of a text, if a word names one, or by so many random
-/// ones, if a word says how many. Each number is digits alone, within a `u64`. Without a word for the seed it is [`USUAL_SEED`].
+/// ones, if a word says how many; random ones come after those of a text, if there are both. Each number is digits alone, within a `u64`. Without a word
+/// for the seed it is [`USUAL_SEED`].
 pub(crate) fn picking_named<'a>(
     alloc: Global,
     given: &[&'a str],
@@ -63,23 +62,21 @@ pub(crate) fn picking_named<'a>(
     if !given.is_empty() {
         return Err(PickingFault::GivenAndRandom);
     }
-    if said.recorded.is_some() {
-        return Err(PickingFault::RecordedAndRandom);
-    }
-    if said.strict {
+    if said.strict && said.recorded.is_none() {
         return Err(PickingFault::StrictRandom);
     }
-    let picks = read_decimal(count.as_bytes()).ok_or(PickingFault::NoCount(count))?;
-    match said.seed {
-        Some(word) => match read_decimal(word.as_bytes()) {
-            Some(seed) => Ok(Picking::Random(picks, seed)),
-            None => Err(PickingFault::NoSeed(word)),
-        },
-        None => Ok(Picking::Random(picks, USUAL_SEED)),
+    let many = read_decimal(count.as_bytes()).ok_or(PickingFault::NoCount(count))?;
+    let seed = match said.seed {
+        Some(word) => read_decimal(word.as_bytes()).ok_or(PickingFault::NoSeed(word))?,
+        None => USUAL_SEED,
+    };
+    match said.recorded {
+        Some(path) => Ok(Picking::Recorded(path, numbers_in(said.strict), many, seed)),
+        None => Ok(Picking::Random(many, seed)),
     }
 }
 
-/// How choices are picked where they are not random: by the picks that the words in `given` write, or by those of a text.
+/// How choices are picked where none are random: by the picks that the words in `given` write, or by those of a text.
 fn listed_named<'a>(
     alloc: Global,
     given: &[&'a str],
@@ -96,7 +93,7 @@ fn listed_named<'a>(
         return Ok(Picking::Given(read_picks(alloc, given)?, numbers_in(said.strict)));
     };
     if given.is_empty() {
-        Ok(Picking::Recorded(path, numbers_in(said.strict)))
+        Ok(Picking::Recorded(path, numbers_in(said.strict), 0, USUAL_SEED))
     } else {
         Err(PickingFault::GivenAndRecorded)
     }

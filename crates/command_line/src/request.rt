@@ -18,8 +18,8 @@ pub enum Numbers {
 pub enum Picking<'a> {
     /// By numbers that are given one by one.
     Given(Vec<u64>, Numbers),
-    /// By the lines of a text at this path: a file, or `-` for the standard input.
-    Recorded(&'a str, Numbers),
+    /// By the lines of a text at this path: a file, or `-` for the standard input. After them so many at random, by a seed.
+    Recorded(&'a str, Numbers, u64, u64),
     /// So many at random, by a seed.
     Random(u64, u64),
 }
@@ -34,7 +34,7 @@ impl<'a> Picking<'a> {
         ensures { word_of result ≡ recorded_in self.now }
     {
         match self {
-            Picking::Recorded(path, _) => Some(*path),
+            Picking::Recorded(path, _, _, _) => Some(*path),
             Picking::Given(_, _) | Picking::Random(_, _) => None,
         }
     }

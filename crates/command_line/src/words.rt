@@ -153,10 +153,6 @@ fn no_picking(
             ErrorKind::ArgumentConflict,
             "the picks are given, so they cannot be those of a file too",
         ),
-        PickingFault::RecordedAndRandom => command.error(
-            ErrorKind::ArgumentConflict,
-            "the picks are those of a file, so they cannot be random too",
-        ),
         PickingFault::StrictRandom => command.error(
             ErrorKind::ArgumentConflict,
             "a random pick is taken modulo the number of choices, so '--strict' cannot be with '--random <N>'",

@@ -8,6 +8,7 @@ use Rattle.run_text.specs.declared.fault.Refusal.{Refusal}
 use Rattle.run_text.specs.declared.pick.Numbers.{Numbers as RunNumbers}
 use Rattle.run_text.specs.declared.pick.Numbers.TheVariants as run
 use Rattle.recorded_picks.specs.Files.{picks_in}
+use Rattle.recorded_picks.specs.Followed.{followed}
 use Rattle.command_line.specs.declared.request.Numbers.{Numbers}
 use Rattle.command_line.specs.declared.request.Numbers.TheVariants.{Modulo, Strict}
 use Rattle.command_line.specs.declared.request.Picking.{Picking}
@@ -19,10 +20,10 @@ numbers_of Modulo = run.Modulo
 numbers_of Strict = run.Strict
 
 -- the picks that the words of the command line ask for, those of a text as far as its bytes are known: those that are given, those that the
--- lines of the text say, or random ones
+-- lines of the text say and random ones after them, or random ones
 abbrev pub picks_said : Picking → PlantDefinition → Option (List ℕ) → Option (List PickDefinition)
 picks_said (Given picks numbers) plant input = Some (given_picks (numbers_of numbers) picks.items)
-picks_said (Recorded path numbers) plant input = option_map (picks_in (numbers_of numbers) plant) input
+picks_said (Recorded path numbers count seed) plant input = followed (counted_picks (random_picks seed count)) (option_map (picks_in (numbers_of numbers) plant) input)
 picks_said (Random count seed) plant input = Some (counted_picks (random_picks seed count))
 
 -- the first of these picks that is refused, if one is, as far as they are known

@@ -12,3 +12,4 @@ mod ReadBack
 mod RunAgain
 mod Rows
 pub mod KeptLine
+mod Following

@@ -6,7 +6,7 @@ use Rattle.run_text.specs.Line.{interaction_line}
 use Rattle.run_text.specs.Picks.{PickDefinition, TakeDefinition, counted, numbered, named, misread}
 use Rattle.run_text.specs.declared.pick.Misread.TheVariants.{TooLong, UnknownConnector, UnknownMove, NoInteraction}
 use Rattle.run_text.specs.declared.pick.Numbers.TheVariants.{Modulo, Strict}
-use Rattle.run_text.proofs.RunRows.{move, sample, sent, ticked}
+use Rattle.run_text.proofs.RunRows.{sample, sent, ticked}
 use Rattle.recorded_picks.specs.Files.{picks_in}
 use Rattle.recorded_picks.specs.Lines.{said_in}
 use Rattle.recorded_picks.specs.declared.kept_line.TheConstants.{MAX_PICK_LINE}

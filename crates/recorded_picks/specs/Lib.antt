@@ -4,3 +4,4 @@ pub mod Choices
 pub mod Lines
 pub mod Files
 pub mod Laws
+pub mod Followed

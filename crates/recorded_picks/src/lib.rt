@@ -8,10 +8,12 @@
 //!
 //! - `picks`: the source. `line`: what a line says. `choice`: the choice that its words name. `names`: connectors, atoms and moves
 //!   of a plant by their names, each found by one look-up. `kept_line`: how long a line may be.
+//! - `followed`: random picks after those of a source ([`Followed`]).
 //! - `laws`: what a trace saves is read as what it fired.
 #![tactic(auto)]
 
 mod choice;
+mod followed;
 mod kept_line;
 pub mod laws;
 mod line;
@@ -19,6 +21,7 @@ mod names;
 mod picks;
 
 pub use choice::read_choice;
+pub use followed::Followed;
 pub use kept_line::MAX_PICK_LINE;
 pub use names::PlantNames;
 pub use picks::RecordedPicks;
