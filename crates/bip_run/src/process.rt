@@ -5,7 +5,7 @@ ghost use Rattle.bip_run.specs.Status.{status_of};
 use crate::asked::PlantRequest;
 use crate::paths::ShownPaths;
 use crate::saving::{FileSaver, lead_to_one_file, perform_saving};
-use command_line::{Drawing, Request, Subject, Task, Work, is_standard_input, read_request};
+use command_line::{Request, Subject, Task, Work, is_standard_input, read_request};
 use plant_model::System;
 use plant_tasks::{
     PlantEnding, PlantEndingText, ReadPlant, TaskPaths, Watched, ended, open_text, plant_at, step,
@@ -206,7 +206,8 @@ fn step_typed<R: Files<File = File> + Input + AllocGlobal, W: Write>(
 
 /// Tells which of the names of atoms that are to be drawn is of no atom of the plant.
 fn tell_no_atom<R: Eprint>(rt: &R, work: &Work<'_>, place: usize) {
-    if let Work::OfPlant(Task::Draw(Drawing::Only(names, _))) = work
+    if let Work::OfPlant(Task::Draw(drawing)) = work
+        && let Some(names) = &drawing.only
         && let Some(name) = names.get(place)
     {
         let _ = eprintln!(rt; "error: the plant has no atom '{name}', which '--only' names");

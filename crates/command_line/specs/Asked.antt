@@ -1,5 +1,8 @@
 -- What the words of a command ask for.
-use Rattle.std.specs.Prelude.{◌≡◌, ℕ, List, [], Bool, true, false, ◌||◌, codes, if◌then◌else◌, is_some, map, unwrap_or, Option, None, Some, Ok}
+use Rattle.std.specs.Prelude.{◌≡◌, ℕ, List, [], Bool, true, false, ◌||◌, codes, if◌then◌else◌, is_some, map, option_map, unwrap_or, Option, None, Some, Ok}
+use Rattle.std.specs.Borrow.{Bor}
+use Rattle.std.specs.declared.vec.Vec.{Vec}
+use Rattle.std.specs.declared.alloc.Global.{Global}
 use Rattle.command_line.specs.Apart.{apart_alone, apart_in}
 use Rattle.command_line.specs.Pickings.{IsSaid}
 use Rattle.command_line.specs.Rings.{ring_in}
@@ -10,8 +13,9 @@ use Rattle.command_line.specs.declared.names.CommandName.{CommandName}
 use Rattle.command_line.specs.declared.names.CommandName.TheVariants as command
 use Rattle.command_line.specs.declared.request.Picking.{Picking}
 use Rattle.command_line.specs.declared.request.Trace.{Trace}
+use Rattle.command_line.specs.declared.request.View.{View}
+use Rattle.command_line.specs.declared.request.View.TheVariants.{Whole, Outline}
 use Rattle.command_line.specs.declared.request.Drawing.{Drawing}
-use Rattle.command_line.specs.declared.request.Drawing.TheVariants.{Whole, Outline, After, Only}
 use Rattle.command_line.specs.declared.request.Task.{Task}
 use Rattle.command_line.specs.declared.request.Task.TheVariants as task
 use Rattle.command_line.specs.declared.request.IfThere.TheVariants.{Formatted, Refused}
@@ -57,13 +61,18 @@ abbrev pub IsPickedAfter : Option Picking → Said → Type 0
 IsPickedAfter None said = (has_picks said ≡ false) × (said.strict ≡ false)
 IsPickedAfter (Some picking) said = (has_picks said ≡ true) × IsSaid picking (words_after said) said
 
+-- the words ask for the plant to be drawn so
+abbrev pub IsView : View → Said → Type 0
+IsView (Whole picking) said = (said.outline ≡ false) × IsPickedAfter picking said
+IsView Outline said = (said.outline ≡ true) × IsPickedAfter None said
+
+-- names that may be there
+abbrev pub names_in : Option (Vec (Bor (List ℕ)) Global) → Option (List (List ℕ))
+names_in names = option_map (λ ns. map (λ name. name.now) ns.items) names
+
 -- the words ask for this drawing
 abbrev pub IsDrawing : Drawing → Said → Type 0
-IsDrawing Whole said = (said.outline ≡ false) × (words_of said.only ≡ None) × IsPickedAfter None said
-IsDrawing Outline said = (said.outline ≡ true) × (words_of said.only ≡ None) × IsPickedAfter None said
-IsDrawing (After picking) said = (said.outline ≡ false) × (words_of said.only ≡ None) × IsPickedAfter (Some picking) said
-IsDrawing (Only names picking) said =
-    (said.outline ≡ false) × (words_of said.only ≡ Some (map (λ name. name.now) names.items)) × IsPickedAfter picking said
+IsDrawing drawing said = IsView drawing.view said × (words_of said.only ≡ names_in drawing.only)
 
 -- the words of a command of a plant alone ask for this task
 abbrev pub IsTask : CommandName → Task → Said → Type 0

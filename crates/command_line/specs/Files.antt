@@ -3,8 +3,8 @@ use Rattle.std.specs.Prelude.{ℕ, List, codes, Option, None, Some}
 use Rattle.command_line.specs.Said.{word_of}
 use Rattle.command_line.specs.declared.request.Picking.{Picking}
 use Rattle.command_line.specs.declared.request.Picking.TheVariants.{Given, Recorded, Random}
-use Rattle.command_line.specs.declared.request.Drawing.{Drawing}
-use Rattle.command_line.specs.declared.request.Drawing.TheVariants.{Whole, Outline, After, Only}
+use Rattle.command_line.specs.declared.request.View.{View}
+use Rattle.command_line.specs.declared.request.View.TheVariants.{Whole, Outline}
 use Rattle.command_line.specs.declared.request.Task.{Task}
 use Rattle.command_line.specs.declared.request.Task.TheVariants.{Check, Warn, Trace, Choices, Why, Draw}
 use Rattle.command_line.specs.declared.request.ImageTask.TheVariants as image
@@ -20,12 +20,10 @@ recorded_in (Recorded path numbers many by) = Some path.now
 recorded_in (Random many by) = None
 
 -- the same of picks after which a plant is drawn
-abbrev pub recorded_after : Drawing → Option (List ℕ)
-recorded_after Whole = None
+abbrev pub recorded_after : View → Option (List ℕ)
+recorded_after (Whole None) = None
+recorded_after (Whole (Some picking)) = recorded_in picking
 recorded_after Outline = None
-recorded_after (After picking) = recorded_in picking
-recorded_after (Only names None) = None
-recorded_after (Only names (Some picking)) = recorded_in picking
 
 -- the same of a task
 abbrev pub recorded_by : Task → Option (List ℕ)
@@ -34,7 +32,7 @@ recorded_by Warn = None
 recorded_by (Trace trace) = recorded_in trace.picking
 recorded_by (Choices picking) = recorded_in picking
 recorded_by (Why picking) = recorded_in picking
-recorded_by (Draw drawing) = recorded_after drawing
+recorded_by (Draw drawing) = recorded_after drawing.view
 
 -- the file in which a task of the plant alone saves what is fired
 abbrev pub saved_by : Task → Option (List ℕ)

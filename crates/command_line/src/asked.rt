@@ -1,8 +1,8 @@
 //! What the words of a command ask for.
 ghost use Rattle.std.specs.Prelude.{◌≡◌, ◌≢◌, ◌≤◌, IfOk, Some, codes, if◌then◌else◌, unwrap_or};
-ghost use Rattle.command_line.specs.Asked.{has_picks, IsAsked, IsAsking, IsDrawing, IsExploration, IsInspection, IsLoneTask, IsPicked, IsPickedAfter, IsSubject, IsTrace, IsWork};
+ghost use Rattle.command_line.specs.Asked.{has_picks, IsAsked, IsAsking, IsDrawing, IsExploration, IsInspection, IsLoneTask, IsPicked, IsPickedAfter, IsSubject, IsTrace, IsView, IsWork, names_in};
 ghost use Rattle.command_line.specs.Rings.{ring_in};
-ghost use Rattle.command_line.specs.Said.{word_of};
+ghost use Rattle.command_line.specs.Said.{word_of, words_of};
 ghost use Rattle.command_line.specs.Workers.{workers_in};
 ghost use Rattle.command_line.specs.declared.names.CommandName.TheVariants.{Backup};
 ghost use Rattle.command_line.specs.declared.request.IfThere.TheVariants.{Formatted, Refused};
@@ -14,7 +14,7 @@ use crate::names::{CommandName, LINES, USUAL_RING, USUAL_WORKERS};
 use crate::picking::{PickingFault, picking_named};
 use crate::request::{
     Asking, Drawing, Exploration, IfThere, ImageTask, Inspection, LoneTask, Picking, Request,
-    Subject, Task, Trace, Work,
+    Subject, Task, Trace, View, Work,
 };
 use crate::ring::{RingLength, ring_named};
 use crate::runs::shape_named;
@@ -31,8 +31,8 @@ pub(crate) enum AskingFault<'a> {
     Picking(PickingFault<'a>),
     /// The picks of a drawing are to be strict, and there are none.
     StrictAlone,
-    /// An outline is asked for, and picks or atoms are given.
-    OutlineOfPart,
+    /// An outline is asked for, and picks are given.
+    OutlineOfState,
     /// The word is no length of a ring.
     NoRing(&'a str),
     /// The word is no number of workers.
@@ -254,13 +254,21 @@ fn trace_asked<'a>(alloc: Global, said: &Said<'_, 'a>) -> Result<Trace<'a>, Aski
 fn drawing_asked<'a>(alloc: Global, said: &Said<'_, 'a>) -> Result<Drawing<'a>, AskingFault<'a>>
     ensures { IfOk result (λ drawing. IsDrawing drawing said.now) }
 {
+    Ok(Drawing {
+        view: view_asked(alloc, said)?,
+        only: names_asked(alloc, said.only)?,
+    })
+}
+
+/// How a plant is drawn.
+fn view_asked<'a>(alloc: Global, said: &Said<'_, 'a>) -> Result<View<'a>, AskingFault<'a>>
+    ensures { IfOk result (λ view. IsView view said.now) }
+{
     let picking = picking_after(alloc, said)?;
-    match (said.outline, said.only, picking) {
-        (true, None, None) => Ok(Drawing::Outline),
-        (true, _, _) => Err(AskingFault::OutlineOfPart),
-        (false, None, None) => Ok(Drawing::Whole),
-        (false, None, Some(picking)) => Ok(Drawing::After(picking)),
-        (false, Some(names), picking) => Ok(Drawing::Only(names_of(alloc, names)?, picking)),
+    match (said.outline, picking) {
+        (false, picking) => Ok(View::Whole(picking)),
+        (true, None) => Ok(View::Outline),
+        (true, Some(_)) => Err(AskingFault::OutlineOfState),
     }
 }
 
@@ -286,6 +294,19 @@ fn has_picks(said: &Said<'_, '_>) -> bool
     ensures { result ≡ has_picks said.now }
 {
     said.after.is_some() || said.recorded.is_some()
+}
+
+/// The names of the atoms that are drawn alone, if some are named.
+fn names_asked<'a>(
+    alloc: Global,
+    words: Option<&[&'a str]>,
+) -> Result<Option<Vec<&'a str>>, AllocError>
+    ensures { IfOk result (λ names. words_of words.entry ≡ names_in names) }
+{
+    match words {
+        Some(words) => Ok(Some(names_of(alloc, words)?)),
+        None => Ok(None),
+    }
 }
 
 /// The names, as a list of their own.

@@ -207,8 +207,8 @@ the lower connector to the higher.
 
 With --after or --picks the state after some picks is drawn, and each connector that can
 then be fired is green; 'trace' tells of --picks and --strict. With --only some atoms are
-drawn, and the connectors that join them. With --outline alone there is one node for each
-atom and for each connector, for large plants.";
+drawn, and the connectors that join them. With --outline there is one node for each atom
+and for each connector, for large plants: it may go with --only.";
 
 pub(crate) const DRAW_USAGE: &str = "bip_run draw [OPTIONS] <PLANT>";
 

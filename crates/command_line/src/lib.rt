@@ -35,7 +35,7 @@ pub use answer::Answered;
 pub use input::is_standard_input;
 pub use request::{
     Asking, Drawing, Exploration, IfThere, ImageTask, Inspection, LoneTask, Numbers, Picking,
-    Request, Shape, Subject, Task, Trace, Work,
+    Request, Shape, Subject, Task, Trace, View, Work,
 };
 pub use ring::RingLength;
 pub use words::read_request;

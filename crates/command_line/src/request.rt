@@ -62,20 +62,16 @@ pub struct Trace<'a> {
     pub saved: Option<&'a str>,
 }
 
-/// What is drawn of a plant.
+/// How a plant is drawn.
 #[derive(Drop)]
-pub enum Drawing<'a> {
-    /// All of it, in its first state.
-    Whole,
-    /// Its atoms and connectors alone, without what stands in an atom.
+pub enum View<'a> {
+    /// With all that it has; in its first state, or in that after these picks, with the connectors in colour that can then be fired.
+    Whole(Option<Picking<'a>>),
+    /// Its atoms, connectors and rules, without what stands in an atom.
     Outline,
-    /// The state after these picks, with the connectors in colour that can then be fired.
-    After(Picking<'a>),
-    /// These atoms alone, by their names, and the connectors that join them; in the first state, or after these picks.
-    Only(Vec<&'a str>, Option<Picking<'a>>),
 }
 
-impl<'a> Drawing<'a> {
+impl<'a> View<'a> {
     ghost use Rattle.std.specs.Prelude.{◌≡◌};
     ghost use Rattle.command_line.specs.Files.{recorded_after};
     ghost use Rattle.command_line.specs.Said.{word_of};
@@ -85,10 +81,19 @@ impl<'a> Drawing<'a> {
         ensures { word_of result ≡ recorded_after self.now }
     {
         match self {
-            Drawing::After(picking) | Drawing::Only(_, Some(picking)) => picking.recorded(),
-            Drawing::Whole | Drawing::Outline | Drawing::Only(_, None) => None,
+            View::Whole(Some(picking)) => picking.recorded(),
+            View::Whole(None) | View::Outline => None,
         }
     }
+}
+
+/// What is drawn of a plant.
+#[derive(Drop)]
+pub struct Drawing<'a> {
+    /// How it is drawn.
+    pub view: View<'a>,
+    /// The atoms that are drawn alone, by their names, with what joins them; all, where none are named.
+    pub only: Option<Vec<&'a str>>,
 }
 
 /// What is to be done with a plant.
@@ -120,7 +125,7 @@ impl<'a> Task<'a> {
         match self {
             Task::Trace(trace) => trace.picking.recorded(),
             Task::Choices(picking) | Task::Why(picking) => picking.recorded(),
-            Task::Draw(drawing) => drawing.recorded(),
+            Task::Draw(drawing) => drawing.view.recorded(),
             Task::Check | Task::Warn => None,
         }
     }

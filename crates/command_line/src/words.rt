@@ -80,9 +80,9 @@ fn refusal(
             ErrorKind::MissingRequiredArgument,
             "'--strict' is for picks, and both '--after <PICK>...' and '--picks <FILE>' are missing",
         ),
-        AskingFault::OutlineOfPart => command.error(
+        AskingFault::OutlineOfState => command.error(
             ErrorKind::ArgumentConflict,
-            "an outline shows all atoms and no state, so '--only', '--after' and '--picks' cannot be with '--outline'",
+            "an outline shows no state, so '--after' and '--picks' cannot be with '--outline'",
         ),
         AskingFault::NoRing(word) => no_ring(alloc, command, word),
         AskingFault::NoWorkers(word) => no_workers(alloc, command, word),

@@ -18,8 +18,9 @@ use Rattle.plant_drawing.specs.Wrapped.{wrapped}
 use Rattle.plant_drawing.specs.Atom.{atom_lines, guard_text, place_line, port_line, transition_lines}
 use Rattle.plant_drawing.specs.Connector.{connector_lines, drawn_connector, guard_line, transfer_line}
 use Rattle.plant_drawing.specs.Rule.{drawn_rule, rule_line}
+use Rattle.plant_drawing.specs.declared.rule.RuleLabel.TheVariants.{Written, Absent}
 use Rattle.plant_drawing.specs.Drawing.{drawing_of}
-use Rattle.plant_drawing.specs.Outline.{connector_outline, outline_of}
+use Rattle.plant_drawing.specs.Outline.{connector_outline, drawn_outline, outline_of}
 
 -- place 3 where places 0 and 3 are marked, and place 0 if place 1 alone is
 marked_place : place_line 9 0 3 (record { name = codes "p"; marked = false }) ≡ codes "    place_0_3 [shape=circle, margin=0.03, style=filled, label=\"p\"];\n"
@@ -90,7 +91,7 @@ unfolding sample digits
 connector_with_a_bracket = refl
 
 -- the same in an outline
-outlined_connector : connector_outline 1 wire
+outlined_connector : connector_outline 1 1 wire
     ≡ codes "  connector_1 [shape=ellipse, style=filled, fillcolor=lightyellow, fontsize=10, margin=0.02, height=0.25, label=\"c\"];\n  connector_1 -> atom_0 [arrowhead=normal];\n  connector_1 -> atom_0 [arrowhead=dot];\n"
 unfolding digits
 outlined_connector = refl
@@ -114,9 +115,18 @@ in_part : drawn_connector (sample ∷ exporter ∷ []) 2 (λ number. true) 0 pai
 unfolding sample exporter digits
 in_part = refl
 
+-- the same in an outline
+outlined_in_part : drawn_outline 2 0 pair
+    ≡ codes "  connector_0 [shape=ellipse, style=filled, fillcolor=lightyellow, fontsize=10, margin=0.02, height=0.25, label=\"d\"];\n  connector_0 -> atom_1 [arrowhead=dot];\n"
+unfolding digits
+outlined_in_part = refl
+
 -- where atom 1 alone is drawn, the connector of atom 0 is not
 not_drawn : drawn_connector (sample ∷ exporter ∷ []) 2 (λ number. true) 0 wire ≡ []
 not_drawn = refl
+
+not_outlined : drawn_outline 2 0 wire ≡ []
+not_outlined = refl
 
 -- the connectors of choices
 abbrev of_connector : ℕ → ChoiceDefinition
@@ -170,29 +180,34 @@ plant = record {
   rules = [];
 }
 
-whole_sides : rule_line plant (Under (Whole 0) (Whole 1)) ≡ codes "  connector_0 -> connector_1 [style=dashed, color=firebrick, fontcolor=firebrick, label=\" low < high \"];\n"
+whole_sides : rule_line Written plant (Under (Whole 0) (Whole 1)) ≡ codes "  connector_0 -> connector_1 [style=dashed, color=firebrick, fontcolor=firebrick, label=\" low < high \"];\n"
 unfolding digits
 whole_sides = refl
 
-sides_by_masks : rule_line plant (Under (One 1 3) (One 1 255)) ≡ codes "  connector_1 -> connector_1 [style=dashed, color=firebrick, fontcolor=firebrick, label=\" high:3 < high:255 \"];\n"
+sides_by_masks : rule_line Written plant (Under (One 1 3) (One 1 255)) ≡ codes "  connector_1 -> connector_1 [style=dashed, color=firebrick, fontcolor=firebrick, label=\" high:3 < high:255 \"];\n"
 unfolding digits
 sides_by_masks = refl
 
 -- while place 0 of atom 0 is marked
-while_marked : rule_line (record plant { atoms = record { name = codes "S"; places = record { name = codes "on"; marked = true } ∷ []; variables = []; ports = []; transitions = [] } ∷ [] }) (UnderAt (Whole 0) (Whole 1) (record { atom = 0; place = 0 }))
+while_marked : rule_line Written (record plant { atoms = record { name = codes "S"; places = record { name = codes "on"; marked = true } ∷ []; variables = []; ports = []; transitions = [] } ∷ [] }) (UnderAt (Whole 0) (Whole 1) (record { atom = 0; place = 0 }))
     ≡ codes "  connector_0 -> connector_1 [style=dashed, color=firebrick, fontcolor=firebrick, label=\" low < high when S at on \"];\n"
 unfolding digits
 while_marked = refl
 
-maximal : rule_line plant (Maximal 1) ≡ codes "  connector_1 -> connector_1 [style=dashed, color=firebrick, fontcolor=firebrick, label=\" maximal \"];\n"
+maximal : rule_line Written plant (Maximal 1) ≡ codes "  connector_1 -> connector_1 [style=dashed, color=firebrick, fontcolor=firebrick, label=\" maximal \"];\n"
 unfolding digits
 maximal = refl
 
+-- without its words
+bare : rule_line Absent plant (Under (One 1 3) (One 0 255)) ≡ codes "  connector_1 -> connector_0 [style=dashed, color=firebrick];\n"
+unfolding digits
+bare = refl
+
 -- a rule is drawn if both of its connectors are
-rule_of_one_drawn : drawn_rule 2 plant (Under (Whole 0) (Whole 1)) ≡ []
+rule_of_one_drawn : drawn_rule Written 2 plant (Under (Whole 0) (Whole 1)) ≡ []
 rule_of_one_drawn = refl
 
-rule_of_both_drawn : drawn_rule 3 plant (Under (Whole 0) (Whole 1)) ≡ rule_line plant (Under (Whole 0) (Whole 1))
+rule_of_both_drawn : drawn_rule Written 3 plant (Under (Whole 0) (Whole 1)) ≡ rule_line Written plant (Under (Whole 0) (Whole 1))
 rule_of_both_drawn = refl
 
 -- a plant of the atom alone
@@ -201,7 +216,7 @@ without_connectors : drawing_of (record { atoms = sample ∷ []; wires = []; rul
 unfolding sample digits
 without_connectors = refl
 
-outline : outline_of (record { atoms = sample ∷ []; wires = []; rules = [] })
+outline : outline_of (record { atoms = sample ∷ []; wires = []; rules = [] }) 1
     ≡ codes "digraph plant {\n  fontname=\"Helvetica\";\n  labelloc=b;\n  nodesep=0.4;\n  ranksep=0.6;\n  node [fontname=\"Helvetica\"];\n  edge [fontname=\"Helvetica\", fontsize=11];\n  splines=line;\n  mclimit=0.1;\n  nslimit=1;\n  nslimit1=1;\n  atom_0 [shape=box, label=\"A\"];\n}\n"
 unfolding sample digits
 outline = refl

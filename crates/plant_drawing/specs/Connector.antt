@@ -1,6 +1,5 @@
 -- A connector as a node, and an edge to each of its ports that is drawn.
 use Rattle.std.specs.Prelude.{ℕ, Bool, if◌then◌else◌, List, [], ◌++◌, codes, flat_map, map}
-use Rattle.petri_atom.specs.Local.{has}
 use Rattle.petri_atom.specs.Definition.{AtomDefinition}
 use Rattle.petri_atom.specs.Expression.{Tree}
 use Rattle.connector_tree.specs.Tree.{leaves}
@@ -23,10 +22,6 @@ arrow_to number atom port = from_connector number ++ part_node (codes "port") at
 -- the edge of a connector to a port
 abbrev pub port_edge : ℕ → Port → Bool → List ℕ
 port_edge number port trigger = arrow_to number port.atom port.port ++ end_of_edge trigger
-
--- the same if the port's atom is drawn; nothing of another
-abbrev pub drawn_edge : ℕ → ℕ → Port → Bool → List ℕ
-drawn_edge drawn number port trigger = if has drawn port.atom then port_edge number port trigger else []
 
 -- a guard clause, on a line of its own
 abbrev pub guard_line : List AtomDefinition → List Port → Tree Export → List ℕ
@@ -67,7 +62,7 @@ connector_line atoms coloured number wire =
 -- the connector with a number, and its edges
 abbrev pub connector_lines : List AtomDefinition → ℕ → Bool → ℕ → WireDefinition → List ℕ
 connector_lines atoms drawn coloured number wire =
-    connector_line atoms coloured number wire ++ flat_map (token_edge (drawn_edge drawn number)) (tokens_of wire.connector)
+    connector_line atoms coloured number wire ++ flat_map (token_edge drawn (port_edge number)) (tokens_of wire.connector)
 
 -- the same if the connector is drawn, filled as is said of its number; nothing of another
 abbrev pub drawn_connector : List AtomDefinition → ℕ → (ℕ → Bool) → ℕ → WireDefinition → List ℕ

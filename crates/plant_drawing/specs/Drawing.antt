@@ -10,6 +10,7 @@ use Rattle.plant_drawing.specs.Drawn.{is_coloured}
 use Rattle.plant_drawing.specs.Atom.{atom_lines}
 use Rattle.plant_drawing.specs.Connector.{drawn_connector}
 use Rattle.plant_drawing.specs.Rule.{drawn_rule}
+use Rattle.plant_drawing.specs.declared.rule.RuleLabel.TheVariants.{Written}
 
 -- the atom with a number in its state; nothing of one that is not drawn
 abbrev pub drawn_atom : ℕ → List Local → ℕ → AtomDefinition → List ℕ
@@ -21,7 +22,7 @@ abbrev pub parts_of : PlantDefinition → List Local → ℕ → Filling → Lis
 parts_of plant states drawn filling =
     numbered (drawn_atom drawn states) 0 plant.atoms ++
     numbered (drawn_connector plant.atoms drawn (is_coloured filling plant states)) 0 plant.wires ++
-    flat_map (drawn_rule drawn plant) plant.rules
+    flat_map (drawn_rule Written drawn plant) plant.rules
 
 -- how the graph is laid out: in one font, with some room between the nodes, and the label of an atom below its parts
 abbrev pub style : List ℕ

@@ -5,11 +5,11 @@ ghost use Rattle.text_io.specs.Printing.{Prints};
 ghost use Rattle.step_core.specs.Running.{plant_in, states_in};
 ghost use Rattle.part_text.specs.Seen.{definition_of, wire_of};
 ghost use Rattle.plant_drawing.specs.Drawn.{is_coloured};
-ghost use Rattle.plant_drawing.specs.Connector.{arrow_to, colour_of, connector_label, connector_line, connector_lines, connector_shape, drawn_connector, guard_line, port_edge, transfer_line, tree_text};
+ghost use Rattle.plant_drawing.specs.Connector.{arrow_to, colour_of, connector_label, connector_line, connector_lines, connector_shape, drawn_connector, guard_line, transfer_line, tree_text};
 
 use crate::choice::is_coloured;
 use crate::clauses::{print_guards, print_transfers};
-use crate::drawn::{has_number, is_drawn};
+use crate::drawn::is_drawn;
 use crate::edges::{LeafEdges, print_edges, print_end, print_from};
 use crate::filling::Filling;
 use crate::node::{print_connector, print_part};
@@ -55,11 +55,8 @@ fn print_wire<W: Write>(
     ensures { Prints result (W.contents output.old) (W.contents output.new) (connector_lines (map definition_of atoms.now) drawn coloured number (wire_of wire.now)) }
 {
     print_connector_line(atoms, coloured, number, wire, output)?;
-    let edges = PortEdges {
-        drawn,
-        connector: number,
-    };
-    print_edges(&edges, &wire.connector.root, output)
+    let edges = PortEdges { connector: number };
+    print_edges(&edges, drawn, &wire.connector.root, output)
 }
 
 /// Prints the node of a connector.
@@ -130,17 +127,16 @@ fn print_clauses<W: Write>(atoms: &[Atom], wire: &Wire, output: &mut W) -> Resul
     print_transfers(&exports, &wire.transfers, output)
 }
 
-/// The edges of a connector to the ports of its leaves, if the port's atom is drawn.
+/// The edges of a connector to the ports of its leaves, which end in a triangle at a trigger, and in a dot at a synchron.
 #[derive(Clone, Copy)]
 struct PortEdges {
-    drawn: u64,
     connector: u64,
 }
 
 impl LeafEdges for PortEdges {
-    ghost use Rattle.plant_drawing.specs.Connector.{drawn_edge};
+    ghost use Rattle.plant_drawing.specs.Connector.{port_edge};
 
-    ghost edge_to = { λ edges port trigger. drawn_edge edges.drawn edges.connector port trigger };
+    ghost edge_to = { λ edges port trigger. port_edge edges.connector port trigger };
 
     fn print_edge<W: Write>(
         &self,
@@ -148,25 +144,9 @@ impl LeafEdges for PortEdges {
         trigger: bool,
         output: &mut W,
     ) -> Result<(), WriteFault> {
-        if has_number(self.drawn, usize::from(port.atom)) {
-            print_port_edge(self.connector, port, trigger, output)
-        } else {
-            Ok(())
-        }
+        print_arrow_to(self.connector, port, output)?;
+        print_end(trigger, output)
     }
-}
-
-/// Prints the edge of a connector to a port, which ends in a triangle at a trigger, and in a dot at a synchron.
-fn print_port_edge<W: Write>(
-    number: u64,
-    port: Port,
-    trigger: bool,
-    output: &mut W,
-) -> Result<(), WriteFault>
-    ensures { Prints result (W.contents output.old) (W.contents output.new) (port_edge number port trigger) }
-{
-    print_arrow_to(number, port, output)?;
-    print_end(trigger, output)
 }
 
 /// Prints the begin of the edge of a connector to a port.

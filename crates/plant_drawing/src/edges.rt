@@ -3,8 +3,9 @@ ghost use Rattle.std.specs.Prelude.{Bool, List, ℕ, flat_map};
 ghost use Rattle.connector_tree.specs.declared.tree.Port as tree;
 ghost use Rattle.connector_tree.specs.Tokens.{children_tokens, node_tokens};
 ghost use Rattle.text_io.specs.Printing.{Prints};
-ghost use Rattle.plant_drawing.specs.Edges.{end_of_edge, from_connector, token_edge};
+ghost use Rattle.plant_drawing.specs.Edges.{end_of_edge, from_connector, leaf_edge, token_edge};
 
+use crate::drawn::has_number;
 use crate::node::print_connector;
 use connector_tree::{Child, Node, Port};
 use std::io::Write;
@@ -24,30 +25,32 @@ pub(crate) trait LeafEdges {
         ensures { Prints result (W.contents output.old) (W.contents output.new) (edge_to self.now port trigger) };
 }
 
-/// Prints what is drawn for the leaves of several children of a tree.
+/// Prints what is drawn for the leaves of several children of a tree whose atoms are drawn.
 #[cycle(edges)]
 pub(crate) fn print_edges<E: LeafEdges, W: Write>(
     edges: &E,
+    drawn: u64,
     children: &[Child],
     output: &mut W,
 ) -> Result<(), WriteFault>
-    ensures { Prints result (W.contents output.old) (W.contents output.new) (flat_map (token_edge (E.edge_to edges.now)) (children_tokens children.now)) }
+    ensures { Prints result (W.contents output.old) (W.contents output.new) (flat_map (token_edge drawn (E.edge_to edges.now)) (children_tokens children.now)) }
 {
     for child in children {
-        print_node_edges(edges, &child.node, child.trigger, output)?;
+        print_node_edges(edges, drawn, &child.node, child.trigger, output)?;
     }
     Ok(())
 }
 
-/// Prints what is drawn for the leaves of a node of a tree.
+/// Prints what is drawn for the leaves of a node of a tree whose atoms are drawn.
 #[cycle(edges)]
 fn print_node_edges<E: LeafEdges, W: Write>(
     edges: &E,
+    drawn: u64,
     node: &Node,
     trigger: bool,
     output: &mut W,
 ) -> Result<(), WriteFault>
-    ensures { Prints result (W.contents output.old) (W.contents output.new) (flat_map (token_edge (E.edge_to edges.now)) (node_tokens node.now trigger)) }
+    ensures { Prints result (W.contents output.old) (W.contents output.new) (flat_map (token_edge drawn (E.edge_to edges.now)) (node_tokens node.now trigger)) }
 {
     match node {
         Node::Leaf { atom, port } => {
@@ -55,9 +58,26 @@ fn print_node_edges<E: LeafEdges, W: Write>(
                 atom: *atom,
                 port: *port,
             };
-            edges.print_edge(port, trigger, output)
+            print_leaf_edge(edges, drawn, port, trigger, output)
         }
-        Node::Fusion(children) => print_edges(edges, children, output),
+        Node::Fusion(children) => print_edges(edges, drawn, children, output),
+    }
+}
+
+/// Prints what is drawn for a leaf if its atom is drawn; nothing of another.
+fn print_leaf_edge<E: LeafEdges, W: Write>(
+    edges: &E,
+    drawn: u64,
+    port: Port,
+    trigger: bool,
+    output: &mut W,
+) -> Result<(), WriteFault>
+    ensures { Prints result (W.contents output.old) (W.contents output.new) (leaf_edge drawn (E.edge_to edges.now) port trigger) }
+{
+    if has_number(drawn, usize::from(port.atom)) {
+        edges.print_edge(port, trigger, output)
+    } else {
+        Ok(())
     }
 }
 

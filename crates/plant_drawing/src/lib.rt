@@ -20,8 +20,8 @@
 //! **Of a state.** Marked places and the values of variables are those of the present state of the plant that runs. With
 //! [`Filling::ByChoice`] each connector that has a choice in it is green, and the others are yellow; with [`Filling::Alike`] all are yellow.
 //!
-//! **The outline** has a box for each atom, a small oval for each connector with an edge to the atom of each of its leaves, and the
-//! priority rules.
+//! **The outline** has a box for each atom, a small oval for each connector with an edge to the atom of each of its leaves, and an edge
+//! without words for each priority rule.
 //!
 //! **Long lines.** A label's guard, update, tree, guard clause or transfer is broken into lines of 48 columns, between two words; each
 //! further line begins with four spaces. A longer word stands alone on its line.

@@ -1,29 +1,31 @@
-//! The outline of a plant: its atoms and its connectors, each as one node.
+//! The outline of a plant: its atoms and its connectors that are drawn, each as one node.
 ghost use Rattle.std.specs.Prelude.{map};
 ghost use Rattle.text_io.specs.Numbered.{numbered};
 ghost use Rattle.text_io.specs.Printing.{Prints};
 ghost use Rattle.part_text.specs.Seen.{definition_of, plant_of, wire_of};
-ghost use Rattle.plant_drawing.specs.Outline.{arrow_to_atom, atom_box, connector_outline, connector_oval, outline_of, outline_parts, outline_style};
+ghost use Rattle.plant_drawing.specs.Outline.{arrow_to_atom, atom_box, connector_outline, connector_oval, drawn_box, drawn_outline, outline_of, outline_parts, outline_style};
 
 use crate::atom::print_named;
+use crate::drawn::{has_number, is_drawn};
 use crate::edges::{LeafEdges, print_edges, print_end, print_from};
 use crate::node::{print_atom_node, print_connector};
 use crate::plant::print_style;
-use crate::rule::print_rules;
+use crate::rule::{RuleLabel, print_rules};
 use connector_tree::Port;
 use petri_atom::Atom;
 use plant_model::{System, Wire};
 use std::io::Write;
 use text_io::{WriteFault, print_text};
 
-/// Writes the outline of a plant: a node for each atom, then one for each connector with an edge to the atom of each of its leaves, and
-/// then the priority rules.
-pub fn outline_to<W: Write>(system: &System, output: &mut W) -> Result<(), WriteFault>
-    ensures { Prints result (W.contents output.old) (W.contents output.new) (outline_of (plant_of system.now)) }
+/// Writes the outline of the atoms of the set `drawn`, bit k for atom k, and of what stands on them: a node for each atom, then one for each
+/// connector with a leaf of one of these and an edge to the atom of each such leaf, and then an edge for each priority rule between such
+/// connectors.
+pub fn outline_to<W: Write>(system: &System, drawn: u64, output: &mut W) -> Result<(), WriteFault>
+    ensures { Prints result (W.contents output.old) (W.contents output.new) (outline_of (plant_of system.now) drawn) }
 {
     print_text(output, b"digraph plant {\n")?;
     print_outline_style(output)?;
-    print_parts(system, output)?;
+    print_parts(system, drawn, output)?;
     print_text(output, b"}\n")
 }
 
@@ -42,23 +44,39 @@ fn print_outline_style<W: Write>(output: &mut W) -> Result<(), WriteFault>
     )
 }
 
-/// Prints the atoms, the connectors and the priority rules.
-fn print_parts<W: Write>(system: &System, output: &mut W) -> Result<(), WriteFault>
-    ensures { Prints result (W.contents output.old) (W.contents output.new) (outline_parts (plant_of system.now)) }
+/// Prints the atoms, the connectors and the priority rules that are drawn.
+fn print_parts<W: Write>(system: &System, drawn: u64, output: &mut W) -> Result<(), WriteFault>
+    ensures { Prints result (W.contents output.old) (W.contents output.new) (outline_parts (plant_of system.now) drawn) }
 {
-    print_atoms(system.atoms(), output)?;
-    print_wires(system.wires(), output)?;
-    print_rules(system, system.rules(), output)
+    print_atoms(drawn, system.atoms(), output)?;
+    print_wires(drawn, system.wires(), output)?;
+    print_rules(RuleLabel::Absent, system, system.rules(), drawn, output)
 }
 
-/// Prints atoms as boxes, in the order of their numbers.
-fn print_atoms<W: Write>(atoms: &[Atom], output: &mut W) -> Result<(), WriteFault>
-    ensures { Prints result (W.contents output.old) (W.contents output.new) (numbered atom_box 0 (map definition_of atoms.now)) }
+/// Prints the atoms that are drawn as boxes, in the order of their numbers.
+fn print_atoms<W: Write>(drawn: u64, atoms: &[Atom], output: &mut W) -> Result<(), WriteFault>
+    ensures { Prints result (W.contents output.old) (W.contents output.new) (numbered (drawn_box drawn) 0 (map definition_of atoms.now)) }
 {
     for (number, atom) in atoms.iter().enumerate() {
-        print_box(number as u64, atom, output)?;
+        print_drawn_box(drawn, number, atom, output)?;
     }
     Ok(())
+}
+
+/// Prints an atom as a box if it is drawn; nothing of another.
+fn print_drawn_box<W: Write>(
+    drawn: u64,
+    number: usize,
+    atom: &Atom,
+    output: &mut W,
+) -> Result<(), WriteFault>
+    ensures { Prints result (W.contents output.old) (W.contents output.new) (drawn_box drawn number (definition_of atom.now)) }
+{
+    if has_number(drawn, number) {
+        print_box(number as u64, atom, output)
+    } else {
+        Ok(())
+    }
 }
 
 /// Prints an atom as a box with its name.
@@ -71,23 +89,44 @@ fn print_box<W: Write>(number: u64, atom: &Atom, output: &mut W) -> Result<(), W
     print_named(atom.name(), output)
 }
 
-/// Prints connectors with their edges, in the order of their numbers.
-fn print_wires<W: Write>(wires: &[Wire], output: &mut W) -> Result<(), WriteFault>
-    ensures { Prints result (W.contents output.old) (W.contents output.new) (numbered connector_outline 0 (map wire_of wires.now)) }
+/// Prints the connectors that are drawn, with their edges, in the order of their numbers.
+fn print_wires<W: Write>(drawn: u64, wires: &[Wire], output: &mut W) -> Result<(), WriteFault>
+    ensures { Prints result (W.contents output.old) (W.contents output.new) (numbered (drawn_outline drawn) 0 (map wire_of wires.now)) }
 {
     for (number, wire) in wires.iter().enumerate() {
-        print_wire(number as u64, wire, output)?;
+        print_drawn_wire(drawn, number as u64, wire, output)?;
     }
     Ok(())
 }
 
-/// Prints a connector as a small node, and an edge to the atom of each of its leaves.
-fn print_wire<W: Write>(number: u64, wire: &Wire, output: &mut W) -> Result<(), WriteFault>
-    ensures { Prints result (W.contents output.old) (W.contents output.new) (connector_outline number (wire_of wire.now)) }
+/// Prints a connector if it is drawn; nothing of another.
+fn print_drawn_wire<W: Write>(
+    drawn: u64,
+    number: u64,
+    wire: &Wire,
+    output: &mut W,
+) -> Result<(), WriteFault>
+    ensures { Prints result (W.contents output.old) (W.contents output.new) (drawn_outline drawn number (wire_of wire.now)) }
+{
+    if is_drawn(drawn, wire) {
+        print_wire(drawn, number, wire, output)
+    } else {
+        Ok(())
+    }
+}
+
+/// Prints a connector as a small node, and an edge to the atom of each of its leaves if that is drawn.
+fn print_wire<W: Write>(
+    drawn: u64,
+    number: u64,
+    wire: &Wire,
+    output: &mut W,
+) -> Result<(), WriteFault>
+    ensures { Prints result (W.contents output.old) (W.contents output.new) (connector_outline drawn number (wire_of wire.now)) }
 {
     print_oval(number, wire, output)?;
     let edges = AtomEdges { connector: number };
-    print_edges(&edges, &wire.connector.root, output)
+    print_edges(&edges, drawn, &wire.connector.root, output)
 }
 
 /// Prints a connector as a small node with its name.

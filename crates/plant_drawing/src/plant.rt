@@ -12,7 +12,7 @@ use crate::atom::print_atom;
 use crate::connector::print_drawn_wire;
 use crate::drawn::has_number;
 use crate::filling::Filling;
-use crate::rule::print_drawn_rules;
+use crate::rule::{RuleLabel, print_rules};
 use petri_atom::Atom;
 use std::io::Write;
 use step_core::Stepper;
@@ -62,7 +62,7 @@ fn print_parts<W: Write>(
     print_atoms(run, drawn, output)?;
     print_wires(run, drawn, filling, output)?;
     let system = run.system();
-    print_drawn_rules(system, system.rules(), drawn, output)
+    print_rules(RuleLabel::Written, system, system.rules(), drawn, output)
 }
 
 /// Prints the atoms that are drawn, in the order of their numbers.

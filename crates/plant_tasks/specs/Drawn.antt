@@ -1,5 +1,5 @@
 -- What is drawn of a plant.
-use Rattle.std.specs.Prelude.{◌≡◌, ℕ, Bool, false, not, List, [], length, map, slice_get, option_map, Option, None, Some}
+use Rattle.std.specs.Prelude.{◌≡◌, ℕ, Bool, false, not, List, [], length, slice_get, option_map, Option, None, Some}
 use Rattle.std.specs.List.{list_any, position}
 use Rattle.std.specs.Option.{option_map_or}
 use Rattle.std.specs.Borrow.{Bor}
@@ -18,9 +18,11 @@ use Rattle.plant_drawing.specs.Outline.{outline_of}
 use Rattle.plant_drawing.specs.declared.drawn.TheConstants.{ALL_ATOMS}
 use Rattle.plant_drawing.specs.declared.filling.Filling.{Filling}
 use Rattle.plant_drawing.specs.declared.filling.Filling.TheVariants.{Alike, ByChoice}
+use Rattle.command_line.specs.Asked.{names_in}
 use Rattle.command_line.specs.declared.request.Picking.{Picking}
 use Rattle.command_line.specs.declared.request.Drawing.{Drawing}
-use Rattle.command_line.specs.declared.request.Drawing.TheVariants.{Whole, Outline, After, Only}
+use Rattle.command_line.specs.declared.request.View.{View}
+use Rattle.command_line.specs.declared.request.View.TheVariants.{Whole, Outline}
 use Rattle.plant_tasks.specs.Picked.{after_picks, picks_said, refusal_said}
 use Rattle.plant_tasks.specs.declared.ending.PlantEnding.{PlantEnding}
 use Rattle.plant_tasks.specs.declared.ending.PlantEnding.TheVariants.{NoAtom}
@@ -41,6 +43,11 @@ is_named_in names atoms k =
 -- the set of the atoms that have one of the names
 abbrev pub drawn_atoms : PlantDefinition → List (List ℕ) → ℕ
 drawn_atoms plant names = set_below (length plant.atoms) (is_named_at plant.atoms names)
+
+-- the set of the atoms that are drawn: those that are named, or all where none are
+abbrev pub set_drawn : PlantDefinition → Option (List (List ℕ)) → ℕ
+set_drawn plant None = ALL_ATOMS
+set_drawn plant (Some names) = drawn_atoms plant names
 
 -- one of the atoms has the name
 abbrev pub has_atom : List AtomDefinition → List ℕ → Bool
@@ -64,21 +71,21 @@ abbrev pub drawn_part : PlantDefinition → ℕ → Option Picking → Option (L
 drawn_part plant drawn None input = Some (drawn_after plant drawn Alike [])
 drawn_part plant drawn (Some picking) input = option_map (drawn_after plant drawn ByChoice) (picks_said picking plant input)
 
+-- what is drawn of a set of atoms and what stands on these
+abbrev pub drawn_by : View → PlantDefinition → ℕ → Option (List ℕ) → Option (List ℕ)
+drawn_by (Whole picking) plant drawn input = drawn_part plant drawn picking input
+drawn_by Outline plant drawn input = Some (outline_of plant drawn)
+
 -- what is drawn
 abbrev pub drawn_of : Drawing → PlantDefinition → Option (List ℕ) → Option (List ℕ)
-drawn_of Whole plant input = drawn_part plant ALL_ATOMS None input
-drawn_of Outline plant input = Some (outline_of plant)
-drawn_of (After picking) plant input = drawn_part plant ALL_ATOMS (Some picking) input
-drawn_of (Only names picking) plant input = drawn_part plant (drawn_atoms plant (map (λ name. name.now) names.items)) picking input
+drawn_of drawing plant input = drawn_by drawing.view plant (set_drawn plant (names_in drawing.only)) input
 
 -- the first refused one of the picks after which a plant is drawn, if there are some
 abbrev pub part_refusal : PlantDefinition → Option Picking → Option (List ℕ) → Option (Option Refusal)
 part_refusal plant None input = Some None
 part_refusal plant (Some picking) input = refusal_said picking plant input
 
--- the same of a drawing
-abbrev pub drawing_refusal : Drawing → PlantDefinition → Option (List ℕ) → Option (Option Refusal)
-drawing_refusal Whole plant input = Some None
-drawing_refusal Outline plant input = Some None
-drawing_refusal (After picking) plant input = refusal_said picking plant input
-drawing_refusal (Only names picking) plant input = part_refusal plant picking input
+-- the same by how it is drawn
+abbrev pub view_refusal : View → PlantDefinition → Option (List ℕ) → Option (Option Refusal)
+view_refusal (Whole picking) plant input = part_refusal plant picking input
+view_refusal Outline plant input = Some None

@@ -16,7 +16,7 @@ use Rattle.blocked_text.specs.Blocked.{blocked_text}
 use Rattle.part_lines.specs.Lookup.{rule_lines}
 use Rattle.part_lines.specs.Table.{part_lines}
 use Rattle.plant_warnings.specs.Warnings.{warnings_text}
-use Rattle.plant_tasks.specs.Drawn.{drawing_refusal, drawn_of}
+use Rattle.plant_tasks.specs.Drawn.{drawn_of, view_refusal}
 use Rattle.plant_tasks.specs.Picked.{after_picks, picks_said, refusal_said}
 use Rattle.plant_tasks.specs.declared.task.ReadPlant.{ReadPlant}
 use Rattle.command_line.specs.declared.request.Shape.{Shape}
@@ -80,4 +80,4 @@ refusal_by Warn plant input = Some None
 refusal_by (Trace trace) plant input = refusal_said trace.picking (plant_read plant) input
 refusal_by (Choices picking) plant input = refusal_said picking (plant_read plant) input
 refusal_by (Why picking) plant input = refusal_said picking (plant_read plant) input
-refusal_by (Draw drawing) plant input = drawing_refusal drawing (plant_read plant) input
+refusal_by (Draw drawing) plant input = view_refusal drawing.view (plant_read plant) input

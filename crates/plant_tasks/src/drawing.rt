@@ -1,5 +1,5 @@
 //! What is drawn of a plant, as the words of the command line ask for it.
-ghost use Rattle.std.specs.Prelude.{◌≡◌, ◌≢◌, ◌≤◌, not, map, length, OnOk, IfOk, IfErr, IfSome, Err};
+ghost use Rattle.std.specs.Prelude.{◌≡◌, ◌≢◌, ◌≤◌, [], not, map, length, unwrap_or, OnOk, IfOk, IfErr, IfSome, Err};
 ghost use Rattle.std.specs.Option.{option_copied};
 ghost use Rattle.std.specs.List.{list_any, position};
 ghost use Rattle.petri_atom.specs.Name.{is_same_text};
@@ -7,17 +7,18 @@ ghost use Rattle.std.specs.Io.KnownBytes.{Appends};
 ghost use Rattle.run_text.specs.Seen.{definition_of, plant_of};
 ghost use Rattle.petri_atom.specs.Local.{set_below};
 ghost use Rattle.plant_model.specs.declared.limits.TheConstants.{MAX_ATOMS};
+ghost use Rattle.command_line.specs.Asked.{names_in};
 ghost use Rattle.run_text.specs.Ran.{IfRan};
 ghost use Rattle.run_text.specs.Runs.{refusal_of};
 ghost use Rattle.run_text.specs.declared.fault.TraceFault.{TraceFault};
 ghost use Rattle.run_text.specs.declared.fault.TraceFault.TheVariants.{Write as WriteFailed};
-ghost use Rattle.plant_tasks.specs.Drawn.{drawing_refusal, drawn_atoms, drawn_in, drawn_of, drawn_part, is_named_in, IsNoAtom, part_refusal};
+ghost use Rattle.plant_tasks.specs.Drawn.{drawn_atoms, drawn_in, drawn_of, drawn_part, is_named_in, IsNoAtom, part_refusal, set_drawn, view_refusal};
 ghost use Rattle.plant_tasks.specs.Ending.{IfDone, IsOfTask, IsSilent, OnDone};
 
 use crate::doing::task_ended;
 use crate::ending::PlantEnding;
 use crate::picks::picks_of;
-use command_line::{Drawing, Picking};
+use command_line::{Drawing, Picking, View};
 use petri_atom::Atom;
 use plant_drawing::{ALL_ATOMS, Filling, draw_to, outline_to};
 use plant_model::System;
@@ -34,20 +35,14 @@ pub(crate) fn print_drawing<F: BufRead + Drop, W: Write>(
     output: &mut W,
 ) -> Result<(), PlantEnding>
     ensures printed { OnDone result (IfSome (drawn_of drawing.now (plant_of system.now) (F.remaining input)) (Appends (W.contents output.old) (W.contents output.new))) }
-    ensures refusal { IfDone result (λ refusal. IfSome (drawing_refusal drawing.now (plant_of system.now) (F.remaining input)) (λ first. refusal ≡ first)) }
+    ensures refusal { IfDone result (λ refusal. IfSome (view_refusal drawing.now.view (plant_of system.now) (F.remaining input)) (λ first. refusal ≡ first)) }
     ensures of_task { IfErr result IsOfTask }
     ensures nothing_printed { IfErr result (λ ending. IsSilent ending → output.new ≡ output.old) }
 {
-    match drawing {
-        Drawing::Whole => draw_after(alloc, None, system, input, ALL_ATOMS, output),
-        Drawing::Outline => Ok(outline_to(system, output)?),
-        Drawing::After(picking) => {
-            draw_after(alloc, Some(picking), system, input, ALL_ATOMS, output)
-        }
-        Drawing::Only(names, picking) => {
-            let drawn = atoms_named(system, names)?;
-            draw_after(alloc, picking.as_ref(), system, input, drawn, output)
-        }
+    let drawn = atoms_drawn(system, drawing)?;
+    match &drawing.view {
+        View::Whole(picking) => draw_after(alloc, picking.as_ref(), system, input, drawn, output),
+        View::Outline => Ok(outline_to(system, drawn, output)?),
     }
 }
 
@@ -94,6 +89,17 @@ fn draw_state<P: Picks, W: Write>(
     let run = run_after(alloc, system, picks)?;
     draw_to(&run, drawn, filling, output)?;
     Ok(())
+}
+
+/// The set of the atoms that are drawn: those that are named, or all where none are. Or the place of the first name that no atom has.
+fn atoms_drawn(system: &System, drawing: &Drawing<'_>) -> Result<u64, PlantEnding>
+    ensures set { IfOk result (λ set. set ≡ set_drawn (plant_of system.now) (names_in drawing.now.only)) }
+    ensures unknown { IfErr result (IsNoAtom (plant_of system.now) (unwrap_or (names_in drawing.now.only) [])) }
+{
+    match &drawing.only {
+        Some(names) => atoms_named(system, names),
+        None => Ok(ALL_ATOMS),
+    }
 }
 
 /// The set of the atoms that have one of the names, or the place of the first name that no atom has.

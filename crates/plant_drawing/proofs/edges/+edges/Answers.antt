@@ -8,7 +8,7 @@ use Rattle.plant_drawing.proofs.edges.+edges.Goals as goal
 
 pub print_node_edges-returns-in-Fusion : goal.print_node_edges-returns-in-Fusion
 print_node_edges-returns-in-Fusion g t c =
-    let say = token_edge (g.E.LeafEdges.edge_to c.args.edges.now) in
+    let say = token_edge c.args.drawn (g.E.LeafEdges.edge_to c.args.edges.now) in
     let printed : flat_map say (node_tokens c.args.node.now c.args.trigger) ≡ flat_map say (children_tokens c.deref.result.now) =
     ap (λ node. flat_map say (node_tokens node c.args.trigger)) c.in-Fusion.is
     ∙ fusion-text say c.in-Fusion.children c.args.trigger

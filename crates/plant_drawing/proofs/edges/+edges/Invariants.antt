@@ -9,5 +9,5 @@ use Rattle.plant_drawing.proofs.edges.+edges.Given as goal
 abbrev pub invariant-print_edges-loop-child : goal.invariant-print_edges-loop-child
 invariant-print_edges-loop-child g l =
     Leads (g.W.Write.contents l.initial.output) (g.W.Write.contents l.output)
-    (flat_map (token_edge (g.E.LeafEdges.edge_to l.edges)) (children_tokens (drop l.child-index l.children)))
-    (flat_map (token_edge (g.E.LeafEdges.edge_to l.edges)) (children_tokens l.children))
+    (flat_map (token_edge l.drawn (g.E.LeafEdges.edge_to l.edges)) (children_tokens (drop l.child-index l.children)))
+    (flat_map (token_edge l.drawn (g.E.LeafEdges.edge_to l.edges)) (children_tokens l.children))
