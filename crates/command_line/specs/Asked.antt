@@ -14,7 +14,7 @@ use Rattle.command_line.specs.declared.names.CommandName.TheVariants as command
 use Rattle.command_line.specs.declared.request.Picking.{Picking}
 use Rattle.command_line.specs.declared.request.Trace.{Trace}
 use Rattle.command_line.specs.declared.request.View.{View}
-use Rattle.command_line.specs.declared.request.View.TheVariants.{Whole, Outline}
+use Rattle.command_line.specs.declared.request.View.TheVariants.{Whole, Machines, Outline}
 use Rattle.command_line.specs.declared.request.Drawing.{Drawing}
 use Rattle.command_line.specs.declared.request.Task.{Task}
 use Rattle.command_line.specs.declared.request.Task.TheVariants as task
@@ -63,8 +63,9 @@ IsPickedAfter (Some picking) said = (has_picks said ≡ true) × IsSaid picking 
 
 -- the words ask for the plant to be drawn so
 abbrev pub IsView : View → Said → Type 0
-IsView (Whole picking) said = (said.outline ≡ false) × IsPickedAfter picking said
-IsView Outline said = (said.outline ≡ true) × IsPickedAfter None said
+IsView (Whole picking) said = (said.machines ≡ false) × (said.outline ≡ false) × IsPickedAfter picking said
+IsView (Machines picking) said = (said.machines ≡ true) × (said.outline ≡ false) × IsPickedAfter picking said
+IsView Outline said = (said.machines ≡ false) × (said.outline ≡ true) × IsPickedAfter None said
 
 -- names that may be there
 abbrev pub names_in : Option (Vec (Bor (List ℕ)) Global) → Option (List (List ℕ))

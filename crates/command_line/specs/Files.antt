@@ -4,7 +4,7 @@ use Rattle.command_line.specs.Said.{word_of}
 use Rattle.command_line.specs.declared.request.Picking.{Picking}
 use Rattle.command_line.specs.declared.request.Picking.TheVariants.{Given, Recorded, Random}
 use Rattle.command_line.specs.declared.request.View.{View}
-use Rattle.command_line.specs.declared.request.View.TheVariants.{Whole, Outline}
+use Rattle.command_line.specs.declared.request.View.TheVariants.{Whole, Machines, Outline}
 use Rattle.command_line.specs.declared.request.Task.{Task}
 use Rattle.command_line.specs.declared.request.Task.TheVariants.{Check, Warn, Trace, Choices, Why, Draw}
 use Rattle.command_line.specs.declared.request.ImageTask.TheVariants as image
@@ -23,6 +23,8 @@ recorded_in (Random many by) = None
 abbrev pub recorded_after : View → Option (List ℕ)
 recorded_after (Whole None) = None
 recorded_after (Whole (Some picking)) = recorded_in picking
+recorded_after (Machines None) = None
+recorded_after (Machines (Some picking)) = recorded_in picking
 recorded_after Outline = None
 
 -- the same of a task

@@ -28,6 +28,7 @@ pub record AreFound (said : Said) (found : Found) : Type 0 where
   pub after : words_of said.after ≡ are_found found (codes "after")
   pub only : words_of said.only ≡ are_found found (codes "only")
   pub strict : IsFlag found (codes "strict") said.strict
+  pub machines : IsFlag found (codes "machines") said.machines
   pub outline : IsFlag found (codes "outline") said.outline
   pub states : IsFlag found (codes "states") said.states
   pub warn : IsFlag found (codes "warn") said.warn

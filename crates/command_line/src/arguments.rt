@@ -1,8 +1,8 @@
 //! The arguments and the options of the commands.
 use crate::names::{
-    AFTER, COPY, EXPLAIN, FORMATS, IMAGE, LINES, LIST, NEW, OLD, ONLY, ONLY_NEW, OUTLINE, PICK,
-    PICKS, PLANT, RANDOM, RECORDS, RING, RUN_FORMAT, SAVE_PICKS, SCRIPT, SEED, STATES, STRICT,
-    USUAL_RING, USUAL_WORKERS, WARN, WORKERS,
+    AFTER, COPY, EXPLAIN, FORMATS, IMAGE, LINES, LIST, MACHINES, NEW, OLD, ONLY, ONLY_NEW, OUTLINE,
+    PICK, PICKS, PLANT, RANDOM, RECORDS, RING, RUN_FORMAT, SAVE_PICKS, SCRIPT, SEED, STATES,
+    STRICT, USUAL_RING, USUAL_WORKERS, WARN, WORKERS,
 };
 use clap::builder::ValueParser;
 use clap::{Arg, ArgAction};
@@ -61,6 +61,8 @@ pub(crate) enum Argument {
     States,
     /// Likely mistakes are printed.
     Warn,
+    /// The atoms alone are drawn, as state machines.
+    Machines,
     /// An outline is drawn.
     Outline,
     /// The atoms that are drawn.
@@ -152,6 +154,10 @@ pub(crate) fn described<'a>(alloc: Global, argument: Argument) -> Arg<'a> {
             flag(alloc, STATES, help)
         }
         Argument::Warn => flag(alloc, WARN, "Tells what is probably a mistake, too"),
+        Argument::Machines => {
+            let help = "Draws the atoms alone, each as a state machine";
+            flag(alloc, MACHINES, help)
+        }
         Argument::Outline => {
             let help = "Draws a node for each atom and each connector alone";
             flag(alloc, OUTLINE, help)

@@ -33,6 +33,8 @@ pub(crate) enum AskingFault<'a> {
     StrictAlone,
     /// An outline is asked for, and picks are given.
     OutlineOfState,
+    /// Both machines and an outline are asked for.
+    OutlineOfMachines,
     /// The word is no length of a ring.
     NoRing(&'a str),
     /// The word is no number of workers.
@@ -265,10 +267,12 @@ fn view_asked<'a>(alloc: Global, said: &Said<'_, 'a>) -> Result<View<'a>, Asking
     ensures { IfOk result (λ view. IsView view said.now) }
 {
     let picking = picking_after(alloc, said)?;
-    match (said.outline, picking) {
-        (false, picking) => Ok(View::Whole(picking)),
-        (true, None) => Ok(View::Outline),
-        (true, Some(_)) => Err(AskingFault::OutlineOfState),
+    match (said.machines, said.outline, picking) {
+        (false, false, picking) => Ok(View::Whole(picking)),
+        (true, false, picking) => Ok(View::Machines(picking)),
+        (false, true, None) => Ok(View::Outline),
+        (false, true, Some(_)) => Err(AskingFault::OutlineOfState),
+        (true, true, _) => Err(AskingFault::OutlineOfMachines),
     }
 }
 

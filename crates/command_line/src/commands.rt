@@ -124,6 +124,7 @@ fn arguments_of(name: CommandName) -> &'static [Argument] {
         ],
         CommandName::Step => &[Argument::Explain, Argument::PlantFile],
         CommandName::Draw => &[
+            Argument::Machines,
             Argument::Outline,
             Argument::Only,
             Argument::After,

@@ -207,8 +207,9 @@ the lower connector to the higher.
 
 With --after or --picks the state after some picks is drawn, and each connector that can
 then be fired is green; 'trace' tells of --picks and --strict. With --only some atoms are
-drawn, and the connectors that join them. With --outline there is one node for each atom
-and for each connector, for large plants: it may go with --only.";
+drawn, and the connectors that join them. With --machines the atoms alone are drawn, as
+state machines: each transition is an arrow between two places. With --outline there is
+one node for each atom and for each connector, for large plants: it may go with --only.";
 
 pub(crate) const DRAW_USAGE: &str = "bip_run draw [OPTIONS] <PLANT>";
 
@@ -219,6 +220,8 @@ makes a picture of the plant. The program dot is part of Graphviz.
 draws both atoms in the state after two picks.
   bip_run draw examples/sample.plant --picks run.txt
 draws the state after the picks of a file.
+  bip_run draw examples/sample.plant --machines --only A
+draws one atom as a state machine.
 
 Exit status:
   0  the graph is printed

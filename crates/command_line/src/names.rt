@@ -64,6 +64,8 @@ pub(crate) const STRICT: &str = "strict";
 
 pub(crate) const SAVE_PICKS: &str = "save-picks";
 
+pub(crate) const MACHINES: &str = "machines";
+
 pub(crate) const OUTLINE: &str = "outline";
 
 pub(crate) const ONLY: &str = "only";

@@ -67,6 +67,8 @@ pub struct Trace<'a> {
 pub enum View<'a> {
     /// With all that it has; in its first state, or in that after these picks, with the connectors in colour that can then be fired.
     Whole(Option<Picking<'a>>),
+    /// Its atoms alone, as state machines; in their first state, or in that after these picks.
+    Machines(Option<Picking<'a>>),
     /// Its atoms, connectors and rules, without what stands in an atom.
     Outline,
 }
@@ -81,8 +83,8 @@ impl<'a> View<'a> {
         ensures { word_of result ≡ recorded_after self.now }
     {
         match self {
-            View::Whole(Some(picking)) => picking.recorded(),
-            View::Whole(None) | View::Outline => None,
+            View::Whole(Some(picking)) | View::Machines(Some(picking)) => picking.recorded(),
+            View::Whole(None) | View::Machines(None) | View::Outline => None,
         }
     }
 }
@@ -92,7 +94,7 @@ impl<'a> View<'a> {
 pub struct Drawing<'a> {
     /// How it is drawn.
     pub view: View<'a>,
-    /// The atoms that are drawn alone, by their names, with what joins them; all, where none are named.
+    /// The atoms that are drawn alone, by their names, with what stands on them; all, where none are named.
     pub only: Option<Vec<&'a str>>,
 }
 

@@ -4,9 +4,9 @@ ghost use Rattle.clap.specs.Matches.{found_of};
 ghost use Rattle.command_line.specs.Read.{AreFound};
 
 use crate::names::{
-    AFTER, COPY, CommandName, EXPLAIN, IMAGE, LIST, NEW, OLD, ONLY, ONLY_NEW, OUTLINE, PICK, PICKS,
-    PLANT, RANDOM, RECORDS, RING, RUN_FORMAT, SAVE_PICKS, SCRIPT, SEED, STATES, STRICT, WARN,
-    WORKERS,
+    AFTER, COPY, CommandName, EXPLAIN, IMAGE, LIST, MACHINES, NEW, OLD, ONLY, ONLY_NEW, OUTLINE,
+    PICK, PICKS, PLANT, RANDOM, RECORDS, RING, RUN_FORMAT, SAVE_PICKS, SCRIPT, SEED, STATES,
+    STRICT, WARN, WORKERS,
 };
 use clap::ArgMatches;
 
@@ -49,6 +49,8 @@ pub(crate) struct Said<'m, 'a> {
     pub(crate) only: Option<&'m [&'a str]>,
     /// Whether a pick is refused whose number is past the list of choices, or an event that is refused ends a run.
     pub(crate) strict: bool,
+    /// Whether a drawing is of the atoms alone, as state machines.
+    pub(crate) machines: bool,
     /// Whether a drawing is an outline.
     pub(crate) outline: bool,
     /// Whether the states of a run are printed, or those that an image holds.
@@ -89,6 +91,7 @@ pub(crate) fn said_in<'m, 'a>(command: CommandName, found: &'m ArgMatches<'a>) -
         after: found.get_strs(AFTER),
         only: found.get_strs(ONLY),
         strict: found.get_flag(STRICT),
+        machines: found.get_flag(MACHINES),
         outline: found.get_flag(OUTLINE),
         states: found.get_flag(STATES),
         warn: found.get_flag(WARN),

@@ -84,6 +84,10 @@ fn refusal(
             ErrorKind::ArgumentConflict,
             "an outline shows no state, so '--after' and '--picks' cannot be with '--outline'",
         ),
+        AskingFault::OutlineOfMachines => command.error(
+            ErrorKind::ArgumentConflict,
+            "an outline shows nothing that stands in an atom, so '--machines' cannot be with '--outline'",
+        ),
         AskingFault::NoRing(word) => no_ring(alloc, command, word),
         AskingFault::NoWorkers(word) => no_workers(alloc, command, word),
         AskingFault::StrictShared => command.error(

@@ -15,11 +15,12 @@ use Rattle.plant_model.specs.Choice.{ChoiceDefinition}
 use Rattle.plant_drawing.specs.declared.filling.Filling.TheVariants.{Alike}
 use Rattle.plant_drawing.specs.Drawn.{has_choice}
 use Rattle.plant_drawing.specs.Wrapped.{wrapped}
-use Rattle.plant_drawing.specs.Atom.{atom_lines, guard_text, place_line, port_line, transition_lines}
+use Rattle.plant_drawing.specs.declared.interior.Interior.TheVariants.{Parts, Machine}
+use Rattle.plant_drawing.specs.Atom.{atom_lines, guard_text, machine_lines, place_line, port_line, transition_lines}
 use Rattle.plant_drawing.specs.Connector.{connector_lines, drawn_connector, guard_line, transfer_line}
 use Rattle.plant_drawing.specs.Rule.{drawn_rule, rule_line}
 use Rattle.plant_drawing.specs.declared.rule.RuleLabel.TheVariants.{Written, Absent}
-use Rattle.plant_drawing.specs.Drawing.{drawing_of}
+use Rattle.plant_drawing.specs.Drawing.{drawing_of, machines_of}
 use Rattle.plant_drawing.specs.Outline.{connector_outline, drawn_outline, outline_of}
 
 -- place 3 where places 0 and 3 are marked, and place 0 if place 1 alone is
@@ -74,9 +75,25 @@ unguarded : transition_lines 0 sample 0 (record { port = 0; sources = 1 ∷ []; 
 unfolding sample digits
 unguarded = refl
 
-cluster : atom_lines 2 sample later ≡ codes "  subgraph cluster_2 {\n    label=\"A\\nn = 4\\nm = -2\";\n    port_2_0 [shape=ellipse, label=\"t\"];\n  }\n"
+-- as a machine, a transition from place 0 to place 1 is an arrow, and one from place 0 to both is a box
+between : machine_lines 0 sample 4 (record { port = 0; sources = 0 ∷ []; targets = 1 ∷ []; guard = test; updates = record { variable = 1; value = operation Add (variable 1) (number (pos 1)) } ∷ [] })
+    ≡ codes "    place_0_0 -> place_0_1 [label=\"t/4\\nwhen && <= n -3 ! m\\nm := + m 1\"];\n"
+unfolding sample digits
+between = refl
+
+forked : machine_lines 0 sample 4 (record { port = 0; sources = 0 ∷ []; targets = 0 ∷ 1 ∷ []; guard = number (pos 1); updates = [] })
+    ≡ codes "    transition_0_4 [shape=box, label=\"t/4\"];\n    place_0_0 -> transition_0_4;\n    transition_0_4 -> place_0_0;\n    transition_0_4 -> place_0_1;\n"
+unfolding sample digits
+forked = refl
+
+cluster : atom_lines Parts 2 sample later ≡ codes "  subgraph cluster_2 {\n    label=\"A\\nn = 4\\nm = -2\";\n    port_2_0 [shape=ellipse, label=\"t\"];\n  }\n"
 unfolding sample digits
 cluster = refl
+
+-- a machine has no ports
+machine : atom_lines Machine 2 sample later ≡ codes "  subgraph cluster_2 {\n    label=\"A\\nn = 4\\nm = -2\";\n  }\n"
+unfolding sample digits
+machine = refl
 
 -- the connector c of the tree `A.t' [ A.t ]'`
 abbrev tree : connectors.Tree
@@ -215,6 +232,12 @@ without_connectors : drawing_of (record { atoms = sample ∷ []; wires = []; rul
     ≡ codes "digraph plant {\n  fontname=\"Helvetica\";\n  labelloc=b;\n  nodesep=0.4;\n  ranksep=0.6;\n  node [fontname=\"Helvetica\"];\n  edge [fontname=\"Helvetica\", fontsize=11];\n  subgraph cluster_0 {\n    label=\"A\\nn = 4\\nm = -2\";\n    port_0_0 [shape=ellipse, label=\"t\"];\n  }\n}\n"
 unfolding sample digits
 without_connectors = refl
+
+-- a plant of it as a machine
+machines : machines_of (record { atoms = sample ∷ []; wires = wire ∷ []; rules = [] }) (later ∷ []) 1
+    ≡ codes "digraph plant {\n  fontname=\"Helvetica\";\n  labelloc=b;\n  nodesep=0.4;\n  ranksep=0.6;\n  node [fontname=\"Helvetica\"];\n  edge [fontname=\"Helvetica\", fontsize=11];\n  subgraph cluster_0 {\n    label=\"A\\nn = 4\\nm = -2\";\n  }\n}\n"
+unfolding sample digits
+machines = refl
 
 outline : outline_of (record { atoms = sample ∷ []; wires = []; rules = [] }) 1
     ≡ codes "digraph plant {\n  fontname=\"Helvetica\";\n  labelloc=b;\n  nodesep=0.4;\n  ranksep=0.6;\n  node [fontname=\"Helvetica\"];\n  edge [fontname=\"Helvetica\", fontsize=11];\n  splines=line;\n  mclimit=0.1;\n  nslimit=1;\n  nslimit1=1;\n  atom_0 [shape=box, label=\"A\"];\n}\n"

@@ -1,5 +1,5 @@
 -- An atom in a state as a cluster: its variables in the label, and a node for each place, port and transition.
-use Rattle.std.specs.Prelude.{ℕ, ℤ, Bool, true, false, if◌then◌else◌, List, [], ◌++◌, codes, decimal, flat_map}
+use Rattle.std.specs.Prelude.{ℕ, ℤ, Bool, true, false, if◌then◌else◌, ◌==◌, List, [], ◌++◌, codes, decimal, flat_map, length, slice_get, Option, None, Some}
 use Rattle.std.specs.Fmt.{signed_decimal}
 use Rattle.petri_atom.specs.Expression.{Tree}
 use Rattle.petri_atom.specs.Local.{Local, has, value_in}
@@ -7,6 +7,8 @@ use Rattle.petri_atom.specs.Definition.{AtomDefinition, PortDefinition, Transiti
 use Rattle.petri_atom.specs.declared.parts.Place.{Place}
 use Rattle.petri_atom.specs.declared.parts.Variable.{Variable}
 use Rattle.text_io.specs.Numbered.{numbered}
+use Rattle.plant_drawing.specs.declared.interior.Interior.{Interior}
+use Rattle.plant_drawing.specs.declared.interior.Interior.TheVariants.{Parts, Machine}
 use Rattle.plant_drawing.specs.Node.{part_node}
 use Rattle.part_text.specs.Expression.{is_one}
 use Rattle.plant_drawing.specs.Wrapped.{assigned_words, columns_past, expression_words, wrapped}
@@ -70,14 +72,40 @@ place_edge is_source atom k place =
     if is_source then edge atom (codes "place") place (codes "transition") k (codes ";\n")
     else edge atom (codes "transition") k (codes "place") place (codes ";\n")
 
+-- the arrows from the sources of a transition and to its targets
+abbrev pub place_edges : ℕ → ℕ → TransitionDefinition → List ℕ
+place_edges atom k t = flat_map (place_edge true atom k) t.sources ++ flat_map (place_edge false atom k) t.targets
+
 -- the edges of a transition
 abbrev pub transition_edges : ℕ → ℕ → TransitionDefinition → List ℕ
-transition_edges atom k t =
-    firing_edge atom t.port k ++ flat_map (place_edge true atom k) t.sources ++ flat_map (place_edge false atom k) t.targets
+transition_edges atom k t = firing_edge atom t.port k ++ place_edges atom k t
 
 -- a transition, and its edges
 abbrev pub transition_lines : ℕ → AtomDefinition → ℕ → TransitionDefinition → List ℕ
 transition_lines atom a k t = transition_line atom a k t ++ transition_edges atom k t
+
+-- the place of a list that has no other
+abbrev pub one_place : List ℕ → Option ℕ
+one_place places = if length places == 1 then slice_get places 0 else None
+
+-- a transition of a machine as an arrow between two places, with its label
+abbrev pub machine_arrow : ℕ → AtomDefinition → ℕ → TransitionDefinition → ℕ → ℕ → List ℕ
+machine_arrow atom a k t source target =
+    edge atom (codes "place") source (codes "place") target (codes " [label=\"") ++ transition_label a k t ++ codes "\"];\n"
+
+-- a transition of a machine as a box with its arrows
+abbrev pub machine_node : ℕ → AtomDefinition → ℕ → TransitionDefinition → List ℕ
+machine_node atom a k t = transition_line atom a k t ++ place_edges atom k t
+
+-- a transition of a machine, by its one source and its one target: an arrow between them, and a box where it has several of either
+abbrev pub lines_between : ℕ → AtomDefinition → ℕ → TransitionDefinition → Option ℕ → Option ℕ → List ℕ
+lines_between atom a k t (Some source) (Some target) = machine_arrow atom a k t source target
+lines_between atom a k t (Some source) None = machine_node atom a k t
+lines_between atom a k t None target = machine_node atom a k t
+
+-- the transition with number k of a machine
+abbrev pub machine_lines : ℕ → AtomDefinition → ℕ → TransitionDefinition → List ℕ
+machine_lines atom a k t = lines_between atom a k t (one_place t.sources) (one_place t.targets)
 
 -- the name of an atom, and its variables with their values
 abbrev pub atom_label : AtomDefinition → Local → List ℕ
@@ -88,12 +116,22 @@ abbrev pub cluster_head : ℕ → AtomDefinition → Local → List ℕ
 cluster_head atom a state =
     codes "  subgraph cluster_" ++ decimal atom ++ codes " {\n    label=\"" ++ atom_label a state ++ codes "\";\n"
 
+-- its ports, in order; a machine has none
+abbrev pub port_lines : Interior → ℕ → AtomDefinition → List ℕ
+port_lines Parts atom a = numbered (port_line atom a) 0 a.ports
+port_lines Machine atom a = []
+
+-- the transition with number k as a node, or as that of a machine
+abbrev pub moving_lines : Interior → ℕ → AtomDefinition → ℕ → TransitionDefinition → List ℕ
+moving_lines Parts atom a k t = transition_lines atom a k t
+moving_lines Machine atom a k t = machine_lines atom a k t
+
 -- its places, ports and transitions, in order
-abbrev pub cluster_parts : ℕ → AtomDefinition → Local → List ℕ
-cluster_parts atom a state =
-    numbered (place_line state.marking atom) 0 a.places ++ numbered (port_line atom a) 0 a.ports ++
-    numbered (transition_lines atom a) 0 a.transitions
+abbrev pub cluster_parts : Interior → ℕ → AtomDefinition → Local → List ℕ
+cluster_parts interior atom a state =
+    numbered (place_line state.marking atom) 0 a.places ++ port_lines interior atom a ++
+    numbered (moving_lines interior atom a) 0 a.transitions
 
 -- the cluster of the atom with a number, in a state
-abbrev pub atom_lines : ℕ → AtomDefinition → Local → List ℕ
-atom_lines atom a state = cluster_head atom a state ++ cluster_parts atom a state ++ codes "  }\n"
+abbrev pub atom_lines : Interior → ℕ → AtomDefinition → Local → List ℕ
+atom_lines interior atom a state = cluster_head atom a state ++ cluster_parts interior atom a state ++ codes "  }\n"

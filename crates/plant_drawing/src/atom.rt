@@ -1,30 +1,32 @@
-//! The cluster of an atom in a state.
+//! The cluster of an atom in a state, with all its parts or as a machine.
 ghost use Rattle.std.specs.Prelude.{◌≡◌, ◌++◌, codes, flat_map};
 ghost use Rattle.petri_atom.specs.Definition.{variable_name};
 ghost use Rattle.petri_atom.specs.Local.{value_in};
 ghost use Rattle.text_io.specs.Numbered.{numbered};
 ghost use Rattle.text_io.specs.Printing.{Prints};
-ghost use Rattle.part_text.specs.Seen.{definition_of, port_of};
-ghost use Rattle.plant_drawing.specs.Atom.{atom_label, atom_lines, cluster_head, cluster_parts, fill_of, named, place_line, port_line, transition_lines, variable_text};
+ghost use Rattle.part_text.specs.Seen.{definition_of, port_of, transition_of};
+ghost use Rattle.plant_drawing.specs.Atom.{atom_label, atom_lines, cluster_head, cluster_parts, fill_of, moving_lines, named, place_line, port_line, port_lines, variable_text};
 
 use crate::drawn::has_number;
+use crate::interior::Interior;
 use crate::node::print_part;
-use crate::transition::print_transition;
-use petri_atom::{Atom, AtomState, Name, Place, Port, Variable};
+use crate::transition::{print_machine_transition, print_transition};
+use petri_atom::{Atom, AtomState, Name, Place, Port, Transition, Variable};
 use std::io::Write;
 use text_io::{WriteFault, print_number, print_signed, print_text};
 
 /// Prints an atom in a state as a cluster with its places, its ports and its transitions.
 pub(crate) fn print_atom<W: Write>(
+    interior: Interior,
     number: u64,
     atom: &Atom,
     state: &AtomState,
     output: &mut W,
 ) -> Result<(), WriteFault>
-    ensures { Prints result (W.contents output.old) (W.contents output.new) (atom_lines number (definition_of atom.now) state.now) }
+    ensures { Prints result (W.contents output.old) (W.contents output.new) (atom_lines interior number (definition_of atom.now) state.now) }
 {
     print_head(number, atom, state, output)?;
-    print_parts(number, atom, state, output)?;
+    print_parts(interior, number, atom, state, output)?;
     print_text(output, b"  }\n")
 }
 
@@ -54,16 +56,17 @@ fn print_label<W: Write>(atom: &Atom, state: &AtomState, output: &mut W) -> Resu
 
 /// Prints the places, the ports and the transitions of an atom.
 fn print_parts<W: Write>(
+    interior: Interior,
     number: u64,
     atom: &Atom,
     state: &AtomState,
     output: &mut W,
 ) -> Result<(), WriteFault>
-    ensures { Prints result (W.contents output.old) (W.contents output.new) (cluster_parts number (definition_of atom.now) state.now) }
+    ensures { Prints result (W.contents output.old) (W.contents output.new) (cluster_parts interior number (definition_of atom.now) state.now) }
 {
     print_places(state.places(), number, atom.places(), output)?;
-    print_ports(number, atom, output)?;
-    print_transitions(number, atom, output)
+    print_ports_in(interior, number, atom, output)?;
+    print_transitions(interior, number, atom, output)
 }
 
 /// Prints variables with their values, each on a line of its own.
@@ -154,6 +157,21 @@ fn print_fill<W: Write>(marked: bool, output: &mut W) -> Result<(), WriteFault>
     }
 }
 
+/// Prints the ports of an atom; none of a machine.
+fn print_ports_in<W: Write>(
+    interior: Interior,
+    number: u64,
+    atom: &Atom,
+    output: &mut W,
+) -> Result<(), WriteFault>
+    ensures { Prints result (W.contents output.old) (W.contents output.new) (port_lines interior number (definition_of atom.now)) }
+{
+    match interior {
+        Interior::Parts => print_ports(number, atom, output),
+        Interior::Machine => Ok(()),
+    }
+}
+
 /// Prints the ports of an atom, each with the variables that it exports.
 fn print_ports<W: Write>(number: u64, atom: &Atom, output: &mut W) -> Result<(), WriteFault>
     ensures { Prints result (W.contents output.old) (W.contents output.new) (numbered (port_line number (definition_of atom.now)) 0 (definition_of atom.now).ports) }
@@ -194,11 +212,33 @@ fn print_exports<W: Write>(atom: &Atom, exports: &[u8], output: &mut W) -> Resul
 }
 
 /// Prints the transitions of an atom.
-fn print_transitions<W: Write>(number: u64, atom: &Atom, output: &mut W) -> Result<(), WriteFault>
-    ensures { Prints result (W.contents output.old) (W.contents output.new) (numbered (transition_lines number (definition_of atom.now)) 0 (definition_of atom.now).transitions) }
+fn print_transitions<W: Write>(
+    interior: Interior,
+    number: u64,
+    atom: &Atom,
+    output: &mut W,
+) -> Result<(), WriteFault>
+    ensures { Prints result (W.contents output.old) (W.contents output.new) (numbered (moving_lines interior number (definition_of atom.now)) 0 (definition_of atom.now).transitions) }
 {
     for (transition, made) in atom.transitions().iter().enumerate() {
-        print_transition(number, atom, transition as u64, made, output)?;
+        print_moving(interior, number, atom, transition as u64, made, output)?;
     }
     Ok(())
+}
+
+/// Prints a transition as a node, or as that of a machine.
+fn print_moving<W: Write>(
+    interior: Interior,
+    number: u64,
+    atom: &Atom,
+    transition: u64,
+    made: &Transition,
+    output: &mut W,
+) -> Result<(), WriteFault>
+    ensures { Prints result (W.contents output.old) (W.contents output.new) (moving_lines interior number (definition_of atom.now) transition (transition_of made.now)) }
+{
+    match interior {
+        Interior::Parts => print_transition(number, atom, transition, made, output),
+        Interior::Machine => print_machine_transition(number, atom, transition, made, output),
+    }
 }

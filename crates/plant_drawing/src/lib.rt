@@ -1,8 +1,8 @@
 //! The drawings of a plant, as texts for Graphviz's `dot`.
 //!
-//! [`draw_to`] writes a directed graph of a plant in a state, and [`outline_to`] a smaller one of its atoms and connectors alone. Their
-//! texts are defined in `specs/Drawing.antt` and `specs/Outline.antt`, and the contracts say that exactly these texts were appended to a
-//! writer, where its type says which bytes it took; they say nothing of when a writer fails.
+//! [`draw_to`] writes a directed graph of a plant in a state, [`machines_to`] one of its atoms alone as state machines, and [`outline_to`] a
+//! smaller one of its atoms and connectors. Their texts are defined in `specs/Drawing.antt` and `specs/Outline.antt`, and the contracts say
+//! that exactly these texts were appended to a writer, where its type says which bytes it took; they say nothing of when a writer fails.
 //!
 //! | Part of the plant | Is drawn as |
 //! |---|---|
@@ -20,6 +20,9 @@
 //! **Of a state.** Marked places and the values of variables are those of the present state of the plant that runs. With
 //! [`Filling::ByChoice`] each connector that has a choice in it is green, and the others are yellow; with [`Filling::Alike`] all are yellow.
 //!
+//! **The machines** have the cluster of each atom with its places, and no ports. A transition between two places is an arrow with the label
+//! of its box; one that has several sources or targets keeps its box. There are no connectors and no rules.
+//!
 //! **The outline** has a box for each atom, a small oval for each connector with an edge to the atom of each of its leaves, and an edge
 //! without words for each priority rule.
 //!
@@ -29,8 +32,9 @@
 //! Nodes are named by numbers (`place_0_3`, `connector_1`), and all names of the plant stand in quoted labels. A name has
 //! letters, digits and `_` alone, so no label needs an escape but for its own line ends.
 //!
-//! - `plant`: the whole drawing of a state, and how its graph is laid out. `outline`: the outline.
-//! - `atom`: the cluster of an atom: its label, its places and its ports. `transition`: its transitions and their edges.
+//! - `plant`: the whole drawing of a state, its machines, and how a graph is laid out. `outline`: the outline.
+//! - `atom`: the cluster of an atom: its label, its places and its ports. `transition`: its transitions and their edges. `interior`: whether
+//!   it is drawn as a machine.
 //! - `connector`: the node of a connector and its edges. `clauses`: its guard clauses and its transfers. `edges`: how its edges begin and
 //!   end, and which leaf of its tree has one. `rule`: the edges of the priority rules.
 //! - `node`: the names of nodes. `wrapping`: words that are broken into lines, and those of an expression. `tree`: those of a
@@ -47,6 +51,7 @@ mod connector;
 mod drawn;
 mod edges;
 mod filling;
+mod interior;
 mod node;
 mod outline;
 mod plant;
@@ -58,4 +63,4 @@ mod wrapping;
 pub use drawn::ALL_ATOMS;
 pub use filling::Filling;
 pub use outline::outline_to;
-pub use plant::draw_to;
+pub use plant::{draw_to, machines_to};

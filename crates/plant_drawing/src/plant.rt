@@ -6,12 +6,13 @@ ghost use Rattle.step_core.specs.Running.{plant_in, states_in};
 ghost use Rattle.part_text.specs.Seen.{definition_of};
 ghost use Rattle.plant_drawing.specs.Connector.{drawn_connector};
 ghost use Rattle.plant_drawing.specs.Drawn.{is_coloured};
-ghost use Rattle.plant_drawing.specs.Drawing.{drawing_of, drawn_atom, parts_of, style};
+ghost use Rattle.plant_drawing.specs.Drawing.{drawing_of, drawn_atom, drawn_atoms, machines_of, parts_of, style};
 
 use crate::atom::print_atom;
 use crate::connector::print_drawn_wire;
 use crate::drawn::has_number;
 use crate::filling::Filling;
+use crate::interior::Interior;
 use crate::rule::{RuleLabel, print_rules};
 use petri_atom::Atom;
 use std::io::Write;
@@ -31,6 +32,20 @@ pub fn draw_to<W: Write>(
     print_text(output, b"digraph plant {\n")?;
     print_style(output)?;
     print_parts(run, drawn, filling, output)?;
+    print_text(output, b"}\n")
+}
+
+/// Writes the atoms of the set `drawn`, bit k for atom k, as state machines in the present state of a plant: without ports, connectors and rules.
+pub fn machines_to<W: Write>(
+    run: &Stepper<'_>,
+    drawn: u64,
+    output: &mut W,
+) -> Result<(), WriteFault>
+    ensures { Prints result (W.contents output.old) (W.contents output.new) (machines_of (plant_in run.now) (states_in run.now) drawn) }
+{
+    print_text(output, b"digraph plant {\n")?;
+    print_style(output)?;
+    print_atoms(Interior::Machine, run, drawn, output)?;
     print_text(output, b"}\n")
 }
 
@@ -59,25 +74,31 @@ fn print_parts<W: Write>(
 ) -> Result<(), WriteFault>
     ensures { Prints result (W.contents output.old) (W.contents output.new) (parts_of (plant_in run.now) (states_in run.now) drawn filling) }
 {
-    print_atoms(run, drawn, output)?;
+    print_atoms(Interior::Parts, run, drawn, output)?;
     print_wires(run, drawn, filling, output)?;
     let system = run.system();
     print_rules(RuleLabel::Written, system, system.rules(), drawn, output)
 }
 
 /// Prints the atoms that are drawn, in the order of their numbers.
-fn print_atoms<W: Write>(run: &Stepper<'_>, drawn: u64, output: &mut W) -> Result<(), WriteFault>
-    ensures { Prints result (W.contents output.old) (W.contents output.new) (numbered (drawn_atom drawn (states_in run.now)) 0 (plant_in run.now).atoms) }
+fn print_atoms<W: Write>(
+    interior: Interior,
+    run: &Stepper<'_>,
+    drawn: u64,
+    output: &mut W,
+) -> Result<(), WriteFault>
+    ensures { Prints result (W.contents output.old) (W.contents output.new) (drawn_atoms interior (plant_in run.now) (states_in run.now) drawn) }
 {
     let system = run.system();
     for (number, atom) in system.atoms().iter().enumerate() {
-        print_drawn_atom(run, drawn, number, atom, output)?;
+        print_drawn_atom(interior, run, drawn, number, atom, output)?;
     }
     Ok(())
 }
 
 /// Prints the atom in its present state if it is drawn; nothing of another.
 fn print_drawn_atom<W: Write>(
+    interior: Interior,
     run: &Stepper<'_>,
     drawn: u64,
     number: usize,
@@ -85,14 +106,14 @@ fn print_drawn_atom<W: Write>(
     output: &mut W,
 ) -> Result<(), WriteFault>
     requires { slice_get (plant_in run.now).atoms number ≡ Some (definition_of atom.now) }
-    ensures { Prints result (W.contents output.old) (W.contents output.new) (drawn_atom drawn (states_in run.now) number (definition_of atom.now)) }
+    ensures { Prints result (W.contents output.old) (W.contents output.new) (drawn_atom interior drawn (states_in run.now) number (definition_of atom.now)) }
 {
     if !has_number(drawn, number) {
         return Ok(());
     }
     run.system().keeps_its_rules();
     let state = run.states().state(number as u16);
-    print_atom(number as u64, atom, state, output)
+    print_atom(interior, number as u64, atom, state, output)
 }
 
 /// Prints the connectors that are drawn, in the order of their numbers.

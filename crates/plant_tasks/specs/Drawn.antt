@@ -5,7 +5,7 @@ use Rattle.std.specs.Option.{option_map_or}
 use Rattle.std.specs.Borrow.{Bor}
 use Rattle.petri_atom.specs.Atom.{definition_of}
 use Rattle.petri_atom.specs.Definition.{AtomDefinition}
-use Rattle.petri_atom.specs.Local.{set_below}
+use Rattle.petri_atom.specs.Local.{Local, set_below}
 use Rattle.petri_atom.specs.Name.{is_same_text}
 use Rattle.petri_atom.specs.declared.atom.Atom.{Atom}
 use Rattle.plant_model.specs.Plant.{PlantDefinition}
@@ -13,7 +13,7 @@ use Rattle.plant_model.specs.Step.{initial_states}
 use Rattle.run_text.specs.Picks.{PickDefinition}
 use Rattle.run_text.specs.Runs.{state_after}
 use Rattle.run_text.specs.declared.fault.Refusal.{Refusal}
-use Rattle.plant_drawing.specs.Drawing.{drawing_of}
+use Rattle.plant_drawing.specs.Drawing.{drawing_of, machines_of}
 use Rattle.plant_drawing.specs.Outline.{outline_of}
 use Rattle.plant_drawing.specs.declared.drawn.TheConstants.{ALL_ATOMS}
 use Rattle.plant_drawing.specs.declared.filling.Filling.{Filling}
@@ -22,8 +22,10 @@ use Rattle.command_line.specs.Asked.{names_in}
 use Rattle.command_line.specs.declared.request.Picking.{Picking}
 use Rattle.command_line.specs.declared.request.Drawing.{Drawing}
 use Rattle.command_line.specs.declared.request.View.{View}
-use Rattle.command_line.specs.declared.request.View.TheVariants.{Whole, Outline}
+use Rattle.command_line.specs.declared.request.View.TheVariants.{Whole, Machines, Outline}
 use Rattle.plant_tasks.specs.Picked.{after_picks, picks_said, refusal_said}
+use Rattle.plant_tasks.specs.declared.drawing.Shown.{Shown}
+use Rattle.plant_tasks.specs.declared.drawing.Shown.TheVariants.{All, Atoms}
 use Rattle.plant_tasks.specs.declared.ending.PlantEnding.{PlantEnding}
 use Rattle.plant_tasks.specs.declared.ending.PlantEnding.TheVariants.{NoAtom}
 
@@ -58,22 +60,33 @@ abbrev pub IsNoAtom : PlantDefinition → List (List ℕ) → PlantEnding → Ty
 IsNoAtom plant names (NoAtom place) = position (λ name. not (has_atom plant.atoms name)) names ≡ Some place
 IsNoAtom plant names ending = ⊥
 
--- a set of atoms in the state after some picks, and what stands on these
-abbrev pub drawn_in : PlantDefinition → ℕ → Filling → List PickDefinition → List ℕ
-drawn_in plant drawn filling picks = drawing_of plant (state_after plant (initial_states plant) picks) drawn filling
+-- a set of atoms in a state: with all that stands on these, or as machines
+abbrev pub shown_in : Shown → PlantDefinition → List Local → ℕ → List ℕ
+shown_in (All filling) plant states drawn = drawing_of plant states drawn filling
+shown_in Atoms plant states drawn = machines_of plant states drawn
+
+-- the same in the state after some picks
+abbrev pub drawn_in : Shown → PlantDefinition → ℕ → List PickDefinition → List ℕ
+drawn_in shown plant drawn picks = shown_in shown plant (state_after plant (initial_states plant) picks) drawn
 
 -- the same, and nothing where one of the picks is refused
-abbrev pub drawn_after : PlantDefinition → ℕ → Filling → List PickDefinition → List ℕ
-drawn_after plant drawn filling = after_picks plant (drawn_in plant drawn filling)
+abbrev pub drawn_after : Shown → PlantDefinition → ℕ → List PickDefinition → List ℕ
+drawn_after shown plant drawn = after_picks plant (drawn_in shown plant drawn)
 
 -- the same in the first state, or in the state after the picks that the words of the command line ask for
-abbrev pub drawn_part : PlantDefinition → ℕ → Option Picking → Option (List ℕ) → Option (List ℕ)
-drawn_part plant drawn None input = Some (drawn_after plant drawn Alike [])
-drawn_part plant drawn (Some picking) input = option_map (drawn_after plant drawn ByChoice) (picks_said picking plant input)
+abbrev pub drawn_part : Shown → PlantDefinition → ℕ → Option Picking → Option (List ℕ) → Option (List ℕ)
+drawn_part shown plant drawn None input = Some (drawn_after shown plant drawn [])
+drawn_part shown plant drawn (Some picking) input = option_map (drawn_after shown plant drawn) (picks_said picking plant input)
+
+-- connectors are filled by their choices after picks, and alike in the first state
+abbrev pub filling_after : Option Picking → Filling
+filling_after None = Alike
+filling_after (Some picking) = ByChoice
 
 -- what is drawn of a set of atoms and what stands on these
 abbrev pub drawn_by : View → PlantDefinition → ℕ → Option (List ℕ) → Option (List ℕ)
-drawn_by (Whole picking) plant drawn input = drawn_part plant drawn picking input
+drawn_by (Whole picking) plant drawn input = drawn_part (All (filling_after picking)) plant drawn picking input
+drawn_by (Machines picking) plant drawn input = drawn_part Atoms plant drawn picking input
 drawn_by Outline plant drawn input = Some (outline_of plant drawn)
 
 -- what is drawn
@@ -88,4 +101,5 @@ part_refusal plant (Some picking) input = refusal_said picking plant input
 -- the same by how it is drawn
 abbrev pub view_refusal : View → PlantDefinition → Option (List ℕ) → Option (Option Refusal)
 view_refusal (Whole picking) plant input = part_refusal plant picking input
+view_refusal (Machines picking) plant input = part_refusal plant picking input
 view_refusal Outline plant input = Some None

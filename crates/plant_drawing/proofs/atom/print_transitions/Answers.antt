@@ -1,12 +1,12 @@
 use Rattle.std.proofs.Common.{arith}
 use Rattle.petri_atom.specs.Atom.{definition_of}
 use Rattle.petri_atom.specs.Transition.{transition_of}
-use Rattle.plant_drawing.specs.Atom.{transition_lines}
+use Rattle.plant_drawing.specs.Atom.{moving_lines}
 use Rattle.plant_drawing.proofs.Listing.{leads-known}
 use Rattle.plant_drawing.proofs.atom.print_transitions.Goals as goal
 
 pub loop-transition-preserved : goal.loop-transition-preserved
 loop-transition-preserved g c =
-    leads-known transition_of (transition_lines c.args.number (definition_of c.args.atom.now)) c.transitions-made-items.result.now (definition_of c.args.atom.now).transitions c.loop-transition.transition c.made-item.result
-    (g.W.Write.contents c.args.output.now) (g.W.Write.contents c.loop-transition.output) (g.W.Write.contents c.print_transition.new.output) _
-    c.transitions-made-items.ensures (omega arith) c.made-item.is c.loop-transition.invariant c.in_ok-print_transition.ensures
+    leads-known transition_of (moving_lines c.args.interior c.args.number (definition_of c.args.atom.now)) c.transitions-made-items.result.now (definition_of c.args.atom.now).transitions c.loop-transition.transition c.made-item.result
+    (g.W.Write.contents c.args.output.now) (g.W.Write.contents c.loop-transition.output) (g.W.Write.contents c.print_moving.new.output) _
+    c.transitions-made-items.ensures (omega arith) c.made-item.is c.loop-transition.invariant c.in_ok-print_moving.ensures

@@ -3,11 +3,11 @@ use Rattle.std.proofs.Common.{drop}
 use Rattle.petri_atom.specs.Atom.{definition_of}
 use Rattle.text_io.specs.Numbered.{numbered}
 use Rattle.text_io.proofs.Leading.{Leads}
-use Rattle.plant_drawing.specs.Atom.{transition_lines}
+use Rattle.plant_drawing.specs.Atom.{moving_lines}
 use Rattle.plant_drawing.proofs.atom.print_transitions.Given as goal
 
 abbrev pub invariant-loop-transition : goal.invariant-loop-transition
 invariant-loop-transition g l =
     Leads (g.W.Write.contents l.initial.output) (g.W.Write.contents l.output)
-    (numbered (transition_lines l.number (definition_of l.atom)) l.transition (drop l.transition (definition_of l.atom).transitions))
-    (numbered (transition_lines l.number (definition_of l.atom)) 0 (definition_of l.atom).transitions)
+    (numbered (moving_lines l.interior l.number (definition_of l.atom)) l.transition (drop l.transition (definition_of l.atom).transitions))
+    (numbered (moving_lines l.interior l.number (definition_of l.atom)) 0 (definition_of l.atom).transitions)

@@ -10,6 +10,6 @@ pub loop-number-preserved : goal.loop-number-preserved
 loop-number-preserved g c =
     let plant = plant_in c.args.run.now in
     let known : map definition_of c.atoms-atom-items.result.now ≡ plant.atoms = c.atoms-atom-items.ensures ∙ ap (λ (p : PlantDefinition). p.atoms) c.system-system.ensures.plant in
-    leads-known definition_of (drawn_atom c.args.drawn (states_in c.args.run.now)) c.atoms-atom-items.result.now plant.atoms c.loop-number.number c.atom-item.result
+    leads-known definition_of (drawn_atom c.args.interior c.args.drawn (states_in c.args.run.now)) c.atoms-atom-items.result.now plant.atoms c.loop-number.number c.atom-item.result
     (g.W.Write.contents c.args.output.now) (g.W.Write.contents c.loop-number.output) (g.W.Write.contents c.print_drawn_atom.new.output) _
     known (omega arith) c.atom-item.is c.loop-number.invariant c.in_ok-print_drawn_atom.ensures

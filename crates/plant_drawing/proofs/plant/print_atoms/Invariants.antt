@@ -9,5 +9,5 @@ use Rattle.plant_drawing.proofs.plant.print_atoms.Given as goal
 abbrev pub invariant-loop-number : goal.invariant-loop-number
 invariant-loop-number g l =
     Leads (g.W.Write.contents l.initial.output) (g.W.Write.contents l.output)
-    (numbered (drawn_atom l.drawn (states_in l.run)) l.number (drop l.number (plant_in l.run).atoms))
-    (numbered (drawn_atom l.drawn (states_in l.run)) 0 (plant_in l.run).atoms)
+    (numbered (drawn_atom l.interior l.drawn (states_in l.run)) l.number (drop l.number (plant_in l.run).atoms))
+    (numbered (drawn_atom l.interior l.drawn (states_in l.run)) 0 (plant_in l.run).atoms)

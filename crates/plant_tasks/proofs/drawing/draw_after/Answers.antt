@@ -4,7 +4,6 @@ use Rattle.std.specs.Prelude.{IfSome}
 use Rattle.std.specs.Io.KnownBytes.{Appends}
 use Rattle.std.specs.Option.{option_copied}
 use Rattle.plant_model.specs.System.{plant_of}
-use Rattle.plant_drawing.specs.declared.filling.Filling.TheVariants.{ByChoice}
 use Rattle.plant_tasks.specs.Drawn.{drawn_in, drawn_part}
 use Rattle.plant_tasks.specs.Ending.{OnDone}
 use Rattle.plant_tasks.specs.Picked.{picks_said}
@@ -15,9 +14,9 @@ pub returns-in_ok-picks-in-Some-clause-printed : goal.returns-in_ok-picks-in-Som
 returns-in_ok-picks-in-Some-clause-printed g c =
     let plant = plant_of c.args.system.now in
     let input = g.F.Read.remaining c.args.input in
-    subst (λ picking. OnDone c.task_ended-in-Some.result (IfSome (drawn_part plant c.args.drawn (option_copied picking) input)
+    subst (λ picking. OnDone c.task_ended-in-Some.result (IfSome (drawn_part c.args.shown plant c.args.drawn (option_copied picking) input)
     (Appends (g.W.Write.contents c.args.output.now) (g.W.Write.contents c.draw_state-in-Some.new.output))))
     (sym c.in-Some.is)
-    (after_asked c.task_ended-in-Some.result c.draw_state-in-Some.result plant _ (picks_said c.in-Some.picking.now plant input) (drawn_in plant c.args.drawn ByChoice) _ _
+    (after_asked c.task_ended-in-Some.result c.draw_state-in-Some.result plant _ (picks_said c.in-Some.picking.now plant input) (drawn_in c.args.shown plant c.args.drawn) _ _
     c.task_ended-in-Some.ensures c.in_ok-picks-in-Some.ensures c.draw_state-in-Some.ensures.refusal c.draw_state-in-Some.ensures.printed
     (λ fault is other. ap g.W.Write.contents (c.draw_state-in-Some.ensures.nothing_printed fault is other)))

@@ -6,5 +6,5 @@ use Rattle.plant_tasks.proofs.drawing.draw_state.Goals as goal
 
 pub returns-clause-printed : goal.returns-clause-printed
 returns-clause-printed g c =
-    drawn_in_state (g.P.Picks.left c.args.picks.now) (plant_in c.in_ok-run.run') (plant_of c.args.system.now) (states_in c.in_ok-run.run') c.args.drawn c.args.filling _ _
-    c.in_ok-run.ensures.plant c.in_ok-run.ensures.states c.in_ok-draw_to.ensures
+    drawn_in_state c.args.shown (g.P.Picks.left c.args.picks.now) (plant_in c.in_ok-run.run') (plant_of c.args.system.now) (states_in c.in_ok-run.run') c.args.drawn _ _
+    c.in_ok-run.ensures.plant c.in_ok-run.ensures.states c.in_ok-draw_run.ensures
