@@ -24,6 +24,7 @@ A case is a folder tests/COMMAND/CASE. The program runs in a fresh copy of it, i
                       standard error full                 the standard error takes nothing
                       standard error on a terminal        what is told goes to a terminal
                       standard input and output on a terminal   a terminal gives the one and shows the other
+                      standard input on a terminal        a terminal gives it, and shows nothing
                       memory of COUNT KiB                 the program gets no more memory for its data
                       FILE begins with COUNT line feeds   the file, too long to be stored, has these before; or `spaces`, or `zeros`
                       FILE ends with COUNT line feeds     the file has these behind, or is made of them
@@ -101,6 +102,7 @@ STACK = 1024 if UNPROVED in sys.argv else 512
 # The settings that give the program a terminal.
 TERMINAL = "standard error on a terminal"
 TYPED = "standard input and output on a terminal"
+TYPED_UNSEEN = "standard input on a terminal"
 # What a setting may grow a file by.
 BYTES = {"line feeds": b"\n", "spaces": b" ", "zeros": b"\0"}
 # The settings that are made behind the runs of `before`.
@@ -209,6 +211,15 @@ def run_typed(command, how):
         return ran.returncode, shown_on(ours), ran.stderr
 
 
+def run_typed_unseen(command, how):
+    """The same of one whose standard output goes elsewhere."""
+    typed = {name: it for name, it in how.items() if name != "input"}
+    with terminal() as (ours, theirs):
+        os.write(ours, how["input"])
+        ran = subprocess.run(command, stdin=theirs, stderr=subprocess.PIPE, **typed)
+        return ran.returncode, ran.stdout, ran.stderr
+
+
 class Case:
     """A folder with what the program is given, and what it must answer."""
 
@@ -248,7 +259,7 @@ class Case:
                 command = f"ulimit -d {given[1]} && {command}"
             elif line in STREAMS:
                 command = f"{command} {STREAMS[line]}"
-            elif not make_file(place, line) and line not in (TERMINAL, TYPED) and not any(later.fullmatch(line) for later in LATER):
+            elif not make_file(place, line) and line not in (TERMINAL, TYPED, TYPED_UNSEEN) and not any(later.fullmatch(line) for later in LATER):
                 raise ValueError(f"{self.name}: no such setting: {line}")
         return command
 
@@ -302,6 +313,8 @@ class Case:
             return run_on_terminal(command, how)
         if TYPED in self.lines_of("setting"):
             return run_typed(command, how)
+        if TYPED_UNSEEN in self.lines_of("setting"):
+            return run_typed_unseen(command, how)
         ran = subprocess.run(command, stderr=subprocess.PIPE, **how)
         return ran.returncode, ran.stdout, ran.stderr
 

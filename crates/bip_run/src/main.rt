@@ -19,7 +19,8 @@ use std::process::ExitCode;
 
 fn main(rt: HostRuntime) -> ExitCode {
     let terminals = Terminals {
-        typed: rt.stdin().is_terminal() && rt.stdout().is_terminal(),
+        input: rt.stdin().is_terminal(),
+        output: rt.stdout().is_terminal(),
         told: rt.stderr().is_terminal(),
     };
     ExitCode::from(process::run(&rt, terminals))

@@ -14,14 +14,28 @@ use plant_tasks::{
 use std::fs::File;
 use std::io::{self, BufReader, BufWriter, Write};
 use std::rt::{Env, Files};
+use step_session::Mark;
 
 /// Which ends of the process are a terminal.
 #[derive(Clone, Copy)]
 pub(crate) struct Terminals {
-    /// The standard input and the standard output: a person types lines, and sees the answer to each.
-    pub(crate) typed: bool,
+    /// The standard input: a person types lines. Else a program sends them.
+    pub(crate) input: bool,
+    /// The standard output: a person sees the answers.
+    pub(crate) output: bool,
     /// The standard error: more of a fault than its line is printed there.
     pub(crate) told: bool,
+}
+
+impl Terminals {
+    /// What tells who gives lines where an answer ends.
+    fn mark(self) -> Mark {
+        match (self.input, self.output) {
+            (true, true) => Mark::Prompt,
+            (true, false) => Mark::Nothing,
+            (false, _) => Mark::End,
+        }
+    }
 }
 
 /// Does what the words of the command line ask for, and gives the exit status.
@@ -155,7 +169,7 @@ fn work_on<R: Files<File = File> + Input + AllocGlobal, W: Write>(
 ) -> Result<(), PlantEnding> {
     match &request.work {
         Work::OfPlant(task) => work_by(rt, request, task, plant, output, failure),
-        Work::ByHand => step_typed(rt, request.plant, plant, terminals.typed, output, failure),
+        Work::ByHand => step_typed(rt, request.plant, plant, terminals.mark(), output, failure),
         Work::OnImage(_, _) | Work::Explored(_) => Err(PlantEnding::Usage),
     }
 }
@@ -189,7 +203,7 @@ fn step_typed<R: Files<File = File> + Input + AllocGlobal, W: Write>(
     rt: &R,
     path: &str,
     plant: &ReadPlant<'_>,
-    prompt: bool,
+    mark: Mark,
     output: &mut W,
     failure: &mut Option<io::Error>,
 ) -> Result<(), PlantEnding> {
@@ -197,7 +211,7 @@ fn step_typed<R: Files<File = File> + Input + AllocGlobal, W: Write>(
         |_| PlantEnding::Memory,
     )?;
     let mut saver = FileSaver { rt, plant: path };
-    let ended = step(rt.alloc(), plant, prompt, &mut input, output, &mut saver);
+    let ended = step(rt.alloc(), plant, mark, &mut input, output, &mut saver);
     if let Err(PlantEnding::InputUnread) = ended {
         *failure = input.get_ref().failure();
     }

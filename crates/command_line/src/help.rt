@@ -164,7 +164,8 @@ pub(crate) const STEP_BRIEF: &str = "Runs a plant by hand, from its first state"
 pub(crate) const STEP_ABOUT: &str = "Runs a plant by hand, from its first state.
 
 Prints the line of each atom's state, and the choices as 'choices' lists them. Then it reads
-commands from the standard input, one on each line, and answers each. PLANT is a file.
+commands from the standard input, one on each line, and answers each. Where that is no
+terminal, the line 'end' follows each answer. PLANT is a file.
 
   N          fires choice N
   back       takes the last firing back
@@ -182,11 +183,14 @@ prints
   state B [s] m=0
   0 tick A.t/0
   1 send A.t/0 B.u/0
+  end
   1 tick A.t/0
   state A [s] n=1
   state B [s] m=0
   0 tick A.t/0
   1 send A.t/0 B.u/0
+  end
+  end
 
 Exit status:
   0  the commands are answered, also those that could not be followed

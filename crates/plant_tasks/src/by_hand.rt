@@ -11,23 +11,23 @@ use crate::task::ReadPlant;
 use part_lines::rule_lines;
 use std::alloc::Global;
 use std::io::{BufRead, Write};
-use step_session::{Saver, step_by_hand};
+use step_session::{Mark, Saver, step_by_hand};
 
 /// Lets a plant that was read be run by hand: prints where it stands, and answers each line of the input, up to one that asks to quit or to
-/// the input's end. A prompt is printed before each line where `prompt` says so. What was fired is saved by the saver, where a line asks for it.
+/// the input's end. The mark tells where an answer ends. What was fired is saved by the saver, where a line asks for it.
 pub fn step<F: BufRead, W: Write, S: Saver>(
     alloc: Global,
     plant: &ReadPlant<'_>,
-    prompt: bool,
+    mark: Mark,
     input: &mut F,
     output: &mut W,
     saver: &mut S,
 ) -> Result<(), PlantEnding>
     ensures told { OnOk result (IfSome (F.remaining input.old) (λ bytes.
-        IsTranscript S.saves (transcript_of (plant_read plant.now) (rule_lines plant.now.text.now) prompt (lines_of bytes)) saver.old saver.new (W.contents output.old) (W.contents output.new))) }
+        IsTranscript S.saves (transcript_of (plant_read plant.now) (rule_lines plant.now.text.now) mark (lines_of bytes)) saver.old saver.new (W.contents output.old) (W.contents output.new))) }
     ensures of_task { IfErr result IsOfTask }
 {
     let lines = rule_lines(alloc, plant.text)?;
-    step_by_hand(alloc, plant.system, &lines, prompt, input, output, saver)?;
+    step_by_hand(alloc, plant.system, &lines, mark, input, output, saver)?;
     Ok(())
 }

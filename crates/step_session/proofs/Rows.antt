@@ -9,6 +9,7 @@ use Rattle.step_session.specs.Answers.{no_choice_text, saving_text}
 use Rattle.step_session.specs.Command.{command_in, fires_random, fires, left_over, mistaken, no_command, no_count, no_file, no_number, quits, saves_to, shows, takes_back, tells, tells_of}
 use Rattle.step_session.specs.Mistakes.{mistake_text, too_long_text}
 use Rattle.step_session.specs.Transcript.{session_text, transcript_of}
+use Rattle.step_session.specs.declared.mark.Mark.TheVariants.{Prompt, End, Nothing}
 
 -- ---- what lines ask for
 
@@ -87,19 +88,19 @@ three_saved = refl
 
 -- ---- sessions
 
--- tick, send, back; a number that is not there, and a word that is no command
-stepped_by_hand : session_text sample [] false (codes "0" ∷ codes "1" ∷ codes "back" ∷ codes "7" ∷ codes "foo" ∷ []) []
-    ≡ codes "state A [s] n=0\nstate B [s] m=0\n0 tick A.t/0\n1 send A.t/0 B.u/0\n" ++
-    codes "1 tick A.t/0\nstate A [s] n=1\nstate B [s] m=0\n0 tick A.t/0\n1 send A.t/0 B.u/0\n" ++
-    codes "2 send A.t/0 B.u/0\nstate A [s] n=2\nstate B [s] m=1\n0 tick A.t/0\n1 send A.t/0 B.u/0\n" ++
-    codes "state A [s] n=1\nstate B [s] m=0\n0 tick A.t/0\n1 send A.t/0 B.u/0\n" ++
-    codes "no choice 7: there are 2 choices (0 to 1)\n" ++
-    codes "'foo' is no command: help lists them\n"
+-- a program sends tick, send, back; a number that is not there, and a word that is no command
+stepped_by_hand : session_text sample [] End (codes "0" ∷ codes "1" ∷ codes "back" ∷ codes "7" ∷ codes "foo" ∷ []) []
+    ≡ codes "state A [s] n=0\nstate B [s] m=0\n0 tick A.t/0\n1 send A.t/0 B.u/0\nend\n" ++
+    codes "1 tick A.t/0\nstate A [s] n=1\nstate B [s] m=0\n0 tick A.t/0\n1 send A.t/0 B.u/0\nend\n" ++
+    codes "2 send A.t/0 B.u/0\nstate A [s] n=2\nstate B [s] m=1\n0 tick A.t/0\n1 send A.t/0 B.u/0\nend\n" ++
+    codes "state A [s] n=1\nstate B [s] m=0\n0 tick A.t/0\n1 send A.t/0 B.u/0\nend\n" ++
+    codes "no choice 7: there are 2 choices (0 to 1)\nend\n" ++
+    codes "'foo' is no command: help lists them\nend\n"
 unfolding sample digits moved set_below int_wrap is_overruled is_below
 stepped_by_hand = refl
 
 -- at a terminal: send is fired and saved, and what stands after `quit` is not read
-saved_at_a_terminal : transcript_of sample [] true (codes "1" ∷ codes "save a.txt" ∷ codes "quit" ∷ codes "0" ∷ []) (true ∷ [])
+saved_at_a_terminal : transcript_of sample [] Prompt (codes "1" ∷ codes "save a.txt" ∷ codes "quit" ∷ codes "0" ∷ []) (true ∷ [])
     ≡ record {
       text =
           codes "state A [s] n=0\nstate B [s] m=0\n0 tick A.t/0\n1 send A.t/0 B.u/0\n" ++
@@ -111,7 +112,7 @@ unfolding sample digits moved set_below int_wrap is_overruled is_below
 saved_at_a_terminal = refl
 
 -- the random picks go on from one command to the next: the first three of the seed 1 are odd, and each takes send; the input ends after a prompt
-random_goes_on : session_text sample [] true (codes "random 2" ∷ codes "random 1" ∷ []) []
+random_goes_on : session_text sample [] Prompt (codes "random 2" ∷ codes "random 1" ∷ []) []
     ≡ codes "state A [s] n=0\nstate B [s] m=0\n0 tick A.t/0\n1 send A.t/0 B.u/0\n" ++
     codes "> 1 send A.t/0 B.u/0\n2 send A.t/0 B.u/0\nstate A [s] n=2\nstate B [s] m=1\n0 tick A.t/0\n1 send A.t/0 B.u/0\n" ++
     codes "> 3 send A.t/0 B.u/0\nstate A [s] n=3\nstate B [s] m=2\n0 tick A.t/0\n1 send A.t/0 B.u/0\n" ++
@@ -120,7 +121,7 @@ unfolding sample digits moved set_below int_wrap is_overruled is_below
 random_goes_on = refl
 
 -- nothing is fired yet, and what can be fired
-nothing_to_take_back : session_text sample [] false (codes "back" ∷ codes "why send" ∷ codes "why xyz" ∷ []) []
+nothing_to_take_back : session_text sample [] Nothing (codes "back" ∷ codes "why send" ∷ codes "why xyz" ∷ []) []
     ≡ codes "state A [s] n=0\nstate B [s] m=0\n0 tick A.t/0\n1 send A.t/0 B.u/0\n" ++
     codes "nothing is fired yet\nsend: can be fired\n'xyz' is no connector of the plant\n"
 unfolding sample digits moved set_below int_wrap is_overruled is_below

@@ -9,8 +9,10 @@ use Rattle.plant_model.specs.Plant.{PlantDefinition}
 use Rattle.step_session.specs.Answers.{answer_text, savings_of, session_after}
 use Rattle.step_session.specs.Command.{CommandDefinition, shows, fires, takes_back, fires_random, tells, tells_of, saves_to, helps, quits, mistaken, ends}
 use Rattle.step_session.specs.Saved.{AreSaved, Saving}
+use Rattle.step_session.specs.Mark.{ended_text, prompt_text}
 use Rattle.step_session.specs.Session.{SessionDefinition}
-use Rattle.step_session.specs.Transcript.{IsTranscript, Transcript, nothing_more, prompt_text, after_text, transcript_by}
+use Rattle.step_session.specs.Transcript.{IsTranscript, Transcript, nothing_more, after_text, transcript_by}
+use Rattle.step_session.specs.declared.mark.Mark.{Mark}
 
 -- what the saver said to savings
 abbrev pub said_of : List Saving → List Bool
@@ -24,36 +26,36 @@ behind-behind text more savings others transcript =
     ap (λ s. made ((text ++ more) ++ transcript.text) s) (sym (append_assoc savings others transcript.savings))
 
 -- a command that does not end the session is told, by what the saver says of its savings, and then what is after it
-pub told-on : (plant : PlantDefinition) (rules : List ℕ) (prompt : Bool) (session : SessionDefinition) (command : CommandDefinition) (more : SessionDefinition → List Bool → Transcript) (said : Bool) (rest : List Bool)
+pub told-on : (plant : PlantDefinition) (rules : List ℕ) (mark : Mark) (session : SessionDefinition) (command : CommandDefinition) (more : SessionDefinition → List Bool → Transcript) (said : Bool) (rest : List Bool)
     → ends command ≡ false
-    → transcript_by plant rules prompt session command more (said_of (savings_of plant session said command) ++ rest)
-    ≡ after_text (prompt_text prompt ++ answer_text plant rules session said command) (savings_of plant session said command) (more (session_after plant session command) rest)
-told-on plant rules prompt session shows more said rest on = refl
-told-on plant rules prompt session (fires number) more said rest on = refl
-told-on plant rules prompt session takes_back more said rest on = refl
-told-on plant rules prompt session (fires_random count) more said rest on = refl
-told-on plant rules prompt session tells more said rest on = refl
-told-on plant rules prompt session (tells_of name) more said rest on = refl
-told-on plant rules prompt session (saves_to path) more said rest on = refl
-told-on plant rules prompt session helps more said rest on = refl
-told-on plant rules prompt session quits more said rest on = absurd (false≢true (sym on))
-told-on plant rules prompt session (mistaken mistake) more said rest on = refl
+    → transcript_by plant rules mark session command more (said_of (savings_of plant session said command) ++ rest)
+    ≡ after_text (prompt_text mark ++ ended_text mark (answer_text plant rules session said command)) (savings_of plant session said command) (more (session_after plant session command) rest)
+told-on plant rules mark session shows more said rest on = refl
+told-on plant rules mark session (fires number) more said rest on = refl
+told-on plant rules mark session takes_back more said rest on = refl
+told-on plant rules mark session (fires_random count) more said rest on = refl
+told-on plant rules mark session tells more said rest on = refl
+told-on plant rules mark session (tells_of name) more said rest on = refl
+told-on plant rules mark session (saves_to path) more said rest on = refl
+told-on plant rules mark session helps more said rest on = refl
+told-on plant rules mark session quits more said rest on = absurd (false≢true (sym on))
+told-on plant rules mark session (mistaken mistake) more said rest on = refl
 
 -- after one that ends it nothing is told
-pub printed-last : (plant : PlantDefinition) (rules : List ℕ) (prompt : Bool) (session : SessionDefinition) (command : CommandDefinition) (more : SessionDefinition → List Bool → Transcript) (said : Bool) (rest : List Bool)
+pub printed-last : (plant : PlantDefinition) (rules : List ℕ) (mark : Mark) (session : SessionDefinition) (command : CommandDefinition) (more : SessionDefinition → List Bool → Transcript) (said : Bool) (rest : List Bool)
     → ends command ≡ true
-    → transcript_by plant rules prompt session command more (said_of (savings_of plant session said command) ++ rest)
-    ≡ after_text (prompt_text prompt ++ answer_text plant rules session said command) (savings_of plant session said command) nothing_more
-printed-last plant rules prompt session shows more said rest over = absurd (false≢true over)
-printed-last plant rules prompt session (fires number) more said rest over = absurd (false≢true over)
-printed-last plant rules prompt session takes_back more said rest over = absurd (false≢true over)
-printed-last plant rules prompt session (fires_random count) more said rest over = absurd (false≢true over)
-printed-last plant rules prompt session tells more said rest over = absurd (false≢true over)
-printed-last plant rules prompt session (tells_of name) more said rest over = absurd (false≢true over)
-printed-last plant rules prompt session (saves_to path) more said rest over = absurd (false≢true over)
-printed-last plant rules prompt session helps more said rest over = absurd (false≢true over)
-printed-last plant rules prompt session quits more said rest over = refl
-printed-last plant rules prompt session (mistaken mistake) more said rest over = absurd (false≢true over)
+    → transcript_by plant rules mark session command more (said_of (savings_of plant session said command) ++ rest)
+    ≡ after_text (prompt_text mark ++ ended_text mark (answer_text plant rules session said command)) (savings_of plant session said command) nothing_more
+printed-last plant rules mark session shows more said rest over = absurd (false≢true over)
+printed-last plant rules mark session (fires number) more said rest over = absurd (false≢true over)
+printed-last plant rules mark session takes_back more said rest over = absurd (false≢true over)
+printed-last plant rules mark session (fires_random count) more said rest over = absurd (false≢true over)
+printed-last plant rules mark session tells more said rest over = absurd (false≢true over)
+printed-last plant rules mark session (tells_of name) more said rest over = absurd (false≢true over)
+printed-last plant rules mark session (saves_to path) more said rest over = absurd (false≢true over)
+printed-last plant rules mark session helps more said rest over = absurd (false≢true over)
+printed-last plant rules mark session quits more said rest over = refl
+printed-last plant rules mark session (mistaken mistake) more said rest over = absurd (false≢true over)
 
 -- a text and savings were told, and after them, by the answers that are left, something is left to tell
 pub record IsSoFar {S : Type 0} (saves : S → List ℕ → List ℕ → Bool → S → Type 0) (transcript left : List Bool → Transcript) (before now : S) (old new : Option (List ℕ)) : Type 0 where

@@ -1,3 +1,4 @@
+pub mod Mark
 pub mod Message
 pub mod Command
 pub mod CommandOf

@@ -1,12 +1,14 @@
 -- The transcript of a session: what it prints, and what it has saved.
-use Rattle.std.specs.Prelude.{◌≡◌, ℕ, Bool, false, if◌then◌else◌, List, [], ◌∷◌, ◌++◌, length, drop, codes, Option}
+use Rattle.std.specs.Prelude.{◌≡◌, ℕ, Bool, false, if◌then◌else◌, List, [], ◌∷◌, ◌++◌, length, drop, Option}
 use Rattle.std.specs.Io.KnownBytes.{Appends}
 use Rattle.plant_model.specs.Plant.{PlantDefinition}
 use Rattle.shown_fault.specs.Shown.{shown}
 use Rattle.step_session.specs.Answers.{answer_text, save_text, savings_of, session_after, standing_text}
 use Rattle.step_session.specs.Command.{CommandDefinition, command_in, ends}
+use Rattle.step_session.specs.Mark.{ended_text, last_text, prompt_text}
 use Rattle.step_session.specs.Saved.{AreSaved, Saving, saved_text}
 use Rattle.step_session.specs.Session.{SessionDefinition, first_session}
+use Rattle.step_session.specs.declared.mark.Mark.{Mark}
 
 -- what a session prints, and what it has saved
 pub record Transcript : Type 0 where
@@ -21,38 +23,31 @@ nothing_more = record { text = []; savings = [] }
 abbrev pub after_text : List ℕ → List Saving → Transcript → Transcript
 after_text text savings transcript = record { text = text ++ transcript.text; savings = savings ++ transcript.savings }
 
--- the prompt, if one is asked for, and the end of the line in which the last one stands
-abbrev pub prompt_text : Bool → List ℕ
-prompt_text prompt = if prompt then codes "> " else []
-
-abbrev pub end_text : Bool → List ℕ
-end_text prompt = if prompt then codes "\n" else []
-
 -- what the saver says next, by the list of what it says; that it could not, if the list has ended
 abbrev pub said_next : List Bool → Bool
 said_next [] = false
 said_next (said ∷ answers) = said
 
--- the transcript of a command, after the prompt; `more` is the one after it, of the session and of the answers of the saver that are left then
-abbrev pub transcript_by : PlantDefinition → List ℕ → Bool → SessionDefinition → CommandDefinition → (SessionDefinition → List Bool → Transcript) → List Bool → Transcript
-transcript_by plant rules prompt session command more answers =
-    after_text (prompt_text prompt ++ answer_text plant rules session (said_next answers) command) (savings_of plant session (said_next answers) command)
+-- the transcript of a command: the answer to it, marked; `more` is the one after it, of the session and of the answers of the saver that are left then
+abbrev pub transcript_by : PlantDefinition → List ℕ → Mark → SessionDefinition → CommandDefinition → (SessionDefinition → List Bool → Transcript) → List Bool → Transcript
+transcript_by plant rules mark session command more answers =
+    after_text (prompt_text mark ++ ended_text mark (answer_text plant rules session (said_next answers) command)) (savings_of plant session (said_next answers) command)
     (if ends command then nothing_more else more (session_after plant session command) (drop (length (savings_of plant session (said_next answers) command)) answers))
 
 -- the transcript of lines: the answer to each, until one asks to quit or they end
-abbrev pub transcript_from : PlantDefinition → List ℕ → Bool → SessionDefinition → List (List ℕ) → List Bool → Transcript
-transcript_from plant rules prompt session [] answers = record { text = prompt_text prompt ++ end_text prompt; savings = [] }
-transcript_from plant rules prompt session (line ∷ lines) answers =
-    transcript_by plant rules prompt session (command_in line) (λ after left. transcript_from plant rules prompt after lines left) answers
+abbrev pub transcript_from : PlantDefinition → List ℕ → Mark → SessionDefinition → List (List ℕ) → List Bool → Transcript
+transcript_from plant rules mark session [] answers = record { text = prompt_text mark ++ last_text mark; savings = [] }
+transcript_from plant rules mark session (line ∷ lines) answers =
+    transcript_by plant rules mark session (command_in line) (λ after left. transcript_from plant rules mark after lines left) answers
 
 -- the transcript of a whole session: where the plant stands at first, and then of the lines
-abbrev pub transcript_of : PlantDefinition → List ℕ → Bool → List (List ℕ) → List Bool → Transcript
-transcript_of plant rules prompt lines answers =
-    after_text (standing_text plant first_session) [] (transcript_from plant rules prompt first_session lines answers)
+abbrev pub transcript_of : PlantDefinition → List ℕ → Mark → List (List ℕ) → List Bool → Transcript
+transcript_of plant rules mark lines answers =
+    after_text (ended_text mark (standing_text plant first_session)) [] (transcript_from plant rules mark first_session lines answers)
 
 -- what is printed of it
-abbrev pub session_text : PlantDefinition → List ℕ → Bool → List (List ℕ) → List Bool → List ℕ
-session_text plant rules prompt lines answers = (transcript_of plant rules prompt lines answers).text
+abbrev pub session_text : PlantDefinition → List ℕ → Mark → List (List ℕ) → List Bool → List ℕ
+session_text plant rules mark lines answers = (transcript_of plant rules mark lines answers).text
 
 -- The text of the transcript, by the answers of the saver, was printed, and the saver was asked for its savings alone, in this order, and answered so; `saves` is what one call may be.
 pub record IsTranscript {S : Type 0} (saves : S → List ℕ → List ℕ → Bool → S → Type 0) (transcript : List Bool → Transcript) (before after : S) (old new : Option (List ℕ)) : Type 0 where

@@ -2,6 +2,7 @@
 //!
 //! An engineer types lines, and sees the answer to each: a number fires the choice with that number, `back` takes the last firing back,
 //! `random N` fires random choices, `why` tells why a connector can't be fired, and `save` saves what was fired, so that a trace can repeat it.
+//! Or a program sends the lines; then a [`Mark`] tells it where each answer ends.
 //! [`step_by_hand`] is the whole session, from a reader of lines to a writer of answers.
 //!
 //! What a session prints and saves is one definition, `transcript_of` (`specs/Transcript.antt`): of the plant, the lines, and what the [`Saver`] says. A session keeps
@@ -9,7 +10,7 @@
 //! this text was appended to a writer, if its type says which bytes it took, and the type of the reader which bytes it gave. They say
 //! nothing of when a reader or a writer fails.
 //!
-//! - `stepping`: the session, line by line. `lines`: how long a line may be. `command`: what a line asks for.
+//! - `stepping`: the session, line by line. `lines`: how long a line may be. `command`: what a line asks for. `mark`: what tells where an answer ends.
 //! - `session`: where the plant stands, and what was fired. `answers`: the answer to each command. `random`: the generator of random picks.
 //! - `why`: why connectors can't be fired.
 //! - `saver`: who saves what was fired.
@@ -26,6 +27,7 @@ mod fault;
 mod help;
 pub mod laws;
 mod lines;
+mod mark;
 mod mistakes;
 mod random;
 mod saver;
@@ -35,6 +37,7 @@ mod why;
 
 pub use fault::StepFault;
 pub use lines::MAX_LINE;
+pub use mark::Mark;
 pub use saver::Saver;
 pub use session::Session;
 pub use stepping::step_by_hand;

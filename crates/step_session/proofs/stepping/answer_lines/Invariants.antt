@@ -9,6 +9,6 @@ abbrev pub invariant-loop : goal.invariant-loop
 invariant-loop g l = record {
   plant : plant_stepped l.session ≡ plant_stepped l.initial.session;
   transcript : IfSome (g.R.Read.remaining l.initial.input)
-      (λ bytes. IsToldSoFar g.S.Saver.saves (plant_stepped l.initial.session) l.rule_lines l.prompt (session_of l.initial.session) (session_of l.session) bytes
+      (λ bytes. IsToldSoFar g.S.Saver.saves (plant_stepped l.initial.session) l.rule_lines l.mark (session_of l.initial.session) (session_of l.session) bytes
       (g.R.Read.remaining l.input) l.initial.saver l.saver (g.W.Write.contents l.initial.output) (g.W.Write.contents l.output));
 }
