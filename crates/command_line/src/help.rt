@@ -167,14 +167,16 @@ Prints the line of each atom's state, and the choices as 'choices' lists them. T
 commands from the standard input, one on each line, and answers each. Where that is no
 terminal, the line 'end' follows each answer. PLANT is a file.
 
-  N          fires choice N
-  back       takes the last firing back
-  random N   fires N random choices
-  why NAME   tells why the connector can't be fired; why alone, of each connector
-  state      shows the state and the choices again, as an empty line does
-  save FILE  saves what was fired, to be repeated by trace PLANT --picks FILE
-  help       lists the commands
-  quit       ends, as the end of the input does";
+  N           fires choice N
+  fire NAME   fires the connector's choice, if it has just one
+  back        takes the last firing back
+  random N    fires N random choices
+  until NAME  fires random choices until it can be fired; until NAME N, at most N
+  why NAME    tells why the connector can't be fired; why alone, of each connector
+  state       shows the state and the choices again, as an empty line does
+  save FILE   saves what was fired, to be repeated by trace PLANT --picks FILE
+  help        lists the commands
+  quit        ends, as the end of the input does";
 
 pub(crate) const STEP_AFTER: &str = "Example:
   printf '0\\nquit\\n' | bip_run step examples/sample.plant

@@ -1,6 +1,9 @@
 mod Firing
 mod Keeping
 mod AtRandom
+mod Reaching
+mod ByConnector
+mod ToldNumbers
 mod FirstLine
 mod SoFar
 mod Answering

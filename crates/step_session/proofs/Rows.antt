@@ -6,10 +6,11 @@ use Rattle.petri_atom.specs.Local.{set_below, moved}
 use Rattle.priority_filter.specs.Decided.{is_overruled, is_below}
 use Rattle.run_text.proofs.RunRows.{sample}
 use Rattle.step_session.specs.Answers.{no_choice_text, saving_text}
-use Rattle.step_session.specs.Command.{command_in, fires_random, fires, left_over, mistaken, no_command, no_count, no_file, no_number, quits, saves_to, shows, takes_back, tells, tells_of}
+use Rattle.step_session.specs.Command.{command_in, fires_named, fires_random, fires_until, fires, left_over, mistaken, no_awaited, no_command, no_count, no_file, no_fired, no_number, quits, saves_to, shows, takes_back, tells, tells_of}
 use Rattle.step_session.specs.Mistakes.{mistake_text, too_long_text}
-use Rattle.step_session.specs.Transcript.{session_text, transcript_of}
+use Rattle.step_session.specs.Numbers.{several_text}
 use Rattle.step_session.specs.declared.mark.Mark.TheVariants.{Prompt, End, Nothing}
+use Rattle.step_session.specs.Transcript.{session_text, transcript_of}
 
 -- ---- what lines ask for
 
@@ -39,6 +40,27 @@ random_of_nothing = refl
 
 random_of_a_word : command_in (codes "random x") ≡ mistaken (no_number (codes "x"))
 random_of_a_word = refl
+
+fire_asked : command_in (codes "fire tick") ≡ fires_named (codes "tick")
+fire_asked = refl
+
+fire_of_nothing : command_in (codes "fire") ≡ mistaken no_fired
+fire_of_nothing = refl
+
+fire_of_two : command_in (codes "fire tick send") ≡ mistaken (left_over (codes "send"))
+fire_of_two = refl
+
+until_asked : command_in (codes "until tick") ≡ fires_until (codes "tick") 1_000_000
+until_asked = refl
+
+until_with_a_limit : command_in (codes "until tick 5") ≡ fires_until (codes "tick") 5
+until_with_a_limit = refl
+
+until_of_nothing : command_in (codes "until") ≡ mistaken no_awaited
+until_of_nothing = refl
+
+until_of_a_word : command_in (codes "until tick x") ≡ mistaken (no_number (codes "x"))
+until_of_a_word = refl
 
 why_all : command_in (codes "why") ≡ tells
 why_all = refl
@@ -77,6 +99,10 @@ none_of_none = refl
 -- a byte that no terminal is to take for a command is told by its number
 shown_by_its_number : mistake_text (no_command (27 ∷ codes "[2J")) ≡ codes "'\\x1b[2J' is no command: help lists them\n"
 shown_by_its_number = refl
+
+two_choices : several_text (codes "send") 3 (4 ∷ []) ≡ codes "send has 2 choices: 3, 4\n"
+unfolding digits
+two_choices = refl
 
 longer : too_long_text ≡ codes "the line has more than 1024 bytes\n"
 unfolding digits
@@ -126,3 +152,13 @@ nothing_to_take_back : session_text sample [] Nothing (codes "back" ∷ codes "w
     codes "nothing is fired yet\nsend: can be fired\n'xyz' is no connector of the plant\n"
 unfolding sample digits moved set_below int_wrap is_overruled is_below
 nothing_to_take_back = refl
+
+-- what a connector's name fires, and until when: send has one choice, and can be fired at once
+fired_by_name : session_text sample [] End (codes "fire send" ∷ codes "until send 2" ∷ codes "fire xyz" ∷ codes "quit" ∷ []) []
+    ≡ codes "state A [s] n=0\nstate B [s] m=0\n0 tick A.t/0\n1 send A.t/0 B.u/0\nend\n" ++
+    codes "1 send A.t/0 B.u/0\nstate A [s] n=1\nstate B [s] m=0\n0 tick A.t/0\n1 send A.t/0 B.u/0\nend\n" ++
+    codes "state A [s] n=1\nstate B [s] m=0\n0 tick A.t/0\n1 send A.t/0 B.u/0\nsend: can be fired\nend\n" ++
+    codes "'xyz' is no connector of the plant\nend\n" ++
+    codes "end\n"
+unfolding sample digits moved set_below int_wrap is_overruled is_below
+fired_by_name = refl

@@ -7,7 +7,7 @@ use Rattle.std.proofs.lemmas.Bool.{false≢true}
 use Rattle.std.proofs.lemmas.List.{map-append}
 use Rattle.plant_model.specs.Plant.{PlantDefinition}
 use Rattle.step_session.specs.Answers.{answer_text, savings_of, session_after}
-use Rattle.step_session.specs.Command.{CommandDefinition, shows, fires, takes_back, fires_random, tells, tells_of, saves_to, helps, quits, mistaken, ends}
+use Rattle.step_session.specs.Command.{CommandDefinition, shows, fires, fires_named, takes_back, fires_random, fires_until, tells, tells_of, saves_to, helps, quits, mistaken, ends}
 use Rattle.step_session.specs.Saved.{AreSaved, Saving}
 use Rattle.step_session.specs.Mark.{ended_text, prompt_text}
 use Rattle.step_session.specs.Session.{SessionDefinition}
@@ -32,8 +32,10 @@ pub told-on : (plant : PlantDefinition) (rules : List ℕ) (mark : Mark) (sessio
     ≡ after_text (prompt_text mark ++ ended_text mark (answer_text plant rules session said command)) (savings_of plant session said command) (more (session_after plant session command) rest)
 told-on plant rules mark session shows more said rest on = refl
 told-on plant rules mark session (fires number) more said rest on = refl
+told-on plant rules mark session (fires_named name) more said rest on = refl
 told-on plant rules mark session takes_back more said rest on = refl
 told-on plant rules mark session (fires_random count) more said rest on = refl
+told-on plant rules mark session (fires_until name most) more said rest on = refl
 told-on plant rules mark session tells more said rest on = refl
 told-on plant rules mark session (tells_of name) more said rest on = refl
 told-on plant rules mark session (saves_to path) more said rest on = refl
@@ -48,8 +50,10 @@ pub printed-last : (plant : PlantDefinition) (rules : List ℕ) (mark : Mark) (s
     ≡ after_text (prompt_text mark ++ ended_text mark (answer_text plant rules session said command)) (savings_of plant session said command) nothing_more
 printed-last plant rules mark session shows more said rest over = absurd (false≢true over)
 printed-last plant rules mark session (fires number) more said rest over = absurd (false≢true over)
+printed-last plant rules mark session (fires_named name) more said rest over = absurd (false≢true over)
 printed-last plant rules mark session takes_back more said rest over = absurd (false≢true over)
 printed-last plant rules mark session (fires_random count) more said rest over = absurd (false≢true over)
+printed-last plant rules mark session (fires_until name most) more said rest over = absurd (false≢true over)
 printed-last plant rules mark session tells more said rest over = absurd (false≢true over)
 printed-last plant rules mark session (tells_of name) more said rest over = absurd (false≢true over)
 printed-last plant rules mark session (saves_to path) more said rest over = absurd (false≢true over)

@@ -1,19 +1,21 @@
 -- The answers to commands.
 use Rattle.std.specs.Prelude.{ℕ, ◌+◌, ◌-◌, Bool, ◌==◌, nat_lt, if◌then◌else◌, List, [], ◌∷◌, ◌++◌, length, take, codes, decimal}
+use Rattle.std.specs.List.{position_or_len, range_with_len}
 use Rattle.std.specs.Option.{option_map_or}
 use Rattle.petri_atom.specs.Local.{Local}
-use Rattle.plant_model.specs.Plant.{PlantDefinition}
+use Rattle.plant_model.specs.Plant.{PlantDefinition, wire_name}
 use Rattle.plant_model.specs.Choice.{choices}
 use Rattle.text_io.specs.Numbered.{numbered}
 use Rattle.run_text.specs.Choices.{choice_text, choices_text}
 use Rattle.run_text.specs.Line.{states_text}
-use Rattle.blocked_text.specs.Blocked.{connector_text, why_text}
+use Rattle.blocked_text.specs.Blocked.{can_fire, connector_text, why_text}
 use Rattle.shown_fault.specs.Shown.{shown}
-use Rattle.step_session.specs.Command.{CommandDefinition, shows, fires, takes_back, fires_random, tells, tells_of, saves_to, helps, quits, mistaken, command_in}
+use Rattle.step_session.specs.Command.{CommandDefinition, shows, fires, fires_named, takes_back, fires_random, fires_until, tells, tells_of, saves_to, helps, quits, mistaken, command_in}
 use Rattle.plant_model.specs.Lookup.{connector_named}
 use Rattle.step_session.specs.Fired.{choices_fired}
 use Rattle.step_session.specs.Help.{help_text}
-use Rattle.step_session.specs.Mistakes.{mistake_text, quoted_text}
+use Rattle.step_session.specs.Mistakes.{mistake_text, no_connector_text}
+use Rattle.step_session.specs.Numbers.{numbers_of, several_text}
 use Rattle.step_session.specs.Random.{random_places, shifted_by}
 use Rattle.step_session.specs.Saved.{Saving, saved_text}
 use Rattle.step_session.specs.Session.{SessionDefinition, first_session, states_at}
@@ -86,7 +88,76 @@ back_text plant session =
 -- the same of the connector with a name, if there is one
 abbrev pub why_of_text : PlantDefinition → List ℕ → List Local → List ℕ → List ℕ
 why_of_text plant rules states name =
-    option_map_or (connector_text plant states rules) (connector_named plant name) (quoted_text name (codes " is no connector of the plant\n"))
+    option_map_or (connector_text plant states rules) (connector_named plant name) (no_connector_text name)
+
+-- ---- firing by the name of a connector
+
+-- the numbers of the connector's present choices
+abbrev pub own_numbers : PlantDefinition → SessionDefinition → ℕ → List ℕ
+own_numbers plant session connector = numbers_of plant (states_at plant session) connector
+
+-- the choice that has one of these numbers is fired, if there is one number alone
+abbrev pub fire_only_session : SessionDefinition → List ℕ → SessionDefinition
+fire_only_session session [] = session
+fire_only_session session (number ∷ []) = fired_more session (number ∷ []) session.random
+fire_only_session session (number ∷ other ∷ others) = session
+
+-- what is told of it; if the connector has no choice, why, and if it has several, their numbers
+abbrev pub fire_only_text : PlantDefinition → List ℕ → SessionDefinition → ℕ → List ℕ → List ℕ
+fire_only_text plant rules session connector [] = connector_text plant (states_at plant session) rules connector
+fire_only_text plant rules session connector (number ∷ []) =
+    firing_lines plant session (number ∷ []) ++ standing_text plant (fire_only_session session (number ∷ []))
+fire_only_text plant rules session connector (number ∷ other ∷ others) = several_text (wire_name plant connector) number (other ∷ others)
+
+-- the same of the connector with a name, if there is one
+abbrev pub fire_named_session : PlantDefinition → SessionDefinition → List ℕ → SessionDefinition
+fire_named_session plant session name =
+    option_map_or (λ connector. fire_only_session session (own_numbers plant session connector)) (connector_named plant name) session
+
+abbrev pub fire_named_text : PlantDefinition → List ℕ → SessionDefinition → List ℕ → List ℕ
+fire_named_text plant rules session name =
+    option_map_or (λ connector. fire_only_text plant rules session connector (own_numbers plant session connector)) (connector_named plant name)
+    (no_connector_text name)
+
+-- ---- firing until a connector can be fired
+
+-- a connector can be fired where a session stands
+abbrev pub is_reached : PlantDefinition → ℕ → SessionDefinition → Bool
+is_reached plant connector session = can_fire plant (states_at plant session) connector
+
+-- the fewest random choices after which a connector can be fired, if they are fewer than so many; else so many
+abbrev pub count_until : PlantDefinition → SessionDefinition → ℕ → ℕ → ℕ
+count_until plant session connector most =
+    position_or_len (λ count. is_reached plant connector (random_session plant session count)) (range_with_len 0 most)
+
+-- as many are fired
+abbrev pub go_until_session : PlantDefinition → SessionDefinition → ℕ → ℕ → SessionDefinition
+go_until_session plant session connector most = random_session plant session (count_until plant session connector most)
+
+-- why no more are fired: the connector can be, there is none of so many choices, or the most are fired
+abbrev pub why_stopped_text : Bool → ℕ → ℕ → List ℕ
+why_stopped_text reached count most =
+    if reached then codes ": can be fired\n"
+    else if count == 0 then codes ": can't be fired (stuck)\n"
+    else codes ": can't be fired yet (limit " ++ decimal most ++ codes ")\n"
+
+-- the same after the connector's name, where a session stands then
+abbrev pub stop_text : PlantDefinition → SessionDefinition → ℕ → ℕ → List ℕ
+stop_text plant session connector most =
+    wire_name plant connector ++ why_stopped_text (is_reached plant connector session) (choice_count plant session) most
+
+abbrev pub go_until_text : PlantDefinition → SessionDefinition → ℕ → ℕ → List ℕ
+go_until_text plant session connector most =
+    random_text plant session (count_until plant session connector most) ++ stop_text plant (go_until_session plant session connector most) connector most
+
+-- the same of the connector with a name, if there is one
+abbrev pub fire_until_session : PlantDefinition → SessionDefinition → List ℕ → ℕ → SessionDefinition
+fire_until_session plant session name most =
+    option_map_or (λ connector. go_until_session plant session connector most) (connector_named plant name) session
+
+abbrev pub fire_until_text : PlantDefinition → SessionDefinition → List ℕ → ℕ → List ℕ
+fire_until_text plant session name most =
+    option_map_or (λ connector. go_until_text plant session connector most) (connector_named plant name) (no_connector_text name)
 
 -- ---- saving
 
@@ -108,8 +179,10 @@ save_text count path said = saving_text count said ++ path ++ codes "\n"
 abbrev pub answer_text : PlantDefinition → List ℕ → SessionDefinition → Bool → CommandDefinition → List ℕ
 answer_text plant rules session said shows = standing_text plant session
 answer_text plant rules session said (fires number) = fire_text plant session number
+answer_text plant rules session said (fires_named name) = fire_named_text plant rules session name
 answer_text plant rules session said takes_back = back_text plant session
 answer_text plant rules session said (fires_random count) = random_text plant session count
+answer_text plant rules session said (fires_until name most) = fire_until_text plant session name most
 answer_text plant rules session said tells = why_text plant (states_at plant session) rules
 answer_text plant rules session said (tells_of name) = why_of_text plant rules (states_at plant session) name
 answer_text plant rules session said (saves_to path) = save_text (length session.fired) (shown path) said
@@ -121,8 +194,10 @@ answer_text plant rules session said (mistaken mistake) = mistake_text mistake
 abbrev pub session_after : PlantDefinition → SessionDefinition → CommandDefinition → SessionDefinition
 session_after plant session shows = session
 session_after plant session (fires number) = fire_session plant session number
+session_after plant session (fires_named name) = fire_named_session plant session name
 session_after plant session takes_back = without_last session
 session_after plant session (fires_random count) = random_session plant session count
+session_after plant session (fires_until name most) = fire_until_session plant session name most
 session_after plant session tells = session
 session_after plant session (tells_of name) = session
 session_after plant session (saves_to path) = session
@@ -134,8 +209,10 @@ session_after plant session (mistaken mistake) = session
 abbrev pub savings_of : PlantDefinition → SessionDefinition → Bool → CommandDefinition → List Saving
 savings_of plant session said shows = []
 savings_of plant session said (fires number) = []
+savings_of plant session said (fires_named name) = []
 savings_of plant session said takes_back = []
 savings_of plant session said (fires_random count) = []
+savings_of plant session said (fires_until name most) = []
 savings_of plant session said tells = []
 savings_of plant session said (tells_of name) = []
 savings_of plant session said (saves_to path) = record { path = path; text = saved_text plant session; said = said } ∷ []

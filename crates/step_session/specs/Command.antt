@@ -4,9 +4,10 @@ use Rattle.std.specs.Option.{option_map_or}
 use Rattle.petri_atom.specs.Name.{is_same_text}
 use Rattle.plant_words.specs.Numbers.{is_numeric, pick_in}
 use Rattle.plant_words.specs.Words.{words_of}
+use Rattle.step_session.specs.declared.command.TheConstants.{MOST_UNTIL}
 use Rattle.step_session.specs.declared.lines.TheConstants.{MAX_LINE}
 
--- why a line asks for nothing: it is too long, its first word is no command, a word is left over or is no number, or a number or a file is missing
+-- why a line asks for nothing: it is too long, its first word is no command, a word is left over or is no number, or a number, a file or a connector, to be fired or waited for, is missing
 pub data MistakeDefinition : Type 0 where
   too_long : MistakeDefinition
   no_command : List ℕ → MistakeDefinition
@@ -14,13 +15,17 @@ pub data MistakeDefinition : Type 0 where
   no_number : List ℕ → MistakeDefinition
   no_count : MistakeDefinition
   no_file : MistakeDefinition
+  no_fired : MistakeDefinition
+  no_awaited : MistakeDefinition
 
--- what can be asked for: where the plant stands; to fire a choice, to take a firing back, to fire random choices; why connectors can't be fired; to save; the list of the commands; to end. A mistaken line asks for nothing
+-- what can be asked for: where the plant stands; to fire a choice, by its number or its connector, to take a firing back, to fire random choices, so many or until a connector can be fired, but so many at most; why connectors can't be fired; to save; the list of the commands; to end. A mistaken line asks for nothing
 pub data CommandDefinition : Type 0 where
   shows : CommandDefinition
   fires : ℕ → CommandDefinition
+  fires_named : List ℕ → CommandDefinition
   takes_back : CommandDefinition
   fires_random : ℕ → CommandDefinition
+  fires_until : List ℕ → ℕ → CommandDefinition
   tells : CommandDefinition
   tells_of : List ℕ → CommandDefinition
   saves_to : List ℕ → CommandDefinition
@@ -32,8 +37,10 @@ pub data CommandDefinition : Type 0 where
 abbrev pub ends : CommandDefinition → Bool
 ends shows = false
 ends (fires number) = false
+ends (fires_named name) = false
 ends takes_back = false
 ends (fires_random count) = false
+ends (fires_until name most) = false
 ends tells = false
 ends (tells_of name) = false
 ends (saves_to path) = false
@@ -59,6 +66,25 @@ abbrev pub random_in : List (List ℕ) → CommandDefinition
 random_in [] = mistaken no_count
 random_in (word ∷ words) = alone (count_in word) words
 
+-- after `fire` stands the name of a connector
+abbrev pub fire_in : List (List ℕ) → CommandDefinition
+fire_in [] = mistaken no_fired
+fire_in (name ∷ words) = alone (fires_named name) words
+
+-- a word that is a number within 64 bits: until the connector with a name can be fired, but so many at most
+abbrev pub most_number : List ℕ → List ℕ → CommandDefinition
+most_number name word = option_map_or (fires_until name) (pick_in word) (mistaken (no_number word))
+
+-- after the name stands how many at most, or nothing
+abbrev pub most_in : List ℕ → List (List ℕ) → CommandDefinition
+most_in name [] = fires_until name MOST_UNTIL
+most_in name (word ∷ words) = alone (most_number name word) words
+
+-- after `until` stands the name of a connector
+abbrev pub until_in : List (List ℕ) → CommandDefinition
+until_in [] = mistaken no_awaited
+until_in (name ∷ words) = most_in name words
+
 -- after `why` stands the name of a connector, or nothing
 abbrev pub why_in : List (List ℕ) → CommandDefinition
 why_in [] = tells
@@ -73,8 +99,10 @@ save_in (path ∷ words) = alone (saves_to path) words
 abbrev pub command_after : List ℕ → List (List ℕ) → CommandDefinition
 command_after first words =
     if is_numeric first then alone (number_in first) words
+    else if is_same_text first (codes "fire") then fire_in words
     else if is_same_text first (codes "back") then alone takes_back words
     else if is_same_text first (codes "random") then random_in words
+    else if is_same_text first (codes "until") then until_in words
     else if is_same_text first (codes "why") then why_in words
     else if is_same_text first (codes "state") then alone shows words
     else if is_same_text first (codes "save") then save_in words

@@ -8,6 +8,7 @@ pub mod SessionOf
 pub mod Random
 pub mod Saved
 pub mod Help
+pub mod Numbers
 pub mod Mistakes
 pub mod Answers
 pub mod AtRandom

@@ -38,8 +38,10 @@ impl Session<'_> {
         match command {
             Command::Show => self.print_standing(output),
             Command::Fire(number) => self.fire(*number, output),
+            Command::FireNamed(name) => self.fire_named(reasons, rule_lines, name, output),
             Command::Back => self.back(output),
             Command::Random(count) => self.fire_random(*count, output),
+            Command::Until(name, most) => self.fire_until(name, *most, output),
             Command::Why => print_why(reasons, rule_lines, &self.run, output),
             Command::WhyOf(name) => {
                 print_why_of(self.alloc, reasons, rule_lines, &self.run, name, output)

@@ -1,10 +1,13 @@
 //! What a line asks for.
 ghost use Rattle.std.specs.Prelude.{◌≡◌};
-ghost use Rattle.step_session.specs.Command.{alone, command_after, command_in, count_in, ends, number_in, random_in, save_in, why_in};
+ghost use Rattle.step_session.specs.Command.{alone, command_after, command_in, count_in, ends, fire_in, most_in, most_number, number_in, random_in, save_in, until_in, why_in};
 ghost use Rattle.step_session.specs.CommandOf.{command_of};
 
 use crate::lines::MAX_LINE;
 use plant_words::{Words, is_numeric, read_decimal};
+
+/// How many random choices `until` fires at most, if no number says it.
+const MOST_UNTIL: u64 = 1_000_000;
 
 /// What a line asks for.
 #[derive(Clone, Copy)]
@@ -13,10 +16,14 @@ pub(crate) enum Command<'a> {
     Show,
     /// To fire the choice with this number.
     Fire(u64),
+    /// To fire the one choice of the connector with this name.
+    FireNamed(&'a [u8]),
     /// To take the last firing back.
     Back,
     /// To fire so many random choices.
     Random(u64),
+    /// To fire random choices until the connector with this name can be fired, but so many at most.
+    Until(&'a [u8], u64),
     /// Why each connector can't be fired.
     Why,
     /// Why the connector with this name can't be fired.
@@ -46,6 +53,10 @@ pub(crate) enum Mistake<'a> {
     NoCount,
     /// The file in which to save is missing.
     NoFile,
+    /// The connector that is to be fired is missing.
+    NoFired,
+    /// The connector that is waited for is missing.
+    NoAwaited,
 }
 
 impl<'a> Command<'a> {
@@ -77,10 +88,14 @@ fn command_after<'a>(first: &'a [u8], words: &mut Words<'a>) -> Command<'a>
 {
     if is_numeric(first) {
         alone(number_in(first), words)
+    } else if first == b"fire".as_slice() {
+        fire_in(words)
     } else if first == b"back".as_slice() {
         alone(Command::Back, words)
     } else if first == b"random".as_slice() {
         random_in(words)
+    } else if first == b"until".as_slice() {
+        until_in(words)
     } else if first == b"why".as_slice() {
         why_in(words)
     } else if first == b"state".as_slice() {
@@ -132,6 +147,46 @@ fn count_in(word: &[u8]) -> Command<'_>
 {
     match read_decimal(word) {
         Some(count) => Command::Random(count),
+        None => Command::Mistaken(Mistake::NoNumber(word)),
+    }
+}
+
+/// What the words after `fire` ask for.
+fn fire_in<'a>(words: &mut Words<'a>) -> Command<'a>
+    ensures { command_of result ≡ fire_in words.old }
+{
+    match words.next_word() {
+        Some(name) => alone(Command::FireNamed(name), words),
+        None => Command::Mistaken(Mistake::NoFired),
+    }
+}
+
+/// What the words after `until` ask for.
+fn until_in<'a>(words: &mut Words<'a>) -> Command<'a>
+    ensures { command_of result ≡ until_in words.old }
+{
+    match words.next_word() {
+        Some(name) => most_in(name, words),
+        None => Command::Mistaken(Mistake::NoAwaited),
+    }
+}
+
+/// What the words after the name of a connector that is waited for ask for.
+fn most_in<'a>(name: &'a [u8], words: &mut Words<'a>) -> Command<'a>
+    ensures { command_of result ≡ most_in name.now words.old }
+{
+    match words.next_word() {
+        Some(word) => alone(most_number(name, word), words),
+        None => Command::Until(name, MOST_UNTIL),
+    }
+}
+
+/// To fire as many random choices as the word writes at most, until the connector with the name can be fired.
+fn most_number<'a>(name: &'a [u8], word: &'a [u8]) -> Command<'a>
+    ensures { command_of result ≡ most_number name.now word.now }
+{
+    match read_decimal(word) {
+        Some(most) => Command::Until(name, most),
         None => Command::Mistaken(Mistake::NoNumber(word)),
     }
 }

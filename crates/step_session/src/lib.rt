@@ -1,8 +1,8 @@
 //! A plant that is stepped by hand.
 //!
-//! An engineer types lines, and sees the answer to each: a number fires the choice with that number, `back` takes the last firing back,
-//! `random N` fires random choices, `why` tells why a connector can't be fired, and `save` saves what was fired, so that a trace can repeat it.
-//! Or a program sends the lines; then a [`Mark`] tells it where each answer ends.
+//! An engineer types lines, and sees the answer to each: a number fires the choice with that number, `fire` the only one of a connector, `back` takes
+//! the last firing back, `random N` fires random choices, `until` does so until a connector can be fired, `why` tells why one can't be, and `save`
+//! saves what was fired, so that a trace can repeat it. Or a program sends the lines; then a [`Mark`] tells it where each answer ends.
 //! [`step_by_hand`] is the whole session, from a reader of lines to a writer of answers.
 //!
 //! What a session prints and saves is one definition, `transcript_of` (`specs/Transcript.antt`): of the plant, the lines, and what the [`Saver`] says. A session keeps
@@ -12,6 +12,7 @@
 //!
 //! - `stepping`: the session, line by line. `lines`: how long a line may be. `command`: what a line asks for. `mark`: what tells where an answer ends.
 //! - `session`: where the plant stands, and what was fired. `answers`: the answer to each command. `random`: the generator of random picks.
+//! - `by_name`: the answers to `fire` and `until`. `numbers`: which numbers a connector's choices have.
 //! - `why`: why connectors can't be fired.
 //! - `saver`: who saves what was fired.
 //! - `mistakes`: what is said of a line that asks for nothing. `help`: the list of what can be asked for.
@@ -22,6 +23,7 @@
 #![tactic(auto)]
 
 mod answers;
+mod by_name;
 mod command;
 mod fault;
 mod help;
@@ -29,6 +31,7 @@ pub mod laws;
 mod lines;
 mod mark;
 mod mistakes;
+mod numbers;
 mod random;
 mod saver;
 mod session;

@@ -1,7 +1,7 @@
 //! What is said of a line that asks for nothing.
 ghost use Rattle.run_text.specs.Seen.{Prints};
 ghost use Rattle.step_session.specs.CommandOf.{mistake_of};
-ghost use Rattle.step_session.specs.Mistakes.{mistake_text, quoted_text, too_long_text};
+ghost use Rattle.step_session.specs.Mistakes.{mistake_text, no_connector_text, quoted_text, too_long_text};
 
 use crate::command::Mistake;
 use crate::fault::StepFault;
@@ -38,6 +38,8 @@ pub(crate) fn print_mistake<W: Write>(
         ),
         Mistake::NoCount => print_line(b"N is missing: random N\n", output),
         Mistake::NoFile => print_line(b"FILE is missing: save FILE\n", output),
+        Mistake::NoFired => print_line(b"NAME is missing: fire NAME\n", output),
+        Mistake::NoAwaited => print_line(b"NAME is missing: until NAME\n", output),
     }
 }
 
@@ -66,6 +68,17 @@ pub(crate) fn print_quoted<W: Write>(
     print_text(output, b"'")?;
     print_text(output, said)?;
     Ok(())
+}
+
+/// Prints that the plant has no connector with the name.
+pub(crate) fn print_no_connector<W: Write>(
+    alloc: Global,
+    name: &[u8],
+    output: &mut W,
+) -> Result<(), StepFault>
+    ensures { Prints result (W.contents output.old) (W.contents output.new) (no_connector_text name.now) }
+{
+    print_quoted(alloc, name, b" is no connector of the plant\n", output)
 }
 
 /// Prints a line as it is.

@@ -6,7 +6,7 @@ ghost use Rattle.blocked_text.specs.Blocked.{why_text};
 ghost use Rattle.step_session.specs.Answers.{why_of_text};
 
 use crate::fault::StepFault;
-use crate::mistakes::print_quoted;
+use crate::mistakes::print_no_connector;
 use blocked_text::Reasons;
 use std::alloc::Global;
 use std::io::Write;
@@ -43,6 +43,6 @@ pub(crate) fn print_why_of<W: Write>(
             reasons.print_blocked_of(run.states(), connector, rule_lines, output)?;
             Ok(())
         }
-        None => print_quoted(alloc, name, b" is no connector of the plant\n", output),
+        None => print_no_connector(alloc, name, output),
     }
 }
