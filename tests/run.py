@@ -56,6 +56,7 @@ import functools
 import os
 import pty
 import re
+import select
 import shutil
 import subprocess
 import sys
@@ -187,12 +188,11 @@ def terminal():
 
 
 def shown_on(ours):
-    """What stands on a terminal that nobody writes to any more."""
-    os.set_blocking(ours, False)
-    try:
-        return os.read(ours, 1 << 16)
-    except BlockingIOError:
-        return b""
+    """What stands on a terminal that nobody writes to any more. The system may hand it on piece by piece, so the end is where nothing comes for a while."""
+    shown = b""
+    while select.select([ours], [], [], 0.5)[0]:
+        shown += os.read(ours, 1 << 16)
+    return shown
 
 
 def run_on_terminal(command, how):
