@@ -1,7 +1,7 @@
 -- The jobs of a choice that begins.
-use Rattle.std.proofs.Common.{◌≡◌, ℕ, ℤ, ◌<◌, ◌≤◌, refl, sym, ◌∙◌, ap, subst, List, length, get_or, arith}
+use Rattle.std.proofs.Common.{◌≡◌, ℕ, ℤ, ◌<◌, ◌≤◌, refl, sym, ◌∙◌, ap, List, length, arith}
 use Rattle.std.specs.Prelude.{Option, Some, None, slice_get, slice_index}
-use Rattle.std.proofs.lemmas.Option.{none-some, same_Some, slice_get_within}
+use Rattle.std.proofs.lemmas.Option.{same_Some, slice_get_within}
 use Rattle.petri_atom.specs.Definition.{AtomDefinition}
 use Rattle.petri_atom.specs.Local.{Local}
 use Rattle.plant_model.specs.Choice.{ChoiceDefinition}
@@ -12,7 +12,6 @@ use Rattle.plant_model.specs.declared.choice.Move.{Move}
 use Rattle.plant_model.proofs.Membership.{entry-in}
 use Rattle.step_core.specs.Job.{JobDefinition}
 use Rattle.step_core.specs.Jobs.{AreJobsOf, IsJobOf}
-use Rattle.step_core.specs.Parts.{shown_in}
 use Rattle.step_core.specs.Sure.{IsSure}
 use Rattle.step_executor.specs.Outstanding.{AreKept, job_by, jobs_after, put_all, whole_of}
 use Rattle.step_executor.proofs.Going.{delivers, job-at, participant-state}

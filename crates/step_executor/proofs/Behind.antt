@@ -1,5 +1,5 @@
 -- The jobs that atoms have where the participants of a choice go away.
-use Rattle.std.proofs.Common.{◌≡◌, ◌≢◌, ◌⊎◌, inl, inr, ℕ, ◌<◌, ◌≤◌, ◌==◌, refl, sym, ◌∙◌, ap, List, [], ◌∷◌, length, get_or, set, Contains, arith, Bool, true, false, ◌||◌, ⊎_elim, length-set, get_or-set_same, get_or-set_other}
+use Rattle.std.proofs.Common.{◌≡◌, ◌⊎◌, inl, inr, ℕ, ◌<◌, ◌≤◌, ◌==◌, refl, sym, ◌∙◌, ap, List, [], ◌∷◌, length, get_or, set, Contains, arith, true, ◌||◌, ⊎_elim, length-set, get_or-set_same, get_or-set_other}
 use Rattle.std.specs.Prelude.{Option, Some, None, is_some}
 use Rattle.std.proofs.lemmas.Bool.{cases_eq, cases_lt, eq-eqb, ne_eqb}
 use Rattle.std.proofs.lemmas.List.{get_or_past}

@@ -1,5 +1,4 @@
 -- A plant that runs while atoms are away may go to another thread: a struct that holds one beside more cites this.
-use denote.RattleType.{RattleType}
 use denote.Ref.{NamedLft}
 use denote.Param.Send.{IsSend, sendable}
 use Rattle.std.proofs.Crossing.{crosses}

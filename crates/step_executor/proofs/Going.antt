@@ -1,30 +1,26 @@
 -- What becomes of the whole state, the parts and the jobs where a sure choice fires, where its participants go away, and where one comes back.
-use Rattle.std.proofs.Common.{◌≡◌, ◌≢◌, ◌⊎◌, ℕ, ◌+◌, ◌<◌, ◌≤◌, ◌==◌, refl, sym, ◌∙◌, ap, subst, List, [], ◌∷◌, length, map, get_or, set, Contains, arith, Bool, true, false, cond, not, ◌||◌, unwrap_or, ⊎_elim, length-set, get_or-set_same, get_or-set_other}
+use Rattle.std.proofs.Common.{◌≡◌, ◌≢◌, ℕ, ◌<◌, refl, sym, ◌∙◌, ap, subst, List, length, get_or, set, Contains, arith, Bool, true, false, cond, ◌||◌, unwrap_or, ⊎_elim, length-set, get_or-set_same, get_or-set_other}
 use Rattle.std.specs.Prelude.{Option, Some, None, is_none, is_some, option_map, slice_get, slice_index}
-use Rattle.std.specs.List.{list_all}
 use Rattle.std.specs.Option.{option_map_or}
 use Rattle.std.proofs.lemmas.Bool.{cases_eq, cases_lt, false≢true, false_from_ne_true}
 use Rattle.std.proofs.lemmas.List.{get_or_past}
 use Rattle.std.proofs.lemmas.Option.{none-some, same_Some, slice_get_within, slice_get-get_or, unwrap_or-slice_get}
 use Rattle.petri_atom.specs.Local.{Local}
-use Rattle.petri_atom.specs.Definition.{AtomDefinition, Fits, fired, is_well_formed}
+use Rattle.petri_atom.specs.Definition.{AtomDefinition, fired}
 use Rattle.plant_model.specs.Choice.{ChoiceDefinition, IsAllowed}
-use Rattle.plant_model.specs.Fitting.{AllFit, IsOf}
-use Rattle.plant_model.specs.Plant.{PlantDefinition, of_atom}
+use Rattle.plant_model.specs.Plant.{PlantDefinition}
 use Rattle.plant_model.specs.Rules.{fault_of}
 use Rattle.plant_model.specs.Step.{next, transfer}
 use Rattle.plant_model.specs.declared.choice.Move.{Move}
 use Rattle.plant_model.proofs.ByAtom.{first-of-atom, moves-on, none-of, stays}
-use Rattle.plant_model.proofs.OnRuns.{fold-fits}
 use Rattle.plant_model.proofs.ValueRows.{set-here, set-other}
 use Rattle.plant_model.proofs.Stepping.{length-stepped}
 use Rattle.step_core.specs.Job.{JobDefinition, worked}
-use Rattle.step_core.specs.Jobs.{IsJobOf}
 use Rattle.step_core.specs.Parts.{nothing_shown, parts_of, shown_in}
 use Rattle.step_core.specs.Sure.{IsSure, has_move, left_by, went_on}
 use Rattle.step_core.proofs.Present.{participant}
 use Rattle.step_core.proofs.SureAllowed.{delivered-same, goes-on, leaves-behind, sure-allowed}
-use Rattle.step_executor.specs.Outstanding.{AreCommitted, AreKept, committed_by, ended_at, filled, is_out, is_part_away, job_by, jobs_after, parts_without, whole_of}
+use Rattle.step_executor.specs.Outstanding.{AreCommitted, AreKept, committed_by, ended_at, is_out, is_part_away, job_by, jobs_after, parts_without, whole_of}
 use Rattle.step_executor.proofs.Behind.{from-behind, length-behind, out-behind}
 use Rattle.step_executor.proofs.Wholes.{away-of, ended-by, filled-at, filled-long, filled-own, filled-put, filled-same, parts-again}
 

@@ -4,5 +4,6 @@ mod Behind
 mod OneByOne
 mod Going
 mod Begun
+mod Marked
 pub mod Standing
 pub mod Crossing

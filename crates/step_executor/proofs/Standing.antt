@@ -1,10 +1,11 @@
 -- The whole state of a plant that runs while atoms are away, and what its calls make of it.
-use Rattle.std.proofs.Common.{◌≡◌, ℕ, sym, ◌∙◌, ap, subst, List, [], ◌∷◌, length, set, cond, true}
+use Rattle.std.proofs.Common.{◌≡◌, ◌<◌, ◌||◌, ℕ, sym, ◌∙◌, ap, subst, List, [], ◌∷◌, length, set, cond, Contains, arith, true}
 use Rattle.std.specs.Prelude.{Option, Some, None, option_map}
 use Rattle.std.specs.List.{list_all}
 use Rattle.std.proofs.lemmas.List.{map-set}
+use Rattle.std.proofs.lemmas.Option.{slice_get_within}
 use Rattle.petri_atom.specs.Definition.{is_well_formed}
-use Rattle.petri_atom.specs.Local.{Local}
+use Rattle.petri_atom.specs.Local.{Local, has}
 use Rattle.plant_model.specs.Choice.{ChoiceDefinition}
 use Rattle.plant_model.specs.Fitting.{AllFit, IsOf}
 use Rattle.plant_model.specs.Rules.{fault_of}
@@ -15,13 +16,15 @@ use Rattle.step_core.specs.Dispatcher.{parts_in}
 use Rattle.step_core.specs.Job.{JobDefinition, job_of}
 use Rattle.step_core.specs.Jobs.{AreJobsOf}
 use Rattle.step_core.specs.Parts.{shown_in}
-use Rattle.step_core.specs.Sure.{IsSure, left_by, went_on}
+use Rattle.step_core.specs.Sure.{IsSure, has_move, left_by, went_on}
 use Rattle.step_core.specs.declared.job.Job.{Job}
+use Rattle.step_core.proofs.Present.{participant}
 use Rattle.step_executor.specs.Executing.{committed_in, jobs_in, plant_in, states_in}
-use Rattle.step_executor.specs.Outstanding.{committed_by, ended_at, is_part_away, jobs_after, kept_in, parts_without, put_all, whole_of}
+use Rattle.step_executor.specs.Outstanding.{AreMarked, committed_by, ended_at, is_part_away, jobs_after, kept_in, parts_without, put_all, whole_of}
 use Rattle.step_executor.specs.declared.executor.Executor.{Executor}
 use Rattle.step_executor.proofs.Begun.{put-are}
 use Rattle.step_executor.proofs.Going.{begun-whole, delivers, fired-committed, fired-whole, parts-are}
+use Rattle.step_executor.proofs.Marked.{left-long, left-other, marked-more, went-long, went-other}
 use Rattle.step_executor.proofs.Wholes.{filled-long}
 
 -- there is a state for each atom
@@ -54,6 +57,31 @@ module _ (run : Executor) (c : ChoiceDefinition) (known : IsSure (plant_in run) 
   -- its firing makes the model's step of the whole state
   pub next-fired : (after : List (Option Local)) → after ≡ went_on (plant_in run) (parts_in run.dispatcher) c → whole_of (jobs_in run) after ≡ next (plant_in run) (states_in run) c
   next-fired after went = ap (whole_of (jobs_in run)) went ∙ fired-whole (plant_in run) (jobs_in run) (parts_in run.dispatcher) run.outstanding c sure-here
+
+  -- its participants are atoms of the plant
+  pub mover-there : (m : Move) → Contains c.moves m → m.atom < length (plant_in run).atoms
+  mover-there m at =
+      let who = participant (plant_in run) (parts_in run.dispatcher) c sure-here m at in
+      slice_get_within (plant_in run).atoms m.atom who.0 who.2
+
+  -- where they are marked too, the others are as they were when committed
+  pub marked-fired : (more : ℕ) (moves : List Move) (after : List (Option Local)) → moves ≡ c.moves → after ≡ went_on (plant_in run) (parts_in run.dispatcher) c
+      → ((n : ℕ) → has more n ≡ (has run.moved n || has_move moves n)) → AreMarked more run.committed after
+  marked-fired more moves after same went told =
+      subst (AreMarked more run.committed) (sym went)
+      (marked-more run.moved run.committed (parts_in run.dispatcher) run.marked more c.moves (went_on (plant_in run) (parts_in run.dispatcher) c)
+      (λ n. told n ∙ ap (λ ms. has run.moved n || has_move ms n) same)
+      (λ m at. omega (arith, mover-there m at, run.dispatcher.of_plant))
+      (went-long (plant_in run) (parts_in run.dispatcher) c) (went-other (plant_in run) (parts_in run.dispatcher) c))
+
+  pub marked-begun : (more : ℕ) (moves : List Move) (after : List (Option Local)) → moves ≡ c.moves → after ≡ left_by (parts_in run.dispatcher) c.moves
+      → ((n : ℕ) → has more n ≡ (has run.moved n || has_move moves n)) → AreMarked more run.committed after
+  marked-begun more moves after same left told =
+      subst (AreMarked more run.committed) (sym left)
+      (marked-more run.moved run.committed (parts_in run.dispatcher) run.marked more c.moves (left_by (parts_in run.dispatcher) c.moves)
+      (λ n. told n ∙ ap (λ ms. has run.moved n || has_move ms n) same)
+      (λ m at. omega (arith, mover-there m at, run.dispatcher.of_plant))
+      (left-long (parts_in run.dispatcher) c.moves) (left-other (parts_in run.dispatcher) c.moves))
 
   -- the committed state stays as it was
   pub committed-stays : (after : List Local) → after ≡ next (plant_in run) (states_in run) c → committed_by run.committed after ≡ committed_in run

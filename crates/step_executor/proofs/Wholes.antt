@@ -1,6 +1,6 @@
 -- Whole states, parts and jobs.
 use Rattle.std.proofs.Common.{◌≡◌, ◌≢◌, ℕ, zero, suc, ◌+◌, refl, sym, ◌∙◌, ap, List, [], ◌∷◌, length, get_or, set, arith, Bool, true, false, cond, unwrap_or, ◌<◌}
-use Rattle.std.specs.Prelude.{Option, Some, None, is_none, is_some, option_map, slice_get}
+use Rattle.std.specs.Prelude.{Option, Some, None, is_none, option_map, slice_get}
 use Rattle.std.specs.Option.{option_map_or}
 use Rattle.std.proofs.lemmas.Option.{none-some, same_Some, slice_get-get_or}
 use Rattle.petri_atom.specs.Local.{Local}

@@ -1,7 +1,7 @@
 -- The whole state of a plant of which atoms are away, and what these were given to do.
-use Rattle.std.specs.Prelude.{◌≡◌, ℕ, suc, Bool, true, false, List, [], ◌∷◌, length, map, slice_get, slice_set, slice_index, slice_index_or, Option, Some, None, is_none, is_some, option_map, unwrap_or}
+use Rattle.std.specs.Prelude.{◌≡◌, ◌<◌, ℕ, suc, Bool, true, false, List, [], ◌∷◌, length, map, slice_get, slice_set, slice_index, slice_index_or, Option, Some, None, is_none, is_some, option_map, unwrap_or}
 use Rattle.std.specs.Option.{option_map_or}
-use Rattle.petri_atom.specs.Local.{Local}
+use Rattle.petri_atom.specs.Local.{Local, has}
 use Rattle.plant_model.specs.Choice.{ChoiceDefinition}
 use Rattle.plant_model.specs.Plant.{PlantDefinition, of_atom}
 use Rattle.plant_model.specs.Step.{transfer}
@@ -72,6 +72,11 @@ committed_by committed states = filled (λ n. slice_index_or states n nothing_sh
 pub record AreCommitted (plant : PlantDefinition) (committed : List (Option Local)) (jobs : List (Option JobDefinition)) : Type 0 where
   pub many : length committed ≡ length plant.atoms
   pub away : (n : ℕ) → is_part_away committed n ≡ true → is_out jobs n ≡ true
+
+-- the atoms that have moved since the last commit are marked: each marked one is there, and the part of any other is the committed one
+pub record AreMarked (moved : ℕ) (committed : List (Option Local)) (parts : List (Option Local)) : Type 0 where
+  pub there : (n : ℕ) → has moved n ≡ true → n < length parts
+  pub others : (n : ℕ) → has moved n ≡ false → slice_get committed n ≡ slice_get parts n
 
 -- ---- how jobs are kept
 

@@ -1,11 +1,15 @@
 //! The committed state, as it is kept.
-ghost use Rattle.std.specs.Prelude.{◌≡◌, ◌<◌, ◌≤◌, Some, None, IfOk, length, option_map, slice_get, slice_set, if◌then◌else◌};
+ghost use Rattle.std.specs.Prelude.{◌≡◌, ◌<◌, ◌||◌, ℕ, Some, None, IfOk, length, option_map, slice_get, slice_set, if◌then◌else◌};
+ghost use Rattle.petri_atom.specs.Local.{has};
 ghost use Rattle.plant_model.specs.Fitting.{IsOf};
 ghost use Rattle.plant_model.specs.System.{plant_of};
-ghost use Rattle.step_executor.specs.Outstanding.{is_part_away};
+ghost use Rattle.plant_model.specs.declared.choice.Move.{Move};
+ghost use Rattle.plant_model.specs.declared.limits.TheConstants.{MAX_ATOMS};
+ghost use Rattle.step_core.specs.Sure.{has_move};
+ghost use Rattle.step_executor.specs.Outstanding.{AreMarked, is_part_away};
 
 use petri_atom::AtomState;
-use plant_model::{PlantState, System};
+use plant_model::{Move, PlantState, System};
 use std::alloc::{AllocError, Global};
 use step_core::PlantParts;
 
@@ -26,14 +30,29 @@ pub(crate) fn copied(
     Ok(states)
 }
 
-/// Makes parts those of other parts of the same plant.
-pub(crate) fn copy_parts(parts: &mut PlantParts, from: &PlantParts)
-    requires { length parts.old ≡ length from.now }
+/// The set of the atoms that have moved, with those of the moves.
+pub(crate) fn mark_moved(moved: u64, moves: &[Move]) -> u64
+    requires { (place : ℕ) (m : Move) → slice_get moves.now place ≡ Some m → m.atom < MAX_ATOMS }
+    ensures { (n : ℕ) → has result n ≡ (has moved n || has_move moves.now n) }
+{
+    let mut marked = moved;
+    for step in moves {
+        marked |= 1 << step.atom;
+    }
+    marked
+}
+
+/// Makes parts those of other parts of the same plant, from which only the parts of atoms that have moved may differ. It copies no others.
+pub(crate) fn copy_parts(parts: &mut PlantParts, from: &PlantParts, moved: u64)
+    requires as_many { length parts.old ≡ length from.now }
+    requires marked { AreMarked moved parts.old from.now }
     ensures { parts.new ≡ from.now }
 {
-    let atoms = from.shown().len();
-    for atom in 0..atoms {
-        copy_part(parts, from, atom as u16);
+    let mut left = moved;
+    while left != 0 {
+        let atom = left.trailing_zeros() as u16;
+        left &= left - 1;
+        copy_part(parts, from, atom);
     }
 }
 

@@ -12,9 +12,9 @@ ghost use Rattle.step_core.specs.Dispatcher.{parts_in, system_of};
 ghost use Rattle.step_core.specs.Job.{job_done, job_of};
 ghost use Rattle.step_core.specs.Jobs.{AreJobsOf, jobs_of};
 ghost use Rattle.step_core.specs.Sure.{IsSure, sure_choices};
-ghost use Rattle.step_executor.specs.Outstanding.{AreCommitted, AreKept, is_out, jobs_after, kept_in, parts_without, whole_of};
+ghost use Rattle.step_executor.specs.Outstanding.{AreCommitted, AreKept, AreMarked, is_out, jobs_after, kept_in, parts_without, whole_of};
 
-use crate::committing::{commit_back, copied, copy_parts};
+use crate::committing::{commit_back, copied, copy_parts, mark_moved};
 use crate::keeping::keep_jobs;
 use connector_tree::MAX_LEAVES;
 use petri_atom::{AtomState, Delivered};
@@ -23,7 +23,8 @@ use std::alloc::{AllocError, Global};
 use step_core::{Dispatcher, Done, Job, Jobs, PlantParts};
 
 /// A plant that runs while atoms are away: a [`Dispatcher`], and of each atom that is away a copy of the job that it was given. Beside its
-/// present state it has a committed one, which is the present state at the last commit. Only making it takes memory.
+/// present state it has a committed one, which is the present state at the last commit. A commit copies the states of the atoms alone
+/// that have moved since the one before. Only making it takes memory.
 ///
 /// Of the committed state nothing is kept of an atom that was away at the last commit and still is: it is where the atom's job leaves it.
 #[derive(Drop)]
@@ -32,9 +33,12 @@ pub struct Executor<'s> {
     kept: Vec<Option<Job<'s>>>,
     /// What stands on an executor takes it for the acknowledged state.
     committed: PlantParts,
+    /// The set of the atoms that have moved since the last commit.
+    moved: u64,
     ghost outstanding: { AreKept (plant_of (system_of dispatcher)) (parts_in dispatcher) (kept_in kept.items) },
     ghost fits: { AllFit (plant_of (system_of dispatcher)) (whole_of (kept_in kept.items) (parts_in dispatcher)) },
     ghost behind: { AreCommitted (plant_of (system_of dispatcher)) committed (kept_in kept.items) },
+    ghost marked: { AreMarked moved committed (parts_in dispatcher) },
 }
 
 impl<'s> Executor<'s> {
@@ -55,6 +59,7 @@ impl<'s> Executor<'s> {
             dispatcher: Dispatcher::at(system, states),
             kept,
             committed: PlantParts::all(committed),
+            moved: 0,
         })
     }
 
@@ -152,6 +157,7 @@ impl<'s> Executor<'s> {
     {
         self.dispatcher.system().keeps_its_rules();
         self.dispatcher.fire_telling(choice, delivered);
+        self.moved = mark_moved(self.moved, choice.moves.as_slice());
     }
 
     /// Begins the sure choice: its participants go away, each with a job that carries the atom's count of these, and what is delivered
@@ -175,7 +181,9 @@ impl<'s> Executor<'s> {
     {
         self.dispatcher.system().keeps_its_rules();
         self.dispatcher.begin(choice, counts, jobs);
-        keep_jobs(choice.moves.as_slice(), jobs, &mut self.kept, delivered);
+        let moves = choice.moves.as_slice();
+        keep_jobs(moves, jobs, &mut self.kept, delivered);
+        self.moved = mark_moved(self.moved, moves);
     }
 
     /// Takes a job back that was done: its atom is present again, in the state that the job left. One that is not kept comes back.
@@ -208,7 +216,8 @@ impl<'s> Executor<'s> {
         ensures committed { committed_in self.new ≡ states_in self.old }
         ensures jobs { jobs_in self.new ≡ jobs_in self.old }
     {
-        copy_parts(&mut self.committed, self.dispatcher.parts());
+        copy_parts(&mut self.committed, self.dispatcher.parts(), self.moved);
+        self.moved = 0;
     }
 
     /// The committed state of the atom: of one of which nothing is kept, the state that its job leaves.

@@ -5,8 +5,8 @@
 //! or not; what is known of the present atoms alone decides which choices are sure. A job that comes back done changes nothing of the
 //! state: its atom is present again.
 //!
-//! - `executor`: the plant that runs, and its committed state. `keeping`: how the jobs of a choice are kept. `committing`: how the committed
-//!   state is copied, and what comes back into it.
+//! - `executor`: the plant that runs, and its committed state. `keeping`: how the jobs of a choice are kept. `committing`: which atoms have
+//!   moved since the last commit, how their states are copied into the committed one, and what comes back into it.
 #![tactic(auto)]
 
 mod committing;

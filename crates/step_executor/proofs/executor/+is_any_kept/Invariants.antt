@@ -1,4 +1,4 @@
-use Rattle.std.proofs.Common.{length, ℕ}
+use Rattle.std.proofs.Common.{length}
 use Rattle.step_executor.proofs.executor.+is_any_kept.Given as goal
 
 abbrev pub decreases-is_any_kept : goal.decreases-is_any_kept

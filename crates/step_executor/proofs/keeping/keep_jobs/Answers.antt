@@ -1,8 +1,8 @@
-use Rattle.std.proofs.Common.{◌≡◌, ◌<◌, ◌≤◌, ◌+◌, ◌⊎◌, ℕ, suc, refl, sym, ◌∙◌, ap, List, [], ◌∷◌, length, drop, get_or, set, arith, map, length-set, ⊎_elim}
-use Rattle.std.specs.Prelude.{Option, Some, None, option_map, slice_get}
+use Rattle.std.proofs.Common.{◌≡◌, ◌+◌, ℕ, suc, sym, ◌∙◌, ap, drop, get_or, set, arith, length-set, ⊎_elim}
+use Rattle.std.specs.Prelude.{Some, option_map, slice_get}
 use Rattle.std.proofs.lemmas.Bool.{cases_eq}
-use Rattle.std.proofs.lemmas.List.{drop_all, map-set}
-use Rattle.std.proofs.lemmas.Option.{none-some, same_Some, slice_get-get_or, slice_get_within}
+use Rattle.std.proofs.lemmas.List.{map-set}
+use Rattle.std.proofs.lemmas.Option.{same_Some, slice_get-get_or, slice_get_within}
 use Rattle.plant_model.proofs.ValueRows.{set-here, set-other}
 use Rattle.plant_model.proofs.Stepping.{no_move}
 use Rattle.step_core.specs.Job.{JobDefinition, job_of}

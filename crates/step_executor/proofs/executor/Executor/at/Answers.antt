@@ -1,19 +1,18 @@
-use Rattle.std.proofs.Common.{◌≡◌, ◌<◌, ℕ, zero, suc, refl, sym, ◌∙◌, ap, subst, List, [], ◌∷◌, length, map, get_or, replicate, arith, true, false}
-use Rattle.std.specs.Prelude.{Option, Some, None, is_none, is_some, option_map, slice_get}
-use Rattle.std.specs.Option.{option_map_or}
+use Rattle.std.proofs.Common.{◌≡◌, ℕ, zero, suc, refl, sym, ◌∙◌, ap, subst, List, [], ◌∷◌, length, map, get_or, replicate, false}
+use Rattle.std.specs.Prelude.{Option, Some, None, is_some}
 use Rattle.std.proofs.lemmas.Bool.{false≢true}
 use Rattle.std.proofs.lemmas.List.{length-map, length-replicate}
-use Rattle.std.proofs.lemmas.Option.{none-some, slice_get-map}
+use Rattle.std.proofs.lemmas.Option.{none-some}
 use Rattle.petri_atom.specs.Local.{Local}
 use Rattle.plant_model.specs.Fitting.{AllFit}
 use Rattle.plant_model.specs.Plant.{PlantDefinition}
 use Rattle.plant_model.specs.System.{plant_of}
 use Rattle.plant_model.specs.declared.system.System.{System}
-use Rattle.step_core.specs.Dispatcher.{parts_in, system_of}
-use Rattle.step_core.specs.Job.{JobDefinition, job_of}
+use Rattle.step_core.specs.Dispatcher.{parts_in}
+use Rattle.step_core.specs.Job.{JobDefinition}
 use Rattle.step_core.specs.Parts.{nothing_shown}
-use Rattle.step_core.specs.declared.job.Job.{Job}
-use Rattle.step_executor.specs.Outstanding.{AreCommitted, AreKept, committed_by, ended_at, filled, is_out, is_part_away, kept_in, whole_of}
+use Rattle.step_executor.specs.Outstanding.{AreCommitted, AreKept, AreMarked, committed_by, ended_at, filled, is_part_away, kept_in, whole_of}
+use Rattle.step_executor.proofs.Marked.{none-marked}
 use Rattle.step_executor.proofs.executor.Executor.at.Goals as goal
 
 -- no atom has a job
@@ -62,6 +61,8 @@ invariant_of-result c =
             many = length-map states Some ∙ c.requires.of_plant;
             away = λ n away. absurd (false≢true (sym (no-away states n) ∙ away));
           }));
+      marked = subst (λ ps. AreMarked 0 ps (parts_in c.at.result)) (sym committed)
+          (subst (AreMarked 0 (map Some states)) (sym parts) (none-marked (map Some states)));
     }
 
 pub returns-clause-states : goal.returns-clause-states

@@ -1,4 +1,4 @@
-use Rattle.std.proofs.Common.{◌≡◌, ℕ, sym, ◌∙◌, ap, subst, get_or, set}
+use Rattle.std.proofs.Common.{◌≡◌, ℕ, sym, ◌∙◌, ap, subst, cond, get_or, set}
 use Rattle.std.specs.Prelude.{Some, None, slice_get}
 use Rattle.petri_atom.specs.Definition.{Fits}
 use Rattle.plant_model.specs.Fitting.{AllFit}
@@ -7,8 +7,9 @@ use Rattle.plant_model.specs.declared.system.System.{System}
 use Rattle.step_core.specs.Dispatcher.{parts_in}
 use Rattle.step_core.specs.Job.{JobDefinition, job_done, worked}
 use Rattle.step_executor.specs.Executing.{jobs_in, plant_in, states_in}
-use Rattle.step_executor.specs.Outstanding.{AreCommitted, AreKept, committed_by, kept_in, whole_of}
-use Rattle.step_executor.proofs.Going.{back-committed, back-kept, back-noted, back-whole, was-away, whole-out}
+use Rattle.step_executor.specs.Outstanding.{AreCommitted, AreKept, AreMarked, committed_by, is_part_away, kept_in, whole_of}
+use Rattle.step_executor.proofs.Going.{back-committed, back-kept, back-noted, back-whole, back-within, was-away, whole-out}
+use Rattle.step_executor.proofs.Marked.{marked-back}
 use Rattle.step_executor.proofs.Standing.{fewer-kept, noted-same, put-same}
 use Rattle.step_executor.proofs.executor.Executor.back.Goals as goal
 
@@ -78,4 +79,9 @@ invariant_of-self c =
       behind = subst (λ (s : System). AreCommitted (plant_of s) c.commit_back.new.parts items) same
           (subst (AreCommitted plant c.commit_back.new.parts) (sym fewer)
           (subst (λ ps. AreCommitted plant ps (set (jobs_in run) n None)) (sym noted) (back-committed plant (jobs_in run) (parts_in run.dispatcher) run.outstanding run.dispatcher.of_plant n job its run.committed run.behind)));
+      marked = subst (λ ps. AreMarked run.moved ps after) (sym noted)
+          (subst (AreMarked run.moved (cond (is_part_away run.committed n) (set run.committed n (Some (worked job))) run.committed)) (sym more)
+          (marked-back run.moved run.committed (parts_in run.dispatcher) run.marked n (worked job) (run.behind.many ∙ sym run.dispatcher.of_plant)
+          (was-away plant (jobs_in run) (parts_in run.dispatcher) run.outstanding run.dispatcher.of_plant n job its)
+          (back-within plant (jobs_in run) (parts_in run.dispatcher) run.outstanding run.dispatcher.of_plant n job its)));
     }

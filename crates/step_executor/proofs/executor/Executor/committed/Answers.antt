@@ -1,5 +1,5 @@
-use Rattle.std.proofs.Common.{◌≡◌, ◌<◌, arith, sym, ◌∙◌, ap, get_or, length, unwrap_or}
-use Rattle.std.specs.Prelude.{Some, None, slice_get}
+use Rattle.std.proofs.Common.{◌<◌, arith, sym, ◌∙◌, ap, get_or, length, unwrap_or}
+use Rattle.std.specs.Prelude.{Some}
 use Rattle.std.proofs.lemmas.Option.{get_or_from_slice_get}
 use Rattle.step_core.specs.Parts.{nothing_shown}
 use Rattle.step_executor.specs.Executing.{states_in}

@@ -1,4 +1,4 @@
-use Rattle.std.proofs.Common.{◌≡◌, sym, subst, ap, ◌∙◌, None, Some, IfSome}
+use Rattle.std.proofs.Common.{◌≡◌, sym, subst, Some, IfSome}
 use Rattle.std.specs.Prelude.{slice_get}
 use Rattle.plant_model.specs.Chosen.{choice_of}
 use Rattle.step_core.specs.Sure.{IsSure, sure_choices}

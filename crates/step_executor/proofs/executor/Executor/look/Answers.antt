@@ -1,6 +1,5 @@
-use Rattle.std.proofs.Common.{◌≡◌, ℕ, sym, ◌∙◌, ap, get_or}
-use Rattle.std.specs.Prelude.{Option, Some, None, option_map, slice_get}
-use Rattle.plant_model.specs.Plant.{PlantDefinition}
+use Rattle.std.proofs.Common.{◌≡◌, sym, ◌∙◌, ap, get_or}
+use Rattle.std.specs.Prelude.{Some, None}
 use Rattle.plant_model.specs.System.{plant_of}
 use Rattle.step_core.specs.Dispatcher.{parts_in, system_of}
 use Rattle.step_core.specs.Job.{job_of}
