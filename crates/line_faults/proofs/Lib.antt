@@ -1,0 +1,5 @@
+mod Behind
+mod BlankLines
+mod Later
+mod Rising
+mod Rows
